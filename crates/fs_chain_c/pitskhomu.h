@@ -94,7 +94,7 @@ extern "C" {
 #define FS_VERSION 5u          /* of this header; fs_version() is the archive's */
 #define FS_REGIONS_MAX 64u     /* regions of the guest's memory */
 #define FS_QUEUES_MAX 64u      /* queues in a record */
-#define FS_LOAD_MAX 4096u      /* no load of a walk is longer; today's have 2 or 16 bytes, or parts of these */
+#define FS_LOAD_MAX 4096u      /* no load of a walk is longer: 2 bytes of a ring, or 16 for each of some entries of a table, or parts of these */
 #define FS_FIRST 80u           /* as much of a request is loaded first: header and record of the longest fixed one, WRITE's */
 #define FS_REQUEST_MAX 0x101000u /* the least limit, in bytes of a request. With a greater limit a request may be as long as that; a WRITE's data isn't loaded */
 #define FS_FRONT_MAX 160u      /* no front of a reply is longer (CREATE's) */

@@ -1,14 +1,14 @@
 //! What the memories of the handle's regions offer, by what a call of walk told.
 
-ghost use Rattle.std.specs.Prelude.{◌≡◌, ℕ, List, [], None, IfOk, IfSome};
+ghost use Rattle.std.specs.Prelude.{◌≡◌, [], None, IfOk, IfSome};
 ghost use Rattle.vm_memory_core.specs.Host.{Host};
 ghost use Rattle.vm_memory.specs.Memory.{memory_of};
 ghost use Rattle.fs_regions.specs.Laws.{HasLoaded};
 ghost use Rattle.fs_regions.specs.Places.{places_in};
-ghost use Rattle.fs_regions.specs.Walks.{Loaded, StandsAt, nothing, queue_of, with_bytes};
+ghost use Rattle.fs_regions.specs.Walks.{Loaded, StandsAt, nothing, queue_of};
 ghost use Rattle.fs_regions.specs.declared.course.Course.{Course};
 ghost use Rattle.fs_regions.specs.declared.walk.QueueWalk.{QueueWalk};
-ghost use Rattle.fs_chain.specs.Laws.{TellsOffer};
+ghost use Rattle.fs_chain.specs.Laws.{GoesOnByLoads, TellsOffer};
 ghost use Rattle.fs_chain.specs.Loads.{whole};
 ghost use Rattle.fs_chain.specs.Walks.{course_of};
 ghost use Rattle.fs_chain.specs.declared.state.State.TheVariants as at;
@@ -40,11 +40,10 @@ fn go_on(
     queue: &mut KeptQueue,
     bytes: &[u8],
 ) -> Result<Option<WalkOutcome>, ChainError>
-    ensures offered { IfOk result (λ on. IfSome on (λ told. (h : Host) (loaded : Loaded) (course : Course) (walk : QueueWalk) (request : List ℕ)
+    ensures offered { IfOk result (λ on. IfSome on (λ told. (loaded : Loaded) (course : Course) (walk : QueueWalk)
         → queue.old.stopped ≡ None → workbench.old.state ≡ at.Walking course walk
         → StandsAt (places_in workbench.old.regions) (queue_of course) loaded workbench.old.descriptors.items walk
-        → HasLoaded (memory_of h workbench.old.regions) (queue_of course) (with_bytes loaded walk (whole workbench.old bytes.now)) request
-        → TellsOffer (memory_of h workbench.old.regions) course workbench.new told request)) }
+        → GoesOnByLoads loaded course walk (whole workbench.old bytes.now) workbench.old workbench.new told)) }
 {
     law_walks();
     match workbench.walk(queue, bytes) {

@@ -14,4 +14,6 @@ mod regions;
 #[cfg(test)]
 mod returns;
 #[cfg(test)]
+mod tables;
+#[cfg(test)]
 mod walks;

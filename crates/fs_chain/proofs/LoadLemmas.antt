@@ -14,7 +14,7 @@ use Rattle.fs_chain.specs.declared.state.State.TheVariants as at
 use Rattle.fs_chain.specs.declared.error.ChainError.{ChainError}
 use Rattle.fs_chain.specs.declared.error.ChainError.TheVariants.{OutOfMemory}
 use Rattle.fs_chain.specs.declared.queue.KeptQueue.{KeptQueue}
-use Rattle.fs_chain.specs.Orders.{AsksTable, IfWalking, IsWalking, load_len, walk_error}
+use Rattle.fs_chain.specs.Orders.{entries_asked, IfWalking, IsWalking, load_len, walk_error}
 use Rattle.fs_chain.specs.Walks.{BeginsUnless, GoesOnUnless, LacksRoom, WalksFrom, WalksOn}
 use Rattle.fs_chain.specs.declared.walking.WalkOutcome as walked
 use Rattle.fs_chain.specs.declared.workbench.Workbench.{Workbench}
@@ -35,24 +35,26 @@ fits w n wanted =
     let same = wanted.2 in
     within w.state _ (came w + n) wanted.1.0 wanted.1.1 (λ walk p. let less = p.0 in let most = p.1.1 in omega (arith, less, most, same))
 
--- a load of a table's entry isn't empty
-entry_len : (s : state.State) → AsksTable s → load_len s ≡ 16
-entry_len (at.Walking course (walks.Entry head w)) asks = refl
-entry_len (at.Walking course (walks.Index w)) asks = absurd (cc)
-entry_len (at.Walking course (walks.RingEntry w)) asks = absurd (cc)
-entry_len at.Free asks = absurd asks
-entry_len (at.Taken out) asks = absurd asks
-entry_len (at.Waits out waiting) asks = absurd asks
-entry_len (at.Lists out listing) asks = absurd asks
-entry_len (at.HasReply out reply) asks = absurd asks
-entry_len (at.Returning out) asks = absurd asks
+-- a load of a table's entries isn't empty
+some_len : (s : state.State) → 0 < entries_asked s → 0 < load_len s
+some_len (at.Walking course (walks.Entries w)) asks = omega (arith, asks)
+some_len (at.Walking course (walks.Index w)) asks = omega arith
+some_len (at.Walking course (walks.RingEntry w)) asks = omega arith
+some_len at.Free asks = absurd (omega (arith, asks))
+some_len (at.Taken out) asks = absurd (omega (arith, asks))
+some_len (at.Waits out waiting) asks = absurd (omega (arith, asks))
+some_len (at.Lists out listing) asks = absurd (omega (arith, asks))
+some_len (at.HasReply out reply) asks = absurd (omega (arith, asks))
+some_len (at.Returning out) asks = absurd (omega (arith, asks))
 
--- bytes that are the whole of what came are as many as the entry that is asked for
-ends_load : (w : Workbench) (loaded : List ℕ) → whole w loaded ≡ loaded → length loaded ≡ due_len w loaded → AsksTable w.state
+some_asked : (n : ℕ) → 0 < n → (n == 0) ≡ false
+some_asked n some = grind (arith, nat_tests)
+
+-- bytes that are the whole of what came are as many as the entries that are asked for have
+ends_load : (w : Workbench) (loaded : List ℕ) → whole w loaded ≡ loaded → length loaded ≡ due_len w loaded → 0 < entries_asked w.state
     → came w + length loaded ≡ load_len w.state
 ends_load w loaded all len asks =
-    let entry = entry_len w.state asks in
-    let wants : (load_len w.state == 0) ≡ false = rw entry refl in
+    let wants : (load_len w.state == 0) ≡ false = some_asked (load_len w.state) (some_len w.state asks) in
     let due : length loaded ≡ load_len w.state = len ∙ ap (λ (t : Bool). if t then length loaded else load_len w.state) wants in
     let none : w.part.items ++ loaded ≡ loaded = sym (ap (λ (t : Bool). if t then loaded else w.part.items ++ loaded) wants) ∙ all in
     let sum = length-append w.part.items loaded in
@@ -107,9 +109,6 @@ walks_apart w before w' after q q' told bytes all from to same h =
     let there = subst (λ (x : Workbench). WalksOn bytes x w' q q' told) from h in
     let here = walks_from w w' before.part after.part q q' told w.state bytes there in
     subst (λ (l : List ℕ). WalksOn l w after q q' told) same (subst (λ (x : Workbench). WalksOn bytes w x q q' told) (sym to) here)
-
-some_asked : (n : ℕ) → 0 < n → (n == 0) ≡ false
-some_asked n some = grind (arith, nat_tests)
 
 -- it goes on by a load that came in parts
 pub joined_goes : (w joined new : Workbench) (q q' : KeptQueue) (told : walked.WalkOutcome) (loaded : List ℕ) → 0 < load_len w.state

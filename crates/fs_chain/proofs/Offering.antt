@@ -1,26 +1,26 @@
 -- What a walk tells is what the memory offers.
-use Rattle.std.proofs.Common.{◌≡◌, ◌<◌, ℕ, List, [], length, false, Option, Some, None, sym, subst, refl, arith}
+use Rattle.std.proofs.Common.{◌≡◌, ℕ, List, [], false, Option, Some, None, sym, subst, refl, arith}
 use Rattle.fs_queue.specs.declared.fault.QueueError.{QueueError}
 use Rattle.vm_memory_core.specs.Host.{Host}
 use Rattle.vm_memory.specs.Layout.{Region}
 use Rattle.vm_memory.specs.Memory.{Memory, memory_of}
 use Rattle.fs_queue.specs.Chain.{Descriptor}
 use Rattle.fs_queue.specs.Queue.{Queue}
-use Rattle.fs_queue.specs.Taking.{Offer, offer}
+use Rattle.fs_queue.specs.Taking.{offer}
 use Rattle.fs_regions.specs.declared.course.Course.{Course}
 use Rattle.fs_regions.specs.declared.step.Step as comes
 use Rattle.fs_regions.specs.declared.step.Step.TheVariants as step
 use Rattle.fs_regions.specs.declared.walk.QueueWalk.{QueueWalk}
 use Rattle.fs_regions.specs.Laws.{HasLoaded, OffersAreTheMemorys}
 use Rattle.fs_regions.specs.Places.{places_in}
-use Rattle.fs_regions.specs.Walks.{ComesTo, Loaded, StandsAt, nothing, queue_of, with_bytes}
+use Rattle.fs_regions.specs.Walks.{ComesBy, ComesTo, Loaded, StandsAt, nothing, queue_of}
 use Rattle.fs_chain.specs.declared.queue.KeptQueue.{KeptQueue}
 use Rattle.fs_chain.specs.declared.state.State as state
 use Rattle.fs_chain.specs.declared.state.State.TheVariants as at
 use Rattle.fs_chain.specs.declared.walking.WalkOutcome as walked
 use Rattle.fs_chain.specs.declared.workbench.Workbench.{Workbench}
-use Rattle.fs_chain.specs.Laws.{IsTold, TellsOffer, WalksAreOffers}
-use Rattle.fs_chain.specs.Walks.{Begins, BeginsUnless, GoesOnUnless, WalksFrom, WalksOn, course_of, told_of}
+use Rattle.fs_chain.specs.Laws.{GoesOnByLoads, IsTold, TellsOffer, WalksAreOffers}
+use Rattle.fs_chain.specs.Walks.{BeginsUnless, GoesOnUnless, WalksFrom, WalksOn, course_of, told_of}
 
 -- without a request nothing is owed of it
 unasked : (m : Memory) (q : Queue) (loaded : Loaded) (request : List ℕ) → HasLoaded m q loaded request → HasLoaded m q loaded []
@@ -54,15 +54,20 @@ begins law h bytes request old new before after told running free walks has =
     subst (λ (t : walked.WalkOutcome). TellsOffer (memory_of h old.regions) course new t request) (sym went.1.0)
     (comes_to law h old.regions course.limit (queue_of course) nothing new.descriptors.items went.0 request refl went.2 has)
 
-goes_on : OffersAreTheMemorys → (h : Host) (loaded : Loaded) (course : Course) (walk : QueueWalk) (bytes request : List ℕ) (old new : Workbench) (before after : KeptQueue) (told : walked.WalkOutcome)
+goes_on : OffersAreTheMemorys → (loaded : Loaded) (course : Course) (walk : QueueWalk) (bytes : List ℕ) (old new : Workbench) (before after : KeptQueue) (told : walked.WalkOutcome)
     → before.stopped ≡ None → old.state ≡ at.Walking course walk → WalksOn bytes old new before after told
-    → StandsAt (places_in old.regions) (queue_of course) loaded old.descriptors.items walk → HasLoaded (memory_of h old.regions) (queue_of course) (with_bytes loaded walk bytes) request
-    → TellsOffer (memory_of h old.regions) course new told request
-goes_on law h loaded course walk bytes request old new before after told running here walks stands has =
+    → StandsAt (places_in old.regions) (queue_of course) loaded old.descriptors.items walk → GoesOnByLoads loaded course walk bytes old new told
+goes_on law loaded course walk bytes old new before after told running here walks stands =
     let from : WalksFrom (at.Walking course walk) bytes old new before after told = subst (λ (s : state.State). WalksFrom s bytes old new before after told) here walks in
     let went : GoesOnUnless None course walk bytes old new before after told = subst (λ (o : Option QueueError). GoesOnUnless o course walk bytes old new before after told) running from in
-    subst (λ (t : walked.WalkOutcome). TellsOffer (memory_of h old.regions) course new t request) (sym went.1.0)
-    (comes_to law h old.regions course.limit (queue_of course) (with_bytes loaded walk bytes) new.descriptors.items went.0 request refl (went.2 loaded stands) has)
+    let by : ComesBy (places_in old.regions) course.limit (queue_of course) loaded walk bytes new.descriptors.items went.0 = went.2 loaded stands in record {
+      came = went.0;
+      after = by.after;
+      adds = by.adds;
+      offers = λ h request has.
+          subst (λ (t : walked.WalkOutcome). TellsOffer (memory_of h old.regions) course new t request) (sym went.1.0)
+          (comes_to law h old.regions course.limit (queue_of course) by.after new.descriptors.items went.0 request refl by.comes has);
+    }
 
 pub walks_are_offers : OffersAreTheMemorys → WalksAreOffers
 walks_are_offers law = record { begins = begins law; goes_on = goes_on law }

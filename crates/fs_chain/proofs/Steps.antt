@@ -10,7 +10,7 @@ use Rattle.fs_regions.specs.declared.step.Step as comes
 use Rattle.fs_regions.specs.declared.step.Step.TheVariants as step
 use Rattle.fs_regions.specs.declared.walk.QueueWalk.{QueueWalk}
 use Rattle.fs_regions.specs.Places.{places_in}
-use Rattle.fs_regions.specs.Walks.{Loaded, ComesTo, StandsAt, queue_of, with_bytes}
+use Rattle.fs_regions.specs.Walks.{Loaded, ComesBy, ComesTo, StandsAt, queue_of}
 use Rattle.fs_chain.specs.declared.queue.KeptQueue.{KeptQueue}
 use Rattle.fs_chain.specs.declared.state.State as state
 use Rattle.fs_chain.specs.declared.state.State.TheVariants as at
@@ -27,6 +27,10 @@ comes_left m limit q loaded ds (step.Refused e) h = h
 comes_left m limit q loaded ds (step.Chain head None) h = h
 comes_left m limit q loaded ds (step.Chain head (Some fault)) h = h
 
+pub by_left : (m : Memory) (limit : ℕ) (q : Queue) (loaded : Loaded) (walk : QueueWalk) (bytes : List ℕ) (ds : List Descriptor) (came : comes.Step)
+    → ComesBy m limit q loaded walk bytes ds came → ComesBy m limit q loaded walk bytes (left_of came ds) came
+by_left m limit q loaded walk bytes ds came h = record { after = h.after; adds = h.adds; comes = comes_left m limit q h.after ds came h.comes }
+
 pub leaves_none : (came : comes.Step) (ds : List Descriptor) → LeavesNone came (left_of came ds)
 leaves_none (step.Load w) ds = tt
 leaves_none step.Idle ds = tt
@@ -37,12 +41,12 @@ leaves_none (step.Chain head (Some fault)) ds = refl
 -- a walk comes to the same that was taken out of its place
 pub comes_taken : (course : Course) (walk taken : QueueWalk) (bytes : List ℕ) (came : comes.Step) (regions : List Region) (ds left : List Descriptor) → taken ≡ walk
     → ((loaded : Loaded) → StandsAt (places_in regions) (queue_of course) loaded ds taken
-    → ComesTo (places_in regions) course.limit (queue_of course) (with_bytes loaded taken bytes) left came)
+    → ComesBy (places_in regions) course.limit (queue_of course) loaded taken bytes left came)
     → (loaded : Loaded) → StandsAt (places_in regions) (queue_of course) loaded ds walk
-    → ComesTo (places_in regions) course.limit (queue_of course) (with_bytes loaded walk bytes) left came
+    → ComesBy (places_in regions) course.limit (queue_of course) loaded walk bytes left came
 comes_taken course walk taken bytes came regions ds left same by_taken =
     let P : QueueWalk → Type 0 = λ w. (loaded : Loaded) → StandsAt (places_in regions) (queue_of course) loaded ds w
-    → ComesTo (places_in regions) course.limit (queue_of course) (with_bytes loaded w bytes) left came in
+    → ComesBy (places_in regions) course.limit (queue_of course) loaded w bytes left came in
     subst P same by_taken
 
 -- a handle's walk goes on, unless its queue was stopped

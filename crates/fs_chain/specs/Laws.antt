@@ -8,7 +8,8 @@ use Rattle.fs_regions.specs.declared.course.Course.{Course}
 use Rattle.fs_regions.specs.declared.walk.QueueWalk.{QueueWalk}
 use Rattle.fs_regions.specs.Laws.{HasLoaded}
 use Rattle.fs_regions.specs.Places.{places_in}
-use Rattle.fs_regions.specs.Walks.{Loaded, StandsAt, nothing, queue_of, with_bytes}
+use Rattle.fs_regions.specs.declared.step.Step as comes
+use Rattle.fs_regions.specs.Walks.{Loaded, StandsAt, nothing, queue_of, AddsBytes}
 use Rattle.fs_chain.specs.declared.queue.KeptQueue.{KeptQueue}
 use Rattle.fs_chain.specs.declared.state.State.TheVariants as at
 use Rattle.fs_chain.specs.declared.walking.WalkOutcome as walked
@@ -28,12 +29,18 @@ IsTold ds (tells.Faulty head fault) request o = o ≡ Offers head (CannotFetch f
 abbrev pub TellsOffer : Memory → Course → Workbench → walked.WalkOutcome → (request : List ℕ) → Type 0
 TellsOffer m course new told request = IsTold new.descriptors.items told request (offer m course.limit (queue_of course))
 
+-- what a walk that goes on tells is what the queue offers in each memory of the handle's regions that has the walk's loads, which these bytes added to, and the request's bytes
+pub record GoesOnByLoads (loaded : Loaded) (course : Course) (walk : QueueWalk) (bytes : List ℕ) (old new : Workbench) (told : walked.WalkOutcome) : Type 0 where
+  pub came : comes.Step
+  pub after : Loaded
+  pub adds : AddsBytes walk bytes came loaded after
+  pub offers : (h : Host) (request : List ℕ) → HasLoaded (memory_of h old.regions) (queue_of course) after request → TellsOffer (memory_of h old.regions) course new told request
+
 -- what a call of walk tells, of a queue that wasn't stopped, is what the queue offers in each memory of the handle's regions that has all loads of the walk, and the request's bytes
 pub record WalksAreOffers : Type 0 where
   pub begins : (h : Host) (bytes request : List ℕ) (old new : Workbench) (before after : KeptQueue) (told : walked.WalkOutcome) → before.stopped ≡ None → old.state ≡ at.Free
       → WalksOn bytes old new before after told → HasLoaded (memory_of h old.regions) (queue_of (course_of before old.limit)) nothing request
       → TellsOffer (memory_of h old.regions) (course_of before old.limit) new told request
-  pub goes_on : (h : Host) (loaded : Loaded) (course : Course) (walk : QueueWalk) (bytes request : List ℕ) (old new : Workbench) (before after : KeptQueue) (told : walked.WalkOutcome)
+  pub goes_on : (loaded : Loaded) (course : Course) (walk : QueueWalk) (bytes : List ℕ) (old new : Workbench) (before after : KeptQueue) (told : walked.WalkOutcome)
       → before.stopped ≡ None → old.state ≡ at.Walking course walk → WalksOn bytes old new before after told
-      → StandsAt (places_in old.regions) (queue_of course) loaded old.descriptors.items walk → HasLoaded (memory_of h old.regions) (queue_of course) (with_bytes loaded walk bytes) request
-      → TellsOffer (memory_of h old.regions) course new told request
+      → StandsAt (places_in old.regions) (queue_of course) loaded old.descriptors.items walk → GoesOnByLoads loaded course walk bytes old new told

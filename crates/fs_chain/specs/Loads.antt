@@ -66,7 +66,7 @@ AreDue w loaded = (load_len w.state ≡ 0) ⊎ ((0 < load_len w.state) × (AreWh
 abbrev pub due_len : Workbench → (loaded : List ℕ) → ℕ
 due_len w loaded = if load_len w.state == 0 then length loaded else load_len w.state
 
--- memory may be wanting for so many bytes that are due: they end the load, and the walk lacks room for its entry's descriptor; or they are a part of
+-- memory may be wanting for so many bytes that are due: they end the load, and the walk lacks room for the descriptors of its entries; or they are a part of
 -- the load, those that came lack room for them, and the allocator refused it
 abbrev pub LacksMemory : Workbench → (len : ℕ) → Type 0
 LacksMemory w len =

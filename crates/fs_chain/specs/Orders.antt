@@ -1,8 +1,8 @@
 -- Which calls go on from where a chain is, and which do nothing.
-use Rattle.std.specs.Prelude.{◌≡◌, ℕ, ◌+◌, ◌-◌, ◌^◌, min, [], Bool, true, false, not, ◌==◌, ◌&&◌, ◌||◌, nat_lt, length, List, Option, Some, None, if◌then◌else◌}
+use Rattle.std.specs.Prelude.{ℕ, ◌+◌, ◌-◌, ◌^◌, min, [], Bool, true, false, not, ◌==◌, ◌&&◌, ◌||◌, nat_lt, length, List, Option, Some, None, if◌then◌else◌}
 use Rattle.fs_regions.specs.declared.course.Course.{Course}
 use Rattle.fs_regions.specs.declared.walk.QueueWalk.{QueueWalk}
-use Rattle.fs_regions.specs.Walks.{asked_len, asks_table}
+use Rattle.fs_regions.specs.Walks.{asked_entries, asked_len}
 use Rattle.fs_chain.specs.declared.queue.KeptQueue.{KeptQueue}
 use Rattle.fs_chain.specs.declared.state.Out.{Out}
 use Rattle.fs_chain.specs.declared.state.Reply.{Reply}
@@ -36,10 +36,10 @@ abbrev pub IsWalking : state.State → Type 0
 IsWalking (at.Walking course walk) = Unit {0}
 IsWalking _ = ⊥
 
--- it asks for an entry of a table
-abbrev pub AsksTable : state.State → Type 0
-AsksTable (at.Walking course walk) = asks_table walk ≡ true
-AsksTable _ = ⊥
+-- how many entries of a table it asks for, whose descriptors may join the chain
+abbrev pub entries_asked : state.State → ℕ
+entries_asked (at.Walking course walk) = asked_entries walk
+entries_asked _ = 0
 
 -- why the next walks can't go over another memory, with this limit
 abbrev pub memory_error : state.State → (limit : ℕ) → Option ChainError

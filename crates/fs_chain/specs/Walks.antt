@@ -1,5 +1,5 @@
 -- What a walk comes to, and what is kept of it.
-use Rattle.std.specs.Prelude.{◌≡◌, ℕ, ◌-◌, ◌^◌, min, [], List, Bool, true, false, Option, Some, None}
+use Rattle.std.specs.Prelude.{◌≡◌, ℕ, ◌-◌, ◌^◌, ◌<◌, min, [], List, Bool, true, false, Option, Some, None}
 use Rattle.smallvec.specs.SmallVec.{HasRoomFor}
 use Rattle.memory_requests.specs.Refused.{RoomWasRefused}
 use Rattle.fs_queue.specs.declared.fault.QueueError.{QueueError}
@@ -11,7 +11,7 @@ use Rattle.fs_regions.specs.declared.step.Step as comes
 use Rattle.fs_regions.specs.declared.step.Step.TheVariants as step
 use Rattle.fs_regions.specs.declared.walk.QueueWalk.{QueueWalk}
 use Rattle.fs_regions.specs.Places.{places_in}
-use Rattle.fs_regions.specs.Walks.{Loaded, nothing, asked_len, queue_of, with_bytes, StandsAt, ComesTo}
+use Rattle.fs_regions.specs.Walks.{Loaded, nothing, asked_len, queue_of, StandsAt, ComesBy, ComesTo}
 use Rattle.fs_chain.specs.declared.queue.KeptQueue.{KeptQueue}
 use Rattle.fs_chain.specs.declared.state.Out.{Out}
 use Rattle.fs_chain.specs.declared.state.Reply.{Reply}
@@ -20,7 +20,7 @@ use Rattle.fs_chain.specs.declared.state.State.TheVariants as at
 use Rattle.fs_chain.specs.declared.walking.WalkOutcome as walked
 use Rattle.fs_chain.specs.declared.walking.WalkOutcome.TheVariants as tells
 use Rattle.fs_chain.specs.declared.workbench.Workbench.{Workbench}
-use Rattle.fs_chain.specs.Orders.{AsksTable}
+use Rattle.fs_chain.specs.Orders.{entries_asked}
 
 -- how many bytes some descriptors have in one direction, counted in 64 bits
 abbrev pub count : (write_only : Bool) → List Descriptor → ℕ
@@ -104,7 +104,7 @@ abbrev pub GoesOn : Course → QueueWalk → (bytes : List ℕ) → (old new : W
 GoesOn course walk bytes old new before after told =
     (came : comes.Step) × Keeps course came old new before after told
     × ((loaded : Loaded) → StandsAt (places_in old.regions) (queue_of course) loaded old.descriptors.items walk
-    → ComesTo (places_in old.regions) course.limit (queue_of course) (with_bytes loaded walk bytes) new.descriptors.items came)
+    → ComesBy (places_in old.regions) course.limit (queue_of course) loaded walk bytes new.descriptors.items came)
 
 -- a stopped queue refuses each walk
 abbrev pub BeginsUnless : (stopped : Option QueueError) → (old new : Workbench) → (before after : KeptQueue) → walked.WalkOutcome → Type 0
@@ -129,6 +129,6 @@ WalksFrom _ bytes old new before after told = ⊥
 abbrev pub WalksOn : (bytes : List ℕ) → (old new : Workbench) → (before after : KeptQueue) → walked.WalkOutcome → Type 0
 WalksOn bytes old new before after told = WalksFrom old.state bytes old new before after told
 
--- a walk asks for an entry of a table, its descriptor has no room beside those that joined, and the allocator refused that: only then the walk lacks memory
+-- a walk asks for entries of a table, as many descriptors have no room beside those that joined, and the allocator refused that: only then the walk lacks memory
 abbrev pub LacksRoom : Workbench → Type 0
-LacksRoom w = AsksTable w.state × (HasRoomFor w.descriptors 1 → ⊥) × RoomWasRefused 1
+LacksRoom w = (0 < entries_asked w.state) × (HasRoomFor w.descriptors (entries_asked w.state) → ⊥) × RoomWasRefused (entries_asked w.state)

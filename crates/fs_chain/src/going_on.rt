@@ -5,7 +5,7 @@ ghost use Rattle.smallvec.specs.SmallVec.{HasRoomFor};
 ghost use Rattle.vm_memory.specs.Layout.{left_at, place};
 ghost use Rattle.vm_memory.specs.Slices.{IsWindowAt};
 ghost use Rattle.fs_regions.specs.Walks.{asked_by, asked_len};
-ghost use Rattle.fs_chain.specs.Orders.{begin_error, give_error, walk_error, AsksTable, IfWalking, IsWalking};
+ghost use Rattle.fs_chain.specs.Orders.{begin_error, give_error, walk_error, entries_asked, IfWalking, IsWalking};
 ghost use Rattle.fs_chain.specs.Walks.{LacksRoom, WalksOn, IsAllBut};
 ghost use Rattle.fs_chain.specs.declared.state.State.TheVariants as at;
 
@@ -85,7 +85,7 @@ impl Workbench {
     fn give(&mut self, queue: &mut KeptQueue, loaded: &[u8]) -> WalkOutcome
         requires walking { IsWalking self.old.state }
         requires bytes { IfWalking self.old.state (λ walk. length loaded.now ≡ asked_len walk) }
-        requires room { AsksTable self.old.state → HasRoomFor self.old.descriptors 1 }
+        requires room { HasRoomFor self.old.descriptors (entries_asked self.old.state) }
         requires goes { queue.old.stopped ≡ None }
         ensures walks { WalksOn loaded.now self.old self.new queue.old queue.new result }
         ensures apart { (self.new.part ≡ self.old.part) × (self.new.session ≡ self.old.session) }
@@ -109,11 +109,11 @@ impl Workbench {
         }
     }
 
-    // Makes room for the descriptor that may join by the next bytes.
+    // Makes room for the descriptors that may join by the next bytes.
     #[inline(always)]
     fn make_room(&mut self) -> Result<(), ChainError>
         requires { IsWalking self.old.state }
-        ensures room { OnOk result (AsksTable self.new.state → HasRoomFor self.new.descriptors 1) }
+        ensures room { OnOk result (HasRoomFor self.new.descriptors (entries_asked self.new.state)) }
         ensures memory { IfErr result (λ e. (e ≡ ChainError.OutOfMemory) × LacksRoom self.old) }
         ensures same { IsAllBut self.old self.new × (self.new.state ≡ self.old.state) × (self.new.descriptors.items ≡ self.old.descriptors.items) }
         ensures apart { (self.new.part ≡ self.old.part) × (self.new.session ≡ self.old.session) }
@@ -121,10 +121,11 @@ impl Workbench {
         let State::Walking(_, walk) = &self.state else {
             unreachable!()
         };
-        if !walk.asks_table() {
+        let entries = walk.entries();
+        if self.descriptors.capacity() - self.descriptors.len() >= entries {
             return Ok(());
         }
-        match reserve_small(&mut self.descriptors, 1) {
+        match reserve_small(&mut self.descriptors, entries) {
             Ok(()) => Ok(()),
             Err(_) => Err(ChainError::OutOfMemory),
         }

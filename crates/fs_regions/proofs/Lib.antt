@@ -5,3 +5,5 @@ pub mod Reaching
 pub mod Steps
 pub mod Directions
 pub mod Memories
+pub mod Stretching
+pub mod ReadingOut

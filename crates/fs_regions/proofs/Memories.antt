@@ -1,10 +1,10 @@
 -- what is offered by loads is the memory's
-use Rattle.std.proofs.Common.{◌≡◌, ℕ, Bool, true, false, zero, suc, ◌<◌, ◌++◌, List, [], ◌∷◌, Option, Some, None, refl, ap, sym, ◌∙◌, arith}
-use Rattle.std.specs.Prelude.{if◌then◌else◌, All}
+use Rattle.std.proofs.Common.{◌≡◌, ℕ, false, ◌++◌, List, [], ◌∷◌, Option, Some, None, refl, ◌∙◌}
+use Rattle.std.specs.Prelude.{All}
 use Rattle.std.proofs.lemmas.List.Elements.{All-head, All-tail}
 use Rattle.vm_iotlb.specs.declared.permissions.Permissions.TheVariants.{Read}
-use Rattle.vm_memory.specs.Memory.{Memory, bytes, memory_of, reach}
-use Rattle.fs_queue.specs.Queue.{Queue, avail_index_at, ring_entry_at}
+use Rattle.vm_memory.specs.Memory.{Memory, memory_of, reach}
+use Rattle.fs_queue.specs.Queue.{avail_index_at, ring_entry_at}
 use Rattle.fs_queue.specs.Loads.{Load, AreEntriesOf, IsEntryOf, IsLoadOf}
 use Rattle.fs_queue.proofs.OfferByLemmas.{offer_is_still}
 use Rattle.fs_queue.proofs.ConfinedLemmas.{only_places_count}

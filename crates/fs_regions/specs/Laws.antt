@@ -6,11 +6,11 @@ use Rattle.vm_memory.specs.Memory.{Memory, memory_of}
 use Rattle.fs_queue.specs.Queue.{Queue}
 use Rattle.fs_queue.specs.NextAvail.{next_avail, Head}
 use Rattle.fs_queue.specs.Chain.{chain}
-use Rattle.fs_queue.specs.Loads.{AreEntriesOf, IsLoadOf, index_load, entry_load}
+use Rattle.fs_queue.specs.Loads.{Load, AreEntriesOf, IsLoadOf, index_load, entry_load}
 use Rattle.fs_queue.specs.OfferLoads.{request_in}
 use Rattle.fs_queue.specs.Taking.{Offer, offer}
 use Rattle.fs_regions.specs.Places.{places_in}
-use Rattle.fs_regions.specs.Walks.{Loaded, OffersBy}
+use Rattle.fs_regions.specs.Walks.{Loaded, OffersBy, ReadOutOf}
 
 -- what was loaded is what a memory has: of the ring, of the tables, and of a request
 pub record HasLoaded (m : Memory) (q : Queue) (loaded : Loaded) (request : List ℕ) : Type 0 where
@@ -24,3 +24,8 @@ abbrev pub OffersAreTheMemorys : Type 0
 OffersAreTheMemorys =
     (h : Host) (regions : List Region) (limit : ℕ) (q : Queue) (loaded : Loaded) (request : List ℕ) (o : Offer) → q.stopped ≡ false →
     OffersBy (places_in regions) limit q loaded request o → HasLoaded (memory_of h regions) q loaded request → o ≡ offer (memory_of h regions) limit q
+
+-- a memory that has the bytes of a stretch has each entry that is read out of them
+abbrev pub ReadOutIsTheMemorys : Type 0
+ReadOutIsTheMemorys =
+    (m : Memory) (from : ℕ) (bs : List ℕ) (ls : List Load) → IsLoadOf m (length bs) (record { address = from; came = Some bs }) → ReadOutOf from bs ls → AreEntriesOf m ls

@@ -3,3 +3,4 @@ pub mod Making
 pub mod Walks
 pub mod Windows
 pub mod Laws
+pub mod Stretches

@@ -1,6 +1,7 @@
 -- What a walk over regions comes to by the loads so far (VIRTIO 1.2, 2.7.5, 2.7.6 and 2.7.13 from the device's side).
-use Rattle.std.specs.Prelude.{◌≡◌, ℕ, Bool, true, false, List, [], ◌∷◌, ◌++◌, All, length, Option, Some, None, option_map}
+use Rattle.std.specs.Prelude.{◌≡◌, ◌⊎◌, ℕ, ◌+◌, ◌*◌, ◌<◌, ◌≤◌, ◌&&◌, Bool, true, false, nat_le, List, [], ◌∷◌, ◌++◌, All, length, take, drop, Option, Some, None, option_map}
 use Rattle.vm_iotlb.specs.declared.permissions.Permissions.TheVariants.{Read}
+use Rattle.vm_memory.specs.Layout.{left_at}
 use Rattle.vm_memory.specs.Memory.{Memory, reach}
 use Rattle.fs_queue.specs.declared.fault.ChainFault.{ChainFault}
 use Rattle.fs_queue.specs.declared.chain_walk.Progress.{Progress}
@@ -8,7 +9,7 @@ use Rattle.fs_queue.specs.declared.walk.Walk as code
 use Rattle.fs_queue.specs.declared.walk.Walk.TheVariants as waits
 use Rattle.fs_queue.specs.Queue.{Queue, avail_index_at, ring_entry_at}
 use Rattle.fs_queue.specs.NextAvail.{NextAvail, Head}
-use Rattle.fs_queue.specs.Chain.{Descriptor, with_front, entry_address, Found, IsChain, first_visit}
+use Rattle.fs_queue.specs.Chain.{Descriptor, Visit, with_front, entry_address, Found, IsChain, first_visit}
 use Rattle.fs_queue.specs.Loads.{Load, Ahead, Reads, found_exactly, chain_exactly, asks_entry, ahead_at, is_whole}
 use Rattle.fs_queue.specs.OfferLoads.{waits_by, offer_by}
 use Rattle.fs_queue.specs.Taking.{readable, writable, total_len, IsRequest, CannotFetch, Offer, Idle, Refuses, Offers, addresses_of}
@@ -94,21 +95,19 @@ queue_of c = at_position c.layout c.position
 abbrev pub IsCourseOf : Queue → (limit : ℕ) → Course → Type 0
 IsCourseOf q limit c = (queue_of c ≡ record q { stopped = false }) × (c.limit ≡ limit)
 
--- what a walk asks for: the address, and how many bytes
+-- what a walk asks for: the address, how many entries of a table, and how many bytes
 abbrev pub asked_by : QueueWalk → ℕ
 asked_by (at.Index w) = avail_index_at (at_position w.layout w.position)
 asked_by (at.RingEntry w) = ring_entry_at (at_position w.layout w.position)
-asked_by (at.Entry head w) = entry_address (visit_of w)
+asked_by (at.Entries w) = entry_address (visit_of w.walk)
+
+abbrev pub asked_entries : QueueWalk → ℕ
+asked_entries (at.Entries w) = w.entries
+asked_entries _ = 0
 
 abbrev pub asked_len : QueueWalk → ℕ
-asked_len (at.Index w) = 2
-asked_len (at.RingEntry w) = 2
-asked_len (at.Entry head w) = 16
-
--- whether a walk asks for an entry of a table, whose descriptor may join the chain
-abbrev pub asks_table : QueueWalk → Bool
-asks_table (at.Entry head w) = true
-asks_table _ = false
+asked_len (at.Entries w) = 16 * w.entries
+asked_len _ = 2
 
 -- a walk stands where these loads bring it, with these descriptors
 abbrev pub StandsAt : Memory → Queue → Loaded → List Descriptor → QueueWalk → Type 0
@@ -116,18 +115,56 @@ StandsAt m q loaded ds (at.Index w) = (at_position w.layout w.position ≡ q) ×
 StandsAt m q loaded ds (at.RingEntry w) =
     (at_position w.layout w.position ≡ q) × (option_map length loaded.index ≡ Some 2) × (asks_entry (by_index q loaded.index) ≡ true) × (loaded.entry ≡ None)
     × (loaded.entries ≡ []) × (ds ≡ [])
-StandsAt m q loaded ds (at.Entry head w) =
-    Waits m q loaded head × (w.size ≡ q.size) × Brings q.size loaded.entries (ahead_at q.size (first_visit q head)) ds (Reads (visit_of w))
+StandsAt m q loaded ds (at.Entries w) =
+    Waits m q loaded w.head × (w.walk.size ≡ q.size) × Brings q.size loaded.entries (ahead_at q.size (first_visit q w.head)) ds (Reads (visit_of w.walk))
 
 -- what is asked for has a place
 abbrev pub IsThere : Memory → QueueWalk → Type 0
 IsThere m w = reach m Read (asked_by w) (asked_len w) ≡ true
 
--- the loads with one more: these bytes came of what was asked for
-abbrev pub with_bytes : Loaded → QueueWalk → List ℕ → Loaded
-with_bytes loaded (at.Index w) bs = record loaded { index = Some bs }
-with_bytes loaded (at.RingEntry w) bs = record loaded { entry = Some bs }
-with_bytes loaded (at.Entry head w) bs = record loaded { entries = loaded.entries ++ record { address = entry_address (visit_of w); came = Some bs } ∷ [] }
+-- so many entries from one on may be asked for at once: none past their table's end, at most 4096 bytes; and more than one only of a table that a descriptor names, in one region, and no
+-- more than descriptors may still join the chain
+abbrev pub MayBeAsked : Memory → Queue → List Descriptor → Visit → (n : ℕ) → Type 0
+MayBeAsked m q ds v n =
+    (n ≤ 256) × (v.index + n ≤ v.table.entries) × (1 < n → (v.table.indirect ≡ true) × (16 * n ≤ left_at m.layout (entry_address v)) × (length ds + n ≤ q.size))
+
+-- a stretch has the most that may be
+abbrev pub IsStretch : Memory → Queue → List Descriptor → QueueWalk → Type 0
+IsStretch m q ds (at.Entries w) =
+    MayBeAsked m q ds (visit_of w.walk) w.entries × ((n : ℕ) → MayBeAsked m q ds (visit_of w.walk) n → n ≤ w.entries)
+IsStretch m q ds _ = Unit {0}
+
+-- whether an entry at an address stands whole in n bytes from another on
+abbrev pub is_in : (from n address : ℕ) → Bool
+is_in from n address = nat_le from address && nat_le (address + 16) (from + n)
+
+-- a load of an entry that was read out of a stretch: it stands there, and came with just its bytes
+abbrev pub IsReadOut : (from : ℕ) → List ℕ → Load → Type 0
+IsReadOut from bs l = (offset : ℕ) × (l.address ≡ from + offset) × (offset + 16 ≤ length bs) × (l.came ≡ Some (take 16 (drop offset bs)))
+
+-- so was each of some: the first one at its beginning, and in all no more than it has entries
+pub record ReadOutOf (from : ℕ) (bs : List ℕ) (ls : List Load) : Type 0 where
+  pub first : (l : Load) × (rest : List Load) × (ls ≡ l ∷ rest) × (l.address ≡ from)
+  pub each : All (IsReadOut from bs) ls
+  pub few : 16 * length ls ≤ length bs
+
+-- an entry is asked for again only if it doesn't stand in the stretch, or once as many were read out as the stretch has
+abbrev pub UsesUp : (from : ℕ) → List ℕ → List Load → comes.Step → Type 0
+UsesUp from bs ls (step.Load w) = (is_in from (length bs) (asked_by w) ≡ false) ⊎ (16 * length ls ≡ length bs)
+UsesUp from bs ls _ = Unit {0}
+
+-- the loads with what bytes of a stretch add to them, where the walk comes to this
+pub record AddsEntries (from : ℕ) (bs : List ℕ) (came : comes.Step) (old new : Loaded) : Type 0 where
+  pub reads : List Load
+  pub read_out : ReadOutOf from bs reads
+  pub uses_up : UsesUp from bs reads came
+  pub added : new ≡ record old { entries = old.entries ++ reads }
+
+-- the same of each load: these bytes came of what was asked for
+abbrev pub AddsBytes : QueueWalk → List ℕ → comes.Step → (old new : Loaded) → Type 0
+AddsBytes (at.Index w) bs came old new = new ≡ record old { index = Some bs }
+AddsBytes (at.RingEntry w) bs came old new = new ≡ record old { entry = Some bs }
+AddsBytes (at.Entries w) bs came old new = AddsEntries (entry_address (visit_of w.walk)) bs came old new
 
 -- an entry without a place
 abbrev pub IsLost : Memory → Load → Type 0
@@ -151,7 +188,13 @@ FetchesBy m limit q loaded ds head None =
 
 -- what a walk comes to by the loads so far
 abbrev pub ComesTo : Memory → (limit : ℕ) → Queue → Loaded → List Descriptor → comes.Step → Type 0
-ComesTo m limit q loaded ds (step.Load w) = StandsAt m q loaded ds w × IsThere m w
+ComesTo m limit q loaded ds (step.Load w) = StandsAt m q loaded ds w × IsThere m w × IsStretch m q ds w
 ComesTo m limit q loaded ds step.Idle = OffersBy m limit q loaded [] Idle
 ComesTo m limit q loaded ds (step.Refused e) = OffersBy m limit q loaded [] (Refuses e)
 ComesTo m limit q loaded ds (step.Chain head fault) = FetchesBy m limit q loaded ds head fault
+
+-- what a walk comes to by the bytes that it asked for, after the loads so far
+pub record ComesBy (m : Memory) (limit : ℕ) (q : Queue) (loaded : Loaded) (walk : QueueWalk) (bs : List ℕ) (ds : List Descriptor) (came : comes.Step) : Type 0 where
+  pub after : Loaded
+  pub adds : AddsBytes walk bs came loaded after
+  pub comes : ComesTo m limit q after ds came

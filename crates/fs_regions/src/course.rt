@@ -1,6 +1,6 @@
 //! How a walk through what waits in a queue goes over the regions of a guest's memory.
 
-ghost use Rattle.std.specs.Prelude.{◌≡◌, ℕ, [], List, Option, Some, length, true};
+ghost use Rattle.std.specs.Prelude.{◌≡◌, ℕ, ◌*◌, ◌-◌, [], List, Option, Some, length, true};
 ghost use Rattle.smallvec.specs.SmallVec.{HasRoomFor};
 ghost use Rattle.fs_queue.specs.Chain.{first_visit};
 ghost use Rattle.fs_queue.specs.Loads.{Reads, ahead_at};
@@ -9,11 +9,14 @@ ghost use Rattle.fs_queue.specs.OfferLoads.{waits_by};
 ghost use Rattle.fs_queue.specs.SteppingView.{ahead_of, visit_of, IfWants};
 ghost use Rattle.fs_queue.specs.WalkingView.{found_of};
 ghost use Rattle.fs_regions.specs.Places.{places_in};
-ghost use Rattle.fs_regions.specs.Walks.{Loaded, nothing, asked_len, asks_table, queue_of, with_bytes, IsCourseOf, TellsBy, StandsAfterIndex, HeadWaits, StandsAt, ComesTo, Waits, Brings, FindsBy};
+ghost use Rattle.fs_regions.specs.Stretches.{AsksFor};
+ghost use Rattle.fs_regions.specs.Walks.{Loaded, nothing, asked_len, asked_entries, queue_of, IsCourseOf, TellsBy, StandsAfterIndex, HeadWaits, StandsAt, ComesBy, ComesTo, Waits, Brings, FindsBy};
 
 use crate::chain::{chain_fault, return_fault};
+use crate::entries::{ENTRY_LEN, EntriesWalk};
 use crate::regions::GuestRegions;
 use crate::step::Step;
+use crate::stretch::{read_stretch, stretch_len};
 use crate::walk::QueueWalk;
 use fs_queue::{
     ChainFault, ChainWalk, Descriptor, Descriptors, Progress, Queue, QueueError, QueueLayout, Walk,
@@ -39,16 +42,6 @@ fn pair(bytes: &[u8]) -> [u8; 2]
     let mut pair = [0u8; 2];
     pair.copy_from_slice(bytes);
     pair
-}
-
-// The sixteen bytes of a load.
-fn sixteen(bytes: &[u8]) -> [u8; 16]
-    requires { length bytes.now ≡ 16 }
-    ensures { result ≡ bytes.now }
-{
-    let mut sixteen = [0u8; 16];
-    sixteen.copy_from_slice(bytes);
-    sixteen
 }
 
 // Whether the entry that a walk asks for is of a table that a descriptor names.
@@ -91,7 +84,7 @@ impl Course {
     }
 
     /// Takes the bytes of the load that a walk asked for, and answers the walk's next state. The descriptors that joined the chain so far stand in the list. It has
-    /// room for one more, if an entry of a table is asked for.
+    /// room for as many as entries of a table are asked for. The walk goes through those entries that the bytes have, and asks for no other meanwhile.
     #[inline(always)]
     pub fn give(
         &self,
@@ -101,9 +94,9 @@ impl Course {
         descriptors: &mut Descriptors,
     ) -> Step
         requires bytes { length bytes.now ≡ asked_len walk }
-        requires room { asks_table walk ≡ true → HasRoomFor descriptors.old 1 }
+        requires room { HasRoomFor descriptors.old (asked_entries walk) }
         ensures { (loaded : Loaded) → StandsAt (places_in regions.now) (queue_of self.now) loaded descriptors.old.items walk
-            → ComesTo (places_in regions.now) self.now.limit (queue_of self.now) (with_bytes loaded walk bytes.now) descriptors.new.items result }
+            → ComesBy (places_in regions.now) self.now.limit (queue_of self.now) loaded walk bytes.now descriptors.new.items result }
     {
         match walk {
             QueueWalk::Index(walk) => {
@@ -112,33 +105,27 @@ impl Course {
             QueueWalk::RingEntry(walk) => {
                 self.told(regions, walk.give(Some(pair(bytes))), descriptors)
             }
-            QueueWalk::Entry(head, walk) => {
-                self.give_entry(regions, head, walk, sixteen(bytes), descriptors)
-            }
+            QueueWalk::Entries(walk) => self.give_entries(regions, walk, bytes, descriptors),
         }
     }
 
-    // Goes on by the bytes of an entry of a table.
+    // Goes on by the bytes of a stretch of a table.
     #[inline(always)]
-    fn give_entry(
+    fn give_entries(
         &self,
         regions: &GuestRegions,
-        head: u16,
-        walk: ChainWalk,
-        bytes: [u8; 16],
+        stretch: EntriesWalk,
+        bytes: &[u8],
         descriptors: &mut Descriptors,
     ) -> Step
-        requires whole { length bytes ≡ 16 }
-        requires room { HasRoomFor descriptors.old 1 }
-        ensures { (loaded : Loaded) → StandsAt (places_in regions.now) (queue_of self.now) loaded descriptors.old.items (QueueWalk.Entry head walk)
-            → ComesTo (places_in regions.now) self.now.limit (queue_of self.now) (with_bytes loaded (QueueWalk.Entry head walk) bytes) descriptors.new.items result }
+        requires bytes { length bytes.now ≡ 16 * stretch.entries }
+        requires room { HasRoomFor descriptors.old stretch.entries }
+        ensures { (loaded : Loaded) → StandsAt (places_in regions.now) (queue_of self.now) loaded descriptors.old.items (QueueWalk.Entries stretch)
+            → ComesBy (places_in regions.now) self.now.limit (queue_of self.now) loaded (QueueWalk.Entries stretch) bytes.now descriptors.new.items result }
     {
-        let given = walk.give(Some(bytes));
-        match given.joins {
-            Some(descriptor) => descriptors.push_reserved(descriptor),
-            None => {}
-        }
-        self.at_progress(regions, head, given.then, descriptors)
+        let (head, entries) = (stretch.head, stretch.entries);
+        let progress = read_stretch(stretch.walk, entries, bytes, descriptors);
+        self.at_progress(regions, head, progress, descriptors)
     }
 
     // What a walk comes to once the available index was loaded, or has no place.
@@ -200,9 +187,10 @@ impl Course {
         progress: Progress,
         descriptors: &[Descriptor],
     ) -> Step
-        ensures { (loaded : Loaded) → Waits (places_in regions.now) (queue_of self.now) loaded head → IfWants progress (λ w. w.size ≡ self.now.layout.size)
+        ensures comes { (loaded : Loaded) → Waits (places_in regions.now) (queue_of self.now) loaded head → IfWants progress (λ w. w.size ≡ self.now.layout.size)
             → Brings self.now.layout.size loaded.entries (ahead_at self.now.layout.size (first_visit (queue_of self.now) head)) descriptors.now (ahead_of progress)
             → ComesTo (places_in regions.now) self.now.limit (queue_of self.now) loaded descriptors.now result }
+        ensures asks { AsksFor progress result }
     {
         match progress {
             Progress::Wants(walk) => self.at_entry(regions, head, walk, descriptors),
@@ -210,7 +198,14 @@ impl Course {
         }
     }
 
-    // A walk that asks for an entry of a table: it asks for it, unless the entry has no place.
+    // How many descriptors may still join a chain that has some.
+    fn may_join(&self, descriptors: &[Descriptor]) -> usize
+        ensures { result ≡ self.now.layout.size - length descriptors.now }
+    {
+        usize::from(self.layout.size()).saturating_sub(descriptors.len())
+    }
+
+    // A walk that asks for an entry of a table: it asks for a stretch from there on, unless the entry has no place.
     #[inline(always)]
     fn at_entry(
         &self,
@@ -219,12 +214,18 @@ impl Course {
         walk: ChainWalk,
         descriptors: &[Descriptor],
     ) -> Step
-        ensures { (loaded : Loaded) → Waits (places_in regions.now) (queue_of self.now) loaded head → walk.size ≡ self.now.layout.size
+        ensures comes { (loaded : Loaded) → Waits (places_in regions.now) (queue_of self.now) loaded head → walk.size ≡ self.now.layout.size
             → Brings self.now.layout.size loaded.entries (ahead_at self.now.layout.size (first_visit (queue_of self.now) head)) descriptors.now (Reads (visit_of walk))
             → ComesTo (places_in regions.now) self.now.limit (queue_of self.now) loaded descriptors.now result }
+        ensures asks { AsksFor (Progress.Wants walk) result }
     {
-        if regions.reaches(walk.address(), 16) {
-            return Step::Load(QueueWalk::Entry(head, walk));
+        if regions.reaches(walk.address(), ENTRY_LEN) {
+            let entries = stretch_len(regions, &walk, self.may_join(descriptors));
+            return Step::Load(QueueWalk::Entries(EntriesWalk {
+                head,
+                walk,
+                entries,
+            }));
         }
         let walked = if is_indirect(&walk) {
             Walked::Faulty(ChainFault::TableUnreachable)
@@ -243,9 +244,10 @@ impl Course {
         walked: Walked,
         descriptors: &[Descriptor],
     ) -> Step
-        ensures { (loaded : Loaded) → Waits (places_in regions.now) (queue_of self.now) loaded head
+        ensures comes { (loaded : Loaded) → Waits (places_in regions.now) (queue_of self.now) loaded head
             → FindsBy (places_in regions.now) (queue_of self.now) loaded head (found_of walked descriptors.now)
             → ComesTo (places_in regions.now) self.now.limit (queue_of self.now) loaded descriptors.now result }
+        ensures asks { AsksFor (Progress.Ends walked) result }
     {
         match walked {
             Walked::Stopped => Step::Refused(QueueError::DescriptorUnreachable),

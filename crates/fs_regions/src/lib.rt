@@ -3,14 +3,17 @@
 
 mod chain;
 mod course;
+mod entries;
 pub mod laws;
 mod region;
 mod regions;
 mod step;
+mod stretch;
 mod walk;
 
 pub use chain::{chain_fault, range_from, window_from};
 pub use course::Course;
+pub use entries::EntriesWalk;
 pub use region::MemoryRegion;
 pub use regions::{GuestRegions, RegionsError};
 pub use step::Step;

@@ -1,11 +1,10 @@
 //! A walk that asks for a load.
 
 ghost use Rattle.std.specs.Prelude.{◌≡◌, ◌+◌, ◌<◌, ◌≤◌, ◌^◌};
-ghost use Rattle.fs_queue.specs.Chain.{entry_address};
-ghost use Rattle.fs_queue.specs.SteppingView.{visit_of};
-ghost use Rattle.fs_regions.specs.Walks.{asked_len, asked_by, asks_table};
+ghost use Rattle.fs_regions.specs.Walks.{asked_entries, asked_len, asked_by};
 
-use fs_queue::{ChainWalk, IndexWalk, RingEntryWalk};
+use crate::entries::EntriesWalk;
+use fs_queue::{IndexWalk, RingEntryWalk};
 
 /// A walk that asks for a load. It is used up by the bytes that it is given: each load is made once.
 #[derive(Debug, Drop)]
@@ -14,8 +13,8 @@ pub enum QueueWalk {
     Index(IndexWalk),
     /// It asks for the available ring's entry.
     RingEntry(RingEntryWalk),
-    /// It asks for an entry of a table, in the chain of this head.
-    Entry(u16, ChainWalk),
+    /// It asks for a stretch of a table, in the chain of a head.
+    Entries(EntriesWalk),
 }
 
 impl QueueWalk {
@@ -27,25 +26,29 @@ impl QueueWalk {
         match self {
             QueueWalk::Index(walk) => walk.address(),
             QueueWalk::RingEntry(walk) => walk.address(),
-            QueueWalk::Entry(_, walk) => walk.address(),
+            QueueWalk::Entries(walk) => walk.address(),
         }
     }
 
-    /// Whether it asks for an entry of a table, whose descriptor may join the chain.
-    pub fn asks_table(&self) -> bool
-        ensures { result ≡ asks_table self.now }
+    /// How many entries of a table it asks for, whose descriptors may join the chain; 0 if it asks for a part of the ring.
+    pub fn entries(&self) -> usize
+        ensures entries { result ≡ asked_entries self.now }
+        ensures few { result ≤ 256 }
     {
-        matches!(self, QueueWalk::Entry(_, _))
+        match self {
+            QueueWalk::Index(_) | QueueWalk::RingEntry(_) => 0,
+            QueueWalk::Entries(walk) => usize::from(walk.entries),
+        }
     }
 
-    /// How many bytes it asks for: 2, or the 16 of a table's entry.
+    /// How many bytes it asks for: 2, or 16 for each of at most 256 entries of a table.
     pub fn len(&self) -> usize
         ensures len { result ≡ asked_len self.now }
-        ensures few { result ≤ 16 }
+        ensures few { result ≤ 4096 }
     {
         match self {
             QueueWalk::Index(_) | QueueWalk::RingEntry(_) => 2,
-            QueueWalk::Entry(_, _) => 16,
+            QueueWalk::Entries(walk) => walk.len(),
         }
     }
 }

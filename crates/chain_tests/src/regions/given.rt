@@ -50,12 +50,12 @@ pub fn walk(
 ) -> Step {
     let mut step = course.begin(regions, descriptors);
     for load in loads {
-        descriptors.reserve(1).expect(rt, "memory");
         let walk = match step {
             Step::Load(walk) => Some(walk),
             _ => None,
         }
         .expect(rt, "a load");
+        descriptors.reserve(walk.entries()).expect(rt, "memory");
         assert_eq!(rt; (walk.address(), walk.len()), (load.0, load.1.len()));
         step = course.give(regions, walk, load.1, descriptors);
     }

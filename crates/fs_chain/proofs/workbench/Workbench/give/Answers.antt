@@ -1,7 +1,7 @@
 use Rattle.std.proofs.Common.{refl, ap}
 use Rattle.fs_regions.specs.declared.step.Step.TheVariants as step
 use Rattle.fs_chain.specs.declared.walking.WalkOutcome.TheVariants as tells
-use Rattle.fs_chain.proofs.Steps.{comes_left, comes_taken, leaves_none, walks_on}
+use Rattle.fs_chain.proofs.Steps.{by_left, comes_taken, leaves_none, walks_on}
 use Rattle.fs_chain.proofs.workbench.Workbench.give.Goals as goal
 
 pub returns-in-Load-clause-walks : goal.returns-in-Load-clause-walks
@@ -21,5 +21,5 @@ returns-in_default-give-clause-walks c =
     walks_on c.in-Walking.course c.in-Walking.walk _ _ _ _ _ _ c.requires.goes c.in-Walking.is (
       c.give.result,
       (settled.told, settled.state, settled.queue, rw settled.left (leaves_none _ _), settled.same),
-      λ loaded stands. rw settled.left (comes_left _ _ _ _ _ _ (comes loaded stands)),
+      λ loaded stands. rw settled.left (by_left _ _ _ _ _ _ _ _ (comes loaded stands)),
     )

@@ -13,5 +13,5 @@ returns-in-Some c = λ loaded waits none.
 
 pub returns-in-None : goal.returns-in-None
 returns-in-None c = λ loaded waits none.
-    c.at_progress.ensures loaded (record { by_loads = waits.by_loads; asked = waits.asked; returns = sym c.return_fault.ensures ∙ c.in-None.is }) waits.begins.1
+    c.at_progress.ensures.comes loaded (record { by_loads = waits.by_loads; asked = waits.asked; returns = sym c.return_fault.ensures ∙ c.in-None.is }) waits.begins.1
     (rw (waits.no_entries, none) (brings_none c.args.self.now.layout.size (ahead_at c.args.self.now.layout.size (first_visit (queue_of c.args.self.now) c.args.head)) _ waits.begins.0))

@@ -19,6 +19,7 @@ returns-then-reaches c = λ index stands none.
     let came = index_came q index stands.whole asks in (
       (at, ap (option_map length) came.1 ∙ ap Some came.2, asks, refl, refl, none),
       ap (λ a. reach (places_in c.args.regions.now) Read a 2) (sym c.address.ensures.at) ∙ sym (c.reaches.ensures Read) ∙ c.if-reaches.true,
+      tt,
     )
 
 pub returns-else-reaches : goal.returns-else-reaches

@@ -1,4 +1,4 @@
-use Rattle.std.proofs.Common.{◌≡◌, ◌∙◌, [], Some, ap}
+use Rattle.std.proofs.Common.{◌≡◌, ◌∙◌, [], Some, ap, refl}
 use Rattle.std.specs.Prelude.{length}
 use Rattle.std.proofs.lemmas.Bool.{eq-eqb}
 use Rattle.fs_queue.specs.WalkingView.{at_position}
@@ -18,7 +18,7 @@ returns-in-Index c = λ loaded stands.
     let here = comes (Some c.pair.result)
     (after_index m q w.layout w.position (Some c.pair.result) c.give.result s.0 (eq-eqb (length c.pair.result) 2 long) (λ none. absurd (cc)) c.give.ensures.stage
     c.give.ensures.same c.give.ensures.chain) s.2 in
-    rw (c.in-Index.is, s.1) (rw c.pair.ensures at here)
+    rw c.in-Index.is (record { after = record loaded { index = Some c.args.bytes.now }; adds = refl; comes = rw s.1 (rw c.pair.ensures at here) })
 
 pub returns-in-RingEntry : goal.returns-in-RingEntry
 returns-in-RingEntry c = λ loaded stands.
@@ -34,4 +34,4 @@ returns-in-RingEntry c = λ loaded stands.
     (λ none. not_none loaded.index s.1 none) (λ none. absurd (cc)) (begins_of w.layout w.position q c.give-in-RingEntry.result s.0 c.give-in-RingEntry.ensures.chain) told in
     let comes = rw c.deref-in-RingEntry.ensures at c.told.ensures in
     let here = comes (record { index = loaded.index; entry = Some c.pair-in-RingEntry.result; entries = [] }) tells s.5 in
-    rw (c.in-RingEntry.is, s.4) (rw c.pair-in-RingEntry.ensures at here)
+    rw c.in-RingEntry.is (record { after = record loaded { entry = Some c.args.bytes.now }; adds = refl; comes = rw s.4 (rw c.pair-in-RingEntry.ensures at here) })

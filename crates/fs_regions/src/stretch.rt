@@ -1,0 +1,144 @@
+//! A stretch of a table: how long a load of it is, and how a walk goes through its bytes.
+
+ghost use Rattle.std.specs.Prelude.{◌≡◌, ◌⊎◌, ℕ, ◌+◌, ◌*◌, ◌<◌, ◌≤◌, [], ◌∷◌, ◌++◌, List, Some, None, true, false, length, take, drop, IfSome};
+ghost use Rattle.smallvec.specs.SmallVec.{HasRoomFor};
+ghost use Rattle.vm_iotlb.specs.declared.permissions.Permissions.TheVariants.{Read};
+ghost use Rattle.vm_memory.specs.Layout.{left_at};
+ghost use Rattle.vm_memory.specs.Memory.{reach};
+ghost use Rattle.fs_queue.specs.Chain.{entry_address};
+ghost use Rattle.fs_queue.specs.Loads.{Load, Ahead, Reads};
+ghost use Rattle.fs_queue.specs.SteppingView.{ahead_of, load_of, visit_of, IfWants};
+ghost use Rattle.fs_regions.specs.Places.{places_in};
+ghost use Rattle.fs_regions.specs.Stretches.{ReadsStretch};
+ghost use Rattle.fs_regions.specs.Walks.{is_in, Brings};
+
+use crate::entries::{ENTRY_LEN, MOST_ENTRIES};
+use crate::regions::GuestRegions;
+use fs_queue::{ChainWalk, Descriptors, Progress};
+
+// How many entries a walk asks for at most: of a table that a descriptor names those up to its end, as many as the chain may still take descriptors, and no more
+// than 256; of the queue's own the one that it is at.
+fn most_entries(walk: &ChainWalk, may_join: usize) -> u16
+    ensures some { 0 < result }
+    ensures few { result ≤ 256 }
+    ensures inside { walk.now.index + result ≤ walk.now.table.entries }
+    ensures stretch { 1 < result → (walk.now.table.indirect ≡ true) × (result ≤ may_join) }
+    ensures most { (n : ℕ) → n ≤ 256 → walk.now.index + n ≤ walk.now.table.entries → (1 < n → (walk.now.table.indirect ≡ true) × (n ≤ may_join)) → n ≤ result }
+{
+    let (table, index) = walk.entry();
+    if !table.indirect {
+        return 1;
+    }
+    let left = (table.entries - u32::from(index)) as usize;
+    let most = left.min(may_join).min(usize::from(MOST_ENTRIES));
+    most.max(1) as u16
+}
+
+// How many of some entries that follow one another in a table stand in the region of the first one; 1 if this one goes over its end.
+fn entries_in_region(regions: &GuestRegions, walk: &ChainWalk, most: u16) -> u16
+    requires some { 0 < most }
+    requires inside { walk.now.index + most ≤ walk.now.table.entries }
+    ensures some { 0 < result }
+    ensures few { result ≤ most }
+    ensures region { 1 < result → 16 * result ≤ left_at regions.now (entry_address (visit_of walk.now)) }
+    ensures most { reach (places_in regions.now) Read (entry_address (visit_of walk.now)) 16 ≡ true
+        → (n : ℕ) → n ≤ most → (1 < n → 16 * n ≤ left_at regions.now (entry_address (visit_of walk.now))) → n ≤ result }
+    ensures there { let m = places_in regions.now in let a = entry_address (visit_of walk.now) in reach m Read a 16 ≡ true → reach m Read a (16 * result) ≡ true }
+{
+    if most == 1 {
+        return 1;
+    }
+    match regions.window_at(walk.address(), ENTRY_LEN * usize::from(most)) {
+        Some(window) => (window.len() / ENTRY_LEN).max(1) as u16,
+        None => 1,
+    }
+}
+
+/// How many entries a walk asks for at once: at least the one that it is at. More are of a table that a descriptor names, stand in one region, and are no
+/// more than the descriptors that may still join the chain: as many as these bounds let it have.
+pub(crate) fn stretch_len(regions: &GuestRegions, walk: &ChainWalk, may_join: usize) -> u16
+    ensures some { 0 < result }
+    ensures few { result ≤ 256 }
+    ensures inside { walk.now.index + result ≤ walk.now.table.entries }
+    ensures stretch { 1 < result → (walk.now.table.indirect ≡ true) × (16 * result ≤ left_at regions.now (entry_address (visit_of walk.now))) × (result ≤ may_join) }
+    ensures most { reach (places_in regions.now) Read (entry_address (visit_of walk.now)) 16 ≡ true → (n : ℕ) → n ≤ 256 → walk.now.index + n ≤ walk.now.table.entries
+        → (1 < n → (walk.now.table.indirect ≡ true) × (16 * n ≤ left_at regions.now (entry_address (visit_of walk.now))) × (n ≤ may_join)) → n ≤ result }
+    ensures there { let m = places_in regions.now in let a = entry_address (visit_of walk.now) in reach m Read a 16 ≡ true → reach m Read a (16 * result) ≡ true }
+{
+    entries_in_region(regions, walk, most_entries(walk, may_join))
+}
+
+// The sixteen bytes of an entry, out of those of a stretch.
+fn entry_of(bytes: &[u8], offset: usize) -> [u8; 16]
+    requires { offset + 16 ≤ length bytes.now }
+    ensures { result ≡ take 16 (drop offset bytes.now) }
+{
+    let mut entry = [0u8; 16];
+    entry.copy_from_slice(&bytes[offset..][..16]);
+    entry
+}
+
+// Where the entry that a walk asks for stands in a stretch of so many bytes, if it is to be read out there: `left` more are.
+fn offset_in(walk: &ChainWalk, from: u64, len: usize, left: u16) -> Option<usize>
+    ensures some { IfSome result (λ offset. (entry_address (visit_of walk.now) ≡ from + offset) × (offset + 16 ≤ len) × (0 < left)) }
+    ensures none { result ≡ None → (is_in from len (entry_address (visit_of walk.now)) ≡ false) ⊎ (left ≡ 0) }
+{
+    let address = walk.address();
+    if left == 0 || address < from || (len as u64) < address - from + 16 {
+        return None;
+    }
+    Some((address - from) as usize)
+}
+
+// Reads the entry that a walk asks for out of a stretch: a descriptor that joins the chain by it comes into the list.
+#[inline(always)]
+fn read_entry(
+    walk: ChainWalk,
+    bytes: &[u8],
+    offset: usize,
+    descriptors: &mut Descriptors,
+) -> Progress
+    requires inside { offset + 16 ≤ length bytes.now }
+    requires room { HasRoomFor descriptors.old 1 }
+    ensures brings { (ls : List Load) (start : Ahead) → Brings walk.size ls start descriptors.old.items (Reads (visit_of walk))
+        → Brings walk.size (ls ++ load_of walk (Some (take 16 (drop offset bytes.now))) ∷ []) start descriptors.new.items (ahead_of result) }
+    ensures size { IfWants result (λ w. w.size ≡ walk.size) }
+    ensures room { (more : ℕ) → HasRoomFor descriptors.old (1 + more) → HasRoomFor descriptors.new more }
+{
+    let given = walk.give(Some(entry_of(bytes, offset)));
+    match given.joins {
+        Some(descriptor) => descriptors.push_reserved(descriptor),
+        None => {}
+    }
+    given.then
+}
+
+/// Takes a walk through the bytes of a stretch, entry by entry, as long as the next one stands there, and no more than the stretch has.
+#[inline(always)]
+pub(crate) fn read_stretch(
+    walk: ChainWalk,
+    entries: u16,
+    bytes: &[u8],
+    descriptors: &mut Descriptors,
+) -> Progress
+    requires some { 0 < entries }
+    requires bytes { length bytes.now ≡ 16 * entries }
+    requires room { HasRoomFor descriptors.old entries }
+    ensures { ReadsStretch walk bytes.now descriptors.old.items descriptors.new.items result }
+{
+    let from = walk.address();
+    let mut left = entries - 1;
+    let mut progress = read_entry(walk, bytes, 0, descriptors);
+    'entries: loop {
+        match progress {
+            Progress::Ends(walked) => return Progress::Ends(walked),
+            Progress::Wants(next) => match offset_in(&next, from, bytes.len(), left) {
+                None => return Progress::Wants(next),
+                Some(offset) => {
+                    progress = read_entry(next, bytes, offset, descriptors);
+                    left -= 1;
+                }
+            },
+        }
+    }
+}
