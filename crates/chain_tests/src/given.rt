@@ -1,5 +1,8 @@
 //! What the tests share: a queue, a workbench, and a chain that asks for a name.
 
+ghost use Rattle.std.specs.Prelude.{◌≡◌, None};
+ghost use Rattle.fs_chain.specs.declared.state.State.TheVariants as at;
+
 use fs_chain::{KeptQueue, WalkOutcome, Went, Workbench};
 use fs_queue::QueueLayout;
 use fs_regions::{GuestRegions, MemoryRegion};
@@ -13,13 +16,17 @@ pub fn expect_same<T: PartialEq + Debug + Drop>(rt: &impl Abort, found: T, want:
     assert_eq!(rt; found, want);
 }
 
-/// A workbench over one page at 0.
-pub fn workbench(rt: &impl Abort, alloc: Global) -> Workbench {
+/// A free workbench over one page at 0.
+pub fn workbench(rt: &impl Abort, alloc: Global) -> Workbench
+    ensures { result.state ≡ at.Free }
+{
     workbench_over(rt, alloc, &[0])
 }
 
-/// A workbench over pages at these addresses: the number of each is its place here.
-pub fn workbench_over(rt: &impl Abort, alloc: Global, pages: &[u64]) -> Workbench {
+/// A free workbench over pages at these addresses: the number of each is its place here.
+pub fn workbench_over(rt: &impl Abort, alloc: Global, pages: &[u64]) -> Workbench
+    ensures { result.state ≡ at.Free }
+{
     let mut regions = Vec::new(alloc);
     for page in pages {
         let region = MemoryRegion::new(*page, 0x1000, regions.len()).expect(rt, "a region");
@@ -32,7 +39,9 @@ pub fn workbench_over(rt: &impl Abort, alloc: Global, pages: &[u64]) -> Workbenc
 }
 
 /// A queue of four descriptors: its table at 0, its rings at 0x50 and 0x60.
-pub fn queue(rt: &impl Abort) -> KeptQueue {
+pub fn queue(rt: &impl Abort) -> KeptQueue
+    ensures { result.stopped ≡ None }
+{
     KeptQueue {
         layout: QueueLayout::new(4, 0, 0x50, 0x60).expect(rt, "a layout"),
         position: 0xffff,

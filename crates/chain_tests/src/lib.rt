@@ -17,3 +17,5 @@ mod returns;
 mod tables;
 #[cfg(test)]
 mod walks;
+#[cfg(test)]
+mod wholes;

@@ -3,3 +3,8 @@ pub mod LoadLemmas
 pub mod Offering
 pub mod Passing
 pub mod Steps
+pub mod WholeCalls
+pub mod WholeChains
+pub mod WholeOffers
+pub mod WholeSteps
+pub mod WholeWalks

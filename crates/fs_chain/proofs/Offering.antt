@@ -62,6 +62,7 @@ goes_on law loaded course walk bytes old new before after told running here walk
     let went : GoesOnUnless None course walk bytes old new before after told = subst (λ (o : Option QueueError). GoesOnUnless o course walk bytes old new before after told) running from in
     let by : ComesBy (places_in old.regions) course.limit (queue_of course) loaded walk bytes new.descriptors.items went.0 = went.2 loaded stands in record {
       came = went.0;
+      told_so = went.1.0;
       after = by.after;
       adds = by.adds;
       offers = λ h request has.

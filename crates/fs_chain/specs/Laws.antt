@@ -15,7 +15,7 @@ use Rattle.fs_chain.specs.declared.state.State.TheVariants as at
 use Rattle.fs_chain.specs.declared.walking.WalkOutcome as walked
 use Rattle.fs_chain.specs.declared.walking.WalkOutcome.TheVariants as tells
 use Rattle.fs_chain.specs.declared.workbench.Workbench.{Workbench}
-use Rattle.fs_chain.specs.Walks.{WalksOn, course_of}
+use Rattle.fs_chain.specs.Walks.{WalksOn, course_of, told_of}
 
 -- what a walk tells, of these descriptors, is this offer; a chain without a fault, if so many bytes are its request; a load leaves it open
 abbrev pub IsTold : List Descriptor → walked.WalkOutcome → (request : List ℕ) → Offer → Type 0
@@ -32,6 +32,7 @@ TellsOffer m course new told request = IsTold new.descriptors.items told request
 -- what a walk that goes on tells is what the queue offers in each memory of the handle's regions that has the walk's loads, which these bytes added to, and the request's bytes
 pub record GoesOnByLoads (loaded : Loaded) (course : Course) (walk : QueueWalk) (bytes : List ℕ) (old new : Workbench) (told : walked.WalkOutcome) : Type 0 where
   pub came : comes.Step
+  pub told_so : told ≡ told_of new.descriptors.items came
   pub after : Loaded
   pub adds : AddsBytes walk bytes came loaded after
   pub offers : (h : Host) (request : List ℕ) → HasLoaded (memory_of h old.regions) (queue_of course) after request → TellsOffer (memory_of h old.regions) course new told request

@@ -9,3 +9,4 @@ pub mod OwnReplies
 pub mod Passing
 pub mod Returns
 pub mod Walks
+pub mod Whole

@@ -1,8 +1,10 @@
-//! A law of the definitions: the contract of a function that does nothing.
+//! Laws of the definitions: contracts of functions that do nothing.
 
 ghost use Rattle.fs_chain.specs.Laws.{WalksAreOffers};
+ghost use Rattle.fs_chain.specs.Whole.{ChainIsStep, ChainIsStepBy, FaultyIsStepBy, IdleIsStepBy, RefusalIsStepBy, WantedHasAPlace};
 
 use fs_regions::laws::law_offers;
+use fuse_fs::FileSystem;
 
 /// Whatever a walk tells of a queue that wasn't stopped, a memory of the handle's regions that has all its loads offers just that:
 /// nothing, a refusal, or the chain, with its fault or with its request and the addresses of its room.
@@ -11,3 +13,15 @@ pub fn law_walks()
 {
     law_offers();
 }
+
+/// Whatever the guest writes meanwhile, what the calls of a handle come to from a walk's beginning to a chain's return is the plain machine's step by
+/// what was loaded: the file calls, the stores, and the answer to whether the driver wants to be told. Over a memory that has what was loaded it is
+/// the machine's step. What a walk wants has a place. Listings are left out.
+pub fn law_chains<F: FileSystem>()
+    ensures places { WantedHasAPlace }
+    ensures idle { IdleIsStepBy F.may }
+    ensures refused { RefusalIsStepBy F.may }
+    ensures faulty { FaultyIsStepBy F.may }
+    ensures served { ChainIsStepBy F.may }
+    ensures memory { ChainIsStep F.may }
+{}

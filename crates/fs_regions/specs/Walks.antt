@@ -129,10 +129,10 @@ MayBeAsked m q ds v n =
     (n ≤ 256) × (v.index + n ≤ v.table.entries) × (1 < n → (v.table.indirect ≡ true) × (16 * n ≤ left_at m.layout (entry_address v)) × (length ds + n ≤ q.size))
 
 -- a stretch has the most that may be
-abbrev pub IsStretch : Memory → Queue → List Descriptor → QueueWalk → Type 0
-IsStretch m q ds (at.Entries w) =
+abbrev pub IsLongestStretch : Memory → Queue → List Descriptor → QueueWalk → Type 0
+IsLongestStretch m q ds (at.Entries w) =
     MayBeAsked m q ds (visit_of w.walk) w.entries × ((n : ℕ) → MayBeAsked m q ds (visit_of w.walk) n → n ≤ w.entries)
-IsStretch m q ds _ = Unit {0}
+IsLongestStretch m q ds _ = Unit {0}
 
 -- whether an entry at an address stands whole in n bytes from another on
 abbrev pub is_in : (from n address : ℕ) → Bool
@@ -188,7 +188,7 @@ FetchesBy m limit q loaded ds head None =
 
 -- what a walk comes to by the loads so far
 abbrev pub ComesTo : Memory → (limit : ℕ) → Queue → Loaded → List Descriptor → comes.Step → Type 0
-ComesTo m limit q loaded ds (step.Load w) = StandsAt m q loaded ds w × IsThere m w × IsStretch m q ds w
+ComesTo m limit q loaded ds (step.Load w) = StandsAt m q loaded ds w × IsThere m w × IsLongestStretch m q ds w
 ComesTo m limit q loaded ds step.Idle = OffersBy m limit q loaded [] Idle
 ComesTo m limit q loaded ds (step.Refused e) = OffersBy m limit q loaded [] (Refuses e)
 ComesTo m limit q loaded ds (step.Chain head fault) = FetchesBy m limit q loaded ds head fault

@@ -1,0 +1,90 @@
+-- A chain that is walked, asked, answered and returned, call by call.
+use Rattle.std.proofs.Common.{◌≡◌, ℕ, List, [], length, Some, None, Result, Ok, Err, IfOk, OnOk, refl, subst, sym, ap, arith}
+use Rattle.std.proofs.lemmas.List.{take_all}
+use Rattle.fs_queue.specs.Chain.{Descriptor}
+use Rattle.fs_queue.specs.Returning.{tells}
+use Rattle.fs_regions.specs.declared.course.Course.{Course}
+use Rattle.fs_regions.specs.declared.step.Step as comes
+use Rattle.fs_regions.specs.declared.step.Step.TheVariants as step
+use Rattle.fs_device.specs.StepBy.{Act}
+use Rattle.server_phases.specs.Asking.{IsFront}
+use Rattle.fs_chain.specs.declared.loads.Went.TheVariants as wents
+use Rattle.fs_chain.specs.declared.queue.KeptQueue.{KeptQueue}
+use Rattle.fs_chain.specs.declared.returning.Stores.{Stores}
+use Rattle.fs_chain.specs.declared.state.Out.{Out}
+use Rattle.fs_chain.specs.declared.state.State as state
+use Rattle.fs_chain.specs.declared.state.State.TheVariants as at
+use Rattle.fs_chain.specs.declared.walking.WalkOutcome as walked
+use Rattle.fs_chain.specs.declared.walking.WalkOutcome.TheVariants as says
+use Rattle.fs_chain.specs.declared.workbench.Workbench.{Workbench}
+use Rattle.fs_chain.specs.Asking.{IfTaken}
+use Rattle.fs_chain.specs.Orders.{front_len, return_error}
+use Rattle.fs_chain.specs.Returns.{IfHasReply, ReturnsBy}
+use Rattle.fs_chain.specs.Walks.{course_of, state_after, told_of}
+use Rattle.fs_chain.specs.Whole.{FromTaken, GoesBackBy, IsWalked, acts_of}
+use Rattle.fs_chain.proofs.WholeWalks.{walk_comes}
+
+abbrev IsAChain : walked.WalkOutcome → Type 0
+IsAChain (says.Chain head n r) = Unit {0}
+IsAChain _ = ⊥
+
+abbrev request_in : walked.WalkOutcome → ℕ
+request_in (says.Chain head n r) = n
+request_in _ = 0
+
+by_came : (ds : List Descriptor) (came : comes.Step) (course : Course) (st : state.State) (head n r : ℕ) → says.Chain head n r ≡ told_of ds came → st ≡ state_after course ds came →
+    FromTaken st (λ out. out.request_len ≡ n)
+by_came ds (step.Load walk) course st head n r told is = absurd (subst IsAChain told tt)
+by_came ds step.Idle course st head n r told is = absurd (subst IsAChain told tt)
+by_came ds (step.Refused e) course st head n r told is = absurd (subst IsAChain told tt)
+by_came ds (step.Chain h None) course st head n r told is = subst (λ (s : state.State). FromTaken s (λ out. out.request_len ≡ n)) (sym is) (sym (ap request_in told))
+by_came ds (step.Chain h (Some fault)) course st head n r told is = absurd (subst IsAChain told tt)
+
+-- a chain that was walked has as many bytes of request as were told
+pub taken_so : (old new : Workbench) (before after : KeptQueue) (head n r : ℕ) → before.stopped ≡ None → IsWalked old new before after (wents.On (says.Chain head n r)) →
+    FromTaken new.state (λ out. out.request_len ≡ n)
+taken_so old new before after head n r goes walked =
+    let came = walk_comes walked.0 old new before after (says.Chain head n r) goes walked.1 in
+    by_came new.descriptors.items came.2.0 (course_of before old.limit) new.state head n r came.2.1.0 came.2.1.1
+
+-- of a chain that is out, both
+pub both_taken : (st : state.State) (P Q : Out → Type 0) → FromTaken st P → IfTaken st Q → FromTaken st (λ out. P out × Q out)
+both_taken (at.Taken out) P Q p q = (p, q)
+both_taken at.Free P Q p q = absurd p
+both_taken (at.Walking course walk) P Q p q = absurd p
+both_taken (at.Waits out w) P Q p q = absurd p
+both_taken (at.Lists out l) P Q p q = absurd p
+both_taken (at.HasReply out reply) P Q p q = absurd p
+both_taken (at.Returning out) P Q p q = absurd p
+
+pub more_taken : (st : state.State) (P Q : Out → Type 0) → ((out : Out) → P out → Q out) → FromTaken st P → FromTaken st Q
+more_taken (at.Taken out) P Q more p = more out p
+more_taken at.Free P Q more p = p
+more_taken (at.Walking course walk) P Q more p = p
+more_taken (at.Waits out w) P Q more p = p
+more_taken (at.Lists out l) P Q more p = p
+more_taken (at.HasReply out reply) P Q more p = p
+more_taken (at.Returning out) P Q more p = p
+
+pub whole_front : (request : List ℕ) → IsFront request request
+whole_front request = take_all (length request) request (omega arith)
+
+-- a chain whose reply is known goes back by what begin_return told
+pub goes_back : (st : state.State) (q : KeptQueue) (len : ℕ) (s : Stores) (flags : List ℕ) (room : List ℕ) → return_error st q len ≡ None → length flags ≡ 2 →
+    IfHasReply st (λ out reply. ReturnsBy out reply s) → (acts : List Act) × (last : ℕ) × GoesBackBy room [] st acts last (tells flags)
+goes_back (at.HasReply out reply) q len s flags room can two back =
+    (acts_of room reply [] s flags, front_len reply, record { stores = s; flags = flags; flags_len = two; returns = (back, (refl, refl)); notified = refl })
+goes_back at.Free q len s flags room can two back = absurd (cc)
+goes_back (at.Walking course walk) q len s flags room can two back = absurd (cc)
+goes_back (at.Taken out) q len s flags room can two back = absurd (cc)
+goes_back (at.Waits out w) q len s flags room can two back = absurd (cc)
+goes_back (at.Lists out l) q len s flags room can two back = absurd (cc)
+goes_back (at.Returning out) q len s flags room can two back = absurd (cc)
+
+pub if_ok : {A E : Type 0} (r : Result A E) (P Q : A → Type 0) → ((a : A) → P a → Q a) → IfOk r P → IfOk r Q
+if_ok (Ok a) P Q more p = more a p
+if_ok (Err e) P Q more p = tt
+
+pub if_ok_so : {A E : Type 0} (r : Result A E) (P Q : A → Type 0) (S : Type 0) → ((a : A) → P a → S → Q a) → IfOk r P → OnOk r S → IfOk r Q
+if_ok_so (Ok a) P Q S more p s = more a p s
+if_ok_so (Err e) P Q S more p s = tt

@@ -1,0 +1,176 @@
+//! What calls of a handle come to from a walk's beginning on is a step of the plain machine.
+
+ghost use Rattle.std.specs.Prelude.{◌≡◌, ℕ, List, [], length, Option, None, Ok, IfOk, OnOk, true};
+ghost use Rattle.fuse_fs.specs.Calls.{FileRun};
+ghost use Rattle.server_phases.specs.Answering.{TellsBytes};
+ghost use Rattle.fs_device.specs.Step.{Calls, Exchange, Exchanged, State, Idle, Refused, with_queue};
+ghost use Rattle.fs_device.specs.StepBy.{Act, Effects, StepBy, StepLoads};
+ghost use Rattle.fs_device.specs.declared.error.DeviceError.TheVariants as device;
+ghost use Rattle.fs_queue.specs.Taking.{after_refusal};
+ghost use Rattle.fs_queue.specs.declared.fault.QueueError.{QueueError};
+ghost use Rattle.fs_regions.specs.Walks.{queue_of};
+ghost use Rattle.fs_chain.specs.Walks.{course_of};
+ghost use Rattle.fs_chain.specs.Whole.{FromTaken, GoesBackBy, HasReply, IsAskedBy, IsBefore, IsSession, IsWalked, WantsBytes, after_chain, data_behind, no_effects};
+ghost use Rattle.fs_chain.specs.declared.answering.Replied.{Replied};
+ghost use Rattle.fs_chain.specs.declared.asking.Told as told;
+ghost use Rattle.fs_chain.specs.declared.state.State.TheVariants as at;
+
+use crate::given::{LOADS, LOOKUP, expect_same, queue, session, workbench};
+use call_log::CallLog;
+use fs_chain::laws::law_chains;
+use fs_chain::{ChainError, KeptQueue, Told, WalkOutcome, Went, Workbench};
+use fs_queue::QueueError;
+use fuse_fs::FileSystem;
+use fuse_values::FileAnswer;
+use fuse_wire::Errno;
+use server_phases::Session;
+
+// Whether a call of walk wants bytes.
+fn wants_bytes(told: &Went) -> bool
+    ensures { result ≡ true → WantsBytes told.now }
+{
+    matches!(told, Went::Part | Went::On(WalkOutcome::Load(_)))
+}
+
+// A walk by these bytes, a call for each, as long as it wants some.
+#[tactic(auto, using(fs_chain::proofs::WholeWalks::begins_by, fs_chain::proofs::WholeWalks::goes_on_by))]
+fn walk_by(
+    workbench: &mut Workbench,
+    queue: &mut KeptQueue,
+    given: &[&[u8]],
+) -> Result<Went, ChainError>
+    requires free { workbench.old.state ≡ at.Free }
+    ensures walks { IfOk result (λ told. IsWalked workbench.old workbench.new queue.old queue.new told) }
+{
+    let mut told = workbench.walk(queue, &[])?;
+    for bytes in given {
+        if !wants_bytes(&told) {
+            return Ok(told);
+        }
+        told = workbench.walk(queue, bytes)?;
+    }
+    Ok(told)
+}
+
+// A walk that finds nothing is an idle step, and one that is refused a step that stops the queue.
+fn look<F: FileSystem>(
+    workbench: &mut Workbench,
+    queue: &mut KeptQueue,
+    given: &[&[u8]],
+) -> Result<Went, ChainError>
+    requires free { workbench.old.state ≡ at.Free }
+    ensures idle { result ≡ Ok (Went.On WalkOutcome.Idle) → (i : ℕ) (m : State F) → IsBefore workbench.old queue.old i m
+        → (l : StepLoads) × StepBy F.may m i l [] Idle no_effects m }
+    ensures refused { (e : QueueError) (i : ℕ) (m : State F) → result ≡ Ok (Went.On (WalkOutcome.Refused e)) → IsBefore workbench.old queue.old i m
+        → (l : StepLoads) × StepBy F.may m i l [] (Refused (device.Queue e)) no_effects (with_queue m i (after_refusal (queue_of (course_of queue.old workbench.old.limit)) e)) }
+{
+    law_chains::<F>();
+    walk_by(workbench, queue, given)
+}
+
+// A walk that comes to a chain: its head, how many bytes its request has, and how many its room.
+fn walk_chain(
+    workbench: &mut Workbench,
+    queue: &mut KeptQueue,
+    given: &[&[u8]],
+) -> Result<(u16, usize, usize), ChainError>
+    requires free { workbench.old.state ≡ at.Free }
+    ensures walked { IfOk result (λ c. IsWalked workbench.old workbench.new queue.old queue.new (Went.On (WalkOutcome.Chain c.0 c.1 c.2))) }
+{
+    match walk_by(workbench, queue, given)? {
+        Went::On(
+            WalkOutcome::Chain {
+                head,
+                request_len,
+                room_len,
+            },
+        ) => Ok((head, request_len, room_len)),
+        _ => Err(ChainError::WrongOrder),
+    }
+}
+
+// A chain is asked by its whole request, and its call, if there is one, is answered.
+fn reply(
+    workbench: &mut Workbench,
+    session: Session,
+    request: &[u8],
+    answer: FileAnswer,
+) -> Result<(), ChainError>
+    requires taken { FromTaken workbench.old.state (λ out. out.request_len ≡ length request.now) }
+    requires data { TellsBytes [] answer }
+    ensures replied { OnOk result ((made : told.Told) × (asked : Workbench) × (given : Option (FileAnswer × List ℕ × Replied))
+        × IsAskedBy workbench.old session request.now request.now made asked × HasReply made asked given workbench.new × (data_behind given ≡ [])) }
+{
+    match workbench.ask(session, request)? {
+        Told::Call(_) => match workbench.answer(answer) {
+            Ok(_) => Ok(()),
+            Err(error) => Err(error),
+        },
+        Told::More(_) => Err(ChainError::BadArgument),
+        Told::Nothing => Ok(()),
+        Told::Fault(_) => Ok(()),
+    }
+}
+
+// A chain whose reply is known goes back to a driver that wants to be told.
+fn give_back(workbench: &mut Workbench, queue: &mut KeptQueue) -> Result<bool, ChainError>
+    ensures back { IfOk result (λ notice. (room : List ℕ) → (acts : List Act) × (last : ℕ) × GoesBackBy room [] workbench.old.state acts last notice) }
+    ensures session { OnOk result (workbench.new.session ≡ workbench.old.session) }
+{
+    let mut front = [0u8; 160];
+    let _stores = workbench.begin_return(queue, &mut front)?;
+    workbench.end_return(queue, [0, 0])
+}
+
+// A chain from its walk to its return, whose answer has no data and which lists nothing, is a step.
+fn serve<F: FileSystem>(
+    workbench: &mut Workbench,
+    queue: &mut KeptQueue,
+    given: &[&[u8]],
+    session: Session,
+    request: &[u8],
+    answer: FileAnswer,
+) -> Result<bool, ChainError>
+    requires free { workbench.old.state ≡ at.Free }
+    requires goes { queue.old.stopped ≡ None }
+    requires data { TellsBytes [] answer }
+    ensures step { IfOk result (λ notice. (i : ℕ) (m : State F) (files : F) → IsBefore workbench.old queue.old i m → IsSession session m
+        → (calls : Calls) × (FileRun F.may m.files calls files → (l : StepLoads) × (x : Exchange) × (e : Effects) × (x.request ≡ request.now)
+        × StepBy F.may m i l calls (Exchanged x notice) e (after_chain m i (queue_of (course_of queue.old workbench.old.limit)) workbench.new.session.options.0 files))) }
+{
+    law_chains::<F>();
+    let (_, request_len, _) = walk_chain(workbench, queue, given)?;
+    if request_len != request.len() {
+        return Err(ChainError::BadArgument);
+    }
+    reply(workbench, session, request, answer)?;
+    give_back(workbench, queue)
+}
+
+#[test]
+fn an_index_at_the_position_is_an_idle_step(rt: HostRuntime) {
+    let mut workbench = workbench(&rt, rt.alloc());
+    let mut queue = queue(&rt);
+    let index = &[[0xff, 0xff].as_slice()];
+    let told = look::<CallLog>(&mut workbench, &mut queue, index);
+    expect_same(&rt, told, Ok(Went::On(WalkOutcome::Idle)));
+}
+
+#[test]
+fn a_head_outside_of_the_table_is_a_step_that_stops_the_queue(rt: HostRuntime) {
+    let mut workbench = workbench(&rt, rt.alloc());
+    let mut queue = queue(&rt);
+    let loads = &[[0, 0].as_slice(), [4, 0].as_slice()];
+    let told = look::<CallLog>(&mut workbench, &mut queue, loads);
+    let refused = WalkOutcome::Refused(QueueError::HeadOutOfTable);
+    expect_same(&rt, told, Ok(Went::On(refused)));
+}
+
+#[test]
+fn a_name_that_is_not_there_is_a_step(rt: HostRuntime) {
+    let mut workbench = workbench(&rt, rt.alloc());
+    let mut queue = queue(&rt);
+    let answer = FileAnswer::Failed(Errno::ENOENT);
+    let told = serve::<CallLog>(&mut workbench, &mut queue, LOADS, session(), LOOKUP, answer);
+    expect_same(&rt, told, Ok(true));
+}

@@ -1,0 +1,426 @@
+-- A whole chain.
+use Rattle.std.proofs.Common.{◌≡◌, ℕ, ◌≤◌, ◌^◌, Bool, true, false, List, [], ◌∷◌, ◌++◌, length, map, Option, Some, None, slice_get, refl, subst, sym, ap, ◌∙◌}
+use Rattle.std.specs.Prelude.{drop, All, unwrap_or}
+use Rattle.std.proofs.lemmas.List.Elements.{All-head, All-tail}
+use Rattle.vm_iotlb.specs.declared.permissions.Permissions.TheVariants.{Read}
+use Rattle.fs_queue.proofs.ConfinedLemmas.{only_places_count}
+use Rattle.vm_memory.specs.Memory.{Memory, memory_of, reach}
+use Rattle.fs_queue.specs.Chain.{Descriptor}
+use Rattle.fs_queue.specs.Queue.{Queue, avail_index_at, ring_entry_at}
+use Rattle.fs_queue.specs.Loads.{Load, AreEntriesOf, IsEntryOf, IsLoadOf}
+use Rattle.fs_queue.specs.OfferLoads.{offer_by}
+use Rattle.fs_queue.specs.Taking.{Offer, Offers, Refuses, CannotFetch, IsRequest, readable, writable, total_len, addresses_of, after_refusal}
+use Rattle.fs_queue.specs.Taking as taking
+use Rattle.fs_queue.specs.declared.fault.ChainFault.{ChainFault}
+use Rattle.fs_queue.specs.declared.fault.QueueError.{QueueError}
+use Rattle.fs_queue.specs.declared.fault.QueueError.TheVariants as stop
+use Rattle.fs_queue.specs.Returning.{Store, stores_after_reply, tells}
+use Rattle.fs_queue.specs.ReturningView.{stores_of}
+use Rattle.fs_regions.specs.declared.course.Course.{Course}
+use Rattle.fs_regions.specs.declared.step.Step as comes
+use Rattle.fs_regions.specs.declared.step.Step.TheVariants as step
+use Rattle.fs_regions.specs.Places.{places_in}
+use Rattle.fs_regions.specs.Walks.{Loaded, queue_of, ComesTo, OffersBy, IsLost}
+use Rattle.fuse_fs.specs.Calls.{FileRun}
+use Rattle.fuse_values.specs.declared.answer.FileAnswer.{FileAnswer}
+use Rattle.virtiofsd_fuse.specs.Grammar.{meaning}
+use Rattle.virtiofsd_fuse.specs.Serving.{May, served, setting}
+use Rattle.virtiofsd_fuse.specs.Serving as serving_words
+use Rattle.server_phases.specs.Asking.{IsFront}
+use Rattle.server_phases.specs.declared.session.Session.{Session}
+use Rattle.fs_chain.specs.declared.answering.Replied.{Replied}
+use Rattle.fs_chain.specs.declared.asking.Told as told
+use Rattle.fs_chain.specs.declared.asking.Told.TheVariants as asks
+use Rattle.fs_chain.specs.declared.queue.KeptQueue.{KeptQueue}
+use Rattle.fs_chain.specs.declared.returning.Stores.{Stores}
+use Rattle.fs_chain.specs.declared.state.Out.{Out}
+use Rattle.fs_chain.specs.declared.state.State as state
+use Rattle.fs_chain.specs.declared.state.State.TheVariants as at
+use Rattle.fs_chain.specs.declared.walking.WalkOutcome as walked
+use Rattle.fs_chain.specs.declared.walking.WalkOutcome.TheVariants as says
+use Rattle.fs_chain.specs.declared.workbench.Workbench.{Workbench}
+use Rattle.fs_chain.specs.Asking.{KeepsCall, KeepsReply, TellsMeaning}
+use Rattle.fs_chain.specs.Answers.{IfWaits, IsGiven}
+use Rattle.fs_chain.specs.Orders.{front_len}
+use Rattle.fs_chain.specs.Returns.{ReturnsBy}
+use Rattle.fs_chain.specs.Walks.{count, course_of, out_of, faulty_out, no_reply, told_of, state_after}
+use Rattle.fs_device.specs.declared.error.DeviceError.TheVariants as device
+use Rattle.fs_device.specs.Step.{State, Exchange, Idle, Refused, Exchanged, Calls, with_queue, faulty}
+use Rattle.fs_device.specs.StepBy as act
+use Rattle.fs_device.specs.StepBy.{Act, ActsBy, AnswersBy, AreStepLoadsOf, ReturnsFaultyBy, return_acts, return_stores, Effects, FindFlags, IsOfMemory, MayStoreLast, StepBy, StepOfBy, offered_by}
+use Rattle.fs_device.proofs.StepByLemmas.{step_by_is_step}
+use Rattle.fs_chain.specs.Whole.{
+  ChainBy,
+  ChainIsStep,
+  ChainIsStepBy,
+  FaultyChainBy,
+  FaultyIsStepBy,
+  FromReplied,
+  FromTaken,
+  HasReply,
+  IdleIsStepBy,
+  IsBefore,
+  IsSession,
+  LoadsOfChain,
+  RefusalIsStepBy,
+  WalksBy,
+  acts_of,
+  after_chain,
+  data_behind,
+  file_calls,
+  no_effects,
+  step_loads,
+}
+use Rattle.fs_chain.proofs.WholeOffers.{is_within, fits_limit}
+use Rattle.fs_chain.proofs.WholeWalks.{walk_comes}
+use Rattle.fs_chain.proofs.WholeCalls.{AnsweredSo, by_call, by_fault, by_reply_kept}
+
+-- ---- what a walk came to that told a chain
+
+abbrev IsAChain : walked.WalkOutcome → Type 0
+IsAChain (says.Chain head n r) = Unit {0}
+IsAChain _ = ⊥
+
+abbrev head_in : walked.WalkOutcome → ℕ
+head_in (says.Chain head n r) = head
+head_in _ = 0
+
+abbrev room_in : walked.WalkOutcome → ℕ
+room_in (says.Chain head n r) = r
+room_in _ = 0
+
+abbrev request_in : walked.WalkOutcome → ℕ
+request_in (says.Chain head n r) = n
+request_in _ = 0
+
+came_is : (ds : List Descriptor) (came : comes.Step) (head n r : ℕ) → says.Chain head n r ≡ told_of ds came → (came ≡ step.Chain head None) × (n ≡ count false ds) × (r ≡ count true ds)
+came_is ds (step.Load walk) head n r e = absurd (subst IsAChain e tt)
+came_is ds step.Idle head n r e = absurd (subst IsAChain e tt)
+came_is ds (step.Refused error) head n r e = absurd (subst IsAChain e tt)
+came_is ds (step.Chain h None) head n r e = (ap (λ (x : ℕ). step.Chain x None) (sym (ap head_in e)), ap request_in e, ap room_in e)
+came_is ds (step.Chain h (Some fault)) head n r e = absurd (subst IsAChain e tt)
+
+-- ---- what was told of the request, and how it was answered
+
+told_so : {F : Type 0} (may : May F) (m : State F) (i : ℕ) (request room : List ℕ) (files : F) (s : Session) (out : Out) (made : told.Told) (asked answered : Workbench)
+    (given : Option (FileAnswer × List ℕ × Replied)) (used : Stores) (flags : List ℕ) (notice : Bool) (acts : List Act) (last : ℕ)
+    → m.page_size ≡ s.page_size → m.options ≡ s.options.0 → length room ≡ out.room_len → out.room_len ≤ 2 ^ 31
+    → TellsMeaning (setting s.page_size s.options.0 out.room_len) (meaning s.options.0 request out.room_len) (drop 80 request) out made asked.state
+    → asked.session ≡ s → HasReply made asked given answered
+    → FromReplied answered.state (λ reply s₁. (last ≡ front_len reply) × (acts ≡ acts_of room reply (data_behind given) s₁ flags)) used → length flags ≡ 2 → notice ≡ tells flags
+    → FileRun may m.files (file_calls (drop 80 request) made given) files
+    → AnsweredSo may m i (queue_of out.course) out.head request room (file_calls (drop 80 request) made given) notice acts last answered.session.options.0 files
+told_so may m i request room files s out (asks.Call c) asked answered (Some g) used flags notice acts last page options room_is small meant same has back two notified run =
+    let r = out.room_len in
+    let keeps : KeepsCall (setting m.page_size m.options r) (meaning m.options request r) (drop 80 request) c out asked.state =
+    subst (λ (o : ℕ). KeepsCall (setting m.page_size o r) (meaning o request r) (drop 80 request) c out asked.state) (sym options)
+    (subst (λ (p : ℕ). KeepsCall (setting p s.options.0 r) (meaning s.options.0 request r) (drop 80 request) c out asked.state) (sym page) meant) in
+    let o' = answered.session.options.0 in
+    let in_session : IfWaits asked.state (λ kept w. IsGiven (setting s.page_size s.options.0 w.room) w g.0 kept o' g.2 answered.state) =
+    subst (λ (x : Session). IfWaits asked.state (λ kept w. IsGiven (setting x.page_size x.options.0 w.room) w g.0 kept o' g.2 answered.state)) same has.3 in
+    let given_so : IfWaits asked.state (λ kept w. IsGiven (setting m.page_size m.options w.room) w g.0 kept o' g.2 answered.state) =
+    subst (λ (o : ℕ). IfWaits asked.state (λ kept w. IsGiven (setting m.page_size o w.room) w g.0 kept o' g.2 answered.state)) (sym options)
+    (subst (λ (p : ℕ). IfWaits asked.state (λ kept w. IsGiven (setting p s.options.0 w.room) w g.0 kept o' g.2 answered.state)) (sym page) in_session) in
+    by_call may m i request room (drop 80 request) files c g.0 g.1 g.2 out asked.state answered.state used flags notice acts last o' room_is small keeps has.0 has.1 given_so back two notified run
+told_so may m i request room files s out (asks.Call c) asked answered None used flags notice acts last page options room_is small meant same has back two notified run = absurd has
+told_so may m i request room files s out (asks.More n) asked answered given used flags notice acts last page options room_is small meant same has back two notified run = absurd has
+told_so may m i request room files s out asks.Nothing asked answered None used flags notice acts last page options room_is small meant same has back two notified run =
+    let r = out.room_len in
+    let keeps : KeepsReply (setting m.page_size m.options r) (meaning m.options request r) (drop 80 request) out asked.state =
+    subst (λ (o : ℕ). KeepsReply (setting m.page_size o r) (meaning o request r) (drop 80 request) out asked.state) (sym options)
+    (subst (λ (p : ℕ). KeepsReply (setting p s.options.0 r) (meaning s.options.0 request r) (drop 80 request) out asked.state) (sym page) meant) in
+    let back_so : FromReplied asked.state (λ reply s₁. (last ≡ front_len reply) × (acts ≡ acts_of room reply [] s₁ flags)) used =
+    subst (λ (w : Workbench). FromReplied w.state (λ reply s₁. (last ≡ front_len reply) × (acts ≡ acts_of room reply [] s₁ flags)) used) has back in
+    subst (λ (o : ℕ). AnsweredSo may m i (queue_of out.course) out.head request room [] notice acts last o files) (options ∙ sym (ap (λ (x : Session). x.options.0) same) ∙ sym (ap (λ (w : Workbench). w.session.options.0) has))
+    (by_reply_kept may m i request room (drop 80 request) files out asked.state used flags notice acts last room_is small keeps back_so two notified run)
+told_so may m i request room files s out asks.Nothing asked answered (Some g) used flags notice acts last page options room_is small meant same has back two notified run = absurd has
+told_so may m i request room files s out (asks.Fault e) asked answered None used flags notice acts last page options room_is small meant same has back two notified run =
+    let r = out.room_len in
+    let fault : served (setting m.page_size m.options r) (meaning m.options request r) [] ≡ serving_words.no_reply [] m.options (Some e) =
+    subst (λ (o : ℕ). served (setting m.page_size o r) (meaning o request r) [] ≡ serving_words.no_reply [] o (Some e)) (sym options)
+    (subst (λ (p : ℕ). served (setting p s.options.0 r) (meaning s.options.0 request r) [] ≡ serving_words.no_reply [] s.options.0 (Some e)) (sym page) meant.1) in
+    let back_so : FromReplied asked.state (λ reply s₁. (last ≡ front_len reply) × (acts ≡ acts_of room reply [] s₁ flags)) used =
+    subst (λ (w : Workbench). FromReplied w.state (λ reply s₁. (last ≡ front_len reply) × (acts ≡ acts_of room reply [] s₁ flags)) used) has back in
+    subst (λ (o : ℕ). AnsweredSo may m i (queue_of out.course) out.head request room [] notice acts last o files) (options ∙ sym (ap (λ (x : Session). x.options.0) same) ∙ sym (ap (λ (w : Workbench). w.session.options.0) has))
+    (by_fault may m i request room files out asked.state e used flags notice acts last room_is small meant.0 fault back_so two notified run)
+told_so may m i request room files s out (asks.Fault e) asked answered (Some g) used flags notice acts last page options room_is small meant same has back two notified run = absurd has
+
+-- a chain's loads, by which it is offered, and how it is answered
+chain_parts : {F : Type 0} (may : May F) (given : List (List ℕ)) (request : List ℕ) (calls : Calls) (acts : List Act) (last head i : ℕ) (notice : Bool)
+    (old new : Workbench) (before : KeptQueue) (s : Session) (m : State F) (files : F) (run : ChainBy given request calls acts last head notice old new before s)
+    → IsBefore old before i m → IsSession s m → FileRun may m.files calls files
+    → (loaded : Loaded) × LoadsOfChain given request calls acts last head notice old new before s run loaded
+    × OffersBy (places_in old.regions) old.limit (queue_of (course_of before old.limit)) loaded request (Offers head (IsRequest request (addresses_of (writable run.walked_bench.descriptors.items))))
+    × AnsweredSo may m i (queue_of (course_of before old.limit)) head request (addresses_of (writable run.walked_bench.descriptors.items)) calls notice acts last new.session.options.0 files
+chain_parts {F} may given request calls acts last head i notice old new before s m files run first session files_run =
+    let course = course_of before old.limit in
+    let q = queue_of course in
+    let ds = run.walked_bench.descriptors.items in
+    let all = walk_comes given old run.walked_bench before run.taken (says.Chain head run.lens.0 run.lens.1) first.goes run.walks in
+    let loaded = all.0 in
+    let came = all.2 in
+    let is = came_is ds came.0 head run.lens.0 run.lens.1 came.1.0 in
+    let out = out_of course head ds in
+    let room = addresses_of (writable ds) in
+    let state_is : run.walked_bench.state ≡ at.Taken out = came.1.1 ∙ ap (λ (c : comes.Step). state_after course ds c) is.0 in
+    let found : ComesTo (places_in old.regions) old.limit q loaded ds (step.Chain head None) = subst (λ (c : comes.Step). ComesTo (places_in old.regions) old.limit q loaded ds c) is.0 came.2 in
+    let fits = fits_limit (places_in old.regions) old.limit q loaded ds head first.bound found.1 in
+    let asked = subst (λ (st : state.State). FromTaken st (λ o. (o.request_len ≡ length request) × IsFront run.front request
+    × TellsMeaning (setting s.page_size s.options.0 o.room_len) (meaning s.options.0 request o.room_len) (drop 80 request) o run.made run.asked_bench.state
+    × (run.asked_bench.descriptors ≡ run.walked_bench.descriptors) × (run.asked_bench.session ≡ s))) state_is run.is_asked in
+    let len_is : length request ≡ total_len (readable ds) = sym asked.0 ∙ fits.0 in
+    let offers = found.1 request len_is in
+    let room_is : length room ≡ out.room_len = fits.1 in
+    let small : out.room_len ≤ 2 ^ 31 = fits.2 in
+    let so : AnsweredSo may m i q head request room (file_calls (drop 80 request) run.made run.given) notice acts last new.session.options.0 files =
+    told_so may m i request room files s out run.made run.asked_bench new run.given run.returns.stores run.returns.flags notice acts last session.0 session.1
+    room_is small asked.2 asked.4 run.replies run.returns.returns run.returns.flags_len run.returns.notified (subst (λ (cs : Calls). FileRun may m.files cs files) run.calls_are files_run) in
+    let with_calls : AnsweredSo may m i q head request room calls notice acts last new.session.options.0 files =
+    subst (λ (cs : Calls). AnsweredSo may m i q head request room cs notice acts last new.session.options.0 files) (sym run.calls_are) so in
+    (loaded, all.1, offers, with_calls)
+
+-- what loads offer is offered to the machine
+offered_so : {F : Type 0} (m : State F) (old : Workbench) (before : KeptQueue) (i : ℕ) (loaded : Loaded) (lost : List Load) (request : List ℕ) (o : Offer)
+    → IsBefore old before i m
+    → offer_by (places_in old.regions) old.limit (queue_of (course_of before old.limit)) loaded.index loaded.entry (loaded.entries ++ lost) request ≡ Some o
+    → offered_by m.memory m.limit (queue_of (course_of before old.limit)) (step_loads loaded lost request) ≡ Some o
+offered_so m old before i loaded lost request o first by =
+    let q = queue_of (course_of before old.limit) in
+    let l = step_loads loaded lost request in
+    subst (λ (mm : Memory). offered_by mm m.limit q l ≡ Some o) (sym first.places) (subst (λ (k : ℕ). offered_by (places_in old.regions) k q l ≡ Some o) (sym first.limit) by)
+
+pub chain_is_step_by : {F : Type 0} (may : May F) → ChainIsStepBy may
+chain_is_step_by {F} may given request calls acts last head i notice old new before s m files run first session files_run =
+    let q = queue_of (course_of before old.limit) in
+    let parts = chain_parts may given request calls acts last head i notice old new before s m files run first session files_run in
+    let loaded = parts.0 in
+    let offers = parts.2 in
+    let so = parts.3 in
+    let l = step_loads loaded offers.1 request in
+    let o = Offers head (IsRequest request (addresses_of (writable run.walked_bench.descriptors.items))) in (
+      loaded,
+      parts.1,
+      offers.1,
+      (offers.0, offers.2),
+      so.0,
+      so.1,
+      so.2,
+      subst (λ (mq : Option Queue). StepOfBy may m i mq l calls (Exchanged so.0 notice) (record { acts = acts; last = last }) (after_chain m i q new.session.options.0 files)) (sym first.queue)
+          (o, offered_so m old before i loaded offers.1 request o first offers.3, so.3),
+    )
+
+-- ---- walks that find no chain, and faulty chains
+
+abbrev IsIdle : walked.WalkOutcome → Type 0
+IsIdle says.Idle = Unit {0}
+IsIdle _ = ⊥
+
+abbrev error_in : walked.WalkOutcome → QueueError
+error_in (says.Refused e) = e
+error_in _ = stop.Stopped
+
+abbrev IsRefusal : walked.WalkOutcome → Type 0
+IsRefusal (says.Refused e) = Unit {0}
+IsRefusal _ = ⊥
+
+abbrev IsFaulty : walked.WalkOutcome → Type 0
+IsFaulty (says.Faulty head fault) = Unit {0}
+IsFaulty _ = ⊥
+
+abbrev faulty_head_in : walked.WalkOutcome → ℕ
+faulty_head_in (says.Faulty head fault) = head
+faulty_head_in _ = 0
+
+abbrev fault_in : walked.WalkOutcome → ChainFault → ChainFault
+fault_in (says.Faulty head fault) f = fault
+fault_in _ f = f
+
+idle_is : (ds : List Descriptor) (came : comes.Step) → says.Idle ≡ told_of ds came → came ≡ step.Idle
+idle_is ds (step.Load walk) e = absurd (subst IsIdle e tt)
+idle_is ds step.Idle e = refl
+idle_is ds (step.Refused error) e = absurd (subst IsIdle e tt)
+idle_is ds (step.Chain h None) e = absurd (subst IsIdle e tt)
+idle_is ds (step.Chain h (Some fault)) e = absurd (subst IsIdle e tt)
+
+refusal_is : (ds : List Descriptor) (came : comes.Step) (error : QueueError) → says.Refused error ≡ told_of ds came → came ≡ step.Refused error
+refusal_is ds (step.Load walk) error e = absurd (subst IsRefusal e tt)
+refusal_is ds step.Idle error e = absurd (subst IsRefusal e tt)
+refusal_is ds (step.Refused why) error e = ap (λ (x : QueueError). step.Refused x) (sym (ap error_in e))
+refusal_is ds (step.Chain h None) error e = absurd (subst IsRefusal e tt)
+refusal_is ds (step.Chain h (Some fault)) error e = absurd (subst IsRefusal e tt)
+
+faulty_is : (ds : List Descriptor) (came : comes.Step) (head : ℕ) (fault : ChainFault) → says.Faulty head fault ≡ told_of ds came → came ≡ step.Chain head (Some fault)
+faulty_is ds (step.Load walk) head fault e = absurd (subst IsFaulty e tt)
+faulty_is ds step.Idle head fault e = absurd (subst IsFaulty e tt)
+faulty_is ds (step.Refused error) head fault e = absurd (subst IsFaulty e tt)
+faulty_is ds (step.Chain h None) head fault e = absurd (subst IsFaulty e tt)
+faulty_is ds (step.Chain h (Some why)) head fault e =
+    ap (λ (x : ℕ). step.Chain x (Some why)) (sym (ap faulty_head_in e)) ∙ ap (λ (x : ChainFault). step.Chain head (Some x)) (sym (ap (λ (w : walked.WalkOutcome). fault_in w fault) e))
+
+pub idle_is_step_by : {F : Type 0} (may : May F) → IdleIsStepBy may
+idle_is_step_by {F} may given i old new before after m first walks =
+    let course = course_of before old.limit in
+    let q = queue_of course in
+    let all = walk_comes given old new before after says.Idle first.goes walks in
+    let loaded = all.0 in
+    let came = all.2 in
+    let is = idle_is new.descriptors.items came.0 came.1.0 in
+    let found : ComesTo (places_in old.regions) old.limit q loaded new.descriptors.items step.Idle =
+    subst (λ (c : comes.Step). ComesTo (places_in old.regions) old.limit q loaded new.descriptors.items c) is came.2 in
+    let l = step_loads loaded found.1 [] in (
+      loaded,
+      all.1,
+      found.1,
+      (found.0, found.2),
+      subst (λ (mq : Option Queue). StepOfBy may m i mq l [] Idle no_effects m) (sym first.queue)
+          (taking.Idle, offered_so m old before i loaded found.1 [] taking.Idle first found.3, (refl, record { same = refl; no_call = refl }, refl)),
+    )
+
+-- a refusal that is no want of memory
+refused_so : {F : Type 0} (may : May F) (m : State F) (i : ℕ) (q : Queue) (e : QueueError) → (e ≡ stop.OutOfMemory → ⊥)
+    → ActsBy may m i q (Refuses e) [] (Refused (device.Queue e)) no_effects (with_queue m i (after_refusal q e))
+refused_so may m i q stop.OutOfMemory isnt = absurd (isnt refl)
+refused_so may m i q stop.Stopped isnt = (refl, refl, refl, refl)
+refused_so may m i q stop.AvailIndexUnreachable isnt = (refl, refl, refl, refl)
+refused_so may m i q stop.AvailTooFar isnt = (refl, refl, refl, refl)
+refused_so may m i q stop.RingEntryUnreachable isnt = (refl, refl, refl, refl)
+refused_so may m i q stop.HeadOutOfTable isnt = (refl, refl, refl, refl)
+refused_so may m i q stop.UsedUnreachable isnt = (refl, refl, refl, refl)
+refused_so may m i q stop.AvailFlagsUnreachable isnt = (refl, refl, refl, refl)
+refused_so may m i q stop.DescriptorUnreachable isnt = (refl, refl, refl, refl)
+
+pub refusal_is_step_by : {F : Type 0} (may : May F) → RefusalIsStepBy may
+refusal_is_step_by {F} may given e i old new before after m first walks =
+    let course = course_of before old.limit in
+    let q = queue_of course in
+    let all = walk_comes given old new before after (says.Refused e) first.goes walks in
+    let loaded = all.0 in
+    let came = all.2 in
+    let is = refusal_is new.descriptors.items came.0 e came.1.0 in
+    let found : ComesTo (places_in old.regions) old.limit q loaded new.descriptors.items (step.Refused e) =
+    subst (λ (c : comes.Step). ComesTo (places_in old.regions) old.limit q loaded new.descriptors.items c) is came.2 in
+    let l = step_loads loaded found.1 [] in
+    let isnt = is_within (places_in old.regions) old.limit q loaded.index loaded.entry (loaded.entries ++ found.1) [] (Refuses e) found.3 in (
+      loaded,
+      all.1,
+      found.1,
+      (found.0, found.2),
+      subst (λ (mq : Option Queue). StepOfBy may m i mq l [] (Refused (device.Queue e)) no_effects (with_queue m i (after_refusal q e))) (sym first.queue)
+          (Refuses e, offered_so m old before i loaded found.1 [] (Refuses e) first found.3, refused_so may m i q e isnt),
+    )
+
+-- it goes back with nothing
+faulty_so : {F : Type 0} (may : May F) (m : State F) (i : ℕ) (course : Course) (head : ℕ) (fault : ChainFault) (stores : Stores) (flags : List ℕ) (acts : List Act) (last : ℕ) (notice : Bool)
+    → length flags ≡ 2 → notice ≡ tells flags → ReturnsBy (faulty_out course head) no_reply stores → last ≡ front_len no_reply → acts ≡ acts_of [] no_reply [] stores flags
+    → ReturnsFaultyBy m i (queue_of course) head fault [] (faulty head fault) notice (record { acts = acts; last = last }) (after_chain m i (queue_of course) m.options m.files)
+faulty_so {F} may m i course head fault stores flags acts last notice two told back last_is acts_are =
+    let q = queue_of course in
+    let stored : stores_of stores.used ≡ stores_after_reply q head 0 = back.1 in
+    let done : acts ≡ return_acts (return_stores q head [] [] last) flags =
+    acts_are ∙ ap (λ (ss : List Store). map act.Stores ss ++ act.LoadsFlags flags ∷ []) stored
+    ∙ sym (ap (λ (n : ℕ). return_acts (return_stores q head [] [] n) flags) last_is) in
+    record {
+      no_call = refl;
+      files = refl;
+      returns = record { exchange = refl; flags = flags; flags_len = two; acts = done; state = refl; told = told };
+    }
+
+pub faulty_is_step_by : {F : Type 0} (may : May F) → FaultyIsStepBy may
+faulty_is_step_by {F} may given fault acts last head i notice old before m first run =
+    let course = course_of before old.limit in
+    let q = queue_of course in
+    let ds = run.walked_bench.descriptors.items in
+    let all = walk_comes given old run.walked_bench before run.taken (says.Faulty head fault) first.goes run.walks in
+    let loaded = all.0 in
+    let came = all.2 in
+    let is = faulty_is ds came.0 head fault came.1.0 in
+    let found : ComesTo (places_in old.regions) old.limit q loaded ds (step.Chain head (Some fault)) =
+    subst (λ (c : comes.Step). ComesTo (places_in old.regions) old.limit q loaded ds c) is came.2 in
+    let state_is : run.walked_bench.state ≡ at.HasReply (faulty_out course head) no_reply = came.1.1 ∙ ap (λ (c : comes.Step). state_after course ds c) is in
+    let back : ReturnsBy (faulty_out course head) no_reply run.returns.stores × ((last ≡ front_len no_reply) × (acts ≡ acts_of [] no_reply [] run.returns.stores run.returns.flags)) =
+    subst (λ (st : state.State). FromReplied st (λ reply s₁. (last ≡ front_len reply) × (acts ≡ acts_of [] reply [] s₁ run.returns.flags)) run.returns.stores) state_is run.returns.returns in
+    let l = step_loads loaded found.1 [] in
+    let o = Offers head (CannotFetch fault) in
+    let done = faulty_so may m i course head fault run.returns.stores run.returns.flags acts last notice run.returns.flags_len run.returns.notified back.0 back.1.0 back.1.1 in (
+      loaded,
+      all.1,
+      found.1,
+      (found.0, found.2),
+      faulty head fault,
+      refl,
+      subst (λ (mq : Option Queue). StepOfBy may m i mq l [] (Exchanged (faulty head fault) notice) (record { acts = acts; last = last }) (after_chain m i q m.options m.files)) (sym first.queue)
+          (o, offered_so m old before i loaded found.1 [] o first found.3, done),
+    )
+
+-- ---- over a memory that has what was loaded
+
+abbrev room_of_offer : Option Offer → List ℕ
+room_of_offer (Some (Offers head (IsRequest request room))) = room
+room_of_offer _ = []
+
+load_is : (m : Memory) (a : ℕ) (came : Option (List ℕ)) → (came ≡ None → reach m Read a 2 ≡ false) → ((bs : List ℕ) → came ≡ Some bs → IsLoadOf m 2 (record { address = a; came = came }))
+    → IsLoadOf m 2 (record { address = a; came = came })
+load_is m a None lacks has = rw (lacks refl) refl
+load_is m a (Some bs) lacks has = has bs refl
+
+lost_is : (m : Memory) (l : Load) → IsLost m l → IsEntryOf m l
+lost_is m l lost = lost.0 ∙ (rw lost.1 refl)
+
+all_lost : (m : Memory) (ls : List Load) → All (IsLost m) ls → AreEntriesOf m ls
+all_lost m [] all = tt
+all_lost m (l ∷ ls) all = (lost_is m l (All-head (IsLost m) l ls all), all_lost m ls (All-tail (IsLost m) l ls all))
+
+both : (m : Memory) (ls lost : List Load) → AreEntriesOf m ls → AreEntriesOf m lost → AreEntriesOf m (ls ++ lost)
+both m [] lost are more = more
+both m (l ∷ ls) lost are more = (are.0, both m ls lost are.1 more)
+
+pub chain_is_step : {F : Type 0} (may : May F) → ChainIsStep may
+chain_is_step {F} may given request calls acts last head i notice old new before s m files h room run first session files_run having flags room_is apart =
+    let q = queue_of (course_of before old.limit) in
+    let memory = memory_of h old.regions in
+    let rooms = addresses_of (writable run.walked_bench.descriptors.items) in
+    let parts = chain_parts may given request calls acts last head i notice old new before s m files run first session files_run in
+    let loaded = parts.0 in
+    let has = having loaded parts.1 in
+    let by = parts.2 in
+    let so = parts.3 in
+    let x = so.0 in
+    let ls = loaded.entries ++ by.1 in
+    let l = step_loads loaded by.1 request in
+    let o = Offers head (IsRequest request rooms) in
+    let e : Effects = record { acts = acts; last = last } in
+    let over : State F = record m { memory = memory } in
+    let after : State F = record (after_chain m i q new.session.options.0 files) { memory = memory } in
+    let ans = so.3 in
+    let answers_over : AnswersBy may over i q head request rooms calls x notice e after = record {
+      given = ans.given;
+      serves = ans.serves;
+      returns = record {
+        exchange = ans.returns.exchange;
+        flags = ans.returns.flags;
+        flags_len = ans.returns.flags_len;
+        acts = ans.returns.acts;
+        state = ap (λ (st : State F). record st { memory = memory }) ans.returns.state;
+        told = ans.returns.told;
+      };
+    } in
+    let same = only_places_count memory (places_in old.regions) old.limit q loaded.index loaded.entry ls request
+    (record { element = refl; index = refl; flags = refl; chain = λ hd ds found. (refl, refl) }) in
+    let offered : offered_by memory m.limit q l ≡ Some o = subst (λ (k : ℕ). offered_by memory k q l ≡ Some o) (sym first.limit) (same ∙ by.3) in
+    let step : StepBy may over i l calls (Exchanged x notice) e after =
+    subst (λ (mq : Option Queue). StepOfBy may over i mq l calls (Exchanged x notice) e after) (sym first.queue) (o, offered, answers_over) in
+    let are : AreStepLoadsOf memory q l = record {
+      index_is = λ _. load_is memory (avail_index_at q) loaded.index by.0.0 has.index_is;
+      entry_is = λ _ asks. load_is memory (ring_entry_at q) loaded.entry (λ none. by.0.1 none asks) has.entry_is;
+      entries_are = both memory loaded.entries by.1 has.entries_are (all_lost memory by.1 by.2);
+      request_is = has.request_is;
+    } in
+    let is_q : (q' : Queue) → slice_get m.queues i ≡ Some q' → q ≡ q' = λ q' there. ap (λ (k : Option Queue). unwrap_or k q) (sym first.queue ∙ there) in
+    let of_memory : IsOfMemory over i l e = record {
+      loads = λ q' there. subst (λ (k : Queue). AreStepLoadsOf memory k l) (is_q q' there) are;
+      flags = λ q' there. subst (λ (k : Queue). FindFlags memory k acts) (is_q q' there) flags;
+      apart = λ q' hd rq rm there off.
+          subst (λ (r : List ℕ). MayStoreLast memory r last)
+          (room_is ∙ ap room_of_offer (sym offered ∙ subst (λ (k : Queue). offered_by memory m.limit k l ≡ Some (Offers hd (IsRequest rq rm))) (sym (is_q q' there)) off)) apart;
+    } in
+    (x, so.1, so.2, step_by_is_step may over i l calls (Exchanged x notice) e after of_memory step)

@@ -1,0 +1,217 @@
+-- A walk by calls of the handle comes to what all its loads tell.
+use Rattle.std.proofs.Common.{◌≡◌, ◌+◌, ◌<◌, ℕ, ◌^◌, zero, suc, Bool, true, false, List, [], ◌∷◌, ◌++◌, length, length-append, Option, Some, None, refl, subst, sym, ap, ◌∙◌, arith}
+use Rattle.vm_memory.specs.Layout.{Region}
+use Rattle.std.specs.Prelude.{is_some, nat_lt}
+use Rattle.std.specs.List.{list_all}
+use Rattle.std.proofs.lemmas.Bool.{and_parts, true≢false}
+use Rattle.fs_queue.specs.declared.fault.QueueError.{QueueError}
+use Rattle.fs_regions.specs.declared.step.Step as comes
+use Rattle.fs_regions.specs.declared.step.Step.TheVariants as step
+use Rattle.fs_regions.specs.declared.walk.QueueWalk.{QueueWalk}
+use Rattle.fs_regions.specs.Places.{places_in}
+use Rattle.fs_regions.specs.Walks.{Loaded, nothing, asked_by, asked_len, queue_of, ComesBy, ComesTo, IsThere, StandsAt}
+use Rattle.fs_regions.specs.declared.course.Course.{Course}
+use Rattle.fs_regions.specs.declared.walk.QueueWalk.TheVariants as asks
+use Rattle.vm_memory.specs.Layout.{place}
+use Rattle.vm_memory.specs.Memory.{addresses}
+use Rattle.fs_chain.specs.declared.queue.KeptQueue.{KeptQueue}
+use Rattle.fs_chain.specs.declared.state.State as state
+use Rattle.fs_chain.specs.declared.state.State.TheVariants as at
+use Rattle.fs_chain.specs.declared.walking.WalkOutcome as walked
+use Rattle.fs_chain.specs.declared.walking.WalkOutcome.TheVariants as says
+use Rattle.fs_chain.specs.declared.workbench.Workbench.{Workbench}
+use Rattle.fs_chain.specs.Walks.{WalksOn, WalksFrom, Begins, BeginsOn, BeginsUnless, GoesOn, GoesOnUnless, Keeps, IsAllBut, LeavesNone, course_of, queue_after}
+use Rattle.fs_chain.specs.declared.loads.Went as went
+use Rattle.fs_chain.specs.declared.loads.Went.TheVariants as wents
+use Rattle.fs_chain.specs.Loads.{GoesSo, HasNoPlace, came, whole}
+use Rattle.fs_chain.specs.Orders.{IfWalking, load_len}
+use Rattle.fs_chain.specs.Whole.{AddsSo, BeginsBy, IsWalked, LoadsOf, WalksBy, WantedHasAPlace, WantsBytes}
+use Rattle.fs_queue.specs.Chain.{Descriptor}
+
+-- what a walk told and kept comes to
+abbrev pub ComesSo : Loaded → (old new : Workbench) → (before after : KeptQueue) → walked.WalkOutcome → Type 0
+ComesSo loaded old new before after told =
+    (came : comes.Step) × Keeps (course_of before old.limit) came old new before after told
+    × ComesTo (places_in old.regions) old.limit (queue_of (course_of before old.limit)) loaded new.descriptors.items came
+
+-- a walk that still asks for a load
+record Wants (loaded : Loaded) (old w : Workbench) (before q : KeptQueue) : Type 0 where
+  pub walk : QueueWalk
+  pub state : w.state ≡ at.Walking (course_of before old.limit) walk
+  pub queue : q ≡ before
+  pub regions : w.regions ≡ old.regions
+  pub limit : w.limit ≡ old.limit
+  pub few : came w < asked_len walk
+  pub there : IsThere (places_in old.regions) walk
+  pub stands : StandsAt (places_in old.regions) (queue_of (course_of before old.limit)) loaded w.descriptors.items walk
+
+abbrev IsALoad : walked.WalkOutcome → Type 0
+IsALoad (says.Load n) = Unit {0}
+IsALoad _ = ⊥
+
+kept_items : (w new : Workbench) → new.descriptors ≡ w.descriptors → w.descriptors.items ≡ new.descriptors.items
+kept_items w new same = cc
+
+some_asked : (walk : QueueWalk) → 0 < asked_len walk
+some_asked (asks.Index w) = omega arith
+some_asked (asks.RingEntry w) = omega arith
+some_asked (asks.Entries w) = let some = w.some in omega (arith, some)
+
+-- a part more is less than the load still
+few_still : (w new : Workbench) (bs : List ℕ) (walk : QueueWalk) (course : Course) → w.state ≡ at.Walking course walk → new.part.items ≡ w.part.items ++ bs
+    → came w + length bs < load_len w.state → came new < asked_len walk
+few_still w new bs walk course is more few =
+    let len : came new ≡ came w + length bs = ap length more ∙ length-append w.part.items bs in
+    let asked : load_len w.state ≡ asked_len walk = ap load_len is in
+    omega (arith, len, asked, few)
+
+-- each address of what is there has a place
+has_place : (l : List Region) (n a i : ℕ) → list_all (λ x. is_some (place l x)) (addresses a n) ≡ true → i < n → is_some (place l (a + i)) ≡ true
+unfolding addresses
+has_place l zero a i all lt = absurd (omega (arith, lt))
+has_place l (suc n) a zero all lt =
+    let same : a ≡ a + 0 = omega arith in
+    subst (λ (k : ℕ). is_some (place l k) ≡ true) same (and_parts (is_some (place l a)) (list_all (λ x. is_some (place l x)) (addresses (a + 1) n)) all).0
+has_place l (suc n) a (suc i) all lt =
+    let same : a + 1 + i ≡ a + suc i = omega arith in
+    subst (λ (k : ℕ). is_some (place l k) ≡ true) same
+    (has_place l n (a + 1) i (and_parts (is_some (place l a)) (list_all (λ x. is_some (place l x)) (addresses (a + 1) n)) all).1 (omega (arith, lt)))
+
+-- a walk that begins asks for no load yet, so that nothing is a part of one
+no_load : (w : Workbench) → w.state ≡ at.Free → load_len w.state ≡ 0
+no_load w free = ap load_len free
+
+begins_whole : (old : Workbench) (before : KeptQueue) (new : Workbench) (after : KeptQueue) → old.state ≡ at.Free → GoesSo old before [] wents.Part new after → ⊥
+begins_whole old before new after free call = let none = no_load old free in let few = call.1 in omega (arith, none, few)
+
+whole_of_none : (w : Workbench) → w.state ≡ at.Free → whole w [] ≡ []
+whole_of_none w free = rw (no_load w free) refl
+
+-- what a call of walk told comes to by the loads so far; a part of a load leaves it where it was
+abbrev Comes : Loaded → (old new : Workbench) → (before after : KeptQueue) → went.Went → Type 0
+Comes loaded old new before after wents.Part = Wants loaded old new before after
+Comes loaded old new before after (wents.On told) = ComesSo loaded old new before after told × (new.part.items ≡ [])
+
+first : (old new : Workbench) (before after : KeptQueue) (told : went.Went) → before.stopped ≡ None → BeginsBy old new before after told → Comes nothing old new before after told
+first old new before after wents.Part goes by = absurd (begins_whole old before new after by.0 by.1)
+first old new before after (wents.On told) goes by =
+    let call = by.1 in
+    let walks : WalksOn [] old new before after told = subst (λ (bs : List ℕ). WalksOn bs old new before after told) (whole_of_none old by.0) call.4 in
+    let begins : Begins old new before after told = subst (λ (s : state.State). WalksFrom s [] old new before after told) by.0 walks in
+    let on : BeginsOn (course_of before old.limit) old new before after told = subst (λ (s : Option QueueError). BeginsUnless s old new before after told) goes begins in
+    ((on.0, on.1, on.2), call.1)
+
+-- the loads after a call, and what it comes to by them
+abbrev ComesAfter : (old w new : Workbench) → (before after : KeptQueue) → (l : Loaded) → (bs : List ℕ) → went.Went → Type 0
+ComesAfter old w new before after l bs told = (loaded : Loaded) × AddsSo w.state told new.descriptors.items l (whole w bs) loaded × Comes loaded old new before after told
+
+-- from where a load was asked for
+on_load : (bs : List ℕ) (l : Loaded) (old w new : Workbench) (before q after : KeptQueue) (told : went.Went) → before.stopped ≡ None
+    → Wants l old w before q → GoesSo w q bs told new after → ComesAfter old w new before after l bs told
+on_load bs l old w new before q after wents.Part goes wants call =
+    let still : Wants l old new before after = record {
+      walk = wants.walk;
+      state = call.3.3 ∙ wants.state;
+      queue = call.5 ∙ wants.queue;
+      regions = call.3.0.0 ∙ wants.regions;
+      limit = call.3.0.1 ∙ wants.limit;
+      few = few_still w new bs wants.walk (course_of before old.limit) wants.state call.4 call.1;
+      there = wants.there;
+      stands = subst (λ (ds : List Descriptor). StandsAt (places_in old.regions) (queue_of (course_of before old.limit)) l ds wants.walk) (kept_items w new call.3.2) wants.stands;
+    } in
+    (l, refl, still)
+on_load bs l old w new before q after (wents.On told) goes wants call =
+    let course = course_of before old.limit in
+    let walk = wants.walk in
+    let all = whole w bs in
+    let unless : GoesOnUnless q.stopped course walk all w new q after told = subst (λ (s : state.State). WalksFrom s all w new q after told) wants.state call.4 in
+    let on : GoesOn course walk all w new q after told =
+    subst (λ (s : Option QueueError). GoesOnUnless s course walk all w new q after told) (ap (λ (k : KeptQueue). k.stopped) wants.queue ∙ goes) unless in
+    let there : StandsAt (places_in w.regions) (queue_of course) l w.descriptors.items walk =
+    subst (λ (r : List Region). StandsAt (places_in r) (queue_of course) l w.descriptors.items walk) (sym wants.regions) wants.stands in
+    let by : ComesBy (places_in w.regions) course.limit (queue_of course) l walk all new.descriptors.items on.0 = on.2 l there in
+    let came : ComesTo (places_in old.regions) old.limit (queue_of course) by.after new.descriptors.items on.0 =
+    subst (λ (r : List Region). ComesTo (places_in r) old.limit (queue_of course) by.after new.descriptors.items on.0) wants.regions by.comes in
+    let adds : AddsSo w.state (wents.On told) new.descriptors.items l all by.after =
+    subst (λ (s : state.State). AddsSo s (wents.On told) new.descriptors.items l all by.after) (sym wants.state) (on.0, on.1.0, by.adds) in
+    let so : ComesSo by.after old new before after told = (
+      on.0,
+      (on.1.0, on.1.1, on.1.2 ∙ ap (λ (k : KeptQueue). queue_after k on.0) wants.queue, on.1.3, (on.1.4.0 ∙ wants.regions, on.1.4.1 ∙ wants.limit)),
+      came,
+    ) in
+    (by.after, adds, (so, call.1))
+
+-- what wants bytes asks for a load
+wants_so : (l : Loaded) (old w : Workbench) (before q : KeptQueue) (n : ℕ) (came : comes.Step) → w.part.items ≡ []
+    → Keeps (course_of before old.limit) came old w before q (says.Load n) → ComesTo (places_in old.regions) old.limit (queue_of (course_of before old.limit)) l w.descriptors.items came
+    → Wants l old w before q
+wants_so l old w before q n (step.Load walk) none keeps comes =
+    record {
+      walk = walk;
+      state = keeps.1;
+      queue = keeps.2;
+      regions = keeps.4.0;
+      limit = keeps.4.1;
+      few = subst (λ (part : List ℕ). length part < asked_len walk) (sym none) (some_asked walk);
+      there = comes.1;
+      stands = comes.0;
+    }
+wants_so l old w before q n step.Idle none keeps comes = absurd (subst IsALoad keeps.0 tt)
+wants_so l old w before q n (step.Refused e) none keeps comes = absurd (subst IsALoad keeps.0 tt)
+wants_so l old w before q n (step.Chain head None) none keeps comes = absurd (subst IsALoad keeps.0 tt)
+wants_so l old w before q n (step.Chain head (Some fault)) none keeps comes = absurd (subst IsALoad keeps.0 tt)
+
+wanted : (l : Loaded) (old w : Workbench) (before q : KeptQueue) (earlier : went.Went) → WantsBytes earlier → Comes l old w before q earlier → Wants l old w before q
+wanted l old w before q wents.Part wants comes = comes
+wanted l old w before q (wents.On (says.Load n)) wants comes = wants_so l old w before q n comes.0.0 comes.1 comes.0.1 comes.0.2
+wanted l old w before q (wents.On says.Idle) wants comes = absurd wants
+wanted l old w before q (wents.On (says.Refused e)) wants comes = absurd wants
+wanted l old w before q (wents.On (says.Chain head n r)) wants comes = absurd wants
+wanted l old w before q (wents.On (says.Faulty head fault)) wants comes = absurd wants
+
+-- the loads of a walk's calls, and what they come to
+abbrev AllCome : (given : List (List ℕ)) (old new : Workbench) (before after : KeptQueue) (told : went.Went) → WalksBy given old new before after told → Type 0
+AllCome given old new before after told walks = (loaded : Loaded) × LoadsOf given old new before after told walks loaded × Comes loaded old new before after told
+
+all_come : (given : List (List ℕ)) (old new : Workbench) (before after : KeptQueue) (told : went.Went) → before.stopped ≡ None
+    → (walks : WalksBy given old new before after told) → AllCome given old new before after told walks
+all_come [] old new before after told goes walks = (nothing, refl, first old new before after told goes walks)
+all_come (bs ∷ given) old new before after told goes walks =
+    let w = walks.0 in
+    let q = walks.1 in
+    let earlier = walks.2 in
+    let e : AllCome given old w before q earlier walks.3 = all_come given old w before q earlier goes walks.3 in
+    let n : ComesAfter old w new before after e.0 bs told = on_load bs e.0 old w new before q after told goes (wanted e.0 old w before q earlier walks.4 e.2) walks.5 in
+    (n.0, (e.0, e.1, n.1), n.2)
+
+-- the loads of a walk that told this, and what they come to
+abbrev pub CameSo : (given : List (List ℕ)) (old new : Workbench) (before after : KeptQueue) (told : walked.WalkOutcome) → WalksBy given old new before after (wents.On told) → Type 0
+CameSo given old new before after told walks =
+    (loaded : Loaded) × LoadsOf given old new before after (wents.On told) walks loaded × ComesSo loaded old new before after told
+
+pub walk_comes : (given : List (List ℕ)) (old new : Workbench) (before after : KeptQueue) (told : walked.WalkOutcome) → before.stopped ≡ None
+    → (walks : WalksBy given old new before after (wents.On told)) → CameSo given old new before after told walks
+walk_comes given old new before after told goes walks =
+    let all = all_come given old new before after (wents.On told) goes walks in
+    (all.0, all.1, all.2.0)
+
+pub wanted_has_a_place : WantedHasAPlace
+wanted_has_a_place given old new before after told goes walks wants lacks =
+    let all = all_come given old new before after told goes walks in
+    let w = wanted all.0 old new before after told wants all.2 in
+    let none : came new < asked_len w.walk → place new.regions (asked_by w.walk + came new) ≡ None =
+    subst (λ (s : state.State). IfWalking s (λ walk. came new < asked_len walk → place new.regions (asked_by walk + came new) ≡ None)) w.state lacks in
+    let there = (and_parts (nat_lt (asked_by w.walk + asked_len w.walk) (2 ^ 64)) (list_all (λ x. is_some (place old.regions x)) (addresses (asked_by w.walk) (asked_len w.walk))) w.there).1 in
+    let some = has_place old.regions (asked_len w.walk) (asked_by w.walk) (came new) there w.few in
+    let lost : is_some (place old.regions (asked_by w.walk + came new)) ≡ false =
+    ap is_some (subst (λ (r : List Region). place r (asked_by w.walk + came new) ≡ None) w.regions (none w.few)) in
+    true≢false (sym some ∙ lost)
+
+-- ---- by the contract of walk, call by call
+
+pub begins_by : (old new : Workbench) (before after : KeptQueue) (told : went.Went) → old.state ≡ at.Free → GoesSo old before [] told new after → IsWalked old new before after told
+begins_by old new before after told free call = ([], (free, call))
+
+pub goes_on_by : (old w new : Workbench) (before q after : KeptQueue) (earlier told : went.Went) (bs : List ℕ) → WantsBytes earlier
+    → IsWalked old w before q earlier → GoesSo w q bs told new after → IsWalked old new before after told
+goes_on_by old w new before q after earlier told bs wants walked call = (bs ∷ walked.0, (w, q, earlier, walked.1, wants, call))

@@ -1,0 +1,21 @@
+use Rattle.fs_chain.proofs.WholeChains.{chain_is_step, chain_is_step_by, faulty_is_step_by, idle_is_step_by, refusal_is_step_by}
+use Rattle.fs_chain.proofs.WholeWalks.{wanted_has_a_place}
+use Rattle.fs_chain.proofs.laws.law_chains.Goals as goal
+
+pub returns-clause-places : goal.returns-clause-places
+returns-clause-places g c = wanted_has_a_place
+
+pub returns-clause-idle : goal.returns-clause-idle
+returns-clause-idle g c = idle_is_step_by _
+
+pub returns-clause-refused : goal.returns-clause-refused
+returns-clause-refused g c = refusal_is_step_by _
+
+pub returns-clause-faulty : goal.returns-clause-faulty
+returns-clause-faulty g c = faulty_is_step_by _
+
+pub returns-clause-served : goal.returns-clause-served
+returns-clause-served g c = chain_is_step_by _
+
+pub returns-clause-memory : goal.returns-clause-memory
+returns-clause-memory g c = chain_is_step _

@@ -1,0 +1,268 @@
+-- A whole chain by the calls of a handle, from its walk to its return, for a guest that writes meanwhile (VIRTIO 1.2, 2.7.5 to 2.7.8). Listings are left out.
+use Rattle.std.specs.Prelude.{All, ◌≡◌, ◌≤◌, ◌^◌, ℕ, Bool, List, [], ◌∷◌, ◌++◌, length, map, drop, Option, Some, None, slice_get}
+use Rattle.vm_memory_core.specs.Host.{Host, changed_at}
+use Rattle.vm_memory.specs.Memory.{memory_of}
+use Rattle.fs_queue.specs.declared.fault.ChainFault.{ChainFault}
+use Rattle.fs_queue.specs.declared.fault.QueueError.{QueueError}
+use Rattle.fs_queue.specs.Queue.{Queue}
+use Rattle.fs_queue.specs.Chain.{Descriptor}
+use Rattle.fs_queue.specs.Loads.{Load}
+use Rattle.fs_queue.specs.Taking.{writable, addresses_of, after_refusal}
+use Rattle.fs_queue.specs.Returning.{tells, advanced}
+use Rattle.fs_queue.specs.ReturningView.{stores_of}
+use Rattle.fs_regions.specs.Places.{places_in}
+use Rattle.fs_regions.specs.declared.step.Step as comes
+use Rattle.fs_regions.specs.Walks.{Loaded, nothing, queue_of, AddsBytes, IsLost, RingIsAsked}
+use Rattle.fs_regions.specs.Laws.{HasLoaded}
+use Rattle.fuse_fs.specs.Calls.{FileRun}
+use Rattle.fuse_fs.specs.Calls as file
+use Rattle.fuse_values.specs.Answers.{answer_of}
+use Rattle.fuse_values.specs.Values.{call_of}
+use Rattle.fuse_values.specs.declared.answer.FileAnswer.{FileAnswer}
+use Rattle.virtiofsd_fuse.specs.Grammar.{meaning}
+use Rattle.virtiofsd_fuse.specs.Serving.{May, setting}
+use Rattle.server_phases.specs.declared.session.Session.{Session}
+use Rattle.server_phases.specs.Asking.{IsFront}
+use Rattle.server_phases.specs.Answering.{TellsBytes, forget_call}
+use Rattle.fs_chain.specs.declared.answering.Replied.{Replied}
+use Rattle.fs_chain.specs.declared.asking.Told as told
+use Rattle.fs_chain.specs.declared.asking.Told.TheVariants as asks
+use Rattle.fs_chain.specs.declared.queue.KeptQueue.{KeptQueue}
+use Rattle.fs_chain.specs.declared.returning.Stores.{Stores}
+use Rattle.fs_chain.specs.declared.state.Out.{Out}
+use Rattle.fs_chain.specs.declared.state.Reply.{Reply}
+use Rattle.fs_chain.specs.declared.state.State as state
+use Rattle.fs_chain.specs.declared.state.State.TheVariants as at
+use Rattle.fs_chain.specs.declared.walking.WalkOutcome.TheVariants as says
+use Rattle.fs_chain.specs.declared.loads.Went as went
+use Rattle.fs_chain.specs.declared.loads.Went.TheVariants as wents
+use Rattle.fs_chain.specs.declared.workbench.Workbench.{Workbench}
+use Rattle.fs_chain.specs.Answers.{IfWaits, IsGiven, IsWaiting}
+use Rattle.fs_chain.specs.Asking.{TellsMeaning}
+use Rattle.fs_chain.specs.Orders.{front_len}
+use Rattle.fs_chain.specs.Returns.{ReturnsBy}
+use Rattle.fs_chain.specs.Loads.{GoesSo, HasNoPlace, came, whole}
+use Rattle.fs_chain.specs.Walks.{course_of, told_of}
+use Rattle.fs_device.specs.declared.error.DeviceError.TheVariants as device
+use Rattle.fs_device.specs.Step.{State, Exchange, Idle, Refused, Exchanged, Calls, Step, with_queue}
+use Rattle.fs_device.specs.StepBy as act
+use Rattle.fs_device.specs.StepBy.{StepLoads, StepBy, Act, Effects, reply_stores, after_stores, stores_among, FindFlags, MayStoreLast}
+
+-- ---- the walk
+
+-- a call of walk wants bytes
+abbrev pub WantsBytes : went.Went → Type 0
+WantsBytes wents.Part = Unit {0}
+WantsBytes (wents.On (says.Load n)) = Unit {0}
+WantsBytes (wents.On _) = ⊥
+
+-- the first call of a walk, without bytes
+abbrev pub BeginsBy : (old new : Workbench) → (before after : KeptQueue) → went.Went → Type 0
+BeginsBy old new before after told = (old.state ≡ at.Free) × GoesSo old before [] told new after
+
+-- a walk by calls of the handle that weren't refused, the last one first: without bytes at first, then each by bytes of which the call before wanted some
+abbrev pub WalksBy : (given : List (List ℕ)) → (old new : Workbench) → (before after : KeptQueue) → went.Went → Type 0
+WalksBy [] old new before after told = BeginsBy old new before after told
+WalksBy (bs ∷ given) old new before after told =
+    (w : Workbench) × (q : KeptQueue) × (earlier : went.Went) × WalksBy given old w before q earlier × WantsBytes earlier × GoesSo w q bs told new after
+
+-- what a call of walk, which left these descriptors, adds to what was loaded: a part of a load nothing yet, a whole one what was asked for
+abbrev pub AddsSo : state.State → went.Went → List Descriptor → (before : Loaded) → (bytes : List ℕ) → (after : Loaded) → Type 0
+AddsSo at wents.Part ds before bs after = after ≡ before
+AddsSo (at.Walking course walk) (wents.On told) ds before bs after = (came : comes.Step) × (told ≡ told_of ds came) × AddsBytes walk bs came before after
+AddsSo _ (wents.On told) ds before bs after = ⊥
+
+-- these loads came of the bytes of a walk's calls
+abbrev pub LoadsOf : (given : List (List ℕ)) (old new : Workbench) (before after : KeptQueue) (told : went.Went) → WalksBy given old new before after told → Loaded → Type 0
+LoadsOf [] old new before after told walks loaded = loaded ≡ nothing
+LoadsOf (bs ∷ given) old new before after told walks loaded =
+    (l : Loaded) × LoadsOf given old walks.0 before walks.1 walks.2 walks.3 l × AddsSo walks.0.state told new.descriptors.items l (whole walks.0 bs) loaded
+
+-- some bytes by which a walk told this
+abbrev pub IsWalked : (old new : Workbench) → (before after : KeptQueue) → went.Went → Type 0
+IsWalked old new before after told = (given : List (List ℕ)) × WalksBy given old new before after told
+
+-- what a walk by calls of the handle wants has a place, so that no call is refused for it
+abbrev pub WantedHasAPlace : Type 0
+WantedHasAPlace =
+    (given : List (List ℕ)) (old new : Workbench) (before after : KeptQueue) (told : went.Went) → before.stopped ≡ None →
+    WalksBy given old new before after told → WantsBytes told → HasNoPlace new (came new) → ⊥
+
+-- ---- the call and its answer
+
+-- of a chain that is out and wasn't asked
+abbrev pub FromTaken : state.State → (Out → Type 0) → Type 0
+FromTaken (at.Taken out) P = P out
+FromTaken _ P = ⊥
+
+-- a workbench is asked in a session by the first bytes of a request that was loaded; an ask that told More before it left all as it was
+abbrev pub IsAskedBy : Workbench → Session → (request front : List ℕ) → told.Told → Workbench → Type 0
+IsAskedBy w s request front made w' = FromTaken w.state (λ out. (out.request_len ≡ length request) × IsFront front request
+    × TellsMeaning (setting s.page_size s.options.0 out.room_len) (meaning s.options.0 request out.room_len) (drop 80 request) out made w'.state
+    × (w'.descriptors ≡ w.descriptors) × (w'.session ≡ s))
+
+-- a call is answered in the session in which it was asked, with these bytes of data in the room behind the front
+abbrev pub IsAnsweredBy : Workbench → FileAnswer → (bytes : List ℕ) → Replied → Workbench → Type 0
+IsAnsweredBy w a bytes told w' =
+    IsWaiting w.state × TellsBytes bytes a × (w'.descriptors ≡ w.descriptors)
+    × IfWaits w.state (λ out waiting. IsGiven (setting w.session.page_size w.session.options.0 waiting.room) waiting a out w'.session.options.0 told w'.state)
+
+-- the file calls of a chain: none, or the one that was told, with its answer, and the one that gives an entry back
+abbrev pub file_calls : (behind : List ℕ) → told.Told → Option (FileAnswer × List ℕ × Replied) → Calls
+file_calls behind (asks.Call made) (Some given) =
+    (call_of behind made, answer_of given.1 given.0) ∷ map (λ c. (c, file.Done)) (forget_call given.2.forget)
+file_calls behind made given = []
+
+-- a chain whose request was asked has its reply: by no call, or by one that is answered
+abbrev pub HasReply : told.Told → Workbench → Option (FileAnswer × List ℕ × Replied) → Workbench → Type 0
+HasReply (asks.Call made) w (Some given) w' = IsAnsweredBy w given.0 given.1 given.2 w'
+HasReply asks.Nothing w None w' = w' ≡ w
+HasReply (asks.Fault e) w None w' = w' ≡ w
+HasReply _ w given w' = ⊥
+
+-- the data behind a front
+abbrev pub data_behind : Option (FileAnswer × List ℕ × Replied) → List ℕ
+data_behind None = []
+data_behind (Some given) = given.1
+
+-- ---- the return
+
+-- of a chain whose reply is known, and which goes back by these stores
+abbrev pub FromReplied : state.State → (Reply → Stores → Type 0) → Stores → Type 0
+FromReplied (at.HasReply out reply) P s = ReturnsBy out reply s × P reply s
+FromReplied _ P s = ⊥
+
+-- a front and the data behind it, if there is a front
+abbrev pub front_if : Option (List ℕ) → (behind : List ℕ) → List ℕ
+front_if None behind = []
+front_if (Some front) behind = front ++ behind
+
+-- the bytes of a reply: none, if there is no front
+abbrev pub reply_bytes : Reply → (behind : List ℕ) → List ℕ
+reply_bytes reply behind = front_if reply.front behind
+
+-- what the caller stores and loads for a return: the data over the room, the front over its begin, the element's two halves and the index, and then the flags
+-- (2.7.8 and 2.7.7); a chain without a reply stores none in its room
+abbrev pub acts_of : (room : List ℕ) → Reply → (behind : List ℕ) → Stores → (flags : List ℕ) → List Act
+acts_of room reply behind s flags =
+    map act.Stores (reply_stores room (reply_bytes reply behind) (front_len reply) ++ stores_of s.used) ++ act.LoadsFlags flags ∷ []
+
+-- a chain goes back by what its caller stores and loads, and this is told of the flags that were loaded
+pub record GoesBackBy (room : List ℕ) (behind : List ℕ) (from : state.State) (acts : List Act) (last : ℕ) (notice : Bool) : Type 0 where
+  pub stores : Stores
+  pub flags : List ℕ
+  pub flags_len : length flags ≡ 2
+  pub returns : FromReplied from (λ reply s. (last ≡ front_len reply) × (acts ≡ acts_of room reply behind s flags)) stores
+  pub notified : notice ≡ tells flags
+
+-- ---- the whole
+
+-- a chain from its walk to its return, without a refusal between: the calls of the walk, the request as it was loaded, the call and its answer, the stores and
+-- the flags; limit, regions and position are those of its beginning
+pub record ChainBy (given_bytes : List (List ℕ)) (request : List ℕ) (calls : Calls) (acts : List Act) (last : ℕ) (head : ℕ) (notice : Bool)
+    (old new : Workbench) (before : KeptQueue) (s : Session) : Type 0 where
+  pub walked_bench : Workbench
+  pub taken : KeptQueue
+  pub lens : ℕ × ℕ
+  pub walks : WalksBy given_bytes old walked_bench before taken (wents.On (says.Chain head lens.0 lens.1))
+  pub front : List ℕ
+  pub made : told.Told
+  pub asked_bench : Workbench
+  pub is_asked : IsAskedBy walked_bench s request front made asked_bench
+  pub given : Option (FileAnswer × List ℕ × Replied)
+  pub replies : HasReply made asked_bench given new
+  pub calls_are : calls ≡ file_calls (drop 80 request) made given
+  pub returns : GoesBackBy (addresses_of (writable walked_bench.descriptors.items)) (data_behind given) new.state acts last notice
+
+-- a faulty chain from its walk to its return: nothing is loaded of it or stored in it
+pub record FaultyChainBy (given_bytes : List (List ℕ)) (fault : ChainFault) (acts : List Act) (last : ℕ) (head : ℕ) (notice : Bool)
+    (old : Workbench) (before : KeptQueue) : Type 0 where
+  pub walked_bench : Workbench
+  pub taken : KeptQueue
+  pub walks : WalksBy given_bytes old walked_bench before taken (wents.On (says.Faulty head fault))
+  pub returns : GoesBackBy [] [] walked_bench.state acts last notice
+
+-- the state of the plain machine before: its memory's places are the regions', its queue is the kept one, which isn't stopped, and the limit is one
+pub record IsBefore {F : Type 0} (old : Workbench) (before : KeptQueue) (i : ℕ) (m : State F) : Type 0 where
+  pub goes : before.stopped ≡ None
+  pub places : m.memory ≡ places_in old.regions
+  pub limit : m.limit ≡ old.limit
+  pub bound : old.limit ≤ 2 ^ 31
+  pub queue : slice_get m.queues i ≡ Some (queue_of (course_of before old.limit))
+
+-- and its session is the one in which a request is asked
+abbrev pub IsSession : {F : Type 0} → Session → State F → Type 0
+IsSession s m = (m.page_size ≡ s.page_size) × (m.options ≡ s.options.0)
+
+-- and after: options, files and the queue's position alone went on
+abbrev pub after_chain : {F : Type 0} → State F → (i : ℕ) → Queue → (options : ℕ) → F → State F
+after_chain m i q options files = record m { queues = changed_at m.queues i (λ _. advanced q); options = options; files = files }
+
+-- the loads of a step, with those of entries that have no place
+abbrev pub step_loads : Loaded → (lost : List Load) → (request : List ℕ) → StepLoads
+step_loads l lost request = record { index = l.index; entry = l.entry; entries = l.entries ++ lost; request = request }
+
+-- besides the loads that came of bytes a step knows only that these have no place: an index or a ring's entry, and an entry of a table that was asked for last
+abbrev pub LackPlaces : Workbench → KeptQueue → Loaded → (lost : List Load) → Type 0
+LackPlaces old before loaded lost = RingIsAsked (places_in old.regions) (queue_of (course_of before old.limit)) loaded × All (IsLost (places_in old.regions)) lost
+
+-- nothing is stored
+abbrev pub no_effects : Effects
+no_effects = record { acts = []; last = 0 }
+
+-- a walk that finds nothing is the plain machine's idle step by what was loaded
+abbrev pub IdleIsStepBy : {F : Type 0} → May F → Type 0
+IdleIsStepBy {F} may =
+    (given : List (List ℕ)) (i : ℕ) (old new : Workbench) (before after : KeptQueue) (m : State F) → IsBefore old before i m →
+    (walks : WalksBy given old new before after (wents.On says.Idle)) →
+    (loaded : Loaded) × LoadsOf given old new before after (wents.On says.Idle) walks loaded
+    × (lost : List Load) × LackPlaces old before loaded lost × StepBy may m i (step_loads loaded lost []) [] Idle no_effects m
+
+-- a walk that is refused is the plain machine's refused step, which stops the queue
+abbrev pub RefusalIsStepBy : {F : Type 0} → May F → Type 0
+RefusalIsStepBy {F} may =
+    (given : List (List ℕ)) (e : QueueError) (i : ℕ) (old new : Workbench) (before after : KeptQueue) (m : State F) → IsBefore old before i m →
+    (walks : WalksBy given old new before after (wents.On (says.Refused e))) → let q = queue_of (course_of before old.limit) in
+    (loaded : Loaded) × LoadsOf given old new before after (wents.On (says.Refused e)) walks loaded
+    × (lost : List Load) × LackPlaces old before loaded lost × StepBy may m i (step_loads loaded lost []) [] (Refused (device.Queue e)) no_effects (with_queue m i (after_refusal q e))
+
+-- a faulty chain is the plain machine's step that gives it back with nothing
+abbrev pub FaultyIsStepBy : {F : Type 0} → May F → Type 0
+FaultyIsStepBy {F} may =
+    (given : List (List ℕ)) (fault : ChainFault) (acts : List Act) (last head i : ℕ) (notice : Bool) (old : Workbench) (before : KeptQueue) (m : State F) →
+    IsBefore old before i m → (run : FaultyChainBy given fault acts last head notice old before) →
+    (loaded : Loaded) × LoadsOf given old run.walked_bench before run.taken (wents.On (says.Faulty head fault)) run.walks loaded
+    × (lost : List Load) × LackPlaces old before loaded lost × (x : Exchange) × (x.head ≡ head)
+    × StepBy may m i (step_loads loaded lost []) [] (Exchanged x notice) (record { acts = acts; last = last })
+    (after_chain m i (queue_of (course_of before old.limit)) m.options m.files)
+
+-- these loads came of the calls of a chain's walk
+abbrev pub LoadsOfChain : (given : List (List ℕ)) (request : List ℕ) (calls : Calls) (acts : List Act) (last head : ℕ) (notice : Bool) (old new : Workbench) (before : KeptQueue) (s : Session)
+    → ChainBy given request calls acts last head notice old new before s → Loaded → Type 0
+LoadsOfChain given request calls acts last head notice old new before s run loaded =
+    LoadsOf given old run.walked_bench before run.taken (wents.On (says.Chain head run.lens.0 run.lens.1)) run.walks loaded
+
+-- whatever the guest writes meanwhile, the calls told, the reply and the stores of a chain are those of the plain machine's step by what was loaded
+abbrev pub ChainIsStepBy : {F : Type 0} → May F → Type 0
+ChainIsStepBy {F} may =
+    (given : List (List ℕ)) (request : List ℕ) (calls : Calls) (acts : List Act) (last head i : ℕ) (notice : Bool)
+    (old new : Workbench) (before : KeptQueue) (s : Session) (m : State F) (files : F) →
+    (run : ChainBy given request calls acts last head notice old new before s) → IsBefore old before i m → IsSession s m → FileRun may m.files calls files →
+    (loaded : Loaded) × LoadsOfChain given request calls acts last head notice old new before s run loaded
+    × (lost : List Load) × LackPlaces old before loaded lost × (x : Exchange) × (x.head ≡ head) × (x.request ≡ request)
+    × StepBy may m i (step_loads loaded lost request) calls (Exchanged x notice) (record { acts = acts; last = last })
+    (after_chain m i (queue_of (course_of before old.limit)) new.session.options.0 files)
+
+-- and over some memory: if one has all that was loaded (then no byte was loaded as two), the flags as they are after the stores, and the front's bytes apart, it is
+-- the plain machine's step over that memory, which is left with the stores in it
+abbrev pub ChainIsStep : {F : Type 0} → May F → Type 0
+ChainIsStep {F} may =
+    (given : List (List ℕ)) (request : List ℕ) (calls : Calls) (acts : List Act) (last head i : ℕ) (notice : Bool)
+    (old new : Workbench) (before : KeptQueue) (s : Session) (m : State F) (files : F) (h : Host) (room : List ℕ) →
+    let q = queue_of (course_of before old.limit) in let memory = memory_of h old.regions in
+    (run : ChainBy given request calls acts last head notice old new before s) → IsBefore old before i m → IsSession s m → FileRun may m.files calls files →
+    ((loaded : Loaded) → LoadsOfChain given request calls acts last head notice old new before s run loaded → HasLoaded memory q loaded request) →
+    FindFlags memory q acts → room ≡ addresses_of (writable run.walked_bench.descriptors.items) → MayStoreLast memory room last →
+    (x : Exchange) × (x.head ≡ head) × (x.request ≡ request)
+    × Step may (record m { memory = memory }) i calls (Exchanged x notice)
+    (record (after_chain m i q new.session.options.0 files) { memory = after_stores memory (stores_among acts) })
