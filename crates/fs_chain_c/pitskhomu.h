@@ -133,7 +133,7 @@ enum fs_status {
     FS_OTHER_KIND = 75,             /* the call wants an answer of another kind (`answer` of the call) */
     FS_CHAIN_OUT = 76,              /* the queue has as many chains out as it may (one), or the chain is walked or out */
     FS_NO_PLACE = 77,               /* what is to be loaded or stored has no place. The walk found that it has, and regions don't change while a
-                                       chain is walked or out: so this isn't told; but that isn't proved of the handle's functions together */
+                                       chain is walked or out: so this isn't told. Of loads that is proved (law_chains of fs_chain), of stores not */
     FS_RECORD_TRUNCATED = 81,       /* 81 to 90: nothing goes on from the record */
     FS_RECORD_BAD_MAGIC = 82,
     FS_RECORD_BAD_VERSION = 83,
@@ -291,8 +291,8 @@ static inline const char *fs_call_name(uint32_t kind) {
 /* The archive's FS_VERSION: compare it once where header and archive may be of two releases. */
 uint32_t fs_version(void);
 
-/* Whether a name is one component of a path, which is looked up in its directory alone: 1, or 0 if it is empty, "." or "..", or has a slash or a
- * zero byte (POSIX.1-2017, 3.170 and 4.13). A guest's names may be any of these: who serves a directory of the host asks at each. */
+/* Whether a name is one component of a path: 1, or 0 if it is empty, "." or "..", or has a slash or a zero byte (POSIX.1-2017, 3.170 and 4.13).
+ * A guest's names may be any of these: who serves a directory of the host asks at each. A link that a name names leads elsewhere still: O_NOFOLLOW. */
 uint8_t fs_is_name(const uint8_t *name, size_t len) FS_CHECK FS_NONNULL(1);
 
 /* ---------------------------------------------------------------- device and queues: numbers that you keep */
@@ -357,7 +357,7 @@ struct fs_step {
  * law_any_loads), not of the handle's calls together. A queue that another chain's walk stopped meanwhile refuses: FS_STOPPED.
  * FS_DONE: the chain is out of the queue, its windows stay as they are until it is returned or dropped. FS_IDLE, a refusal
  * from 1 to 8: the chain is free. A chain whose walk has begun isn't out yet: fs_drop ends it, and so does a refusal. An entry that goes over the
- * end of a region (the next one begins there) is loaded in two parts, by two calls; a caller who has it whole may give it whole.
+ * end of a region (the next one begins there) is loaded in two parts, by two calls; a caller who has it whole may give it whole, unless a part of it was given.
  * Errors: FS_WRONG_ORDER (no memory was told), FS_BAD_ARGUMENT (the queue's numbers are none; or `loaded` isn't as long as the load, whole or as
  * it was told: that is still wanted, and told again), FS_WRONG_ORDER (it is out), FS_OTHER_QUEUE (it walks another), FS_CHAIN_OUT; then in no order FS_OUT_OF_MEMORY, 1 to 8, FS_NO_PLACE. */
 uint32_t fs_walk(struct fs_chain *chain, struct fs_queue *queue, const uint8_t *loaded, size_t loaded_len, struct fs_step *step)
@@ -382,7 +382,7 @@ struct fs_range {
 
 /* The windows of the bytes from `from` on, up to `len` of them, of a chain's request or room: as many as there is place for and
  * bytes for, each as long as its descriptor and its region go on. They answer how many they filled: 0 where nothing is there, also of a chain
- * that isn't out. What they cover is the sum of their lengths; go on from there for more. A call goes once through the descriptors
+ * that isn't out. What they cover is the sum of their lengths; go on from there for more. Each of these two goes once through the descriptors
  * of the chain: many windows in one call take less time than in many. fs_room_ranges tells the same of the room by the
  * guest's addresses, for a log: each range as long as its descriptor goes on. */
 size_t fs_request_windows(struct fs_chain *chain, uint64_t from, uint64_t len, struct fs_window *windows, size_t window_count)

@@ -2,7 +2,6 @@
 
 ghost use Rattle.std.specs.Prelude.{◌≡◌, [], refl};
 ghost use Rattle.fuse_values.specs.Values.{call_of, extra_of};
-ghost use Rattle.server_calls.specs.Callers.{Made, CallSays, shape_of};
 ghost use Rattle.server_calls.specs.Requests.{mknod_call, mkdir_call, create_call, symlink_call};
 
 use crate::values::NewNameValue;

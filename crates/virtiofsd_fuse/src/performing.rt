@@ -2,7 +2,7 @@
 
 ghost use Rattle.std.specs.Prelude.{◌≡◌, ◌<◌, ◌^◌, [], true, false, option_map};
 ghost use Rattle.fuse_values.specs.Values.{call_of};
-ghost use Rattle.server_calls.specs.Callers.{Header, Fixed, OnFile, shape_of, is_record};
+ghost use Rattle.server_calls.specs.Callers.{Header, OnFile, shape_of, is_record};
 ghost use Rattle.virtiofsd_fuse.specs.Grammar.{Asks, One};
 ghost use Rattle.virtiofsd_fuse.specs.Serving.{ServerHandles, Leaves};
 
@@ -66,7 +66,6 @@ impl<F: FileSystem> Server<F> {
             FileCall::Poll => reply_answer(w, unique, silent(self.fs.poll())),
             FileCall::NotifyReply => reply_answer(w, unique, silent(self.fs.notify_reply())),
             FileCall::TmpFile => reply_answer(w, unique, received(Err::<(), _>(self.fs.tmpfile()))),
-
             _ => unreachable!(),
         }
     }
@@ -162,7 +161,6 @@ impl<F: FileSystem> Server<F> {
                 );
                 reply_answer(w, unique, answer)
             }
-
             _ => self.perform_file(unique, call, w),
         }
     }
@@ -332,7 +330,6 @@ impl<F: FileSystem> Server<F> {
                 );
                 reply_answer(w, unique, answer)
             }
-
             _ => unreachable!(),
         }
     }

@@ -66,7 +66,6 @@ impl<F: FileSystem> Server<F> {
                 let answer = received(self.fs.removexattr(context, F::Inode::numbered(node), name));
                 reply_answer(w, unique, answer)
             }
-
             _ => unreachable!(),
         }
     }
@@ -147,7 +146,6 @@ impl<F: FileSystem> Server<F> {
                 );
                 reply_answer(w, unique, answer)
             }
-
             _ => unreachable!(),
         }
     }
@@ -259,7 +257,6 @@ impl<F: FileSystem> Server<F> {
                 }
                 Err(error) => Err(error),
             },
-
             _ => unreachable!(),
         }
     }

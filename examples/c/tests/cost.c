@@ -1,5 +1,5 @@
 /* What a chain costs by the library, with plain loads and stores: requests as a Linux guest cuts them, header, arguments and data in
- * pieces of their own, by direct descriptors; answers and data are at hand.
+ * pieces of their own, by direct descriptors; and one of 130 descriptors in a table, as a READ of 512 KiB has. Answers and data are at hand.
  * cost [CHAINS]: prints for each kind of request the least of nine runs, in nanoseconds for a chain. */
 #define _POSIX_C_SOURCE 200809L
 #include "../access.h"
@@ -8,17 +8,18 @@
 #include <string.h>
 #include <time.h>
 
-enum { SIZE = 256, DESC = 0x1000, AVAIL = 0x2000, USED = 0x3000, REQUEST = 0x4000, ROOM = 0x6000, END = 0x8000 };
-enum { NEXT = 1, WRITE = 2, RUNS = 9, PIECES = 3, DATA = 4096 };
+enum { SIZE = 256, DESC = 0x1000, AVAIL = 0x2000, USED = 0x3000, REQUEST = 0x4000, ROOM = 0x6000, TABLE = 0x8000, END = 0x9000 };
+enum { NEXT = 1, WRITE = 2, INDIRECT = 4, RUNS = 9, PIECES = 3, DATA = 4096, ENTRY = 16 };
 
 static _Alignas(4096) uint8_t memory[END];
 static uint8_t file[DATA];
 
-/* A kind of request: its pieces and those of its room (0: none), and what answers it. */
+/* A kind of request: its pieces and those of its room (0: none), how many pages of room stand behind them in a table (0: no table), and
+ * what answers it. */
 struct row {
     const char *name;
     uint32_t opcode;
-    size_t request[PIECES], room[PIECES];
+    size_t request[PIECES], room[PIECES], pages;
     uint32_t (*answer)(struct fs_chain *, const struct fs_call *);
 };
 
@@ -55,25 +56,41 @@ static uint32_t answer_write(struct fs_chain *chain, const struct fs_call *call)
 }
 
 static const struct row rows[] = {
-    {"unknown opcode", 0x7777, {40}, {16}, answer_none},
-    {"GETATTR", 3, {40, 16}, {16, 104}, answer_attr},
-    {"LOOKUP", 1, {40, 5}, {16, 128}, answer_entry},
-    {"READ 4 KiB", 15, {40, 40}, {16, DATA}, answer_read},
-    {"WRITE 4 KiB", 16, {40, 40, DATA}, {16, 8}, answer_write},
+    {"unknown opcode", 0x7777, {40}, {16}, 0, answer_none},
+    {"GETATTR", 3, {40, 16}, {16, 104}, 0, answer_attr},
+    {"LOOKUP", 1, {40, 5}, {16, 128}, 0, answer_entry},
+    {"READ 4 KiB", 15, {40, 40}, {16, DATA}, 0, answer_read},
+    {"WRITE 4 KiB", 16, {40, 40, DATA}, {16, 8}, 0, answer_write},
+    {"130 descriptors in a table", 0x7777, {40}, {16}, 128, answer_none},
 };
 
+/* Lays the entry of an index in a table. */
+static void lay_entry(size_t table, size_t index, size_t at, size_t len, uint16_t flags) {
+    size_t entry = table + ENTRY * index;
+    put(entry, at, 8);
+    put(entry + 8, len, 4);
+    put(entry + 12, flags, 2);
+    put(entry + 14, flags & NEXT ? index + 1 : 0, 2);
+}
+
 /* Lays the pieces of one direction, each 16 bytes behind the one before; answers the index behind the last. */
-static size_t lay_pieces(const size_t pieces[PIECES], size_t index, size_t at, uint16_t flags, bool ends) {
+static size_t lay_pieces(size_t table, const size_t pieces[PIECES], size_t index, size_t at, uint16_t flags, bool ends) {
     for (size_t k = 0; k < PIECES && pieces[k]; k++, index++) {
         bool last = ends && (k + 1 == PIECES || !pieces[k + 1]);
-        size_t entry = DESC + 16 * index;
-        put(entry, at, 8);
-        put(entry + 8, pieces[k], 4);
-        put(entry + 12, (uint16_t)(last ? flags : flags | NEXT), 2);
-        put(entry + 14, last ? 0 : index + 1, 2);
+        lay_entry(table, index, at, pieces[k], (uint16_t)(last ? flags : flags | NEXT));
         at += pieces[k] + 16;
     }
     return index;
+}
+
+/* Lays a chain: direct, or in a table that one descriptor names. */
+static void lay_chain(const struct row *row) {
+    size_t table = row->pages ? TABLE : DESC;
+    size_t index = lay_pieces(table, row->request, 0, REQUEST, 0, false);
+    index = lay_pieces(table, row->room, index, ROOM, WRITE, !row->pages);
+    for (size_t k = 1; k <= row->pages; k++, index++)
+        lay_entry(table, index, ROOM, DATA, (uint16_t)(k < row->pages ? WRITE | NEXT : WRITE));
+    if (row->pages) lay_entry(DESC, 0, TABLE, ENTRY * index, INDIRECT);
 }
 
 /* Lays a request: its header, and behind it zeros, a name, or the numbers of a transfer of one page. */
@@ -87,7 +104,7 @@ static void lay_request(const struct row *row) {
     put(REQUEST + 16, 1, 8);
     if (row->answer == answer_entry) memcpy(memory + record, "file", 5);
     if (row->answer == answer_read || row->answer == answer_write) put(record + 16, DATA, 4);
-    lay_pieces(row->room, lay_pieces(row->request, 0, REQUEST, 0, false), ROOM, WRITE, true);
+    lay_chain(row);
 }
 
 static void serve_next(const struct row *row, struct fs_chain *chain, struct fs_queue *queue, const struct fs_device *device) {

@@ -93,8 +93,7 @@ pub fn version() -> u32 {
     chain::version()
 }
 
-/// Whether a name is one component of a path, which is looked up in its directory alone. If not, it is empty, `.` or `..`, or has a
-/// slash or a zero byte.
+/// Whether a name is one component of a path. If not, it is empty, `.` or `..`, or has a slash or a zero byte. A link leads elsewhere still.
 pub fn is_name(name: &[u8]) -> bool {
     chain::is_name(name)
 }
