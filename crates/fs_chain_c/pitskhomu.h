@@ -293,7 +293,7 @@ uint32_t fs_version(void);
 
 /* Whether a name is one component of a path: 1, or 0 if it is empty, "." or "..", or has a slash or a zero byte (POSIX.1-2017, 3.170 and 4.13).
  * A guest's names may be any of these: who serves a directory of the host asks at each. A link that a name names leads elsewhere still: O_NOFOLLOW. */
-uint8_t fs_is_name(const uint8_t *name, size_t len) FS_CHECK FS_NONNULL(1);
+uint8_t fs_is_name(const uint8_t *name, size_t name_len) FS_CHECK FS_NONNULL(1);
 
 /* ---------------------------------------------------------------- device and queues: numbers that you keep */
 

@@ -212,7 +212,7 @@ pub struct Stores {
 #[rustfmt::skip]
 extern "C" {
     pub fn fs_version() -> u32;
-    pub fn fs_is_name(name: *const u8, len: usize) -> u8;
+    pub fn fs_is_name(name: *const u8, name_len: usize) -> u8;
     pub fn fs_chain_set_memory(chain: &mut Chain, device: &Device, regions: *const Region, region_count: usize) -> u32;
     pub fn fs_chain_free(chain: &mut Chain);
     pub fn fs_walk(chain: &mut Chain, queue: &mut Queue, loaded: *const u8, loaded_len: usize, step: &mut Step) -> u32;
