@@ -1,12 +1,12 @@
 //! What a request asks.
 
-ghost use Rattle.std.specs.Prelude.{◌≡◌, ℕ, ◌≤◌, [], List, true, drop, length, bit_and};
+ghost use Rattle.std.specs.Prelude.{◌≡◌, ℕ, ◌≤◌, ◌*◌, [], List, true, drop, length, bit_and};
 ghost use Rattle.fuse_fs.specs.Answers.{context_of};
 ghost use Rattle.fuse_fs.specs.Calls as call;
-ghost use Rattle.fuse_values.specs.Values.{call_of};
+ghost use Rattle.fuse_values.specs.Values.{call_of, pairs_in};
 ghost use Rattle.fuse_wire.specs.Opcodes.{opcode_of};
 ghost use Rattle.server_calls.specs.Callers.{CallSays};
-ghost use Rattle.server_calls.specs.Requests.{read_call, write_call};
+ghost use Rattle.server_calls.specs.Requests.{batch_forget_call, read_call, write_call};
 ghost use Rattle.server_replies.specs.WholeReplies.{error_bytes};
 ghost use Rattle.virtiofsd_fuse.specs.DataApart.{begins_a_write, is_write};
 ghost use Rattle.virtiofsd_fuse.specs.Grammar.{Meaning, Replies, Asks, One, Starts, given, ended, known_options, meant, meaning, read_asked, listing_asked, write_row};
@@ -203,6 +203,22 @@ pub(crate) fn called<'a>(head: &InHeader, made: FileCall<'a>, room: usize) -> As
         room,
     };
     Asked::Call(made, waiting)
+}
+
+/// The call of a BATCH_FORGET, by the bytes of its pairs.
+pub(crate) fn ask_forgets<'a>(head: &InHeader, counts: &'a [u8], room: usize) -> Asked<'a>
+    ensures told { (page_size options : ℕ) (m : Meaning) (bytes : List ℕ) → length counts.now ≡ 16 * length (pairs_in counts.now)
+        → m ≡ Asks (One head.now.unique (batch_forget_call head.now (pairs_in counts.now))) → IsTold (setting page_size options room) m bytes result }
+    ensures asker { IsAskedBy (context_of head.now) result }
+{
+    let context = Context::from(*head);
+    let waiting = Waiting {
+        unique: head.unique,
+        context,
+        awaits: Awaits::Forgotten,
+        room,
+    };
+    Asked::Call(FileCall::BatchForget { context, counts }, waiting)
 }
 
 /// The call of an INIT, whose client reads `readahead` bytes ahead.

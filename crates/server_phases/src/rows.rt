@@ -8,12 +8,13 @@ ghost use Rattle.virtiofsd_fuse.specs.Grammar.{listing_row, read_row, silent_row
 ghost use Rattle.virtiofsd_fuse.specs.Serving.{setting};
 ghost use Rattle.server_phases.specs.Asking.{IsAskedBy, IsRowTold, IsTold};
 
-use crate::asking::{Asked, WRITE_IN_LEN, ask_listing, ask_read, ask_write_row, called, refused};
+use crate::asking::{
+    Asked, WRITE_IN_LEN, ask_forgets, ask_listing, ask_read, ask_write_row, called, refused,
+};
 use crate::session::Session;
 use fuse_in::{BatchForgetIn, GetxattrIn, InHeader};
 use fuse_wire::Errno;
 use server_calls::new_nodes::symlink_value;
-use server_calls::session::batch_forget_value;
 use server_calls::values::{
     NameValue, NewNameValue, PlainValue, RecordNameValue, RecordValue, TwoPartsValue,
 };
@@ -234,7 +235,7 @@ impl Session {
             return refused(head, Errno::ENOMEM, room);
         }
         match source.pairs(count) {
-            Ok(counts) => called(head, batch_forget_value(head, counts), room),
+            Ok(counts) => ask_forgets(head, counts, room),
             Err(error) => Asked::Fault(error),
         }
     }

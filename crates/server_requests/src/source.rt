@@ -1,6 +1,6 @@
 //! From where requests are read: the bytes behind a header, and what of them is lent.
 
-ghost use Rattle.std.specs.Prelude.{◌≡◌, ◌≤◌, ℕ, List, Ok, Err, IfOk, IfErr};
+ghost use Rattle.std.specs.Prelude.{◌≡◌, ◌≤◌, ◌*◌, ℕ, List, length, Ok, Err, IfOk, IfErr};
 ghost use Rattle.fuse_values.specs.Values.{pairs_in};
 ghost use Rattle.server_requests.specs.Reading.{Faults, many, reading_of, read_result, value_of};
 ghost use Rattle.server_requests.specs.Fronts.{counted, flags2_of, forget_pair, setxattr_front, with_bytes};
@@ -33,6 +33,7 @@ pub trait Source<'a> {
     /// they are not all there.
     fn pairs(self, count: u32) -> Result<&'a [u8], Error>
         ensures bytes { IfOk result (λ bytes. Ok (pairs_in bytes.now) ≡ value_of (many count forget_pair (left self))) }
+        ensures whole { IfOk result (λ bytes. length bytes.now ≡ 16 * count) }
         ensures fault { IfErr result (λ e. Err (Faults e) ≡ value_of (many count forget_pair (left self))) };
 }
 

@@ -1,6 +1,6 @@
 use Rattle.std.proofs.Common.{ap, sym, ◌∙◌}
 use Rattle.virtiofsd_fuse.specs.Serving.{setting}
-use Rattle.fuse_values.specs.Values.{extra_of}
+use Rattle.fuse_values.specs.Values.{received_extra}
 use Rattle.server_requests.specs.Extras.{new_name}
 use Rattle.virtiofsd_fuse.specs.Grammar.{Given, given}
 use Rattle.server_requests.specs.Fronts.{with_bytes}
@@ -10,7 +10,7 @@ use Rattle.virtiofsd_fuse.proofs.Rows.{bytes_read, bytes_fault}
 use Rattle.virtiofsd_fuse.proofs.server.Server.new_name_request.Goals as goal
 
 pub perform_made-requires-clause-shape : goal.perform_made-requires-clause-shape
-perform_made-requires-clause-shape g c = rw c.value-call.ensures (g.R.NewNameValue.says c.args.head.now c.in-Ok.front.record (c.in-Ok-new_name.new.name.now, extra_of c.in-Ok-new_name.new.received)).0
+perform_made-requires-clause-shape g c = rw c.value-call.ensures (g.R.NewNameValue.says c.args.head.now c.in-Ok.front.record (c.in-Ok-new_name.new.name.now, received_extra c.in-Ok-new_name.new.received)).0
 
 pub returns-in-Ok-new_name-clause-handles : goal.returns-in-Ok-new_name-clause-handles
 returns-in-Ok-new_name-clause-handles g c =
