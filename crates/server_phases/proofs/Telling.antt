@@ -4,7 +4,6 @@ use Rattle.std.specs.Prelude.{◌/◌, nat_le, nat_lt}
 use Rattle.std.proofs.lemmas.Bool.Decides.{nat_tests}
 use Rattle.fuse_in.specs.declared.session.InHeader.{InHeader}
 use Rattle.fuse_in.specs.Records.{in_header}
-use Rattle.fuse_in.specs.Shapes.{Shape}
 use Rattle.fuse_fs.specs.Answers.{context_of}
 use Rattle.fuse_fs.specs.Calls.{FileCall, Init, Readdir}
 use Rattle.fuse_values.specs.declared.call.FileCall as made
@@ -18,7 +17,7 @@ use Rattle.server_replies.specs.WholeReplies.{error_bytes, reply_bytes, versions
 use Rattle.server_replies.proofs.ReplyLemmas.{length_error, length_reply}
 use Rattle.server_segments.specs.declared.error.Error.{Error}
 use Rattle.server_segments.specs.declared.error.Error.TheVariants.{EncodeMessage}
-use Rattle.virtiofsd_fuse.specs.Grammar.{Meaning, IsFault, Replies, Asks, One, Given, ended, forgets_asked, one, record_row}
+use Rattle.virtiofsd_fuse.specs.Grammar.{Meaning, IsFault, IsSilent, Replies, Asks, One, Given, ended, forgets_asked, one}
 use Rattle.virtiofsd_fuse.specs.Serving.{Setting, setting}
 use Rattle.virtiofsd_fuse.proofs.Serve.{ask_of, ended_ask, ended_fault}
 use Rattle.server_phases.specs.declared.asking.Asked.{Asked}
@@ -73,9 +72,9 @@ call_is_told s h bytes c call room place says e =
 pub fault_told : (s : Setting) (m : Meaning) (e : Error) → m ≡ IsFault e → IsTold s m [] (asked.Fault e)
 fault_told s m e h = rw h refl
 
-pub record_fault : {R : Type 0} → (s : Setting) (g : Given) (shape : Shape R) (call : InHeader → R → FileCall) (all : List ℕ) (e : Error) → Err (Faults e) ≡ reading_of shape all
-    → IsTold s (ended g.header.unique (record_row shape call g all)) [] (asked.Fault e)
-record_fault s g shape call all e h = rw (← h) refl
+-- no reply
+pub silence_told : (s : Setting) (m : Meaning) → m ≡ IsSilent → IsTold s m [] asked.Silence
+silence_told s m h = rw h refl
 
 -- a reply that tells the versions
 pub versions_told : (page_size options room unique : ℕ) (bytes : List ℕ)

@@ -73,7 +73,7 @@ pub(crate) fn refused<'a>(head: &InHeader, error: Errno, room: usize) -> Asked<'
 }
 
 /// READ, by its record.
-pub(crate) fn ask_read<'a>(head: &InHeader, request: &ReadIn, room: usize) -> Asked<'a>
+pub(crate) fn read_asked<'a>(head: &InHeader, request: &ReadIn, room: usize) -> Asked<'a>
     ensures told { (page_size options : ℕ) (more bytes : List ℕ)
         → IsTold (setting page_size options room) (ended head.now.unique (read_asked (given head.now options room) request.now more)) bytes result }
     ensures asker { IsAskedBy (context_of head.now) result }
@@ -109,7 +109,7 @@ fn read_value<'a>(head: &InHeader, request: &ReadIn, most: usize) -> FileCall<'a
 }
 
 /// READDIR and READDIRPLUS, by their record.
-pub(crate) fn ask_listing<'a>(
+pub(crate) fn listing_asked<'a>(
     head: &InHeader,
     request: &ReadIn,
     with_nodes: bool,
@@ -153,7 +153,7 @@ pub(crate) fn ask_listing<'a>(
 }
 
 // WRITE, by its record; so many bytes of data stand behind it.
-fn ask_write<'a>(head: &InHeader, request: &WriteIn, len: usize, room: usize) -> Asked<'a>
+fn write_asked<'a>(head: &InHeader, request: &WriteIn, len: usize, room: usize) -> Asked<'a>
     ensures told { (page_size options : ℕ) (bytes : List ℕ) → len ≡ length bytes
         → IsTold (setting page_size options room) (Asks (One head.now.unique (write_call head.now request.now bytes))) bytes result }
     ensures asker { IsAskedBy (context_of head.now) result }
@@ -206,7 +206,7 @@ pub(crate) fn called<'a>(head: &InHeader, made: FileCall<'a>, room: usize) -> As
 }
 
 /// The call of a BATCH_FORGET, by the bytes of its pairs.
-pub(crate) fn ask_forgets<'a>(head: &InHeader, counts: &'a [u8], room: usize) -> Asked<'a>
+pub(crate) fn forgets_asked<'a>(head: &InHeader, counts: &'a [u8], room: usize) -> Asked<'a>
     ensures told { (page_size options : ℕ) (m : Meaning) (bytes : List ℕ) → length counts.now ≡ 16 * length (pairs_in counts.now)
         → m ≡ Asks (One head.now.unique (batch_forget_call head.now (pairs_in counts.now))) → IsTold (setting page_size options room) m bytes result }
     ensures asker { IsAskedBy (context_of head.now) result }
@@ -257,7 +257,7 @@ pub(crate) fn ask_write_row<'a>(
 {
     let mut source = source;
     match source.record() {
-        Ok(request) => ask_write(head, &request, len, room),
+        Ok(request) => write_asked(head, &request, len, room),
         Err(error) => Asked::Fault(error),
     }
 }
