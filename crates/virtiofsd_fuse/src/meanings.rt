@@ -96,7 +96,8 @@ fn record_name_row<'a, R: RecordNameValue, S: Source<'a> + Drop>(
     options: FsOptions,
     source: S,
 ) -> RequestMeaning<'a>
-    ensures { RowReads S.splits (λ g. counted_split g.header.len R.Record.SIZE (S.segments source)) head.now options.0 (record_name_row R.Record.shape R.Record.SIZE R.call) (S.left source) result }
+    ensures { RowReads S.splits (λ g. counted_split g.header.len R.Record.SIZE (S.segments source))
+        head.now options.0 (record_name_row R.Record.shape R.Record.SIZE R.call) (S.left source) result }
 {
     match record_and_bytes::<R::Record, S>(source, head.len) {
         Ok(front) => match last_name(front.bytes) {
@@ -114,7 +115,8 @@ fn two_names_row<'a, R: TwoPartsValue, S: Source<'a> + Drop>(
     options: FsOptions,
     source: S,
 ) -> RequestMeaning<'a>
-    ensures { RowReads S.splits (λ g. counted_split g.header.len R.Record.SIZE (S.segments source)) head.now options.0 (two_names_row R.Record.shape R.Record.SIZE R.call) (S.left source) result }
+    ensures { RowReads S.splits (λ g. counted_split g.header.len R.Record.SIZE (S.segments source))
+        head.now options.0 (two_names_row R.Record.shape R.Record.SIZE R.call) (S.left source) result }
 {
     match record_and_bytes::<R::Record, S>(source, head.len) {
         Ok(front) => match two_names(front.bytes) {
@@ -132,7 +134,9 @@ fn new_name_row<'a, R: NewNameValue, S: Source<'a> + Drop>(
     options: FsOptions,
     source: S,
 ) -> RequestMeaning<'a>
-    ensures { RowReads S.splits (λ g. row_owns g (new_name_row R.Record.shape R.Record.SIZE R.call) (S.left source) || counted_split g.header.len R.Record.SIZE (S.segments source)) head.now options.0 (new_name_row R.Record.shape R.Record.SIZE R.call) (S.left source) result }
+    ensures { RowReads S.splits (λ g. row_owns g (new_name_row R.Record.shape R.Record.SIZE R.call) (S.left source)
+        || counted_split g.header.len R.Record.SIZE (S.segments source))
+        head.now options.0 (new_name_row R.Record.shape R.Record.SIZE R.call) (S.left source) result }
 {
     match record_and_bytes::<R::Record, S>(source, head.len) {
         Ok(front) => match new_name(options, front.bytes) {
@@ -153,7 +157,9 @@ fn symlink_row<'a, S: Source<'a> + Drop>(
     options: FsOptions,
     source: S,
 ) -> RequestMeaning<'a>
-    ensures { RowReads S.splits (λ g. row_owns g (symlink_row) (S.left source) || counted_split g.header.len 0 (S.segments source)) head.now options.0 (symlink_row) (S.left source) result }
+    ensures { RowReads S.splits (λ g. row_owns g symlink_row (S.left source)
+        || counted_split g.header.len 0 (S.segments source))
+        head.now options.0 symlink_row (S.left source) result }
 {
     match source.counted(head.len, 0) {
         Ok(bytes) => match new_link(options, bytes) {
@@ -218,7 +224,8 @@ fn setxattr_row<'a, S: Source<'a> + Drop>(
     options: FsOptions,
     source: S,
 ) -> RequestMeaning<'a>
-    ensures { RowReads S.splits (λ g. counted_split g.header.len (setxattr_len g.options) (S.segments source)) head.now options.0 (setxattr_row) (S.left source) result }
+    ensures { RowReads S.splits (λ g. counted_split g.header.len (setxattr_len g.options) (S.segments source))
+        head.now options.0 (setxattr_row) (S.left source) result }
 {
     match setxattr_and_bytes(source, options, head.len) {
         Ok(front) => match name_and_value(front.bytes, front.record.size) {
