@@ -38,21 +38,24 @@
  *  3. A load of 2 bytes is one atomic load that acquires (the available index: what it covers is read after it).
  *  4. Order of a return: data over the room, the front over its begin, the element's two halves, then the index by one atomic store
  *     of 2 bytes that releases; a full barrier (atomic_thread_fence(memory_order_seq_cst)); then the load of 2 bytes at `seen_at`.
- *  5. Windows are used until fs_returned or fs_drop, and only those that were told: stores go to the room's alone.
+ *  5. Windows are used until fs_returned, fs_drop or fs_abandon, and only those that were told: stores go to the room's alone.
  *  6. Memory stays mapped while a chain is out over it; a page is marked in a migration's log after the store and before fs_returned.
  *  7. One call at a time on a chain, on a queue, on a device that isn't const; each with the thread's order in between.
- *  8. Before you begin a queue anew, drop the chains that walk it or are out of it: by its numbers alone a queue that begins at the
- *     same position with the same parts can't be told from itself.
- *  9. A call that changed files is answered, not dropped: a dropped chain is walked again, and asks again.
+ *  8. A queue begins anew by fs_queue_begin (or fs_restore): its walks and its chains are refused from then on, and fs_abandon frees each. No load or store of
+ *     yours for them goes on by then.
+ *  9. A chain that was asked is answered: with nothing else to say, by fs_reply_err(EIO), or with silence by fs_reply_bytes(0). It can't be dropped.
  * 10. malloc, realloc and free are of one allocator, aligned as C says. No call from a signal handler, nor after fork in the child
  *     of a process with threads.
  *
- * WHAT MAY COME without a change to your loops: more chains out of a queue (FS_CHAIN_OUT comes later; a queue's calls are still one at a
- * time, from fs_return to fs_returned too), the event index (`seen_at` is elsewhere then; a call for before you sleep is added),
+ * SEVERAL CHAINS out of a queue, as many as its `most_out`, each by a `struct fs_chain` of its own. A queue's calls are one at a time: a lock is held from the
+ * first fs_walk to FS_DONE, and from fs_return to fs_returned. A walk between whose calls another chain is taken is refused (FS_OTHER_QUEUE): drop it, and
+ * begin again. Chains go back in any order.
+ *
+ * WHAT MAY COME without a change to your loops: the event index (`seen_at` is elsewhere then; a call for before you sleep is added),
  * an IOMMU (a status that names a missing address is added). Fields are added at a struct's end: begin with zeros.
  *
  * ERRORS. A call answers an enum fs_status. Below 32 it is a refusal of the queue's that stops it (but 1 and 9); 32 to 63 say how
- * to go on; from 64 on nothing was done, and what was there before is there still, unless the function says otherwise (FS_NO_PLACE; FS_OTHER_QUEUE of fs_drop and fs_returned). "Errors" below are in the order in
+ * to go on; from 64 on nothing was done, and what was there before is there still, unless the function says otherwise (FS_NO_PLACE). "Errors" below are in the order in
  * which they are looked for; of fs_chain_set_memory and fs_save that order isn't proved. Link with libfs_chain_c.a and the toolchain's file for the heap.
  */
 #ifndef PITSKHOMU_CHAIN_H
@@ -91,7 +94,7 @@ extern "C" {
 
 /* ---------------------------------------------------------------- numbers */
 
-#define FS_VERSION 5u          /* of this header; fs_version() is the archive's */
+#define FS_VERSION 6u          /* of this header; fs_version() is the archive's */
 #define FS_REGIONS_MAX 64u     /* regions of the guest's memory */
 #define FS_QUEUES_MAX 64u      /* queues in a record */
 #define FS_LOAD_MAX 4096u      /* no load of a walk is longer: 2 bytes of a ring, or 16 for each of some entries of a table, or parts of these */
@@ -129,11 +132,13 @@ enum fs_status {
                                        (2^32 bytes with its header), in a room that has place for them: answer otherwise. With limits of at
                                        most 2^31 there is none, and FS_NO_ROOM is told */
     FS_WRONG_ORDER = 73,            /* the chain isn't where this call goes on from */
-    FS_OTHER_QUEUE = 74,            /* the chain isn't out of this queue as it stands */
+    FS_OTHER_QUEUE = 74,            /* the chain isn't out of this queue, or its walk isn't of this one; or the queue was begun anew since. Of a walk also: another
+                                       chain was taken or dropped since it began */
     FS_OTHER_KIND = 75,             /* the call wants an answer of another kind (`answer` of the call) */
-    FS_CHAIN_OUT = 76,              /* the queue has as many chains out as it may (one), or the chain is walked or out */
+    FS_CHAIN_OUT = 76,              /* the queue has as many chains out as it may (most_out), or the chain is walked or out; of fs_save: one is out */
     FS_NO_PLACE = 77,               /* what is to be loaded or stored has no place. The walk found that it has, and regions don't change while a
                                        chain is walked or out: so this isn't told. Of loads that is proved (law_chains of fs_chain), of stores not */
+    FS_RETURNING = 78,              /* another chain of the queue is between fs_return and fs_returned */
     FS_RECORD_TRUNCATED = 81,       /* 81 to 90: nothing goes on from the record */
     FS_RECORD_BAD_MAGIC = 82,
     FS_RECORD_BAD_VERSION = 83,
@@ -249,7 +254,7 @@ static inline const char *fs_status_name(uint32_t status) {
     FS_NAME(FS_RECORD_BAD_VERSION); FS_NAME(FS_RECORD_BAD_COUNT); FS_NAME(FS_RECORD_BAD_RESERVED);
     FS_NAME(FS_RECORD_BAD_QUEUE); FS_NAME(FS_RECORD_BAD_OPTIONS); FS_NAME(FS_RECORD_OUT_OF_MEMORY); FS_NAME(FS_RECORD_MISMATCH);
     FS_NAME(FS_SHORT_BUFFER); FS_NAME(FS_LONG_REPLY); FS_NAME(FS_WRONG_ORDER); FS_NAME(FS_OTHER_QUEUE);
-    FS_NAME(FS_OTHER_KIND); FS_NAME(FS_CHAIN_OUT);
+    FS_NAME(FS_OTHER_KIND); FS_NAME(FS_CHAIN_OUT); FS_NAME(FS_RETURNING);
     default: return "";
     }
 }
@@ -305,16 +310,24 @@ struct fs_device {
 };
 #define FS_DEVICE {4096u, 0x101000u, 0u}
 
-/* A queue: set the first five, and the rest to 0. The parts' guest addresses are aligned to 16, 2 and 4 and end below 2^64; size
- * is a power of two up to 32768. `position` is where it begins (SET_VRING_BASE, 0 after a reset), and while no chain is out where
- * it stands (GET_VRING_BASE): fs_returned alone moves it. To begin anew, set all fields again. */
+/* A queue: zeros before its first use. You set desc, avail, used, size and most_out, and begin it by fs_queue_begin; the others are the library's. The parts'
+ * guest addresses are aligned to 16, 2 and 4 and end below 2^64; size is a power of two up to 32768. */
 struct fs_queue {
     uint64_t desc, avail, used;
     uint16_t size;
-    uint16_t position;
-    uint16_t out;     /* how many chains are out: 0 or 1 as yet. The next one is taken at position + out */
-    uint16_t stopped; /* the refusal (2 to 8) that stopped it, 1 if a record tells that one did, or 0 */
+    uint16_t position;  /* where the next chain is taken, modulo 2^16: while none is out where the queue stands (GET_VRING_BASE) */
+    uint16_t returned;  /* where the next chain goes back. So position - returned chains are out, modulo 2^16 */
+    uint16_t most_out;  /* how many may be: 1 to size; 0 counts as 1 */
+    uint16_t stopped;   /* the refusal (2 to 8) that stopped it, 1 if a record tells that one did, or 0 */
+    uint8_t returning;  /* 1 from fs_return to fs_returned, else 0 */
+    uint32_t begun;     /* how often it was begun anew, modulo 2^32 */
+    uint32_t taken;     /* how often a chain was taken or dropped, modulo 2^32 */
 };
+
+/* Begins a queue at a position (SET_VRING_BASE, 0 after a reset), by the parts that you set: no chain is out of it, and it isn't stopped. Walks and chains that
+ * it had are refused from then on (FS_OTHER_QUEUE), unless it is begun anew 2^32 times.
+ * Errors: FS_BAD_ARGUMENT (the numbers that you set are no queue's); then nothing is done. */
+uint32_t fs_queue_begin(struct fs_queue *queue, uint16_t position) FS_CHECK FS_NONNULL(1);
 
 /* Where a stretch of the guest's memory stands: `host` is the number of its first byte here, mostly (uintptr_t) of what mmap gave.
  * The core only adds to it: who keeps memory behind other numbers (offsets, the guest's own) hands in those. All three are
@@ -338,8 +351,8 @@ struct fs_chain {
 uint32_t fs_chain_set_memory(struct fs_chain *chain, const struct fs_device *device, const struct fs_region *regions,
                          size_t region_count) FS_CHECK FS_NONNULL(1, 2) FS_READS(3, 4);
 
-/* Frees what the chain holds (that is tried, not proved); then it is zeros. Of zeros it does nothing. A chain that is out counts as dropped, but its queue
- * isn't told: set its `out` to 0. */
+/* Frees what the chain holds (that is tried, not proved); then it is zeros. Of zeros it does nothing. A chain that is out is
+ * lost to its queue, which counts it as out until it is begun anew: return it before. */
 void fs_chain_free(struct fs_chain *chain) FS_NONNULL(1);
 
 /* What a walk says: with FS_LOAD, `len` bytes at `at`, 1 to FS_LOAD_MAX; with FS_DONE, the chain. Where nothing was done, the load that a walk still wants,
@@ -355,19 +368,23 @@ struct fs_step {
 /* Takes the next chain of a queue. At first `loaded` has length 0; as long as it answers FS_LOAD, load and call again with these
  * bytes. A walk ends after at most 2 * size + 6 loads, whatever the guest writes; proved is that of the walk behind this call (fs_queue's
  * law_any_loads), not of the handle's calls together. A queue that another chain's walk stopped meanwhile refuses: FS_STOPPED.
- * FS_DONE: the chain is out of the queue, its windows stay as they are until it is returned or dropped. FS_IDLE, a refusal
+ * FS_DONE: the chain is out of the queue, its windows stay as they are until it is returned, dropped or abandoned. FS_IDLE, a refusal
  * from 1 to 8: the chain is free. A chain whose walk has begun isn't out yet: fs_drop ends it, and so does a refusal. An entry that goes over the
  * end of a region (the next one begins there) is loaded in two parts, by two calls; a caller who has it whole may give it whole, unless a part of it was given.
  * Errors: FS_WRONG_ORDER (no memory was told), FS_BAD_ARGUMENT (the queue's numbers are none; or `loaded` isn't as long as the load, whole or as
- * it was told: that is still wanted, and told again), FS_WRONG_ORDER (it is out), FS_OTHER_QUEUE (it walks another), FS_CHAIN_OUT; then in no order FS_OUT_OF_MEMORY, 1 to 8, FS_NO_PLACE. */
+ * it was told: that is still wanted, and told again), FS_WRONG_ORDER (it is out), FS_OTHER_QUEUE (it walks another, or a chain was taken
+ * or dropped since, or it was begun anew: drop or abandon the walk), FS_CHAIN_OUT; then in no order FS_OUT_OF_MEMORY, 1 to 8, FS_NO_PLACE. */
 uint32_t fs_walk(struct fs_chain *chain, struct fs_queue *queue, const uint8_t *loaded, size_t loaded_len, struct fs_step *step)
     FS_CHECK FS_NONNULL(1, 2, 5) FS_READS(3, 4) FS_FILLS(5);
 
-/* Gives a chain up: free for another walk, nothing stored. The queue is told, and hands the same chain out at its next walk,
- * read anew. A walk ends; of zeros it does nothing.
- * Errors: FS_WRONG_ORDER (fs_return told the stores: go on to fs_returned). FS_OTHER_QUEUE is told where the queue was begun anew
- * meanwhile; the chain is free all the same. */
+/* Gives a chain up that wasn't asked: free for another walk, nothing stored. The queue is told, and hands the same chain out at its next walk,
+ * read anew. A walk ends, whatever the queue is; of zeros it does nothing.
+ * Errors: FS_BAD_ARGUMENT (the queue's numbers are none), FS_WRONG_ORDER (it was asked, or has a fault: it goes back), FS_OTHER_QUEUE, FS_WRONG_ORDER (another chain of
+ * the queue was taken or dropped since it was taken: ask it, or reply with silence). */
 uint32_t fs_drop(struct fs_chain *chain, struct fs_queue *queue) FS_NONNULL(1, 2);
+
+/* Frees a chain whose queue was begun anew, wherever it is: for another walk, nothing stored, no queue told. Of zeros it does nothing. */
+void fs_abandon(struct fs_chain *chain) FS_NONNULL(1);
 
 /* A stretch of memory here, laid out as struct iovec is: a `struct fs_window[]` may be handed to preadv and its kin by a cast. */
 struct fs_window {
@@ -547,15 +564,16 @@ struct fs_stores {
     uintptr_t seen_at;          /* 4. after a full barrier, 2 bytes: the available flags */
 };
 
-/* Says how the chain goes back. From here on it can't be dropped.
+/* Says how the chain goes back: at `returned` of its queue, whichever was taken first. Until fs_returned no other chain of the queue goes back.
  * Errors: FS_WRONG_ORDER (no memory was told), FS_BAD_ARGUMENT (the queue's numbers are none), FS_WRONG_ORDER (a call waits for its answer, or it was told),
- * FS_OTHER_QUEUE, FS_SHORT_BUFFER (front isn't as long as what stands in it; FS_FRONT_MAX always is), FS_NO_PLACE (make no stores, and go on with fs_returned). */
-uint32_t fs_return(struct fs_chain *chain, const struct fs_queue *queue, uint8_t *front, size_t front_len, struct fs_stores *stores)
+ * FS_OTHER_QUEUE, FS_RETURNING, FS_SHORT_BUFFER (front isn't as long as what stands in it; FS_FRONT_MAX always is), FS_NO_PLACE (make no stores, and go on with fs_returned). */
+uint32_t fs_return(struct fs_chain *chain, struct fs_queue *queue, uint8_t *front, size_t front_len, struct fs_stores *stores)
     FS_CHECK FS_NONNULL(1, 2, 5) FS_WRITES(3, 4) FS_FILLS(5);
 
-/* The stores are made: the queue goes on by one, the chain is free. `seen` are the 2 bytes at seen_at, as a number; `notify` says
+/* The stores are made: the queue's next chain goes back at the next place, the chain is free. `seen` are the 2 bytes at seen_at, as a number; `notify` says
  * whether the driver wants to be told: 1 or 0.
- * Errors: FS_WRONG_ORDER. FS_OTHER_QUEUE is told where the queue was begun anew meanwhile; the chain is free all the same. */
+ * Errors: FS_WRONG_ORDER (no memory was told), FS_BAD_ARGUMENT (the queue's numbers are none), FS_WRONG_ORDER (fs_return told no stores), FS_OTHER_QUEUE (it was begun
+ * anew: abandon the chain); then `notify` is 0. */
 uint32_t fs_returned(struct fs_chain *chain, struct fs_queue *queue, uint16_t seen, uint8_t *notify)
     FS_CHECK FS_NONNULL(1, 2, 4) FS_FILLS(4);
 
@@ -569,7 +587,7 @@ uint32_t fs_save(const struct fs_device *device, const struct fs_queue *queues, 
                  size_t *len) FS_CHECK FS_NONNULL(1, 6) FS_READS(2, 3) FS_WRITES(4, 5) FS_FILLS(6);
 
 /* Reads a record: into device->options, whose page size and limit have to be the record's, and the queues, of which `count` are told. The record
- * tells whether a queue was stopped, and not by what: `stopped` is 1 then. What it refuses leaves device and queues as they were. Other bytes may
+ * tells whether a queue was stopped, and not by what: `stopped` is 1 then. Each queue is begun anew by it, and keeps its most_out. What it refuses leaves device and queues as they were. Other bytes may
  * stand behind the record.
  * Errors: FS_BAD_ARGUMENT (of the device), 81 to 90 by what is read first, FS_SHORT_BUFFER (of queues; count tells how many there are, and is 0
  * after the others). */
