@@ -275,7 +275,7 @@ bool front_wait(struct front *front, size_t ring, int milliseconds) {
         atomic_store_explicit(flags, 0, memory_order_relaxed);
         atomic_thread_fence(memory_order_seq_cst);
         if (is_back(front, ring)) return true;
-        if (poll(&event, 1, milliseconds) <= 0) return is_back(front, ring);
+        if (poll(&event, 1, milliseconds) <= 0) return false; /* whether or not all is back: nobody said so */
         if (read(event.fd, &word, sizeof word) < 0 && errno != EAGAIN) die("no call");
     }
 }

@@ -124,7 +124,7 @@ bool wait_for_all(struct driver *driver, int milliseconds) {
         atomic_store_explicit(flags, 0, memory_order_relaxed);
         atomic_thread_fence(memory_order_seq_cst);
         if (is_back(driver)) return true;
-        if (poll(&event, 1, milliseconds) <= 0) return is_back(driver);
+        if (poll(&event, 1, milliseconds) <= 0) return false; /* whether or not all is back: nobody said so */
         if (read(event.fd, &calls, sizeof calls) < 0 && errno != EAGAIN) die("no call");
     }
 }
