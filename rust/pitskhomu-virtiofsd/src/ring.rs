@@ -77,7 +77,7 @@ impl State {
     fn begin(&mut self, threads: u16) -> Result<(), Status> {
         let Numbers { layout, position } = self.numbers;
         self.queue.begin(Queue::new(layout, position).with_most_out(threads.min(layout.size)))?;
-        self.is_new = false;
+        (self.is_new, self.wants_kicks) = (false, None);
         Ok(())
     }
 
@@ -212,7 +212,7 @@ impl Ring {
         self.listen(kick.as_raw_fd(), Source::Kick)?;
         state.kick = Some(kick);
         if !state.is_started {
-            (state.is_started, state.is_refused, state.is_new, state.wants_kicks) = (true, false, true, None);
+            (state.is_started, state.is_refused, state.is_new) = (true, false, true);
         }
         self.look(); // chains may wait since before
         Ok(())
