@@ -1,5 +1,5 @@
 -- A chain that is walked, asked, answered and returned, call by call.
-use Rattle.std.proofs.Common.{◌≡◌, ℕ, List, [], length, Some, None, Result, Ok, Err, IfOk, OnOk, refl, subst, sym, ap, arith}
+use Rattle.std.proofs.Common.{◌≡◌, ℕ, List, [], length, Some, None, Result, Ok, Err, IfOk, OnOk, refl, subst, sym, ap, ◌∙◌, arith}
 use Rattle.std.proofs.lemmas.List.{take_all}
 use Rattle.fs_queue.specs.Chain.{Descriptor}
 use Rattle.fs_queue.specs.Returning.{tells}
@@ -14,13 +14,15 @@ use Rattle.fs_chain.specs.declared.returning.Stores.{Stores}
 use Rattle.fs_chain.specs.declared.state.Out.{Out}
 use Rattle.fs_chain.specs.declared.state.State as state
 use Rattle.fs_chain.specs.declared.state.State.TheVariants as at
+use Rattle.fs_chain.specs.declared.state.Ticket.{Ticket}
 use Rattle.fs_chain.specs.declared.walking.WalkOutcome as walked
 use Rattle.fs_chain.specs.declared.walking.WalkOutcome.TheVariants as says
 use Rattle.fs_chain.specs.declared.workbench.Workbench.{Workbench}
 use Rattle.fs_chain.specs.Asking.{IfTaken}
 use Rattle.fs_chain.specs.Orders.{front_len, return_error}
+use Rattle.fs_chain.specs.Queues.{ticket_of}
 use Rattle.fs_chain.specs.Returns.{IfHasReply, ReturnsBy}
-use Rattle.fs_chain.specs.Walks.{course_of, state_after, told_of}
+use Rattle.fs_chain.specs.Walks.{course_of, queue_after, state_after, told_of}
 use Rattle.fs_chain.specs.Whole.{FromTaken, GoesBackBy, IsWalked, acts_of}
 use Rattle.fs_chain.proofs.WholeWalks.{walk_comes}
 
@@ -32,26 +34,39 @@ abbrev request_in : walked.WalkOutcome → ℕ
 request_in (says.Chain head n r) = n
 request_in _ = 0
 
-by_came : (ds : List Descriptor) (came : comes.Step) (course : Course) (st : state.State) (head n r : ℕ) → says.Chain head n r ≡ told_of ds came → st ≡ state_after course ds came →
+by_came : (ds : List Descriptor) (came : comes.Step) (course : Course) (ticket : Ticket) (st : state.State) (head n r : ℕ) → says.Chain head n r ≡ told_of ds came → st ≡ state_after course ticket ds came →
     FromTaken st (λ out. out.request_len ≡ n)
-by_came ds (step.Load walk) course st head n r told is = absurd (subst IsAChain told tt)
-by_came ds step.Idle course st head n r told is = absurd (subst IsAChain told tt)
-by_came ds (step.Refused e) course st head n r told is = absurd (subst IsAChain told tt)
-by_came ds (step.Chain h None) course st head n r told is = subst (λ (s : state.State). FromTaken s (λ out. out.request_len ≡ n)) (sym is) (sym (ap request_in told))
-by_came ds (step.Chain h (Some fault)) course st head n r told is = absurd (subst IsAChain told tt)
+by_came ds (step.Load walk) course ticket st head n r told is = absurd (subst IsAChain told tt)
+by_came ds step.Idle course ticket st head n r told is = absurd (subst IsAChain told tt)
+by_came ds (step.Refused e) course ticket st head n r told is = absurd (subst IsAChain told tt)
+by_came ds (step.Chain h None) course ticket st head n r told is = subst (λ (s : state.State). FromTaken s (λ out. out.request_len ≡ n)) (sym is) (sym (ap request_in told))
+by_came ds (step.Chain h (Some fault)) course ticket st head n r told is = absurd (subst IsAChain told tt)
 
 -- a chain that was walked has as many bytes of request as were told
 pub taken_so : (old new : Workbench) (before after : KeptQueue) (head n r : ℕ) → before.stopped ≡ None → IsWalked old new before after (wents.On (says.Chain head n r)) →
     FromTaken new.state (λ out. out.request_len ≡ n)
 taken_so old new before after head n r goes walked =
     let came = walk_comes walked.0 old new before after (says.Chain head n r) goes walked.1 in
-    by_came new.descriptors.items came.2.0 (course_of before old.limit) new.state head n r came.2.1.0 came.2.1.1
+    by_came new.descriptors.items came.2.0 (course_of before old.limit) (ticket_of before) new.state head n r came.2.1.0 came.2.1.1
+
+-- a walk leaves where the next chain goes back
+stays_there : (q : KeptQueue) (came : comes.Step) → (queue_after q came).returned ≡ q.returned
+stays_there q (step.Load walk) = refl
+stays_there q step.Idle = refl
+stays_there q (step.Refused e) = refl
+stays_there q (step.Chain head fault) = refl
+
+pub returned_stays : (old new : Workbench) (before after : KeptQueue) (head n r : ℕ) → before.stopped ≡ None → IsWalked old new before after (wents.On (says.Chain head n r)) →
+    after.returned ≡ before.returned
+returned_stays old new before after head n r goes walked =
+    let came = walk_comes walked.0 old new before after (says.Chain head n r) goes walked.1 in
+    ap (λ (q : KeptQueue). q.returned) came.2.1.2 ∙ stays_there before came.2.0
 
 -- of a chain that is out, both
 pub both_taken : (st : state.State) (P Q : Out → Type 0) → FromTaken st P → IfTaken st Q → FromTaken st (λ out. P out × Q out)
 both_taken (at.Taken out) P Q p q = (p, q)
 both_taken at.Free P Q p q = absurd p
-both_taken (at.Walking course walk) P Q p q = absurd p
+both_taken (at.Walking course ticket walk) P Q p q = absurd p
 both_taken (at.Waits out w) P Q p q = absurd p
 both_taken (at.Lists out l) P Q p q = absurd p
 both_taken (at.HasReply out reply) P Q p q = absurd p
@@ -60,7 +75,7 @@ both_taken (at.Returning out) P Q p q = absurd p
 pub more_taken : (st : state.State) (P Q : Out → Type 0) → ((out : Out) → P out → Q out) → FromTaken st P → FromTaken st Q
 more_taken (at.Taken out) P Q more p = more out p
 more_taken at.Free P Q more p = p
-more_taken (at.Walking course walk) P Q more p = p
+more_taken (at.Walking course ticket walk) P Q more p = p
 more_taken (at.Waits out w) P Q more p = p
 more_taken (at.Lists out l) P Q more p = p
 more_taken (at.HasReply out reply) P Q more p = p
@@ -71,11 +86,11 @@ whole_front request = take_all (length request) request (omega arith)
 
 -- a chain whose reply is known goes back by what begin_return told
 pub goes_back : (st : state.State) (q : KeptQueue) (len : ℕ) (s : Stores) (flags : List ℕ) (room : List ℕ) → return_error st q len ≡ None → length flags ≡ 2 →
-    IfHasReply st (λ out reply. ReturnsBy out reply s) → (acts : List Act) × (last : ℕ) × GoesBackBy room [] st acts last (tells flags)
+    IfHasReply st (λ out reply. ReturnsBy q out reply s) → (acts : List Act) × (last : ℕ) × GoesBackBy q room [] st acts last (tells flags)
 goes_back (at.HasReply out reply) q len s flags room can two back =
     (acts_of room reply [] s flags, front_len reply, record { stores = s; flags = flags; flags_len = two; returns = (back, (refl, refl)); notified = refl })
 goes_back at.Free q len s flags room can two back = absurd (cc)
-goes_back (at.Walking course walk) q len s flags room can two back = absurd (cc)
+goes_back (at.Walking course ticket walk) q len s flags room can two back = absurd (cc)
 goes_back (at.Taken out) q len s flags room can two back = absurd (cc)
 goes_back (at.Waits out w) q len s flags room can two back = absurd (cc)
 goes_back (at.Lists out l) q len s flags room can two back = absurd (cc)

@@ -38,26 +38,19 @@ pub fn workbench_over(rt: &impl Abort, alloc: Global, pages: &[u64]) -> Workbenc
     workbench
 }
 
-/// A queue of four descriptors: its table at 0, its rings at 0x50 and 0x60.
+/// A queue of four descriptors, one of whose chains may be out: its table at 0, its rings at 0x50 and 0x60.
 pub fn queue(rt: &impl Abort) -> KeptQueue
-    ensures { result.stopped ≡ None }
+    ensures goes { result.stopped ≡ None }
+    ensures none_out { result.returned ≡ result.position }
 {
-    KeptQueue {
-        layout: QueueLayout::new(4, 0, 0x50, 0x60).expect(rt, "a layout"),
-        position: 0xffff,
-        out: false,
-        stopped: None,
-    }
+    let layout = QueueLayout::new(4, 0, 0x50, 0x60).expect(rt, "a layout");
+    KeptQueue::begin(layout, 0xffff, 1)
 }
 
 /// A queue of sixteen descriptors: its table at 0, its rings at 0x100 and 0x128.
 pub fn long_queue(rt: &impl Abort) -> KeptQueue {
-    KeptQueue {
-        layout: QueueLayout::new(16, 0, 0x100, 0x128).expect(rt, "a layout"),
-        position: 0xffff,
-        out: false,
-        stopped: None,
-    }
+    let layout = QueueLayout::new(16, 0, 0x100, 0x128).expect(rt, "a layout");
+    KeptQueue::begin(layout, 0xffff, 1)
 }
 
 /// A session of pages of 4096 bytes in which nothing was agreed.

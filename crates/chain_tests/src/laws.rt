@@ -12,6 +12,7 @@ ghost use Rattle.fs_chain.specs.Laws.{GoesOnByLoads, TellsOffer};
 ghost use Rattle.fs_chain.specs.Loads.{whole};
 ghost use Rattle.fs_chain.specs.Walks.{course_of};
 ghost use Rattle.fs_chain.specs.declared.state.State.TheVariants as at;
+ghost use Rattle.fs_chain.specs.declared.state.Ticket.{Ticket};
 
 use crate::given::{LOADS, expect_same, queue, workbench};
 use fs_chain::laws::law_walks;
@@ -40,8 +41,8 @@ fn go_on(
     queue: &mut KeptQueue,
     bytes: &[u8],
 ) -> Result<Option<WalkOutcome>, ChainError>
-    ensures offered { IfOk result (λ on. IfSome on (λ told. (loaded : Loaded) (course : Course) (walk : QueueWalk)
-        → queue.old.stopped ≡ None → workbench.old.state ≡ at.Walking course walk
+    ensures offered { IfOk result (λ on. IfSome on (λ told. (loaded : Loaded) (course : Course) (ticket : Ticket) (walk : QueueWalk)
+        → queue.old.stopped ≡ None → workbench.old.state ≡ at.Walking course ticket walk
         → StandsAt (places_in workbench.old.regions) (queue_of course) loaded workbench.old.descriptors.items walk
         → GoesOnByLoads loaded course walk (whole workbench.old bytes.now) workbench.old workbench.new told)) }
 {

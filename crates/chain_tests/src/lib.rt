@@ -14,6 +14,8 @@ mod regions;
 #[cfg(test)]
 mod returns;
 #[cfg(test)]
+mod several;
+#[cfg(test)]
 mod tables;
 #[cfg(test)]
 mod walks;

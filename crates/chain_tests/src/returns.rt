@@ -39,7 +39,7 @@ fn a_name_that_is_not_there_goes_back(rt: HostRuntime) {
         .expect(&rt, "an answer");
     let mut front = [0u8; 160];
     let stores = workbench
-        .begin_return(&queue, &mut front)
+        .begin_return(&mut queue, &mut front)
         .expect(&rt, "a return");
     expect_same(&rt, stores.front_len, 16);
     expect_same(
@@ -60,7 +60,7 @@ fn a_name_that_is_not_there_goes_back(rt: HostRuntime) {
     let told = workbench
         .end_return(&mut queue, [0, 0])
         .expect(&rt, "a return");
-    expect_same(&rt, (told, queue.position, queue.out), (true, 0, false));
+    expect_same(&rt, (told, queue.position, queue.returned), (true, 0, 0));
 }
 
 // Whether a request asks for 15 letters a in node 1 to become 15 letters b in node 2.
@@ -104,7 +104,7 @@ fn a_faulty_chain_goes_back_without_a_reply(rt: HostRuntime) {
     expect_same(&rt, walked, WalkOutcome::Faulty { head: 1, fault });
     expect_same(&rt, workbench.request_window(0).is_some(), false);
     let stores = workbench
-        .begin_return(&queue, &mut [])
+        .begin_return(&mut queue, &mut [])
         .expect(&rt, "a return");
     expect_same(&rt, (stores.front_len, stores.used.len.value), (0, 0));
 }
@@ -161,7 +161,7 @@ fn a_directory_goes_back_entry_by_entry(rt: HostRuntime) {
     );
     let mut front = [0u8; 16];
     let stores = workbench
-        .begin_return(&queue, &mut front)
+        .begin_return(&mut queue, &mut front)
         .expect(&rt, "a return");
     expect_same(&rt, (stores.front_len, stores.used.len.value), (16, 80));
     expect_same(
@@ -177,7 +177,7 @@ fn a_chain_that_is_given_up_is_walked_anew(rt: HostRuntime) {
     let mut queue = queue(&rt);
     let walked = take(&rt, &mut workbench, &mut queue, LOADS);
     workbench.give_up(&mut queue).expect(&rt, "a chain");
-    expect_same(&rt, (queue.out, queue.position), (false, 0xffff));
+    expect_same(&rt, (queue.out(), queue.position), (0, 0xffff));
     let again = take(&rt, &mut workbench, &mut queue, LOADS);
     expect_same(&rt, again, walked);
 }
@@ -201,7 +201,7 @@ fn own_bytes_go_back_with_their_number(rt: HostRuntime) {
     }
     let mut front = [7u8; 160];
     let stores = workbench
-        .begin_return(&queue, &mut front)
+        .begin_return(&mut queue, &mut front)
         .expect(&rt, "a return");
     expect_same(&rt, (stores.front_len, stores.used.len.value), (0, 144));
     expect_same(&rt, front[0], 7);
@@ -217,7 +217,7 @@ fn a_call_that_waits_is_replied_by_a_header_alone(rt: HostRuntime) {
     expect_same(&rt, workbench.reply(16), Ok(()));
     expect_same(&rt, workbench.end(), Err(ChainError::WrongOrder));
     let stores = workbench
-        .begin_return(&queue, &mut [])
+        .begin_return(&mut queue, &mut [])
         .expect(&rt, "a return");
     expect_same(&rt, (stores.front_len, stores.used.len.value), (0, 16));
 }

@@ -31,12 +31,8 @@ fn workbench(rt: &impl Abort, alloc: Global, ranges: &[(u64, u64)]) -> Workbench
 
 // A queue of so many descriptors: its table at 0, its rings at 0x1000 and 0x1400.
 fn queue(rt: &impl Abort, size: u16) -> KeptQueue {
-    KeptQueue {
-        layout: QueueLayout::new(size, 0, 0x1000, 0x1400).expect(rt, "a layout"),
-        position: 0xffff,
-        out: false,
-        stopped: None,
-    }
+    let layout = QueueLayout::new(size, 0, 0x1000, 0x1400).expect(rt, "a layout");
+    KeptQueue::begin(layout, 0xffff, 1)
 }
 
 // Puts a descriptor behind others.

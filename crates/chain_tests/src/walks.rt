@@ -20,7 +20,7 @@ fn an_idle_queue_gives_no_chain(rt: HostRuntime) {
     let mut queue = queue(&rt);
     let walked = take(&rt, &mut workbench, &mut queue, NOTHING_WAITS);
     expect_same(&rt, walked, WalkOutcome::Idle);
-    expect_same(&rt, (queue.out, queue.position), (false, 0xffff));
+    expect_same(&rt, (queue.out(), queue.position), (0, 0xffff));
 }
 
 #[test]
@@ -35,7 +35,7 @@ fn a_queue_that_was_stopped_in_mid_walk_gives_no_chain(rt: HostRuntime) {
     expect_same(&rt, came_to(&rt, went), refused);
     queue.stopped = None;
     let walked = take(&rt, &mut workbench, &mut queue, LOADS);
-    expect_same(&rt, queue.out, true);
+    expect_same(&rt, queue.out(), 1);
     expect_same(
         &rt,
         matches!(walked, WalkOutcome::Chain { head: 1, .. }),

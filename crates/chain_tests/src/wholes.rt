@@ -114,7 +114,7 @@ fn reply(
 
 // A chain whose reply is known goes back to a driver that wants to be told.
 fn give_back(workbench: &mut Workbench, queue: &mut KeptQueue) -> Result<bool, ChainError>
-    ensures back { IfOk result (λ notice. (room : List ℕ) → (acts : List Act) × (last : ℕ) × GoesBackBy room [] workbench.old.state acts last notice) }
+    ensures back { IfOk result (λ notice. (room : List ℕ) → (acts : List Act) × (last : ℕ) × GoesBackBy queue.old room [] workbench.old.state acts last notice) }
     ensures session { OnOk result (workbench.new.session ≡ workbench.old.session) }
 {
     let mut front = [0u8; 160];
@@ -122,7 +122,7 @@ fn give_back(workbench: &mut Workbench, queue: &mut KeptQueue) -> Result<bool, C
     workbench.end_return(queue, [0, 0])
 }
 
-// A chain from its walk to its return, whose answer has no data and which lists nothing, is a step.
+// A chain that is out alone from its walk to its return, whose answer has no data and which lists nothing, is a step.
 fn serve<F: FileSystem>(
     workbench: &mut Workbench,
     queue: &mut KeptQueue,
@@ -133,6 +133,7 @@ fn serve<F: FileSystem>(
 ) -> Result<bool, ChainError>
     requires free { workbench.old.state ≡ at.Free }
     requires goes { queue.old.stopped ≡ None }
+    requires none_out { queue.old.returned ≡ queue.old.position }
     requires data { TellsBytes [] answer }
     ensures step { IfOk result (λ notice. (i : ℕ) (m : State F) (files : F) → IsBefore workbench.old queue.old i m → IsSession session m
         → (calls : Calls) × (FileRun F.may m.files calls files → (l : StepLoads) × (x : Exchange) × (e : Effects) × (x.request ≡ request.now)

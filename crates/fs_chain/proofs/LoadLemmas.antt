@@ -11,6 +11,7 @@ use Rattle.fs_regions.specs.declared.walk.QueueWalk.TheVariants as walks
 use Rattle.fs_regions.specs.Walks.{asked_len}
 use Rattle.fs_chain.specs.declared.state.State as state
 use Rattle.fs_chain.specs.declared.state.State.TheVariants as at
+use Rattle.fs_chain.specs.declared.state.Ticket.{Ticket}
 use Rattle.fs_chain.specs.declared.error.ChainError.{ChainError}
 use Rattle.fs_chain.specs.declared.error.ChainError.TheVariants.{OutOfMemory}
 use Rattle.fs_chain.specs.declared.queue.KeptQueue.{KeptQueue}
@@ -21,7 +22,7 @@ use Rattle.fs_chain.specs.declared.workbench.Workbench.{Workbench}
 use Rattle.fs_chain.specs.Loads.{AreDue, AreWanted, AreWhole, RefusesWalk, came, due_len, whole}
 
 within : (s : state.State) (P : QueueWalk → Type 0) (n : ℕ) → IsWalking s → IfWalking s P → ((walk : QueueWalk) → P walk → n ≤ asked_len walk) → n ≤ load_len s
-within (at.Walking course walk) P n is p h = h walk p
+within (at.Walking course ticket walk) P n is p h = h walk p
 within at.Free P n is p h = absurd is
 within (at.Taken out) P n is p h = absurd is
 within (at.Waits out waiting) P n is p h = absurd is
@@ -37,9 +38,9 @@ fits w n wanted =
 
 -- a load of a table's entries isn't empty
 some_len : (s : state.State) → 0 < entries_asked s → 0 < load_len s
-some_len (at.Walking course (walks.Entries w)) asks = omega (arith, asks)
-some_len (at.Walking course (walks.Index w)) asks = omega arith
-some_len (at.Walking course (walks.RingEntry w)) asks = omega arith
+some_len (at.Walking course ticket (walks.Entries w)) asks = omega (arith, asks)
+some_len (at.Walking course ticket (walks.Index w)) asks = omega arith
+some_len (at.Walking course ticket (walks.RingEntry w)) asks = omega arith
 some_len at.Free asks = absurd (omega (arith, asks))
 some_len (at.Taken out) asks = absurd (omega (arith, asks))
 some_len (at.Waits out waiting) asks = absurd (omega (arith, asks))
@@ -88,14 +89,14 @@ module _ (w w' : Workbench) (aside kept : Vec ℕ) (q q' : KeptQueue) (told : wa
   begins None h = h
   begins (Some why) h = h
 
-  goes_on : (stopped : Option QueueError) (course : Course) (walk : QueueWalk) (bytes : List ℕ) → GoesOnUnless stopped course walk bytes before w' q q' told
-      → GoesOnUnless stopped course walk bytes w after q q' told
-  goes_on None course walk bytes h = h
-  goes_on (Some why) course walk bytes h = h
+  goes_on : (stopped : Option QueueError) (course : Course) (ticket : Ticket) (walk : QueueWalk) (bytes : List ℕ) → GoesOnUnless stopped course ticket walk bytes before w' q q' told
+      → GoesOnUnless stopped course ticket walk bytes w after q q' told
+  goes_on None course ticket walk bytes h = h
+  goes_on (Some why) course ticket walk bytes h = h
 
   walks_from : (s : state.State) (bytes : List ℕ) → WalksFrom s bytes before w' q q' told → WalksFrom s bytes w after q q' told
   walks_from at.Free bytes h = begins q.stopped h
-  walks_from (at.Walking course walk) bytes h = goes_on q.stopped course walk bytes h
+  walks_from (at.Walking course ticket walk) bytes h = goes_on q.stopped course ticket walk bytes h
   walks_from (at.Taken out) bytes h = h
   walks_from (at.Waits out waiting) bytes h = h
   walks_from (at.Lists out listing) bytes h = h

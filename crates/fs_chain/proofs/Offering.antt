@@ -17,6 +17,7 @@ use Rattle.fs_regions.specs.Walks.{ComesBy, ComesTo, Loaded, StandsAt, nothing, 
 use Rattle.fs_chain.specs.declared.queue.KeptQueue.{KeptQueue}
 use Rattle.fs_chain.specs.declared.state.State as state
 use Rattle.fs_chain.specs.declared.state.State.TheVariants as at
+use Rattle.fs_chain.specs.declared.state.Ticket.{Ticket}
 use Rattle.fs_chain.specs.declared.walking.WalkOutcome as walked
 use Rattle.fs_chain.specs.declared.workbench.Workbench.{Workbench}
 use Rattle.fs_chain.specs.Laws.{GoesOnByLoads, IsTold, TellsOffer, WalksAreOffers}
@@ -54,12 +55,12 @@ begins law h bytes request old new before after told running free walks has =
     subst (λ (t : walked.WalkOutcome). TellsOffer (memory_of h old.regions) course new t request) (sym went.1.0)
     (comes_to law h old.regions course.limit (queue_of course) nothing new.descriptors.items went.0 request refl went.2 has)
 
-goes_on : OffersAreTheMemorys → (loaded : Loaded) (course : Course) (walk : QueueWalk) (bytes : List ℕ) (old new : Workbench) (before after : KeptQueue) (told : walked.WalkOutcome)
-    → before.stopped ≡ None → old.state ≡ at.Walking course walk → WalksOn bytes old new before after told
+goes_on : OffersAreTheMemorys → (loaded : Loaded) (course : Course) (ticket : Ticket) (walk : QueueWalk) (bytes : List ℕ) (old new : Workbench) (before after : KeptQueue) (told : walked.WalkOutcome)
+    → before.stopped ≡ None → old.state ≡ at.Walking course ticket walk → WalksOn bytes old new before after told
     → StandsAt (places_in old.regions) (queue_of course) loaded old.descriptors.items walk → GoesOnByLoads loaded course walk bytes old new told
-goes_on law loaded course walk bytes old new before after told running here walks stands =
-    let from : WalksFrom (at.Walking course walk) bytes old new before after told = subst (λ (s : state.State). WalksFrom s bytes old new before after told) here walks in
-    let went : GoesOnUnless None course walk bytes old new before after told = subst (λ (o : Option QueueError). GoesOnUnless o course walk bytes old new before after told) running from in
+goes_on law loaded course ticket walk bytes old new before after told running here walks stands =
+    let from : WalksFrom (at.Walking course ticket walk) bytes old new before after told = subst (λ (s : state.State). WalksFrom s bytes old new before after told) here walks in
+    let went : GoesOnUnless None course ticket walk bytes old new before after told = subst (λ (o : Option QueueError). GoesOnUnless o course ticket walk bytes old new before after told) running from in
     let by : ComesBy (places_in old.regions) course.limit (queue_of course) loaded walk bytes new.descriptors.items went.0 = went.2 loaded stands in record {
       came = went.0;
       told_so = went.1.0;

@@ -14,6 +14,7 @@ use Rattle.fs_regions.specs.Walks.{Loaded, ComesBy, ComesTo, StandsAt, queue_of}
 use Rattle.fs_chain.specs.declared.queue.KeptQueue.{KeptQueue}
 use Rattle.fs_chain.specs.declared.state.State as state
 use Rattle.fs_chain.specs.declared.state.State.TheVariants as at
+use Rattle.fs_chain.specs.declared.state.Ticket.{Ticket}
 use Rattle.fs_chain.specs.declared.walking.WalkOutcome as walked
 use Rattle.fs_chain.specs.declared.workbench.Workbench.{Workbench}
 use Rattle.fs_chain.specs.Walks.{GoesOn, GoesOnUnless, LeavesNone, WalksFrom, WalksOn, left_of}
@@ -50,12 +51,12 @@ comes_taken course walk taken bytes came regions ds left same by_taken =
     subst P same by_taken
 
 -- a handle's walk goes on, unless its queue was stopped
-pub walks_unless : (course : Course) (walk : QueueWalk) (bytes : List ℕ) (old new : Workbench) (before after : KeptQueue) (told : walked.WalkOutcome)
-    → old.state ≡ at.Walking course walk → GoesOnUnless before.stopped course walk bytes old new before after told → WalksOn bytes old new before after told
-walks_unless course walk bytes old new before after told is goes = let P : state.State → Type 0 = λ s. WalksFrom s bytes old new before after told in subst P (sym is) goes
+pub walks_unless : (course : Course) (ticket : Ticket) (walk : QueueWalk) (bytes : List ℕ) (old new : Workbench) (before after : KeptQueue) (told : walked.WalkOutcome)
+    → old.state ≡ at.Walking course ticket walk → GoesOnUnless before.stopped course ticket walk bytes old new before after told → WalksOn bytes old new before after told
+walks_unless course ticket walk bytes old new before after told is goes = let P : state.State → Type 0 = λ s. WalksFrom s bytes old new before after told in subst P (sym is) goes
 
-pub walks_on : (course : Course) (walk : QueueWalk) (bytes : List ℕ) (old new : Workbench) (before after : KeptQueue) (told : walked.WalkOutcome)
-    → before.stopped ≡ None → old.state ≡ at.Walking course walk → GoesOn course walk bytes old new before after told → WalksOn bytes old new before after told
-walks_on course walk bytes old new before after told free is goes =
-    walks_unless course walk bytes old new before after told is
-    (subst (λ (s : Option QueueError). GoesOnUnless s course walk bytes old new before after told) (sym free) goes)
+pub walks_on : (course : Course) (ticket : Ticket) (walk : QueueWalk) (bytes : List ℕ) (old new : Workbench) (before after : KeptQueue) (told : walked.WalkOutcome)
+    → before.stopped ≡ None → old.state ≡ at.Walking course ticket walk → GoesOn course ticket walk bytes old new before after told → WalksOn bytes old new before after told
+walks_on course ticket walk bytes old new before after told free is goes =
+    walks_unless course ticket walk bytes old new before after told is
+    (subst (λ (s : Option QueueError). GoesOnUnless s course ticket walk bytes old new before after told) (sym free) goes)

@@ -16,6 +16,7 @@ use Rattle.fs_queue.specs.declared.fault.QueueError.{QueueError}
 use Rattle.fs_queue.specs.declared.fault.QueueError.TheVariants as stop
 use Rattle.fs_queue.specs.Returning.{Store, stores_after_reply, tells}
 use Rattle.fs_queue.specs.ReturningView.{stores_of}
+use Rattle.fs_queue.specs.WalkingView.{at_position}
 use Rattle.fs_regions.specs.declared.course.Course.{Course}
 use Rattle.fs_regions.specs.declared.step.Step as comes
 use Rattle.fs_regions.specs.declared.step.Step.TheVariants as step
@@ -36,12 +37,14 @@ use Rattle.fs_chain.specs.declared.returning.Stores.{Stores}
 use Rattle.fs_chain.specs.declared.state.Out.{Out}
 use Rattle.fs_chain.specs.declared.state.State as state
 use Rattle.fs_chain.specs.declared.state.State.TheVariants as at
+use Rattle.fs_chain.specs.declared.state.Ticket.{Ticket}
 use Rattle.fs_chain.specs.declared.walking.WalkOutcome as walked
 use Rattle.fs_chain.specs.declared.walking.WalkOutcome.TheVariants as says
 use Rattle.fs_chain.specs.declared.workbench.Workbench.{Workbench}
 use Rattle.fs_chain.specs.Asking.{KeepsCall, KeepsReply, TellsMeaning}
 use Rattle.fs_chain.specs.Answers.{IfWaits, IsGiven}
 use Rattle.fs_chain.specs.Orders.{front_len}
+use Rattle.fs_chain.specs.Queues.{at_return, ticket_of}
 use Rattle.fs_chain.specs.Returns.{ReturnsBy}
 use Rattle.fs_chain.specs.Walks.{count, course_of, out_of, faulty_out, no_reply, told_of, state_after}
 use Rattle.fs_device.specs.declared.error.DeviceError.TheVariants as device
@@ -51,6 +54,7 @@ use Rattle.fs_device.specs.StepBy.{Act, ActsBy, AnswersBy, AreStepLoadsOf, Retur
 use Rattle.fs_device.proofs.StepByLemmas.{step_by_is_step}
 use Rattle.fs_chain.specs.Whole.{
   ChainBy,
+  ChainIsAnsweredBy,
   ChainIsStep,
   ChainIsStepBy,
   FaultyChainBy,
@@ -60,6 +64,7 @@ use Rattle.fs_chain.specs.Whole.{
   HasReply,
   IdleIsStepBy,
   IsBefore,
+  IsInOrder,
   IsSession,
   LoadsOfChain,
   RefusalIsStepBy,
@@ -69,6 +74,7 @@ use Rattle.fs_chain.specs.Whole.{
   data_behind,
   file_calls,
   no_effects,
+  queue_back,
   step_loads,
 }
 use Rattle.fs_chain.proofs.WholeOffers.{is_within, fits_limit}
@@ -102,15 +108,15 @@ came_is ds (step.Chain h (Some fault)) head n r e = absurd (subst IsAChain e tt)
 
 -- ---- what was told of the request, and how it was answered
 
-told_so : {F : Type 0} (may : May F) (m : State F) (i : ℕ) (request room : List ℕ) (files : F) (s : Session) (out : Out) (made : told.Told) (asked answered : Workbench)
+told_so : {F : Type 0} (may : May F) (m : State F) (i : ℕ) (kq : KeptQueue) (request room : List ℕ) (files : F) (s : Session) (out : Out) (made : told.Told) (asked answered : Workbench)
     (given : Option (FileAnswer × List ℕ × Replied)) (used : Stores) (flags : List ℕ) (notice : Bool) (acts : List Act) (last : ℕ)
     → m.page_size ≡ s.page_size → m.options ≡ s.options.0 → length room ≡ out.room_len → out.room_len ≤ 2 ^ 31
     → TellsMeaning (setting s.page_size s.options.0 out.room_len) (meaning s.options.0 request out.room_len) (drop 80 request) out made asked.state
     → asked.session ≡ s → HasReply made asked given answered
-    → FromReplied answered.state (λ reply s₁. (last ≡ front_len reply) × (acts ≡ acts_of room reply (data_behind given) s₁ flags)) used → length flags ≡ 2 → notice ≡ tells flags
+    → FromReplied kq answered.state (λ reply s₁. (last ≡ front_len reply) × (acts ≡ acts_of room reply (data_behind given) s₁ flags)) used → length flags ≡ 2 → notice ≡ tells flags
     → FileRun may m.files (file_calls (drop 80 request) made given) files
-    → AnsweredSo may m i (queue_of out.course) out.head request room (file_calls (drop 80 request) made given) notice acts last answered.session.options.0 files
-told_so may m i request room files s out (asks.Call c) asked answered (Some g) used flags notice acts last page options room_is small meant same has back two notified run =
+    → AnsweredSo may m i (at_return kq out) out.head request room (file_calls (drop 80 request) made given) notice acts last answered.session.options.0 files
+told_so may m i kq request room files s out (asks.Call c) asked answered (Some g) used flags notice acts last page options room_is small meant same has back two notified run =
     let r = out.room_len in
     let keeps : KeepsCall (setting m.page_size m.options r) (meaning m.options request r) (drop 80 request) c out asked.state =
     subst (λ (o : ℕ). KeepsCall (setting m.page_size o r) (meaning o request r) (drop 80 request) c out asked.state) (sym options)
@@ -121,29 +127,29 @@ told_so may m i request room files s out (asks.Call c) asked answered (Some g) u
     let given_so : IfWaits asked.state (λ kept w. IsGiven (setting m.page_size m.options w.room) w g.0 kept o' g.2 answered.state) =
     subst (λ (o : ℕ). IfWaits asked.state (λ kept w. IsGiven (setting m.page_size o w.room) w g.0 kept o' g.2 answered.state)) (sym options)
     (subst (λ (p : ℕ). IfWaits asked.state (λ kept w. IsGiven (setting p s.options.0 w.room) w g.0 kept o' g.2 answered.state)) (sym page) in_session) in
-    by_call may m i request room (drop 80 request) files c g.0 g.1 g.2 out asked.state answered.state used flags notice acts last o' room_is small keeps has.0 has.1 given_so back two notified run
-told_so may m i request room files s out (asks.Call c) asked answered None used flags notice acts last page options room_is small meant same has back two notified run = absurd has
-told_so may m i request room files s out (asks.More n) asked answered given used flags notice acts last page options room_is small meant same has back two notified run = absurd has
-told_so may m i request room files s out asks.Nothing asked answered None used flags notice acts last page options room_is small meant same has back two notified run =
+    by_call may m i kq request room (drop 80 request) files c g.0 g.1 g.2 out asked.state answered.state used flags notice acts last o' room_is small keeps has.0 has.1 given_so back two notified run
+told_so may m i kq request room files s out (asks.Call c) asked answered None used flags notice acts last page options room_is small meant same has back two notified run = absurd has
+told_so may m i kq request room files s out (asks.More n) asked answered given used flags notice acts last page options room_is small meant same has back two notified run = absurd has
+told_so may m i kq request room files s out asks.Nothing asked answered None used flags notice acts last page options room_is small meant same has back two notified run =
     let r = out.room_len in
     let keeps : KeepsReply (setting m.page_size m.options r) (meaning m.options request r) (drop 80 request) out asked.state =
     subst (λ (o : ℕ). KeepsReply (setting m.page_size o r) (meaning o request r) (drop 80 request) out asked.state) (sym options)
     (subst (λ (p : ℕ). KeepsReply (setting p s.options.0 r) (meaning s.options.0 request r) (drop 80 request) out asked.state) (sym page) meant) in
-    let back_so : FromReplied asked.state (λ reply s₁. (last ≡ front_len reply) × (acts ≡ acts_of room reply [] s₁ flags)) used =
-    subst (λ (w : Workbench). FromReplied w.state (λ reply s₁. (last ≡ front_len reply) × (acts ≡ acts_of room reply [] s₁ flags)) used) has back in
-    subst (λ (o : ℕ). AnsweredSo may m i (queue_of out.course) out.head request room [] notice acts last o files) (options ∙ sym (ap (λ (x : Session). x.options.0) same) ∙ sym (ap (λ (w : Workbench). w.session.options.0) has))
-    (by_reply_kept may m i request room (drop 80 request) files out asked.state used flags notice acts last room_is small keeps back_so two notified run)
-told_so may m i request room files s out asks.Nothing asked answered (Some g) used flags notice acts last page options room_is small meant same has back two notified run = absurd has
-told_so may m i request room files s out (asks.Fault e) asked answered None used flags notice acts last page options room_is small meant same has back two notified run =
+    let back_so : FromReplied kq asked.state (λ reply s₁. (last ≡ front_len reply) × (acts ≡ acts_of room reply [] s₁ flags)) used =
+    subst (λ (w : Workbench). FromReplied kq w.state (λ reply s₁. (last ≡ front_len reply) × (acts ≡ acts_of room reply [] s₁ flags)) used) has back in
+    subst (λ (o : ℕ). AnsweredSo may m i (at_return kq out) out.head request room [] notice acts last o files) (options ∙ sym (ap (λ (x : Session). x.options.0) same) ∙ sym (ap (λ (w : Workbench). w.session.options.0) has))
+    (by_reply_kept may m i kq request room (drop 80 request) files out asked.state used flags notice acts last room_is small keeps back_so two notified run)
+told_so may m i kq request room files s out asks.Nothing asked answered (Some g) used flags notice acts last page options room_is small meant same has back two notified run = absurd has
+told_so may m i kq request room files s out (asks.Fault e) asked answered None used flags notice acts last page options room_is small meant same has back two notified run =
     let r = out.room_len in
     let fault : served (setting m.page_size m.options r) (meaning m.options request r) [] ≡ serving_words.no_reply [] m.options (Some e) =
     subst (λ (o : ℕ). served (setting m.page_size o r) (meaning o request r) [] ≡ serving_words.no_reply [] o (Some e)) (sym options)
     (subst (λ (p : ℕ). served (setting p s.options.0 r) (meaning s.options.0 request r) [] ≡ serving_words.no_reply [] s.options.0 (Some e)) (sym page) meant.1) in
-    let back_so : FromReplied asked.state (λ reply s₁. (last ≡ front_len reply) × (acts ≡ acts_of room reply [] s₁ flags)) used =
-    subst (λ (w : Workbench). FromReplied w.state (λ reply s₁. (last ≡ front_len reply) × (acts ≡ acts_of room reply [] s₁ flags)) used) has back in
-    subst (λ (o : ℕ). AnsweredSo may m i (queue_of out.course) out.head request room [] notice acts last o files) (options ∙ sym (ap (λ (x : Session). x.options.0) same) ∙ sym (ap (λ (w : Workbench). w.session.options.0) has))
-    (by_fault may m i request room files out asked.state e used flags notice acts last room_is small meant.0 fault back_so two notified run)
-told_so may m i request room files s out (asks.Fault e) asked answered (Some g) used flags notice acts last page options room_is small meant same has back two notified run = absurd has
+    let back_so : FromReplied kq asked.state (λ reply s₁. (last ≡ front_len reply) × (acts ≡ acts_of room reply [] s₁ flags)) used =
+    subst (λ (w : Workbench). FromReplied kq w.state (λ reply s₁. (last ≡ front_len reply) × (acts ≡ acts_of room reply [] s₁ flags)) used) has back in
+    subst (λ (o : ℕ). AnsweredSo may m i (at_return kq out) out.head request room [] notice acts last o files) (options ∙ sym (ap (λ (x : Session). x.options.0) same) ∙ sym (ap (λ (w : Workbench). w.session.options.0) has))
+    (by_fault may m i kq request room files out asked.state e used flags notice acts last room_is small meant.0 fault back_so two notified run)
+told_so may m i kq request room files s out (asks.Fault e) asked answered (Some g) used flags notice acts last page options room_is small meant same has back two notified run = absurd has
 
 -- a chain's loads, by which it is offered, and how it is answered
 chain_parts : {F : Type 0} (may : May F) (given : List (List ℕ)) (request : List ℕ) (calls : Calls) (acts : List Act) (last head i : ℕ) (notice : Bool)
@@ -151,7 +157,7 @@ chain_parts : {F : Type 0} (may : May F) (given : List (List ℕ)) (request : Li
     → IsBefore old before i m → IsSession s m → FileRun may m.files calls files
     → (loaded : Loaded) × LoadsOfChain given request calls acts last head notice old new before s run loaded
     × OffersBy (places_in old.regions) old.limit (queue_of (course_of before old.limit)) loaded request (Offers head (IsRequest request (addresses_of (writable run.walked_bench.descriptors.items))))
-    × AnsweredSo may m i (queue_of (course_of before old.limit)) head request (addresses_of (writable run.walked_bench.descriptors.items)) calls notice acts last new.session.options.0 files
+    × AnsweredSo may m i (queue_back before run.back) head request (addresses_of (writable run.walked_bench.descriptors.items)) calls notice acts last new.session.options.0 files
 chain_parts {F} may given request calls acts last head i notice old new before s m files run first session files_run =
     let course = course_of before old.limit in
     let q = queue_of course in
@@ -160,9 +166,10 @@ chain_parts {F} may given request calls acts last head i notice old new before s
     let loaded = all.0 in
     let came = all.2 in
     let is = came_is ds came.0 head run.lens.0 run.lens.1 came.1.0 in
-    let out = out_of course head ds in
+    let out = out_of course (ticket_of before) head ds in
+    let back = queue_back before run.back in
     let room = addresses_of (writable ds) in
-    let state_is : run.walked_bench.state ≡ at.Taken out = came.1.1 ∙ ap (λ (c : comes.Step). state_after course ds c) is.0 in
+    let state_is : run.walked_bench.state ≡ at.Taken out = came.1.1 ∙ ap (λ (c : comes.Step). state_after course (ticket_of before) ds c) is.0 in
     let found : ComesTo (places_in old.regions) old.limit q loaded ds (step.Chain head None) = subst (λ (c : comes.Step). ComesTo (places_in old.regions) old.limit q loaded ds c) is.0 came.2 in
     let fits = fits_limit (places_in old.regions) old.limit q loaded ds head first.bound found.1 in
     let asked = subst (λ (st : state.State). FromTaken st (λ o. (o.request_len ≡ length request) × IsFront run.front request
@@ -172,11 +179,11 @@ chain_parts {F} may given request calls acts last head i notice old new before s
     let offers = found.1 request len_is in
     let room_is : length room ≡ out.room_len = fits.1 in
     let small : out.room_len ≤ 2 ^ 31 = fits.2 in
-    let so : AnsweredSo may m i q head request room (file_calls (drop 80 request) run.made run.given) notice acts last new.session.options.0 files =
-    told_so may m i request room files s out run.made run.asked_bench new run.given run.returns.stores run.returns.flags notice acts last session.0 session.1
+    let so : AnsweredSo may m i back head request room (file_calls (drop 80 request) run.made run.given) notice acts last new.session.options.0 files =
+    told_so may m i run.back request room files s out run.made run.asked_bench new run.given run.returns.stores run.returns.flags notice acts last session.0 session.1
     room_is small asked.2 asked.4 run.replies run.returns.returns run.returns.flags_len run.returns.notified (subst (λ (cs : Calls). FileRun may m.files cs files) run.calls_are files_run) in
-    let with_calls : AnsweredSo may m i q head request room calls notice acts last new.session.options.0 files =
-    subst (λ (cs : Calls). AnsweredSo may m i q head request room cs notice acts last new.session.options.0 files) (sym run.calls_are) so in
+    let with_calls : AnsweredSo may m i back head request room calls notice acts last new.session.options.0 files =
+    subst (λ (cs : Calls). AnsweredSo may m i back head request room cs notice acts last new.session.options.0 files) (sym run.calls_are) so in
     (loaded, all.1, offers, with_calls)
 
 -- what loads offer is offered to the machine
@@ -189,15 +196,33 @@ offered_so m old before i loaded lost request o first by =
     let l = step_loads loaded lost request in
     subst (λ (mm : Memory). offered_by mm m.limit q l ≡ Some o) (sym first.places) (subst (λ (k : ℕ). offered_by (places_in old.regions) k q l ≡ Some o) (sym first.limit) by)
 
+pub chain_is_answered_by : {F : Type 0} (may : May F) → ChainIsAnsweredBy may
+chain_is_answered_by {F} may given request calls acts last head i notice old new before s m files run first session files_run =
+    let parts = chain_parts may given request calls acts last head i notice old new before s m files run first session files_run in
+    let so = parts.3 in
+    (parts.0, parts.1, parts.2, so.0, so.1, so.2, so.3)
+
+-- in order it goes back where it was taken
+answered_there : {F : Type 0} (may : May F) (m : State F) (i : ℕ) (before back : KeptQueue) (limit head : ℕ) (request room : List ℕ) (calls : Calls) (x : Exchange) (notice : Bool) (e : Effects)
+    (options : ℕ) (files : F) → IsInOrder before back
+    → AnswersBy may m i (queue_back before back) head request room calls x notice e (after_chain m i (queue_back before back) options files)
+    → AnswersBy may m i (queue_of (course_of before limit)) head request room calls x notice e (after_chain m i (queue_of (course_of before limit)) options files)
+answered_there {F} may m i before back limit head request room calls x notice e options files in_order answers =
+    let P : ℕ → Type 0 = λ p. AnswersBy may m i (at_position before.layout p) head request room calls x notice e (after_chain m i (at_position before.layout p) options files) in
+    subst P in_order answers
+
 pub chain_is_step_by : {F : Type 0} (may : May F) → ChainIsStepBy may
-chain_is_step_by {F} may given request calls acts last head i notice old new before s m files run first session files_run =
+chain_is_step_by {F} may given request calls acts last head i notice old new before s m files run first in_order session files_run =
     let q = queue_of (course_of before old.limit) in
     let parts = chain_parts may given request calls acts last head i notice old new before s m files run first session files_run in
     let loaded = parts.0 in
     let offers = parts.2 in
     let so = parts.3 in
     let l = step_loads loaded offers.1 request in
-    let o = Offers head (IsRequest request (addresses_of (writable run.walked_bench.descriptors.items))) in (
+    let e : Effects = record { acts = acts; last = last } in
+    let room = addresses_of (writable run.walked_bench.descriptors.items) in
+    let there = answered_there may m i before run.back old.limit head request room calls so.0 notice e new.session.options.0 files in_order so.3 in
+    let o = Offers head (IsRequest request room) in (
       loaded,
       parts.1,
       offers.1,
@@ -206,7 +231,7 @@ chain_is_step_by {F} may given request calls acts last head i notice old new bef
       so.1,
       so.2,
       subst (λ (mq : Option Queue). StepOfBy may m i mq l calls (Exchanged so.0 notice) (record { acts = acts; last = last }) (after_chain m i q new.session.options.0 files)) (sym first.queue)
-          (o, offered_so m old before i loaded offers.1 request o first offers.3, so.3),
+          (o, offered_so m old before i loaded offers.1 request o first offers.3, there),
     )
 
 -- ---- walks that find no chain, and faulty chains
@@ -310,12 +335,12 @@ refusal_is_step_by {F} may given e i old new before after m first walks =
     )
 
 -- it goes back with nothing
-faulty_so : {F : Type 0} (may : May F) (m : State F) (i : ℕ) (course : Course) (head : ℕ) (fault : ChainFault) (stores : Stores) (flags : List ℕ) (acts : List Act) (last : ℕ) (notice : Bool)
-    → length flags ≡ 2 → notice ≡ tells flags → ReturnsBy (faulty_out course head) no_reply stores → last ≡ front_len no_reply → acts ≡ acts_of [] no_reply [] stores flags
+faulty_so : {F : Type 0} (may : May F) (m : State F) (i : ℕ) (kq : KeptQueue) (course : Course) (ticket : Ticket) (head : ℕ) (fault : ChainFault) (stores : Stores) (flags : List ℕ) (acts : List Act) (last : ℕ) (notice : Bool)
+    → length flags ≡ 2 → notice ≡ tells flags → kq.returned ≡ course.position → ReturnsBy kq (faulty_out course ticket head) no_reply stores → last ≡ front_len no_reply → acts ≡ acts_of [] no_reply [] stores flags
     → ReturnsFaultyBy m i (queue_of course) head fault [] (faulty head fault) notice (record { acts = acts; last = last }) (after_chain m i (queue_of course) m.options m.files)
-faulty_so {F} may m i course head fault stores flags acts last notice two told back last_is acts_are =
+faulty_so {F} may m i kq course ticket head fault stores flags acts last notice two told in_order back last_is acts_are =
     let q = queue_of course in
-    let stored : stores_of stores.used ≡ stores_after_reply q head 0 = back.1 in
+    let stored : stores_of stores.used ≡ stores_after_reply q head 0 = back.1 ∙ ap (λ (p : ℕ). stores_after_reply (at_position course.layout p) head 0) in_order in
     let done : acts ≡ return_acts (return_stores q head [] [] last) flags =
     acts_are ∙ ap (λ (ss : List Store). map act.Stores ss ++ act.LoadsFlags flags ∷ []) stored
     ∙ sym (ap (λ (n : ℕ). return_acts (return_stores q head [] [] n) flags) last_is) in
@@ -326,8 +351,9 @@ faulty_so {F} may m i course head fault stores flags acts last notice two told b
     }
 
 pub faulty_is_step_by : {F : Type 0} (may : May F) → FaultyIsStepBy may
-faulty_is_step_by {F} may given fault acts last head i notice old before m first run =
+faulty_is_step_by {F} may given fault acts last head i notice old before m first run in_order =
     let course = course_of before old.limit in
+    let ticket = ticket_of before in
     let q = queue_of course in
     let ds = run.walked_bench.descriptors.items in
     let all = walk_comes given old run.walked_bench before run.taken (says.Faulty head fault) first.goes run.walks in
@@ -336,12 +362,12 @@ faulty_is_step_by {F} may given fault acts last head i notice old before m first
     let is = faulty_is ds came.0 head fault came.1.0 in
     let found : ComesTo (places_in old.regions) old.limit q loaded ds (step.Chain head (Some fault)) =
     subst (λ (c : comes.Step). ComesTo (places_in old.regions) old.limit q loaded ds c) is came.2 in
-    let state_is : run.walked_bench.state ≡ at.HasReply (faulty_out course head) no_reply = came.1.1 ∙ ap (λ (c : comes.Step). state_after course ds c) is in
-    let back : ReturnsBy (faulty_out course head) no_reply run.returns.stores × ((last ≡ front_len no_reply) × (acts ≡ acts_of [] no_reply [] run.returns.stores run.returns.flags)) =
-    subst (λ (st : state.State). FromReplied st (λ reply s₁. (last ≡ front_len reply) × (acts ≡ acts_of [] reply [] s₁ run.returns.flags)) run.returns.stores) state_is run.returns.returns in
+    let state_is : run.walked_bench.state ≡ at.HasReply (faulty_out course ticket head) no_reply = came.1.1 ∙ ap (λ (c : comes.Step). state_after course ticket ds c) is in
+    let back : ReturnsBy run.back (faulty_out course ticket head) no_reply run.returns.stores × ((last ≡ front_len no_reply) × (acts ≡ acts_of [] no_reply [] run.returns.stores run.returns.flags)) =
+    subst (λ (st : state.State). FromReplied run.back st (λ reply s₁. (last ≡ front_len reply) × (acts ≡ acts_of [] reply [] s₁ run.returns.flags)) run.returns.stores) state_is run.returns.returns in
     let l = step_loads loaded found.1 [] in
     let o = Offers head (CannotFetch fault) in
-    let done = faulty_so may m i course head fault run.returns.stores run.returns.flags acts last notice run.returns.flags_len run.returns.notified back.0 back.1.0 back.1.1 in (
+    let done = faulty_so may m i run.back course ticket head fault run.returns.stores run.returns.flags acts last notice run.returns.flags_len run.returns.notified in_order back.0 back.1.0 back.1.1 in (
       loaded,
       all.1,
       found.1,
@@ -375,7 +401,7 @@ both m [] lost are more = more
 both m (l ∷ ls) lost are more = (are.0, both m ls lost are.1 more)
 
 pub chain_is_step : {F : Type 0} (may : May F) → ChainIsStep may
-chain_is_step {F} may given request calls acts last head i notice old new before s m files h room run first session files_run having flags room_is apart =
+chain_is_step {F} may given request calls acts last head i notice old new before s m files h room run first in_order session files_run having flags room_is apart =
     let q = queue_of (course_of before old.limit) in
     let memory = memory_of h old.regions in
     let rooms = addresses_of (writable run.walked_bench.descriptors.items) in
@@ -391,7 +417,7 @@ chain_is_step {F} may given request calls acts last head i notice old new before
     let e : Effects = record { acts = acts; last = last } in
     let over : State F = record m { memory = memory } in
     let after : State F = record (after_chain m i q new.session.options.0 files) { memory = memory } in
-    let ans = so.3 in
+    let ans = answered_there may m i before run.back old.limit head request rooms calls x notice e new.session.options.0 files in_order so.3 in
     let answers_over : AnswersBy may over i q head request rooms calls x notice e after = record {
       given = ans.given;
       serves = ans.serves;

@@ -17,6 +17,7 @@ use Rattle.vm_memory.specs.Memory.{addresses}
 use Rattle.fs_chain.specs.declared.queue.KeptQueue.{KeptQueue}
 use Rattle.fs_chain.specs.declared.state.State as state
 use Rattle.fs_chain.specs.declared.state.State.TheVariants as at
+use Rattle.fs_chain.specs.declared.state.Ticket.{Ticket}
 use Rattle.fs_chain.specs.declared.walking.WalkOutcome as walked
 use Rattle.fs_chain.specs.declared.walking.WalkOutcome.TheVariants as says
 use Rattle.fs_chain.specs.declared.workbench.Workbench.{Workbench}
@@ -25,19 +26,20 @@ use Rattle.fs_chain.specs.declared.loads.Went as went
 use Rattle.fs_chain.specs.declared.loads.Went.TheVariants as wents
 use Rattle.fs_chain.specs.Loads.{GoesSo, HasNoPlace, came, whole}
 use Rattle.fs_chain.specs.Orders.{IfWalking, load_len}
+use Rattle.fs_chain.specs.Queues.{ticket_of}
 use Rattle.fs_chain.specs.Whole.{AddsSo, BeginsBy, IsWalked, LoadsOf, WalksBy, WantedHasAPlace, WantsBytes}
 use Rattle.fs_queue.specs.Chain.{Descriptor}
 
 -- what a walk told and kept comes to
 abbrev pub ComesSo : Loaded → (old new : Workbench) → (before after : KeptQueue) → walked.WalkOutcome → Type 0
 ComesSo loaded old new before after told =
-    (came : comes.Step) × Keeps (course_of before old.limit) came old new before after told
+    (came : comes.Step) × Keeps (course_of before old.limit) (ticket_of before) came old new before after told
     × ComesTo (places_in old.regions) old.limit (queue_of (course_of before old.limit)) loaded new.descriptors.items came
 
 -- a walk that still asks for a load
 record Wants (loaded : Loaded) (old w : Workbench) (before q : KeptQueue) : Type 0 where
   pub walk : QueueWalk
-  pub state : w.state ≡ at.Walking (course_of before old.limit) walk
+  pub state : w.state ≡ at.Walking (course_of before old.limit) (ticket_of before) walk
   pub queue : q ≡ before
   pub regions : w.regions ≡ old.regions
   pub limit : w.limit ≡ old.limit
@@ -58,9 +60,9 @@ some_asked (asks.RingEntry w) = omega arith
 some_asked (asks.Entries w) = let some = w.some in omega (arith, some)
 
 -- a part more is less than the load still
-few_still : (w new : Workbench) (bs : List ℕ) (walk : QueueWalk) (course : Course) → w.state ≡ at.Walking course walk → new.part.items ≡ w.part.items ++ bs
+few_still : (w new : Workbench) (bs : List ℕ) (walk : QueueWalk) (course : Course) (ticket : Ticket) → w.state ≡ at.Walking course ticket walk → new.part.items ≡ w.part.items ++ bs
     → came w + length bs < load_len w.state → came new < asked_len walk
-few_still w new bs walk course is more few =
+few_still w new bs walk course ticket is more few =
     let len : came new ≡ came w + length bs = ap length more ∙ length-append w.part.items bs in
     let asked : load_len w.state ≡ asked_len walk = ap load_len is in
     omega (arith, len, asked, few)
@@ -98,7 +100,7 @@ first old new before after (wents.On told) goes by =
     let call = by.1 in
     let walks : WalksOn [] old new before after told = subst (λ (bs : List ℕ). WalksOn bs old new before after told) (whole_of_none old by.0) call.4 in
     let begins : Begins old new before after told = subst (λ (s : state.State). WalksFrom s [] old new before after told) by.0 walks in
-    let on : BeginsOn (course_of before old.limit) old new before after told = subst (λ (s : Option QueueError). BeginsUnless s old new before after told) goes begins in
+    let on : BeginsOn (course_of before old.limit) (ticket_of before) old new before after told = subst (λ (s : Option QueueError). BeginsUnless s old new before after told) goes begins in
     ((on.0, on.1, on.2), call.1)
 
 -- the loads after a call, and what it comes to by them
@@ -115,18 +117,19 @@ on_load bs l old w new before q after wents.Part goes wants call =
       queue = call.5 ∙ wants.queue;
       regions = call.3.0.0 ∙ wants.regions;
       limit = call.3.0.1 ∙ wants.limit;
-      few = few_still w new bs wants.walk (course_of before old.limit) wants.state call.4 call.1;
+      few = few_still w new bs wants.walk (course_of before old.limit) (ticket_of before) wants.state call.4 call.1;
       there = wants.there;
       stands = subst (λ (ds : List Descriptor). StandsAt (places_in old.regions) (queue_of (course_of before old.limit)) l ds wants.walk) (kept_items w new call.3.2) wants.stands;
     } in
     (l, refl, still)
 on_load bs l old w new before q after (wents.On told) goes wants call =
     let course = course_of before old.limit in
+    let ticket = ticket_of before in
     let walk = wants.walk in
     let all = whole w bs in
-    let unless : GoesOnUnless q.stopped course walk all w new q after told = subst (λ (s : state.State). WalksFrom s all w new q after told) wants.state call.4 in
-    let on : GoesOn course walk all w new q after told =
-    subst (λ (s : Option QueueError). GoesOnUnless s course walk all w new q after told) (ap (λ (k : KeptQueue). k.stopped) wants.queue ∙ goes) unless in
+    let unless : GoesOnUnless q.stopped course ticket walk all w new q after told = subst (λ (s : state.State). WalksFrom s all w new q after told) wants.state call.4 in
+    let on : GoesOn course ticket walk all w new q after told =
+    subst (λ (s : Option QueueError). GoesOnUnless s course ticket walk all w new q after told) (ap (λ (k : KeptQueue). k.stopped) wants.queue ∙ goes) unless in
     let there : StandsAt (places_in w.regions) (queue_of course) l w.descriptors.items walk =
     subst (λ (r : List Region). StandsAt (places_in r) (queue_of course) l w.descriptors.items walk) (sym wants.regions) wants.stands in
     let by : ComesBy (places_in w.regions) course.limit (queue_of course) l walk all new.descriptors.items on.0 = on.2 l there in
@@ -143,7 +146,7 @@ on_load bs l old w new before q after (wents.On told) goes wants call =
 
 -- what wants bytes asks for a load
 wants_so : (l : Loaded) (old w : Workbench) (before q : KeptQueue) (n : ℕ) (came : comes.Step) → w.part.items ≡ []
-    → Keeps (course_of before old.limit) came old w before q (says.Load n) → ComesTo (places_in old.regions) old.limit (queue_of (course_of before old.limit)) l w.descriptors.items came
+    → Keeps (course_of before old.limit) (ticket_of before) came old w before q (says.Load n) → ComesTo (places_in old.regions) old.limit (queue_of (course_of before old.limit)) l w.descriptors.items came
     → Wants l old w before q
 wants_so l old w before q n (step.Load walk) none keeps comes =
     record {

@@ -7,6 +7,7 @@ pub mod Numbers
 pub mod Orders
 pub mod OwnReplies
 pub mod Passing
+pub mod Queues
 pub mod Returns
 pub mod Walks
 pub mod Whole

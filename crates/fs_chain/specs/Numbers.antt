@@ -13,3 +13,4 @@ chain_error_number error.WrongOrder = 73
 chain_error_number error.OtherQueue = 74
 chain_error_number error.OtherKind = 75
 chain_error_number error.ChainOut = 76
+chain_error_number error.Returning = 78

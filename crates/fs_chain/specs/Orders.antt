@@ -6,39 +6,32 @@ use Rattle.fs_regions.specs.Walks.{asked_entries, asked_len}
 use Rattle.fs_chain.specs.declared.queue.KeptQueue.{KeptQueue}
 use Rattle.fs_chain.specs.declared.state.Out.{Out}
 use Rattle.fs_chain.specs.declared.state.Reply.{Reply}
+use Rattle.fs_chain.specs.declared.state.Ticket.{Ticket}
 use Rattle.fs_chain.specs.declared.state.State as state
 use Rattle.fs_chain.specs.declared.state.State.TheVariants as at
+use Rattle.fs_chain.specs.Queues.{is_at, is_last, is_out_of, may_take}
 use Rattle.fs_chain.specs.declared.error.ChainError.{ChainError}
-use Rattle.fs_chain.specs.declared.error.ChainError.TheVariants.{BadArgument, ShortBuffer, WrongOrder, OtherQueue, OtherKind, ChainOut}
-
--- whether a course goes through what waits at a queue's position
-abbrev pub is_at : KeptQueue → Course → Bool
-is_at q c =
-    q.position == c.position && q.layout.size == c.layout.size && q.layout.desc == c.layout.desc && q.layout.avail == c.layout.avail && q.layout.used == c.layout.used
-
--- whether a chain is out of a queue as it stands
-abbrev pub is_out_of : KeptQueue → Out → Bool
-is_out_of q out = q.out && is_at q out.course
+use Rattle.fs_chain.specs.declared.error.ChainError.TheVariants.{BadArgument, ShortBuffer, WrongOrder, OtherQueue, OtherKind, ChainOut, Returning}
 
 -- whether a chain is out, of any queue
 abbrev pub is_out : state.State → Bool
 is_out at.Free = false
-is_out (at.Walking course walk) = false
+is_out (at.Walking course ticket walk) = false
 is_out _ = true
 
 -- of a walk that asks for a load
 abbrev pub IfWalking : state.State → (QueueWalk → Type 0) → Type 0
-IfWalking (at.Walking course walk) P = P walk
+IfWalking (at.Walking course ticket walk) P = P walk
 IfWalking _ P = Unit {0}
 
 -- a walk asks for a load
 abbrev pub IsWalking : state.State → Type 0
-IsWalking (at.Walking course walk) = Unit {0}
+IsWalking (at.Walking course ticket walk) = Unit {0}
 IsWalking _ = ⊥
 
 -- how many entries of a table it asks for, whose descriptors may join the chain
 abbrev pub entries_asked : state.State → ℕ
-entries_asked (at.Walking course walk) = asked_entries walk
+entries_asked (at.Walking course ticket walk) = asked_entries walk
 entries_asked _ = 0
 
 -- why the next walks can't go over another memory, with this limit
@@ -48,17 +41,17 @@ memory_error _ limit = Some ChainOut
 
 -- why a walk can't begin, by so many bytes
 abbrev pub begin_error : KeptQueue → (len : ℕ) → Option ChainError
-begin_error q len = if not (len == 0) then Some BadArgument else if q.out then Some ChainOut else None
+begin_error q len = if not (len == 0) then Some BadArgument else if not (may_take q) then Some ChainOut else None
 
 -- why a walk can't go on
-abbrev pub give_error : KeptQueue → Course → (asked len : ℕ) → Option ChainError
-give_error q course asked len =
-    if not (len == asked) then Some BadArgument else if not (is_at q course) then Some OtherQueue else if q.out then Some ChainOut else None
+abbrev pub give_error : KeptQueue → Course → Ticket → (asked len : ℕ) → Option ChainError
+give_error q course ticket asked len =
+    if not (len == asked) then Some BadArgument else if not (is_at q course ticket) then Some OtherQueue else if not (may_take q) then Some ChainOut else None
 
 -- why a call of a walk does nothing, but for memory that is wanting
 abbrev pub walk_error : state.State → KeptQueue → (len : ℕ) → Option ChainError
 walk_error at.Free q len = begin_error q len
-walk_error (at.Walking course walk) q len = give_error q course (asked_len walk) len
+walk_error (at.Walking course ticket walk) q len = give_error q course ticket (asked_len walk) len
 walk_error _ q len = Some WrongOrder
 
 -- why a request can't be asked by so many bytes
@@ -96,33 +89,25 @@ reply_len out r = min (min (front_len r + r.behind) out.room_len) (2 ^ 32 - 1)
 -- why a chain can't go back, by a buffer of so many bytes
 abbrev pub return_error : state.State → KeptQueue → (len : ℕ) → Option ChainError
 return_error (at.HasReply out reply) q len =
-    if not (is_out_of q out) then Some OtherQueue else if nat_lt len (front_len reply) then Some ShortBuffer else None
+    if not (is_out_of q out) then Some OtherQueue else if q.returning then Some Returning else if nat_lt len (front_len reply) then Some ShortBuffer else None
 return_error _ q len = Some WrongOrder
 
 -- why no return can be ended
 abbrev pub end_error : state.State → KeptQueue → Option ChainError
-end_error (at.Returning out) q = if is_out_of q out then None else Some OtherQueue
+end_error (at.Returning out) q = if is_out_of q out && q.returning then None else Some OtherQueue
 end_error _ q = Some WrongOrder
 
--- why a chain can't be given up
+-- why a chain can't be given up: once its request was asked, a reply ends it, or silence
 abbrev pub give_up_error : state.State → KeptQueue → Option ChainError
 give_up_error at.Free q = None
-give_up_error (at.Walking course walk) q = None
-give_up_error (at.Returning out) q = Some WrongOrder
-give_up_error (at.Taken out) q = if is_out_of q out then None else Some OtherQueue
-give_up_error (at.Waits out waiting) q = if is_out_of q out then None else Some OtherQueue
-give_up_error (at.Lists out listing) q = if is_out_of q out then None else Some OtherQueue
-give_up_error (at.HasReply out reply) q = if is_out_of q out then None else Some OtherQueue
+give_up_error (at.Walking course ticket walk) q = None
+give_up_error (at.Taken out) q = if not (is_out_of q out) then Some OtherQueue else if not (is_last q out) then Some WrongOrder else None
+give_up_error _ q = Some WrongOrder
 
 -- whether no chain is walked, and none is out
 abbrev pub is_free : state.State → Bool
 is_free at.Free = true
 is_free _ = false
-
--- whether the stores of a return were told
-abbrev pub is_returning : state.State → Bool
-is_returning (at.Returning out) = true
-is_returning _ = false
 
 -- whether a listing gathers entries
 abbrev pub is_listing : state.State → Bool
@@ -131,7 +116,7 @@ is_listing _ = false
 
 -- how many bytes of a load a walk asks for: 0 if there is none
 abbrev pub load_len : state.State → ℕ
-load_len (at.Walking course walk) = asked_len walk
+load_len (at.Walking course ticket walk) = asked_len walk
 load_len _ = 0
 
 -- how many bytes of reply a chain has room for: 0 if none is out

@@ -2,7 +2,7 @@
 use Rattle.std.specs.Prelude.{◌≡◌, ℕ, ◌++◌, List, [], drop}
 use Rattle.fs_queue.specs.Returning.{stores_after_reply}
 use Rattle.fs_queue.specs.ReturningView.{stores_of}
-use Rattle.fs_regions.specs.Walks.{queue_of}
+use Rattle.fs_chain.specs.declared.queue.KeptQueue.{KeptQueue}
 use Rattle.fs_chain.specs.declared.returning.Stores.{Stores}
 use Rattle.fs_chain.specs.declared.state.Out.{Out}
 use Rattle.fs_chain.specs.declared.state.Reply.{Reply}
@@ -10,16 +10,17 @@ use Rattle.fs_chain.specs.declared.state.State as state
 use Rattle.fs_chain.specs.declared.state.State.TheVariants as at
 use Rattle.fs_chain.specs.declared.workbench.Workbench.{Workbench}
 use Rattle.fs_chain.specs.Orders.{front_len, front_of, reply_len}
+use Rattle.fs_chain.specs.Queues.{at_return}
 use Rattle.fs_chain.specs.Walks.{IsAllButPart}
 
 -- a reply's front over the first bytes of a buffer
 abbrev pub put_front : Reply → (buffer : List ℕ) → List ℕ
 put_front reply buffer = front_of reply ++ drop (front_len reply) buffer
 
--- what is told of a chain's return with this reply
-abbrev pub ReturnsBy : Out → Reply → Stores → Type 0
-ReturnsBy out reply s =
-    (s.front_len ≡ front_len reply) × (stores_of s.used ≡ stores_after_reply (queue_of out.course) out.head (reply_len out reply)) × (s.used.flags ≡ out.course.layout.avail)
+-- what is told of a chain's return with this reply, at the position where its queue's next one goes back
+abbrev pub ReturnsBy : KeptQueue → Out → Reply → Stores → Type 0
+ReturnsBy q out reply s =
+    (s.front_len ≡ front_len reply) × (stores_of s.used ≡ stores_after_reply (at_return q out) out.head (reply_len out reply)) × (s.used.flags ≡ out.course.layout.avail)
 
 -- of a chain whose reply is known
 abbrev pub IfHasReply : state.State → (Out → Reply → Type 0) → Type 0

@@ -15,12 +15,14 @@ use Rattle.fs_regions.specs.Walks.{Loaded, nothing, asked_len, queue_of, StandsA
 use Rattle.fs_chain.specs.declared.queue.KeptQueue.{KeptQueue}
 use Rattle.fs_chain.specs.declared.state.Out.{Out}
 use Rattle.fs_chain.specs.declared.state.Reply.{Reply}
+use Rattle.fs_chain.specs.declared.state.Ticket.{Ticket}
 use Rattle.fs_chain.specs.declared.state.State as state
 use Rattle.fs_chain.specs.declared.state.State.TheVariants as at
 use Rattle.fs_chain.specs.declared.walking.WalkOutcome as walked
 use Rattle.fs_chain.specs.declared.walking.WalkOutcome.TheVariants as tells
 use Rattle.fs_chain.specs.declared.workbench.Workbench.{Workbench}
 use Rattle.fs_chain.specs.Orders.{entries_asked}
+use Rattle.fs_chain.specs.Queues.{ticket_of, took}
 
 -- how many bytes some descriptors have in one direction, counted in 64 bits
 abbrev pub count : (write_only : Bool) → List Descriptor → ℕ
@@ -31,12 +33,12 @@ abbrev pub course_of : KeptQueue → (limit : ℕ) → Course
 course_of q limit = record { layout = q.layout; position = q.position; limit = limit }
 
 -- a chain without a fault, out of its queue, with these descriptors
-abbrev pub out_of : Course → (head : ℕ) → List Descriptor → Out
-out_of course head ds = record { course = course; head = head; request_len = count false ds; room_len = count true ds }
+abbrev pub out_of : Course → Ticket → (head : ℕ) → List Descriptor → Out
+out_of course ticket head ds = record { course = course; ticket = ticket; head = head; request_len = count false ds; room_len = count true ds }
 
 -- a faulty chain, out of its queue: nothing is read or written of it
-abbrev pub faulty_out : Course → (head : ℕ) → Out
-faulty_out course head = record { course = course; head = head; request_len = 0; room_len = 0 }
+abbrev pub faulty_out : Course → Ticket → (head : ℕ) → Out
+faulty_out course ticket head = record { course = course; ticket = ticket; head = head; request_len = 0; room_len = 0 }
 
 -- no reply
 abbrev pub no_reply : Reply
@@ -51,17 +53,17 @@ told_of ds (step.Chain head None) = tells.Chain head (count false ds) (count tru
 told_of ds (step.Chain head (Some fault)) = tells.Faulty head fault
 
 -- where the chain is then
-abbrev pub state_after : Course → List Descriptor → comes.Step → state.State
-state_after course ds (step.Load walk) = at.Walking course walk
-state_after course ds step.Idle = at.Free
-state_after course ds (step.Refused e) = at.Free
-state_after course ds (step.Chain head None) = at.Taken (out_of course head ds)
-state_after course ds (step.Chain head (Some fault)) = at.HasReply (faulty_out course head) no_reply
+abbrev pub state_after : Course → Ticket → List Descriptor → comes.Step → state.State
+state_after course ticket ds (step.Load walk) = at.Walking course ticket walk
+state_after course ticket ds step.Idle = at.Free
+state_after course ticket ds (step.Refused e) = at.Free
+state_after course ticket ds (step.Chain head None) = at.Taken (out_of course ticket head ds)
+state_after course ticket ds (step.Chain head (Some fault)) = at.HasReply (faulty_out course ticket head) no_reply
 
 -- the queue then
 abbrev pub queue_after : KeptQueue → comes.Step → KeptQueue
 queue_after q (step.Refused e) = record q { stopped = Some e }
-queue_after q (step.Chain head fault) = record q { out = true }
+queue_after q (step.Chain head fault) = took q
 queue_after q _ = q
 
 -- the descriptors that are kept of those that were gathered: a faulty chain has no windows
@@ -88,42 +90,42 @@ IsAllButPart old new =
     IsAllBut old new × (new.alloc ≡ old.alloc) × (new.descriptors ≡ old.descriptors) × (new.state ≡ old.state) × (new.session ≡ old.session)
 
 -- handle and queue keep what a walk on this course came to, and this is told of it; of a faulty chain no descriptor is kept
-abbrev pub Keeps : Course → comes.Step → (old new : Workbench) → (before after : KeptQueue) → walked.WalkOutcome → Type 0
-Keeps course came old new before after told =
-    (told ≡ told_of new.descriptors.items came) × (new.state ≡ state_after course new.descriptors.items came) × (after ≡ queue_after before came)
+abbrev pub Keeps : Course → Ticket → comes.Step → (old new : Workbench) → (before after : KeptQueue) → walked.WalkOutcome → Type 0
+Keeps course ticket came old new before after told =
+    (told ≡ told_of new.descriptors.items came) × (new.state ≡ state_after course ticket new.descriptors.items came) × (after ≡ queue_after before came)
     × LeavesNone came new.descriptors.items × IsAllBut old new
 
 -- a walk begins: by no load it comes to what is kept and told
-abbrev pub BeginsOn : Course → (old new : Workbench) → (before after : KeptQueue) → walked.WalkOutcome → Type 0
-BeginsOn course old new before after told =
-    (came : comes.Step) × Keeps course came old new before after told
+abbrev pub BeginsOn : Course → Ticket → (old new : Workbench) → (before after : KeptQueue) → walked.WalkOutcome → Type 0
+BeginsOn course ticket old new before after told =
+    (came : comes.Step) × Keeps course ticket came old new before after told
     × ComesTo (places_in old.regions) course.limit (queue_of course) nothing new.descriptors.items came
 
 -- a walk goes on by the bytes of a load: whatever was loaded before, it comes to what is kept and told
-abbrev pub GoesOn : Course → QueueWalk → (bytes : List ℕ) → (old new : Workbench) → (before after : KeptQueue) → walked.WalkOutcome → Type 0
-GoesOn course walk bytes old new before after told =
-    (came : comes.Step) × Keeps course came old new before after told
+abbrev pub GoesOn : Course → Ticket → QueueWalk → (bytes : List ℕ) → (old new : Workbench) → (before after : KeptQueue) → walked.WalkOutcome → Type 0
+GoesOn course ticket walk bytes old new before after told =
+    (came : comes.Step) × Keeps course ticket came old new before after told
     × ((loaded : Loaded) → StandsAt (places_in old.regions) (queue_of course) loaded old.descriptors.items walk
     → ComesBy (places_in old.regions) course.limit (queue_of course) loaded walk bytes new.descriptors.items came)
 
 -- a stopped queue refuses each walk
 abbrev pub BeginsUnless : (stopped : Option QueueError) → (old new : Workbench) → (before after : KeptQueue) → walked.WalkOutcome → Type 0
 BeginsUnless (Some why) old new before after told = (told ≡ tells.Refused Stopped) × IsAllButPart old new × (after ≡ before)
-BeginsUnless None old new before after told = BeginsOn (course_of before old.limit) old new before after told
+BeginsUnless None old new before after told = BeginsOn (course_of before old.limit) (ticket_of before) old new before after told
 
 abbrev pub Begins : (old new : Workbench) → (before after : KeptQueue) → walked.WalkOutcome → Type 0
 Begins old new before after told = BeginsUnless before.stopped old new before after told
 
 -- a walk goes on, unless its queue was stopped meanwhile: then it is refused as each walk of a stopped queue, and the handle has no chain
-abbrev pub GoesOnUnless : (stopped : Option QueueError) → Course → QueueWalk → (bytes : List ℕ) → (old new : Workbench) → (before after : KeptQueue) → walked.WalkOutcome → Type 0
-GoesOnUnless (Some why) course walk bytes old new before after told =
+abbrev pub GoesOnUnless : (stopped : Option QueueError) → Course → Ticket → QueueWalk → (bytes : List ℕ) → (old new : Workbench) → (before after : KeptQueue) → walked.WalkOutcome → Type 0
+GoesOnUnless (Some why) course ticket walk bytes old new before after told =
     (told ≡ tells.Refused Stopped) × IsAllButPart (record old { state = at.Free }) new × (after ≡ before)
-GoesOnUnless None course walk bytes old new before after told = GoesOn course walk bytes old new before after told
+GoesOnUnless None course ticket walk bytes old new before after told = GoesOn course ticket walk bytes old new before after told
 
 -- a walk goes on from where its chain is, by the bytes of the load that it asked for, and by none at its beginning
 abbrev pub WalksFrom : state.State → (bytes : List ℕ) → (old new : Workbench) → (before after : KeptQueue) → walked.WalkOutcome → Type 0
 WalksFrom at.Free bytes old new before after told = Begins old new before after told
-WalksFrom (at.Walking course walk) bytes old new before after told = GoesOnUnless before.stopped course walk bytes old new before after told
+WalksFrom (at.Walking course ticket walk) bytes old new before after told = GoesOnUnless before.stopped course ticket walk bytes old new before after told
 WalksFrom _ bytes old new before after told = ⊥
 
 abbrev pub WalksOn : (bytes : List ℕ) → (old new : Workbench) → (before after : KeptQueue) → walked.WalkOutcome → Type 0

@@ -7,12 +7,13 @@ use Rattle.fs_queue.specs.declared.fault.QueueError.{QueueError}
 use Rattle.fs_queue.specs.Queue.{Queue}
 use Rattle.fs_queue.specs.Chain.{Descriptor}
 use Rattle.fs_queue.specs.Loads.{Load}
-use Rattle.fs_queue.specs.Taking.{writable, addresses_of, after_refusal}
+use Rattle.fs_queue.specs.Taking.{Offers, IsRequest, writable, addresses_of, after_refusal}
 use Rattle.fs_queue.specs.Returning.{tells, advanced}
 use Rattle.fs_queue.specs.ReturningView.{stores_of}
+use Rattle.fs_queue.specs.WalkingView.{at_position}
 use Rattle.fs_regions.specs.Places.{places_in}
 use Rattle.fs_regions.specs.declared.step.Step as comes
-use Rattle.fs_regions.specs.Walks.{Loaded, nothing, queue_of, AddsBytes, IsLost, RingIsAsked}
+use Rattle.fs_regions.specs.Walks.{Loaded, nothing, queue_of, AddsBytes, IsLost, OffersBy, RingIsAsked}
 use Rattle.fs_regions.specs.Laws.{HasLoaded}
 use Rattle.fuse_fs.specs.Calls.{FileRun}
 use Rattle.fuse_fs.specs.Calls as file
@@ -46,7 +47,7 @@ use Rattle.fs_chain.specs.Walks.{course_of, told_of}
 use Rattle.fs_device.specs.declared.error.DeviceError.TheVariants as device
 use Rattle.fs_device.specs.Step.{State, Exchange, Idle, Refused, Exchanged, Calls, Step, with_queue}
 use Rattle.fs_device.specs.StepBy as act
-use Rattle.fs_device.specs.StepBy.{StepLoads, StepBy, Act, Effects, reply_stores, after_stores, stores_among, FindFlags, MayStoreLast}
+use Rattle.fs_device.specs.StepBy.{AnswersBy, StepLoads, StepBy, Act, Effects, reply_stores, after_stores, stores_among, FindFlags, MayStoreLast}
 
 -- ---- the walk
 
@@ -69,7 +70,7 @@ WalksBy (bs ∷ given) old new before after told =
 -- what a call of walk, which left these descriptors, adds to what was loaded: a part of a load nothing yet, a whole one what was asked for
 abbrev pub AddsSo : state.State → went.Went → List Descriptor → (before : Loaded) → (bytes : List ℕ) → (after : Loaded) → Type 0
 AddsSo at wents.Part ds before bs after = after ≡ before
-AddsSo (at.Walking course walk) (wents.On told) ds before bs after = (came : comes.Step) × (told ≡ told_of ds came) × AddsBytes walk bs came before after
+AddsSo (at.Walking course ticket walk) (wents.On told) ds before bs after = (came : comes.Step) × (told ≡ told_of ds came) × AddsBytes walk bs came before after
 AddsSo _ (wents.On told) ds before bs after = ⊥
 
 -- these loads came of the bytes of a walk's calls
@@ -127,10 +128,10 @@ data_behind (Some given) = given.1
 
 -- ---- the return
 
--- of a chain whose reply is known, and which goes back by these stores
-abbrev pub FromReplied : state.State → (Reply → Stores → Type 0) → Stores → Type 0
-FromReplied (at.HasReply out reply) P s = ReturnsBy out reply s × P reply s
-FromReplied _ P s = ⊥
+-- of a chain whose reply is known, and which goes back to its queue, as it is then, by these stores
+abbrev pub FromReplied : (back : KeptQueue) → state.State → (Reply → Stores → Type 0) → Stores → Type 0
+FromReplied back (at.HasReply out reply) P s = ReturnsBy back out reply s × P reply s
+FromReplied back _ P s = ⊥
 
 -- a front and the data behind it, if there is a front
 abbrev pub front_if : Option (List ℕ) → (behind : List ℕ) → List ℕ
@@ -148,17 +149,18 @@ acts_of room reply behind s flags =
     map act.Stores (reply_stores room (reply_bytes reply behind) (front_len reply) ++ stores_of s.used) ++ act.LoadsFlags flags ∷ []
 
 -- a chain goes back by what its caller stores and loads, and this is told of the flags that were loaded
-pub record GoesBackBy (room : List ℕ) (behind : List ℕ) (from : state.State) (acts : List Act) (last : ℕ) (notice : Bool) : Type 0 where
+pub record GoesBackBy (back : KeptQueue) (room : List ℕ) (behind : List ℕ) (from : state.State) (acts : List Act) (last : ℕ) (notice : Bool) : Type 0 where
   pub stores : Stores
   pub flags : List ℕ
   pub flags_len : length flags ≡ 2
-  pub returns : FromReplied from (λ reply s. (last ≡ front_len reply) × (acts ≡ acts_of room reply behind s flags)) stores
+  pub returns : FromReplied back from (λ reply s. (last ≡ front_len reply) × (acts ≡ acts_of room reply behind s flags)) stores
   pub notified : notice ≡ tells flags
 
 -- ---- the whole
 
 -- a chain from its walk to its return, without a refusal between: the calls of the walk, the request as it was loaded, the call and its answer, the stores and
--- the flags; limit, regions and position are those of its beginning
+-- the flags; limit, regions and position are those of its beginning, and `back` is the queue as the return finds it: other chains may have been taken and have gone
+-- back meanwhile
 pub record ChainBy (given_bytes : List (List ℕ)) (request : List ℕ) (calls : Calls) (acts : List Act) (last : ℕ) (head : ℕ) (notice : Bool)
     (old new : Workbench) (before : KeptQueue) (s : Session) : Type 0 where
   pub walked_bench : Workbench
@@ -172,7 +174,8 @@ pub record ChainBy (given_bytes : List (List ℕ)) (request : List ℕ) (calls :
   pub given : Option (FileAnswer × List ℕ × Replied)
   pub replies : HasReply made asked_bench given new
   pub calls_are : calls ≡ file_calls (drop 80 request) made given
-  pub returns : GoesBackBy (addresses_of (writable walked_bench.descriptors.items)) (data_behind given) new.state acts last notice
+  pub back : KeptQueue
+  pub returns : GoesBackBy back (addresses_of (writable walked_bench.descriptors.items)) (data_behind given) new.state acts last notice
 
 -- a faulty chain from its walk to its return: nothing is loaded of it or stored in it
 pub record FaultyChainBy (given_bytes : List (List ℕ)) (fault : ChainFault) (acts : List Act) (last : ℕ) (head : ℕ) (notice : Bool)
@@ -180,7 +183,16 @@ pub record FaultyChainBy (given_bytes : List (List ℕ)) (fault : ChainFault) (a
   pub walked_bench : Workbench
   pub taken : KeptQueue
   pub walks : WalksBy given_bytes old walked_bench before taken (wents.On (says.Faulty head fault))
-  pub returns : GoesBackBy [] [] walked_bench.state acts last notice
+  pub back : KeptQueue
+  pub returns : GoesBackBy back [] [] walked_bench.state acts last notice
+
+-- the queue of a chain that goes back, at the position where its return finds it
+abbrev pub queue_back : (before back : KeptQueue) → Queue
+queue_back before back = at_position before.layout back.returned
+
+-- a chain goes back at the position where it was taken: one is out at a time, or they go back in their order
+abbrev pub IsInOrder : (before back : KeptQueue) → Type 0
+IsInOrder before back = back.returned ≡ before.position
 
 -- the state of the plain machine before: its memory's places are the regions', its queue is the kept one, which isn't stopped, and the limit is one
 pub record IsBefore {F : Type 0} (old : Workbench) (before : KeptQueue) (i : ℕ) (m : State F) : Type 0 where
@@ -230,7 +242,7 @@ RefusalIsStepBy {F} may =
 abbrev pub FaultyIsStepBy : {F : Type 0} → May F → Type 0
 FaultyIsStepBy {F} may =
     (given : List (List ℕ)) (fault : ChainFault) (acts : List Act) (last head i : ℕ) (notice : Bool) (old : Workbench) (before : KeptQueue) (m : State F) →
-    IsBefore old before i m → (run : FaultyChainBy given fault acts last head notice old before) →
+    IsBefore old before i m → (run : FaultyChainBy given fault acts last head notice old before) → IsInOrder before run.back →
     (loaded : Loaded) × LoadsOf given old run.walked_bench before run.taken (wents.On (says.Faulty head fault)) run.walks loaded
     × (lost : List Load) × LackPlaces old before loaded lost × (x : Exchange) × (x.head ≡ head)
     × StepBy may m i (step_loads loaded lost []) [] (Exchanged x notice) (record { acts = acts; last = last })
@@ -242,12 +254,25 @@ abbrev pub LoadsOfChain : (given : List (List ℕ)) (request : List ℕ) (calls 
 LoadsOfChain given request calls acts last head notice old new before s run loaded =
     LoadsOf given old run.walked_bench before run.taken (wents.On (says.Chain head run.lens.0 run.lens.1)) run.walks loaded
 
--- whatever the guest writes meanwhile, the calls told, the reply and the stores of a chain are those of the plain machine's step by what was loaded
+-- whatever the guest writes meanwhile, and whichever chains of its queue are taken and go back meanwhile, what its loads offer is answered as the plain machine answers
+-- it whose queue stands where the chain goes back: by these calls, this reply and these stores
+abbrev pub ChainIsAnsweredBy : {F : Type 0} → May F → Type 0
+ChainIsAnsweredBy {F} may =
+    (given : List (List ℕ)) (request : List ℕ) (calls : Calls) (acts : List Act) (last head i : ℕ) (notice : Bool)
+    (old new : Workbench) (before : KeptQueue) (s : Session) (m : State F) (files : F) →
+    (run : ChainBy given request calls acts last head notice old new before s) → IsBefore old before i m → IsSession s m → FileRun may m.files calls files →
+    let room = addresses_of (writable run.walked_bench.descriptors.items) in let q = queue_back before run.back in
+    (loaded : Loaded) × LoadsOfChain given request calls acts last head notice old new before s run loaded
+    × OffersBy (places_in old.regions) old.limit (queue_of (course_of before old.limit)) loaded request (Offers head (IsRequest request room))
+    × (x : Exchange) × (x.head ≡ head) × (x.request ≡ request)
+    × AnswersBy may m i q head request room calls x notice (record { acts = acts; last = last }) (after_chain m i q new.session.options.0 files)
+
+-- if it goes back in order, the calls told, the reply and the stores of a chain are those of the plain machine's step by what was loaded
 abbrev pub ChainIsStepBy : {F : Type 0} → May F → Type 0
 ChainIsStepBy {F} may =
     (given : List (List ℕ)) (request : List ℕ) (calls : Calls) (acts : List Act) (last head i : ℕ) (notice : Bool)
     (old new : Workbench) (before : KeptQueue) (s : Session) (m : State F) (files : F) →
-    (run : ChainBy given request calls acts last head notice old new before s) → IsBefore old before i m → IsSession s m → FileRun may m.files calls files →
+    (run : ChainBy given request calls acts last head notice old new before s) → IsBefore old before i m → IsInOrder before run.back → IsSession s m → FileRun may m.files calls files →
     (loaded : Loaded) × LoadsOfChain given request calls acts last head notice old new before s run loaded
     × (lost : List Load) × LackPlaces old before loaded lost × (x : Exchange) × (x.head ≡ head) × (x.request ≡ request)
     × StepBy may m i (step_loads loaded lost request) calls (Exchanged x notice) (record { acts = acts; last = last })
@@ -260,7 +285,7 @@ ChainIsStep {F} may =
     (given : List (List ℕ)) (request : List ℕ) (calls : Calls) (acts : List Act) (last head i : ℕ) (notice : Bool)
     (old new : Workbench) (before : KeptQueue) (s : Session) (m : State F) (files : F) (h : Host) (room : List ℕ) →
     let q = queue_of (course_of before old.limit) in let memory = memory_of h old.regions in
-    (run : ChainBy given request calls acts last head notice old new before s) → IsBefore old before i m → IsSession s m → FileRun may m.files calls files →
+    (run : ChainBy given request calls acts last head notice old new before s) → IsBefore old before i m → IsInOrder before run.back → IsSession s m → FileRun may m.files calls files →
     ((loaded : Loaded) → LoadsOfChain given request calls acts last head notice old new before s run loaded → HasLoaded memory q loaded request) →
     FindFlags memory q acts → room ≡ addresses_of (writable run.walked_bench.descriptors.items) → MayStoreLast memory room last →
     (x : Exchange) × (x.head ≡ head) × (x.request ≡ request)

@@ -16,12 +16,14 @@ pub enum ChainError {
     LongReply,
     /// The chain isn't where this call goes on from.
     WrongOrder,
-    /// The chain isn't out of this queue as it stands.
+    /// The queue is another one than that of the chain or of its walk, or was begun anew since; or a chain was taken or given up since the walk began.
     OtherQueue,
     /// The call wants an answer of another kind.
     OtherKind,
-    /// The queue has a chain out, or the handle has one.
+    /// The queue has as many chains out as it may, or the handle has one.
     ChainOut,
+    /// The return of another chain of the queue was told, and isn't ended.
+    Returning,
 }
 
 impl ChainError {
@@ -38,6 +40,7 @@ impl ChainError {
             ChainError::OtherQueue => 74,
             ChainError::OtherKind => 75,
             ChainError::ChainOut => 76,
+            ChainError::Returning => 78,
         }
     }
 }

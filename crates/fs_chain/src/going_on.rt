@@ -11,7 +11,7 @@ ghost use Rattle.fs_chain.specs.declared.state.State.TheVariants as at;
 
 use crate::error::ChainError;
 use crate::queue::KeptQueue;
-use crate::state::State;
+use crate::state::{State, Ticket};
 use crate::walking::WalkOutcome;
 use crate::workbench::Workbench;
 use fs_queue::{QueueError, Walk};
@@ -50,7 +50,7 @@ fn begin_refusal(queue: &KeptQueue, len: usize) -> Option<ChainError>
     if len != 0 {
         return Some(ChainError::BadArgument);
     }
-    if queue.out {
+    if !queue.may_take() {
         return Some(ChainError::ChainOut);
     }
     None
@@ -61,19 +61,20 @@ fn begin_refusal(queue: &KeptQueue, len: usize) -> Option<ChainError>
 fn give_refusal(
     queue: &KeptQueue,
     course: &Course,
+    ticket: Ticket,
     walk: &QueueWalk,
     len: usize,
 ) -> Option<ChainError>
-    ensures error { result ≡ give_error queue.now course.now (asked_len walk.now) len }
+    ensures error { result ≡ give_error queue.now course.now ticket (asked_len walk.now) len }
     ensures memory { IfSome result (λ e. e ≡ ChainError.OutOfMemory → ⊥) }
 {
     if len != walk.len() {
         return Some(ChainError::BadArgument);
     }
-    if !queue.has(course) {
+    if !queue.has(course, ticket) {
         return Some(ChainError::OtherQueue);
     }
-    if queue.out {
+    if !queue.may_take() {
         return Some(ChainError::ChainOut);
     }
     None
@@ -91,7 +92,7 @@ impl Workbench {
         ensures apart { (self.new.part ≡ self.old.part) × (self.new.session ≡ self.old.session) }
     {
         match &mut self.state {
-            State::Walking(course, walk) => {
+            State::Walking(course, ticket, walk) => {
                 let taken = take(walk, course);
                 match course.give(&self.regions, taken, loaded, &mut self.descriptors) {
                     Step::Load(next) => {
@@ -100,8 +101,8 @@ impl Workbench {
                         WalkOutcome::Load(len)
                     }
                     ended => {
-                        let course = *course;
-                        self.settle(queue, course, ended)
+                        let (course, ticket) = (*course, *ticket);
+                        self.settle(queue, course, ticket, ended)
                     }
                 }
             }
@@ -118,7 +119,7 @@ impl Workbench {
         ensures same { IsAllBut self.old self.new × (self.new.state ≡ self.old.state) × (self.new.descriptors.items ≡ self.old.descriptors.items) }
         ensures apart { (self.new.part ≡ self.old.part) × (self.new.session ≡ self.old.session) }
     {
-        let State::Walking(_, walk) = &self.state else {
+        let State::Walking(_, _, walk) = &self.state else {
             unreachable!()
         };
         let entries = walk.entries();
@@ -145,8 +146,8 @@ impl Workbench {
         ensures apart { (self.new.part ≡ self.old.part) × (self.new.session ≡ self.old.session) }
     {
         match &self.state {
-            State::Walking(course, walk) => {
-                if let Some(error) = give_refusal(queue, course, walk, loaded.len()) {
+            State::Walking(course, ticket, walk) => {
+                if let Some(error) = give_refusal(queue, course, *ticket, walk, loaded.len()) {
                     return Err(error);
                 }
             }
@@ -179,7 +180,7 @@ impl Workbench {
     {
         match self.state {
             State::Free => self.begin_walk(queue, loaded),
-            State::Walking(_, _) => self.go_on(queue, loaded),
+            State::Walking(_, _, _) => self.go_on(queue, loaded),
             _ => Err(ChainError::WrongOrder),
         }
     }
@@ -190,7 +191,9 @@ impl Workbench {
     {
         match &self.state {
             State::Free => begin_refusal(queue, len),
-            State::Walking(course, walk) => give_refusal(queue, course, walk, len),
+            State::Walking(course, ticket, walk) => {
+                give_refusal(queue, course, *ticket, walk, len)
+            }
             _ => Some(ChainError::WrongOrder),
         }
     }
@@ -204,7 +207,7 @@ impl Workbench {
         ensures walking { OnSome result (IsWalking self.now.state) }
     {
         match &self.state {
-            State::Walking(_, walk) => window_of(&self.regions, walk, from),
+            State::Walking(_, _, walk) => window_of(&self.regions, walk, from),
             _ => None,
         }
     }

@@ -1,7 +1,7 @@
 //! Laws of the definitions: contracts of functions that do nothing.
 
 ghost use Rattle.fs_chain.specs.Laws.{WalksAreOffers};
-ghost use Rattle.fs_chain.specs.Whole.{ChainIsStep, ChainIsStepBy, FaultyIsStepBy, IdleIsStepBy, RefusalIsStepBy, WantedHasAPlace};
+ghost use Rattle.fs_chain.specs.Whole.{ChainIsAnsweredBy, ChainIsStep, ChainIsStepBy, FaultyIsStepBy, IdleIsStepBy, RefusalIsStepBy, WantedHasAPlace};
 
 use fs_regions::laws::law_offers;
 use fuse_fs::FileSystem;
@@ -16,12 +16,14 @@ pub fn law_walks()
 
 /// Whatever the guest writes meanwhile, what the calls of a handle come to from a walk's beginning to a chain's return is the plain machine's step by
 /// what was loaded: the file calls, the stores, and the answer to whether the driver wants to be told. Over a memory that has what was loaded it is
-/// the machine's step. What a walk wants has a place. Listings are left out.
+/// the machine's step. So it is of a chain that goes back at the position where it was taken; of any other its answer is that of a machine whose
+/// queue stands where it goes back. What a walk wants has a place. Listings are left out.
 pub fn law_chains<F: FileSystem>()
     ensures places { WantedHasAPlace }
     ensures idle { IdleIsStepBy F.may }
     ensures refused { RefusalIsStepBy F.may }
     ensures faulty { FaultyIsStepBy F.may }
+    ensures answered { ChainIsAnsweredBy F.may }
     ensures served { ChainIsStepBy F.may }
     ensures memory { ChainIsStep F.may }
 {}

@@ -1,4 +1,4 @@
-//! One chain of a queue from its walk to its return, by a handle that touches no memory, no file and no clock.
+//! A chain of a queue from its walk to its return, by a handle that touches no memory, no file and no clock.
 #![tactic(auto)]
 
 mod answering;
@@ -26,6 +26,6 @@ pub use loads::Went;
 pub use passed::Passed;
 pub use queue::KeptQueue;
 pub use returning::Stores;
-pub use state::{Out, Reply, State};
+pub use state::{Out, Reply, State, Ticket};
 pub use walking::WalkOutcome;
 pub use workbench::Workbench;

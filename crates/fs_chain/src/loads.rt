@@ -173,7 +173,8 @@ impl Workbench {
     /// over the end of a region, or in parts: each time those of the window that is still wanted (`still_wanted`), until the walk goes on.
     ///
     /// `BadArgument` for other bytes than those, or if a walk begins by some. `WrongOrder` if a chain is out. `OtherQueue` if the walk is another queue's,
-    /// `ChainOut` if the queue has a chain out, `OutOfMemory` if the descriptors of the entries that are asked for, or a part of a load, have no room. Then nothing is done.
+    /// or if a chain was taken or given up since it began; `ChainOut` if the queue has as many chains out as it may; `OutOfMemory` if the descriptors
+    /// of the entries that are asked for, or a part of a load, have no room. Then nothing is done.
     pub fn walk(&mut self, queue: &mut KeptQueue, loaded: &[u8]) -> Result<Went, ChainError>
         ensures goes { IfOk result (λ went. GoesSo self.old queue.old loaded.now went self.new queue.new) }
         ensures error { IfErr result (RefusesWalk self.old queue.old loaded.now) }

@@ -6,7 +6,7 @@ ghost use Rattle.vm_memory.specs.Slices.{IsWindowAt};
 ghost use Rattle.fs_queue.specs.Taking.{total_len, of_direction};
 ghost use Rattle.fs_regions.specs.Walks.{asked_len};
 ghost use Rattle.fs_regions.specs.Windows.{IsRangeFrom};
-ghost use Rattle.fs_chain.specs.Orders.{is_free, is_listing, is_out, is_returning, load_len, room_len};
+ghost use Rattle.fs_chain.specs.Orders.{is_free, is_listing, is_out, load_len, room_len};
 
 use crate::state::State;
 use crate::workbench::Workbench;
@@ -39,13 +39,6 @@ impl Workbench {
         &self.session
     }
 
-    /// Whether the stores of a return were told.
-    pub fn is_returning(&self) -> bool
-        ensures { result ≡ is_returning self.now.state }
-    {
-        matches!(self.state, State::Returning(_))
-    }
-
     /// Whether the chain's call is a listing that is answered entry by entry.
     pub fn is_listing(&self) -> bool
         ensures { result ≡ is_listing self.now.state }
@@ -58,7 +51,7 @@ impl Workbench {
         ensures { result ≡ load_len self.now.state }
     {
         match &self.state {
-            State::Walking(_, walk) => walk.len(),
+            State::Walking(_, _, walk) => walk.len(),
             _ => 0,
         }
     }
@@ -73,7 +66,7 @@ impl Workbench {
             | State::Lists(out, _)
             | State::HasReply(out, _)
             | State::Returning(out) => out.room_len,
-            State::Free | State::Walking(_, _) => 0,
+            State::Free | State::Walking(_, _, _) => 0,
         }
     }
 

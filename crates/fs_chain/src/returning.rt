@@ -1,8 +1,9 @@
 //! How a chain goes back to its queue.
 
-ghost use Rattle.std.specs.Prelude.{◌≡◌, ◌+◌, ◌<◌, true, nat_lt, IfSome, ◌%◌, ◌^◌, None, Some, false, Err, IfErr, IfOk, OnOk, OnErr, length};
+ghost use Rattle.std.specs.Prelude.{◌≡◌, ◌<◌, true, nat_lt, IfSome, None, Some, false, Err, IfErr, IfOk, OnOk, OnErr, length};
 ghost use Rattle.fs_queue.specs.Returning.{tells};
 ghost use Rattle.fs_chain.specs.Orders.{end_error, front_len, return_error};
+ghost use Rattle.fs_chain.specs.Queues.{gave};
 ghost use Rattle.fs_chain.specs.Returns.{IfHasReply, ReturnsBy, put_front};
 ghost use Rattle.fs_chain.specs.declared.state.State.TheVariants as at;
 
@@ -50,11 +51,14 @@ fn stores_of(
     ensures ok { OnOk result (return_error (at.HasReply out.now reply.now) queue.now (length front.old) ≡ None) }
     ensures short { result ≡ Err ChainError.ShortBuffer → length front.old < 160 }
     ensures same { OnErr result (front.new ≡ front.old) }
-    ensures stores { IfOk result (λ s. ReturnsBy out.now reply.now s) }
+    ensures stores { IfOk result (λ s. ReturnsBy queue.now out.now reply.now s) }
     ensures front { OnOk result (front.new ≡ put_front reply.now front.old) }
 {
     if !queue.has_out(out) {
         return Err(ChainError::OtherQueue);
+    }
+    if queue.returning {
+        return Err(ChainError::Returning);
     }
     let Some(front_len) = copy_front(reply, front) else {
         return Err(ChainError::ShortBuffer);
@@ -62,7 +66,7 @@ fn stores_of(
     let len = front_len.saturating_add(reply.behind).min(out.room_len);
     let used = Return::new(
         out.course.layout,
-        out.course.position,
+        queue.returned,
         out.head,
         len.min(u32::MAX as usize) as u32,
     );
@@ -71,18 +75,20 @@ fn stores_of(
 
 impl Workbench {
     /// Says how a chain goes back: its reply's front is copied over the first bytes of a buffer, for which 160 always do (else
-    /// `ShortBuffer`). From here on it can't be given up.
+    /// `ShortBuffer`), and the stores are those of the position where the queue's next chain goes back. Until it is ended no other
+    /// chain of the queue goes back (`Returning`).
     pub fn begin_return(
         &mut self,
-        queue: &KeptQueue,
+        queue: &mut KeptQueue,
         front: &mut [u8],
     ) -> Result<Stores, ChainError>
-        ensures error { IfErr result (λ e. return_error self.old.state queue.now (length front.old) ≡ Some e) }
-        ensures ok { OnOk result (return_error self.old.state queue.now (length front.old) ≡ None) }
+        ensures error { IfErr result (λ e. return_error self.old.state queue.old (length front.old) ≡ Some e) }
+        ensures ok { OnOk result (return_error self.old.state queue.old (length front.old) ≡ None) }
         ensures short { result ≡ Err ChainError.ShortBuffer → length front.old < 160 }
-        ensures same { OnErr result ((self.new ≡ self.old) × (front.new ≡ front.old)) }
+        ensures same { OnErr result ((self.new ≡ self.old) × (front.new ≡ front.old) × (queue.new ≡ queue.old)) }
         ensures returning { OnOk result (IfHasReply self.old.state (λ out reply. self.new ≡ record self.old { state = at.Returning out })) }
-        ensures stores { IfOk result (λ s. IfHasReply self.old.state (λ out reply. ReturnsBy out reply s)) }
+        ensures queue { OnOk result (queue.new ≡ record queue.old { returning = true }) }
+        ensures stores { IfOk result (λ s. IfHasReply self.old.state (λ out reply. ReturnsBy queue.old out reply s)) }
         ensures front { OnOk result (IfHasReply self.old.state (λ out reply. front.new ≡ put_front reply front.old)) }
     {
         match &self.state {
@@ -91,6 +97,7 @@ impl Workbench {
                 match stores_of(queue, &out, reply, front) {
                     Ok(stores) => {
                         self.state = State::Returning(out);
+                        queue.returning = true;
                         Ok(stores)
                     }
                     Err(error) => Err(error),
@@ -100,23 +107,23 @@ impl Workbench {
         }
     }
 
-    /// The stores are made: the queue's position is one more, and the handle is free. Whether the driver wants to be told, by the available flags.
+    /// The stores are made: the queue's next chain goes back at the next position, and the handle is free. Whether the driver wants to be told, by the
+    /// available flags. `WrongOrder` if no stores were told, `OtherQueue` if they were another queue's.
     pub fn end_return(&mut self, queue: &mut KeptQueue, flags: [u8; 2]) -> Result<bool, ChainError>
         ensures error { IfErr result (λ e. end_error self.old.state queue.old ≡ Some e) }
         ensures ok { OnOk result (end_error self.old.state queue.old ≡ None) }
         ensures same { OnErr result ((self.new ≡ self.old) × (queue.new ≡ queue.old)) }
         ensures free { OnOk result (self.new ≡ record self.old { state = at.Free }) }
-        ensures queue { OnOk result (queue.new ≡ record queue.old { out = false; position = (queue.old.position + 1) % 2 ^ 16 }) }
+        ensures queue { OnOk result (queue.new ≡ gave queue.old) }
         ensures tells { IfOk result (λ told. told ≡ tells flags) }
     {
         match &self.state {
             State::Returning(out) => {
-                if !queue.has_out(out) {
+                if !queue.has_out(out) || !queue.returning {
                     return Err(ChainError::OtherQueue);
                 }
                 self.state = State::Free;
-                queue.out = false;
-                queue.position = queue.position.wrapping_add(1);
+                queue.end_return();
                 Ok(Return::tells(flags))
             }
             _ => Err(ChainError::WrongOrder),

@@ -3,10 +3,18 @@
 use fs_regions::{Course, QueueWalk};
 use server_phases::{Front, Listing, Waiting};
 
+/// What a walk is known by, and then its chain: how often its queue was begun anew before, and how often a chain was taken or given up.
+#[derive(Clone, Copy, Debug)]
+pub struct Ticket {
+    pub(crate) begun: u32,
+    pub(crate) taken: u32,
+}
+
 /// A chain that is out of its queue.
 #[derive(Clone, Copy, Debug)]
 pub struct Out {
     pub(crate) course: Course,
+    pub(crate) ticket: Ticket,
     pub(crate) head: u16,
     pub(crate) request_len: usize,
     pub(crate) room_len: usize,
@@ -25,7 +33,7 @@ pub enum State {
     /// No chain: the handle is free for a walk.
     Free,
     /// It is walked.
-    Walking(Course, QueueWalk),
+    Walking(Course, Ticket, QueueWalk),
     /// It is out of its queue, and its request wasn't asked.
     Taken(Out),
     /// Its call waits for an answer.

@@ -2,12 +2,13 @@
 
 ghost use Rattle.std.specs.Prelude.{◌≡◌, [], true, Some, None, IfErr, IfOk, OnOk, OnErr, length};
 ghost use Rattle.fs_chain.specs.Orders.{begin_error};
+ghost use Rattle.fs_chain.specs.Queues.{took};
 ghost use Rattle.fs_chain.specs.Walks.{told_of, state_after, queue_after, left_of, Begins, IsAllBut};
 ghost use Rattle.fs_chain.specs.declared.state.State.TheVariants as at;
 
 use crate::error::ChainError;
 use crate::queue::KeptQueue;
-use crate::state::{Out, Reply, State};
+use crate::state::{Out, Reply, State, Ticket};
 use crate::workbench::Workbench;
 use fs_queue::{ChainFault, QueueError, count_bytes};
 use fs_regions::{Course, QueueWalk, Step};
@@ -43,16 +44,23 @@ pub enum WalkOutcome {
 impl Workbench {
     // A chain without a fault is out of its queue.
     #[inline(always)]
-    fn take(&mut self, queue: &mut KeptQueue, course: Course, head: u16) -> WalkOutcome
+    fn take(
+        &mut self,
+        queue: &mut KeptQueue,
+        course: Course,
+        ticket: Ticket,
+        head: u16,
+    ) -> WalkOutcome
         ensures told { result ≡ told_of self.old.descriptors.items (Step.Chain head None) }
-        ensures kept { self.new ≡ record self.old { state = state_after course self.old.descriptors.items (Step.Chain head None) } }
-        ensures queue { queue.new ≡ record queue.old { out = true } }
+        ensures kept { self.new ≡ record self.old { state = state_after course ticket self.old.descriptors.items (Step.Chain head None) } }
+        ensures queue { queue.new ≡ took queue.old }
     {
         let request_len = count_bytes(&self.descriptors, false) as usize;
         let room_len = count_bytes(&self.descriptors, true) as usize;
-        queue.out = true;
+        queue.take();
         self.state = State::Taken(Out {
             course,
+            ticket,
             head,
             request_len,
             room_len,
@@ -69,20 +77,22 @@ impl Workbench {
         &mut self,
         queue: &mut KeptQueue,
         course: Course,
+        ticket: Ticket,
         head: u16,
         fault: ChainFault,
     ) -> WalkOutcome
         ensures told { result ≡ WalkOutcome.Faulty head fault }
-        ensures state { self.new.state ≡ state_after course self.new.descriptors.items (Step.Chain head (Some fault)) }
+        ensures state { self.new.state ≡ state_after course ticket self.new.descriptors.items (Step.Chain head (Some fault)) }
         ensures empty { self.new.descriptors.items ≡ [] }
         ensures same { IsAllBut self.old self.new }
         ensures apart { (self.new.part ≡ self.old.part) × (self.new.session ≡ self.old.session) }
-        ensures queue { queue.new ≡ record queue.old { out = true } }
+        ensures queue { queue.new ≡ took queue.old }
     {
         self.descriptors.clear();
-        queue.out = true;
+        queue.take();
         let out = Out {
             course,
+            ticket,
             head,
             request_len: 0,
             room_len: 0,
@@ -109,10 +119,11 @@ impl Workbench {
         &mut self,
         queue: &mut KeptQueue,
         course: Course,
+        ticket: Ticket,
         step: Step,
     ) -> WalkOutcome
         ensures told { result ≡ told_of self.new.descriptors.items step }
-        ensures state { self.new.state ≡ state_after course self.new.descriptors.items step }
+        ensures state { self.new.state ≡ state_after course ticket self.new.descriptors.items step }
         ensures left { self.new.descriptors.items ≡ left_of step self.old.descriptors.items }
         ensures same { IsAllBut self.old self.new }
         ensures apart { (self.new.part ≡ self.old.part) × (self.new.session ≡ self.old.session) }
@@ -121,7 +132,7 @@ impl Workbench {
         match step {
             Step::Load(walk) => {
                 let len = walk.len();
-                self.state = State::Walking(course, walk);
+                self.state = State::Walking(course, ticket, walk);
                 WalkOutcome::Load(len)
             }
             Step::Idle => {
@@ -133,8 +144,10 @@ impl Workbench {
                 queue.stopped = Some(error);
                 WalkOutcome::Refused(error)
             }
-            Step::Chain(head, None) => self.take(queue, course, head),
-            Step::Chain(head, Some(fault)) => self.take_faulty(queue, course, head, fault),
+            Step::Chain(head, None) => self.take(queue, course, ticket, head),
+            Step::Chain(head, Some(fault)) => {
+                self.take_faulty(queue, course, ticket, head, fault)
+            }
         }
     }
 
@@ -152,7 +165,8 @@ impl Workbench {
             limit: self.limit,
         };
         let step = course.begin(&self.regions, &mut self.descriptors);
-        self.settle(queue, course, step)
+        let ticket = queue.ticket();
+        self.settle(queue, course, ticket, step)
     }
 
     /// Begins a walk, by no bytes.
@@ -173,7 +187,7 @@ impl Workbench {
         if !loaded.is_empty() {
             return Err(ChainError::BadArgument);
         }
-        if queue.out {
+        if !queue.may_take() {
             return Err(ChainError::ChainOut);
         }
         match queue.stopped {

@@ -88,7 +88,7 @@ impl Workbench {
     pub fn is_out(&self) -> bool
         ensures { result ≡ is_out self.now.state }
     {
-        !matches!(self.state, State::Free | State::Walking(_, _))
+        !matches!(self.state, State::Free | State::Walking(_, _, _))
     }
 
     /// The longest window of one direction of a chain from a byte on, behind the descriptors that were passed; those before that byte are passed

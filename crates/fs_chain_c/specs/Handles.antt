@@ -7,6 +7,7 @@ use Rattle.fs_chain.specs.declared.error.ChainError.TheVariants.{BadArgument, Ou
 use Rattle.fs_chain.specs.declared.state.State.TheVariants as at
 use Rattle.fs_chain.specs.Numbers.{chain_error_number}
 use Rattle.fs_chain.specs.Orders.{memory_error}
+use Rattle.fs_chain.specs.Returns.{IsFreed}
 use Rattle.fs_chain.specs.declared.workbench.Workbench.{Workbench}
 use Rattle.fs_chain_c.specs.declared.device.FsDevice.{FsDevice}
 use Rattle.fs_chain_c.specs.declared.memory.FsRegion.{FsRegion}
@@ -78,15 +79,19 @@ Walks before q loaded status step after q' =
 abbrev pub Drops : Option Workbench → FsQueue → (status : ℕ) → Option Workbench → FsQueue → Type 0
 Drops before q status after q' = OnWorkbench (λ b b'. DropsWorkbench b q status b' q') ((status ≡ 0) × (q' ≡ q)) before after
 
+-- it is freed, and no queue is told
+abbrev pub Abandons : Option Workbench → Option Workbench → Type 0
+Abandons before after = OnWorkbench IsFreed (Unit {0}) before after
+
 -- the stretches of its bytes are told, and it stays as it was
 abbrev pub TellsStretches : Option Workbench → (write_only : Bool) → (from most : ℕ) → (windows : List FsWindow) → (count : ℕ) → Option Workbench → (windows' : List FsWindow) → Type 0
 TellsStretches before d from most windows count after windows' =
     OnWorkbench (λ b b'. Fills b d from (min most (2 ^ 64 - 1 - from)) windows windows' count × (b' ≡ b)) ((count ≡ 0) × (windows' ≡ windows)) before after
 
 -- it goes back
-abbrev pub Returns : Option Workbench → FsQueue → (front : List ℕ) → (status : ℕ) → FsStores → Option Workbench → (front' : List ℕ) → Type 0
-Returns before q front status told after front' =
-    OnWorkbench (λ b b'. ReturnsWorkbench b q front told status b' front') ((status ≡ chain_error_number WrongOrder) × (told ≡ no_stores) × (front' ≡ front)) before after
+abbrev pub Returns : Option Workbench → FsQueue → (front : List ℕ) → (status : ℕ) → FsStores → Option Workbench → FsQueue → (front' : List ℕ) → Type 0
+Returns before q front status told after q' front' =
+    OnWorkbench (λ b b'. ReturnsWorkbench b q front told status b' q' front') ((status ≡ chain_error_number WrongOrder) × (told ≡ no_stores) × (q' ≡ q) × (front' ≡ front)) before after
 
 -- its stores are made
 abbrev pub Ends : Option Workbench → FsQueue → (seen status notify : ℕ) → Option Workbench → FsQueue → Type 0

@@ -1,10 +1,12 @@
 -- Queues as numbers that C keeps, and the core's.
-use Rattle.std.specs.Prelude.{◌≡◌, ◌==◌, ◌≤◌, ℕ, Bool, true, false, Option, Some, None, IsSome, if◌then◌else◌}
+use Rattle.std.specs.Prelude.{◌≡◌, ◌⊎◌, ◌==◌, ◌≤◌, ◌+◌, ◌-◌, ◌%◌, ◌^◌, max, ℕ, Bool, true, false, Option, Some, None, IsSome, if◌then◌else◌}
 use Rattle.fs_queue.specs.Lawful.{layout_error}
 use Rattle.fs_queue.specs.Numbers.{queue_number}
 use Rattle.fs_queue.specs.declared.fault.QueueError.{QueueError}
 use Rattle.fs_queue.specs.declared.fault.QueueError.TheVariants as stop
+use Rattle.fs_chain.specs.declared.error.ChainError.TheVariants.{BadArgument}
 use Rattle.fs_chain.specs.declared.queue.KeptQueue.{KeptQueue}
+use Rattle.fs_chain.specs.Numbers.{chain_error_number}
 use Rattle.fs_chain_c.specs.declared.queue.FsQueue.{FsQueue}
 
 -- the refusal that a number tells of a queue: 2 to 8 stopped it, 1 is one of these that a record doesn't tell, 0 is none, and others tell nothing
@@ -26,14 +28,19 @@ abbrev pub stop_number : Option QueueError → ℕ
 stop_number None = 0
 stop_number (Some e) = queue_number e
 
--- the number of chains that are out
-abbrev pub out_number : Bool → ℕ
-out_number false = 0
-out_number true = 1
+-- a yes or no as a number
+abbrev pub flag : Bool → ℕ
+flag false = 0
+flag true = 1
 
--- these are a queue's numbers
+-- how many chains are out
+abbrev pub chains_out : FsQueue → ℕ
+chains_out q = (q.position + (2 ^ 16 - q.returned)) % 2 ^ 16
+
+-- these are a queue's numbers: no more chains are out, or may be, than it has descriptors
 abbrev pub IsQueue : FsQueue → Type 0
-IsQueue q = (layout_error q.size q.desc q.avail q.used ≡ None) × (q.out ≤ 1) × IsSome (stop_of q.stopped)
+IsQueue q =
+    (layout_error q.size q.desc q.avail q.used ≡ None) × (chains_out q ≤ q.size) × (q.most_out ≤ q.size) × (q.returning ≤ 1) × IsSome (stop_of q.stopped)
 
 -- the core's queue has these numbers
 pub record IsKept (q : FsQueue) (k : KeptQueue) : Type 0 where
@@ -43,10 +50,27 @@ pub record IsKept (q : FsQueue) (k : KeptQueue) : Type 0 where
   pub avail : k.layout.avail ≡ q.avail
   pub used : k.layout.used ≡ q.used
   pub position : k.position ≡ q.position
-  pub out : k.out ≡ (q.out == 1)
-  pub few : q.out ≤ 1
+  pub returned : k.returned ≡ q.returned
+  pub out : chains_out q ≤ q.size
+  pub most_out : k.most_out ≡ max 1 q.most_out
+  pub few : q.most_out ≤ q.size
+  pub returning : k.returning ≡ (q.returning == 1)
+  pub bit : q.returning ≤ 1
+  pub begun : k.begun ≡ q.begun
+  pub taken : k.taken ≡ q.taken
   pub stopped : stop_of q.stopped ≡ Some k.stopped
 
--- a queue's numbers with what a call changes: its position, how many chains are out, and what stopped it
+-- a queue's numbers with what a call changes: where the next chain is taken and where it goes back, whether a return was told, how often a chain was taken, and what
+-- stopped it
 abbrev pub put : FsQueue → KeptQueue → FsQueue
-put q k = record q { position = k.position; out = out_number k.out; stopped = stop_number k.stopped }
+put q k = record q { position = k.position; returned = k.returned; returning = flag k.returning; taken = k.taken; stopped = stop_number k.stopped }
+
+-- a queue that is begun anew at a position: no chain is out of it, and those that were are its own no more
+abbrev pub begun_anew : FsQueue → (position : ℕ) → FsQueue
+begun_anew q position = record q { position = position; returned = position; returning = 0; begun = (q.begun + 1) % 2 ^ 32; stopped = 0 }
+
+-- it is begun so, if its numbers are a queue's; a bad argument, if they are none, and then nothing is done
+abbrev pub BeginsQueue : FsQueue → (position status : ℕ) → FsQueue → Type 0
+BeginsQueue q position status q' =
+    (IsQueue (begun_anew q position) × (status ≡ 0) × (q' ≡ begun_anew q position))
+    ⊎ ((IsQueue (begun_anew q position) → ⊥) × (status ≡ chain_error_number BadArgument) × (q' ≡ q))

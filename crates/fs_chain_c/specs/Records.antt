@@ -1,5 +1,5 @@
 -- The record of a device and its queues, as C has them.
-use Rattle.std.specs.Prelude.{◌≡◌, ◌==◌, ◌≤◌, ◌<◌, ◌+◌, ◌++◌, ℕ, false, not, List, All, map, length, drop, Option, Some, None, if◌then◌else◌}
+use Rattle.std.specs.Prelude.{◌≡◌, ◌==◌, ◌≤◌, ◌<◌, ◌+◌, ◌%◌, ◌^◌, ◌++◌, [], ◌∷◌, ℕ, false, not, List, All, map, length, drop, Option, Some, None, if◌then◌else◌}
 use Rattle.memory_requests.specs.Refused.{RoomWasRefused}
 use Rattle.fs_queue.specs.Queue.{Queue, resumed}
 use Rattle.fs_record.specs.Numbers.{restore_error_number}
@@ -12,7 +12,7 @@ use Rattle.fs_chain.specs.Numbers.{chain_error_number}
 use Rattle.fs_chain_c.specs.declared.device.FsDevice.{FsDevice}
 use Rattle.fs_chain_c.specs.declared.queue.FsQueue.{FsQueue}
 use Rattle.fs_chain_c.specs.Memory.{IsDevice}
-use Rattle.fs_chain_c.specs.Queues.{IsQueue}
+use Rattle.fs_chain_c.specs.Queues.{IsQueue, chains_out}
 
 -- the queue that a record has of these numbers
 abbrev pub queue_of : FsQueue → Queue
@@ -20,7 +20,7 @@ queue_of q = resumed q.size q.desc q.avail q.used q.position (not (q.stopped == 
 
 -- no chain is out of it
 abbrev pub HasNoneOut : FsQueue → Type 0
-HasNoneOut q = q.out ≡ 0
+HasNoneOut q = chains_out q ≡ 0
 
 -- ---- a record is saved
 
@@ -53,17 +53,25 @@ Saves d qs buffer status len buffer' = (how : Option ChainError) × (status ≡ 
 
 -- ---- a record is read
 
--- the numbers of a queue of a record: what stopped it isn't told, so it is 1
-abbrev pub numbers_of : Queue → FsQueue
-numbers_of q = record {
+-- the numbers of a queue of a record, which is begun anew with it: what stopped it isn't told, so it is 1, and how many chains may be out stays
+abbrev pub numbers_over : FsQueue → Queue → FsQueue
+numbers_over old q = record old {
   desc = q.desc;
   avail = q.avail;
   used = q.used;
   size = q.size;
   position = q.position;
-  out = 0;
+  returned = q.position;
   stopped = if q.stopped then 1 else 0;
+  returning = 0;
+  begun = (old.begun + 1) % 2 ^ 32;
 }
+
+-- the numbers of a record's queues over the first of some
+abbrev pub restored_over : List FsQueue → List Queue → List FsQueue
+restored_over olds [] = olds
+restored_over [] (q ∷ qs) = []
+restored_over (old ∷ olds) (q ∷ qs) = numbers_over old q ∷ restored_over olds qs
 
 -- a record stands at the front of some bytes, which goes with the device's page size and limit
 abbrev pub HasRecord : FsDevice → (saved : List ℕ) → (options : ℕ) → List Queue → Type 0
@@ -92,7 +100,7 @@ read_status NoDevice = chain_error_number BadArgument
 abbrev pub ReadsSo : FsDevice → List FsQueue → (saved : List ℕ) → Outcome → (count : ℕ) → FsDevice → List FsQueue → Type 0
 ReadsSo d queues saved (Read options qs) count d' queues' =
     IsDevice d × HasRecord d saved options qs × (count ≡ length qs) × (d' ≡ record d { options = options })
-    × (queues' ≡ map numbers_of qs ++ drop (length qs) queues)
+    × (queues' ≡ restored_over queues qs)
 ReadsSo d queues saved (NoPlace options qs) count d' queues' =
     IsDevice d × HasRecord d saved options qs × (count ≡ length qs) × (length queues < count) × (d' ≡ d) × (queues' ≡ queues)
 ReadsSo d queues saved (NoRecord e) count d' queues' = IsDevice d × HasNoRecord d saved e × (count ≡ 0) × (d' ≡ d) × (queues' ≡ queues)

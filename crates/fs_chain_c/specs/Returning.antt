@@ -1,22 +1,23 @@
 -- How a chain goes back, as C is told, and how it is given up.
-use Rattle.std.specs.Prelude.{◌≡◌, ◌⊎◌, ◌+◌, ◌<◌, ◌%◌, ◌^◌, ℕ, true, false, List, length, min, Some, None}
+use Rattle.std.specs.Prelude.{◌≡◌, ◌⊎◌, ◌<◌, ℕ, true, false, List, length, min, Some, None, if◌then◌else◌}
 use Rattle.std.specs.Int.{w16, to_le_bytes}
 use Rattle.vm_memory_core.specs.Window.{Window}
 use Rattle.vm_memory.specs.Layout.{Region, left_at, place}
 use Rattle.vm_memory.specs.Slices.{IsWindowAt}
 use Rattle.fs_queue.specs.Returning.{tells}
 use Rattle.fs_chain.specs.declared.error.ChainError.{ChainError}
-use Rattle.fs_chain.specs.declared.error.ChainError.TheVariants.{BadArgument, OtherQueue, ShortBuffer, WrongOrder}
+use Rattle.fs_chain.specs.declared.error.ChainError.TheVariants.{BadArgument, ShortBuffer}
 use Rattle.fs_chain.specs.declared.queue.KeptQueue.{KeptQueue}
 use Rattle.fs_chain.specs.declared.returning.Stores.{Stores}
 use Rattle.fs_chain.specs.declared.state.State.TheVariants as at
 use Rattle.fs_chain.specs.Numbers.{chain_error_number}
-use Rattle.fs_chain.specs.Orders.{end_error, give_up_error, is_out, is_returning, return_error}
+use Rattle.fs_chain.specs.Orders.{end_error, give_up_error, is_out, return_error}
+use Rattle.fs_chain.specs.Queues.{gave, untook}
 use Rattle.fs_chain.specs.Returns.{IfHasReply, IsFreed, ReturnsBy, put_front}
 use Rattle.fs_chain.specs.declared.workbench.Workbench.{Workbench}
 use Rattle.fs_chain_c.specs.declared.queue.FsQueue.{FsQueue}
 use Rattle.fs_chain_c.specs.declared.returning.FsStores.{FsStores}
-use Rattle.fs_chain_c.specs.Queues.{IsKept, IsQueue, put, out_number}
+use Rattle.fs_chain_c.specs.Queues.{IsKept, IsQueue, flag, put}
 use Rattle.fs_chain_c.specs.Walking.{host_at}
 
 -- ---- a return is told
@@ -48,58 +49,59 @@ HaveNoPlaces regions s =
     IsNotHere regions s.used.head.address 4 ⊎ IsNotHere regions s.used.len.address 4 ⊎ IsNotHere regions s.used.index.address 2
     ⊎ IsNotHere regions s.used.flags 2
 
--- a chain whose reply is known goes back by these stores, with the front at the front of the buffer; if they have no places, that is told by 77
-abbrev pub ReturnsSo : Workbench → (front : List ℕ) → FsStores → (status : ℕ) → Workbench → (front' : List ℕ) → Type 0
-ReturnsSo b front told status b' front' =
+-- a chain whose reply is known goes back to its queue by these stores, with the front at the front of the buffer; if they have no places, that is told by 77
+abbrev pub ReturnsSo : Workbench → KeptQueue → (front : List ℕ) → FsStores → (status : ℕ) → Workbench → (front' : List ℕ) → Type 0
+ReturnsSo b k front told status b' front' =
     (s : Stores) × IfHasReply b.state (λ out reply. b' ≡ record b { state = at.Returning out })
-    × IfHasReply b.state (λ out reply. ReturnsBy out reply s) × IfHasReply b.state (λ out reply. front' ≡ put_front reply front)
+    × IfHasReply b.state (λ out reply. ReturnsBy k out reply s) × IfHasReply b.state (λ out reply. front' ≡ put_front reply front)
     × (((status ≡ 0) × TellsStores b'.regions s told) ⊎ ((status ≡ 77) × (told ≡ no_stores) × HaveNoPlaces b'.regions s))
 
--- over the core's queue; refused by its error, and nothing is done: a buffer of 160 bytes is never too short
-abbrev pub ReturnsKept : Workbench → KeptQueue → (front : List ℕ) → FsStores → (status : ℕ) → Workbench → (front' : List ℕ) → Type 0
-ReturnsKept b k front told status b' front' =
-    ((return_error b.state k (length front) ≡ None) × ReturnsSo b front told status b' front')
+-- over the core's queue, of which no other chain goes back then; refused by its error, and nothing is done: a buffer of 160 bytes is never too short
+abbrev pub ReturnsKept : Workbench → FsQueue → KeptQueue → (front : List ℕ) → FsStores → (status : ℕ) → Workbench → FsQueue → (front' : List ℕ) → Type 0
+ReturnsKept b q k front told status b' q' front' =
+    ((return_error b.state k (length front) ≡ None) × ReturnsSo b k front told status b' front' × (q' ≡ put q (record k { returning = true })))
     ⊎ ((e : ChainError) × (return_error b.state k (length front) ≡ Some e) × (e ≡ ShortBuffer → length front < 160)
-    × (status ≡ chain_error_number e) × (told ≡ no_stores) × (b' ≡ b) × (front' ≡ front))
+    × (status ≡ chain_error_number e) × (told ≡ no_stores) × (b' ≡ b) × (q' ≡ q) × (front' ≡ front))
 
 -- over a queue of C's; a bad argument, if its numbers are none
-abbrev pub ReturnsWorkbench : Workbench → FsQueue → (front : List ℕ) → FsStores → (status : ℕ) → Workbench → (front' : List ℕ) → Type 0
-ReturnsWorkbench b q front told status b' front' =
-    ((IsQueue q → ⊥) × (status ≡ chain_error_number BadArgument) × (told ≡ no_stores) × (b' ≡ b) × (front' ≡ front))
-    ⊎ (IsQueue q × (k : KeptQueue) × IsKept q k × ReturnsKept b k front told status b' front')
+abbrev pub ReturnsWorkbench : Workbench → FsQueue → (front : List ℕ) → FsStores → (status : ℕ) → Workbench → FsQueue → (front' : List ℕ) → Type 0
+ReturnsWorkbench b q front told status b' q' front' =
+    ((IsQueue q → ⊥) × (status ≡ chain_error_number BadArgument) × (told ≡ no_stores) × (b' ≡ b) × (q' ≡ q) × (front' ≡ front))
+    ⊎ (IsQueue q × (k : KeptQueue) × IsKept q k × ReturnsKept b q k front told status b' q' front')
 
 -- ---- a return ends
 
--- the queue isn't told, and the handle is free all the same
-abbrev pub FreesOther : Workbench → FsQueue → (status : ℕ) → Workbench → FsQueue → Type 0
-FreesOther b q status b' q' = (status ≡ chain_error_number OtherQueue) × IsFreed b b' × (q' ≡ q)
+-- nothing is done, for this reason
+abbrev pub Refuses : Workbench → FsQueue → ChainError → (status : ℕ) → Workbench → FsQueue → Type 0
+Refuses b q e status b' q' = (status ≡ chain_error_number e) × (b' ≡ b) × (q' ≡ q)
 
--- the stores are made, of the core's queue: it goes on by one; or they were another queue's
+-- the stores are made, of the core's queue: its next chain goes back at the next position; refused by its error
 abbrev pub EndsKept : Workbench → FsQueue → KeptQueue → (seen notify status : ℕ) → Workbench → FsQueue → Type 0
 EndsKept b q k seen notify status b' q' =
-    ((end_error b.state k ≡ None) × (status ≡ 0) × (notify ≡ out_number (tells (to_le_bytes w16 seen))) × IsFreed b b'
-    × (q' ≡ put q (record k { out = false; position = (k.position + 1) % 2 ^ 16 })))
-    ⊎ ((e : ChainError) × (end_error b.state k ≡ Some e) × (notify ≡ 0) × FreesOther b q status b' q')
+    ((end_error b.state k ≡ None) × (status ≡ 0) × (notify ≡ flag (tells (to_le_bytes w16 seen))) × IsFreed b b' × (q' ≡ put q (gave k)))
+    ⊎ ((e : ChainError) × (end_error b.state k ≡ Some e) × (notify ≡ 0) × Refuses b q e status b' q')
 
--- a return ends over a queue of C's, which is another one if its numbers are none; refused if its stores weren't told
+-- a return ends over a queue of C's; a bad argument, if its numbers are none
 abbrev pub EndsWorkbench : Workbench → FsQueue → (seen notify status : ℕ) → Workbench → FsQueue → Type 0
 EndsWorkbench b q seen notify status b' q' =
-    ((is_returning b.state ≡ false) × (status ≡ chain_error_number WrongOrder) × (notify ≡ 0) × (b' ≡ b) × (q' ≡ q))
-    ⊎ ((is_returning b.state ≡ true) × (IsQueue q → ⊥) × (notify ≡ 0) × FreesOther b q status b' q')
-    ⊎ ((is_returning b.state ≡ true) × IsQueue q × (k : KeptQueue) × IsKept q k × EndsKept b q k seen notify status b' q')
+    ((IsQueue q → ⊥) × (notify ≡ 0) × Refuses b q BadArgument status b' q')
+    ⊎ (IsQueue q × (k : KeptQueue) × IsKept q k × EndsKept b q k seen notify status b' q')
 
 -- ---- a chain is given up
 
--- over the core's queue, which hands it out again; or it is another queue's
+-- the core's queue then: it hands a chain out again that is given up
+abbrev pub dropped : Workbench → KeptQueue → KeptQueue
+dropped b k = if is_out b.state then untook k else k
+
+-- over the core's queue; refused by its error
 abbrev pub DropsKept : Workbench → FsQueue → KeptQueue → (status : ℕ) → Workbench → FsQueue → Type 0
 DropsKept b q k status b' q' =
-    ((give_up_error b.state k ≡ None) × (status ≡ 0) × IsFreed b b' × (q' ≡ put q (record k { out = false })))
-    ⊎ ((e : ChainError) × (give_up_error b.state k ≡ Some e) × FreesOther b q status b' q')
+    ((give_up_error b.state k ≡ None) × (status ≡ 0) × IsFreed b b' × (q' ≡ put q (dropped b k)))
+    ⊎ ((e : ChainError) × (give_up_error b.state k ≡ Some e) × Refuses b q e status b' q')
 
--- over a queue of C's, which is another one if its numbers are none; refused if its stores were told, and done by nothing if none is out
+-- over a queue of C's; a bad argument, if its numbers are none. If no chain is out, a walk ends, and no queue counts
 abbrev pub DropsWorkbench : Workbench → FsQueue → (status : ℕ) → Workbench → FsQueue → Type 0
 DropsWorkbench b q status b' q' =
-    ((is_returning b.state ≡ true) × (status ≡ chain_error_number WrongOrder) × (b' ≡ b) × (q' ≡ q))
-    ⊎ ((is_out b.state ≡ false) × (status ≡ 0) × IsFreed b b' × (q' ≡ q))
-    ⊎ ((is_returning b.state ≡ false) × (is_out b.state ≡ true) × (IsQueue q → ⊥) × FreesOther b q status b' q')
-    ⊎ ((is_returning b.state ≡ false) × (is_out b.state ≡ true) × IsQueue q × (k : KeptQueue) × IsKept q k × DropsKept b q k status b' q')
+    ((is_out b.state ≡ false) × (status ≡ 0) × IsFreed b b' × (q' ≡ q))
+    ⊎ ((is_out b.state ≡ true) × (IsQueue q → ⊥) × Refuses b q BadArgument status b' q')
+    ⊎ ((is_out b.state ≡ true) × IsQueue q × (k : KeptQueue) × IsKept q k × DropsKept b q k status b' q')

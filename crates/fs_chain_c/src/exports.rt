@@ -1,7 +1,8 @@
 //! The functions on a chain that C calls. Each answers 0, or a number that says why not.
 
 ghost use Rattle.std.specs.Prelude.{◌≡◌, false, true, None};
-ghost use Rattle.fs_chain_c.specs.Handles.{Drops, Ends, Returns, SetsMemory, TellsStretches, Walks};
+ghost use Rattle.fs_chain_c.specs.Handles.{Abandons, Drops, Ends, Returns, SetsMemory, TellsStretches, Walks};
+ghost use Rattle.fs_chain_c.specs.Queues.{BeginsQueue};
 
 use crate::device::FsDevice;
 use crate::handle::FsChain;
@@ -15,7 +16,7 @@ use fs_chain::ChainError;
 use std::alloc::Global;
 
 /// The header's number.
-const VERSION: u32 = 5;
+const VERSION: u32 = 6;
 
 /// What is told of a handle that has no workbench.
 pub(crate) fn wrong_order() -> u32
@@ -27,7 +28,7 @@ pub(crate) fn wrong_order() -> u32
 /// The number of the header that the archive goes with.
 #[unsafe(no_mangle)]
 pub extern "C" fn fs_version() -> u32
-    ensures { result ≡ 5 }
+    ensures { result ≡ 6 }
 {
     VERSION
 }
@@ -90,7 +91,31 @@ pub extern "C" fn fs_walk(
     status
 }
 
-/// Gives a chain up; the queue hands it out again at its next walk.
+/// Begins a queue anew at a position, by the parts that it has: its walks and its chains are refused from then on.
+#[unsafe(no_mangle)]
+pub extern "C" fn fs_queue_begin(queue: &mut FsQueue, position: u16) -> u32
+    ensures { BeginsQueue queue.old position result queue.new }
+{
+    if queue.begin(position) {
+        0
+    } else {
+        u32::from(ChainError::BadArgument.number())
+    }
+}
+
+/// Frees a handle whose queue was begun anew: no queue is told.
+#[unsafe(no_mangle)]
+pub extern "C" fn fs_abandon(alloc: Global, chain: &mut FsChain)
+    ensures { Abandons chain.old.value chain.new.value }
+{
+    let Some(mut workbench) = chain.take(alloc) else {
+        return;
+    };
+    workbench.abandon();
+    *chain = FsChain::of_box(workbench);
+}
+
+/// Gives a chain up that wasn't asked; the queue hands it out again at its next walk. A walk ends.
 #[unsafe(no_mangle)]
 pub extern "C" fn fs_drop(alloc: Global, chain: &mut FsChain, queue: &mut FsQueue) -> u32
     ensures { Drops chain.old.value queue.old result chain.new.value queue.new }
@@ -141,16 +166,16 @@ pub extern "C" fn fs_room_windows(
     count
 }
 
-/// Says how a chain goes back: its reply's front at the front of a buffer, and the stores. From here on it can't be given up.
+/// Says how a chain goes back: its reply's front at the front of a buffer, and the stores. Until they are made no other chain of the queue goes back.
 #[unsafe(no_mangle)]
 pub extern "C" fn fs_return(
     alloc: Global,
     chain: &mut FsChain,
-    queue: &FsQueue,
+    queue: &mut FsQueue,
     front: &mut [u8],
     stores: &mut FsStores,
 ) -> u32
-    ensures { Returns chain.old.value queue.now front.old result stores.new chain.new.value front.new }
+    ensures { Returns chain.old.value queue.old front.old result stores.new chain.new.value queue.new front.new }
 {
     let Some(mut workbench) = chain.take(alloc) else {
         *stores = FsStores::nothing();
@@ -162,7 +187,7 @@ pub extern "C" fn fs_return(
     status
 }
 
-/// The stores are made, and these are the available flags: the queue goes on by one, and whether the driver wants to be told.
+/// The stores are made, and these are the available flags: the queue's next chain goes back at the next position, and whether the driver wants to be told.
 #[unsafe(no_mangle)]
 pub extern "C" fn fs_returned(
     alloc: Global,

@@ -26,8 +26,8 @@ mod walking;
 mod windows;
 
 pub use exports::{
-    fs_chain_free, fs_chain_set_memory, fs_drop, fs_request_windows, fs_return, fs_returned,
-    fs_room_windows, fs_version, fs_walk,
+    fs_abandon, fs_chain_free, fs_chain_set_memory, fs_drop, fs_queue_begin, fs_request_windows,
+    fs_return, fs_returned, fs_room_windows, fs_version, fs_walk,
 };
 pub use listing::{fs_add_direntry, fs_add_direntry_plus, fs_reply_entries, fs_reply_err};
 pub use names::fs_is_name;

@@ -1,7 +1,7 @@
 //! Queues as numbers that C keeps.
 
-ghost use Rattle.std.specs.Prelude.{◌≡◌, IfSome, IfNone, OnSome};
-ghost use Rattle.fs_chain_c.specs.Queues.{IsKept, IsQueue, put, stop_number, stop_of};
+ghost use Rattle.std.specs.Prelude.{◌≡◌, false, true, IfSome, IfNone, OnSome};
+ghost use Rattle.fs_chain_c.specs.Queues.{IsKept, IsQueue, begun_anew, chains_out, put, stop_number, stop_of};
 
 use fs_chain::KeptQueue;
 use fs_queue::{QueueError, QueueLayout};
@@ -18,12 +18,20 @@ pub struct FsQueue {
     pub used: u64,
     /// How many descriptors it has.
     pub size: u16,
-    /// How many of its chains were returned, modulo 2^16.
+    /// Where in the available ring the next chain is taken, modulo 2^16.
     pub position: u16,
-    /// How many chains are out: 0 or 1.
-    pub out: u16,
+    /// Where in the used ring the next chain goes back, modulo 2^16.
+    pub returned: u16,
+    /// How many chains may be out, up to its size: 0 counts as 1.
+    pub most_out: u16,
     /// The refusal that stopped it, from 2 to 8, 1 if a record tells that one did, or 0.
     pub stopped: u16,
+    /// Whether the stores of a return were told, and not made yet: 0 or 1.
+    pub returning: u8,
+    /// How often it was begun anew, modulo 2^32.
+    pub begun: u32,
+    /// How often a chain was taken or given up, modulo 2^32.
+    pub taken: u32,
 }
 
 // The refusal that a number tells of a queue, if it tells one; 0 is none.
@@ -55,6 +63,13 @@ fn stop_number(stopped: &Option<QueueError>) -> u16
 }
 
 impl FsQueue {
+    /// How many chains are out.
+    pub fn out(&self) -> u16
+        ensures { result ≡ chains_out self.now }
+    {
+        self.position.wrapping_sub(self.returned)
+    }
+
     /// The queue as the core has it; None if these are no queue's numbers.
     pub fn kept(&self) -> Option<KeptQueue>
         ensures kept { IfSome result (IsKept self.now) }
@@ -67,13 +82,17 @@ impl FsQueue {
         let Some(stopped) = stop_of(self.stopped) else {
             return None;
         };
-        if self.out > 1 {
+        if self.out() > self.size || self.most_out > self.size || self.returning > 1 {
             return None;
         }
         Some(KeptQueue {
             layout,
             position: self.position,
-            out: self.out == 1,
+            returned: self.returned,
+            most_out: self.most_out.max(1),
+            returning: self.returning == 1,
+            begun: self.begun,
+            taken: self.taken,
             stopped,
         })
     }
@@ -83,7 +102,27 @@ impl FsQueue {
         ensures { self.new ≡ put self.old kept.now }
     {
         self.position = kept.position;
-        self.out = u16::from(kept.out);
+        self.returned = kept.returned;
+        self.returning = u8::from(kept.returning);
+        self.taken = kept.taken;
         self.stopped = stop_number(&kept.stopped);
+    }
+
+    /// Begins the queue anew at a position, if its numbers are a queue's then: no chain is out of it.
+    pub fn begin(&mut self, position: u16) -> bool
+        ensures begun { result ≡ true → IsQueue (begun_anew self.old position) × (self.new ≡ begun_anew self.old position) }
+        ensures none { result ≡ false → (IsQueue (begun_anew self.old position) → ⊥) × (self.new ≡ self.old) }
+    {
+        let mut fresh = *self;
+        fresh.position = position;
+        fresh.returned = position;
+        fresh.returning = 0;
+        fresh.begun = self.begun.wrapping_add(1);
+        fresh.stopped = 0;
+        if fresh.kept().is_none() {
+            return false;
+        }
+        *self = fresh;
+        true
     }
 }

@@ -1,11 +1,11 @@
 //! The record of a device and its queues.
 
-ghost use Rattle.std.specs.Prelude.{◌≡◌, ◌⊎◌, ◌++◌, ◌≤◌, All, Err, IfErr, IfOk, IfSome, None, OnOk, drop, length, map};
+ghost use Rattle.std.specs.Prelude.{◌≡◌, ◌⊎◌, ◌≤◌, All, Err, IfErr, IfOk, IfSome, None, OnOk, length, map};
 ghost use Rattle.fs_chain.specs.declared.error.ChainError.TheVariants.{BadArgument, ChainOut, OutOfMemory};
 ghost use Rattle.memory_requests.specs.Refused.{RoomWasRefused};
 ghost use Rattle.fs_record.specs.Record.{HasKnownBits};
 ghost use Rattle.fs_chain_c.specs.Queues.{IsQueue};
-ghost use Rattle.fs_chain_c.specs.Records.{HasNoneOut, Restores, Saves, SavesSo, numbers_of, queue_of, saved_status};
+ghost use Rattle.fs_chain_c.specs.Records.{HasNoneOut, Restores, Saves, SavesSo, numbers_over, queue_of, restored_over, saved_status};
 
 use crate::device::FsDevice;
 use crate::queue::FsQueue;
@@ -36,7 +36,7 @@ fn queue_of(queue: &FsQueue) -> Result<Queue, ChainError>
     let Some(kept) = queue.kept() else {
         return Err(ChainError::BadArgument);
     };
-    if queue.out != 0 {
+    if queue.out() != 0 {
         return Err(ChainError::ChainOut);
     }
     Ok(Queue::resume(kept.layout, queue.position, queue.stopped != 0))
@@ -150,9 +150,9 @@ pub extern "C" fn fs_save(
     saved_status(refused)
 }
 
-// The numbers of a queue of a record.
-fn numbers_of(queue: &Queue) -> FsQueue
-    ensures { result ≡ numbers_of queue.now }
+// The numbers of a queue of a record, over those that stood there.
+fn numbers_over(old: &FsQueue, queue: &Queue) -> FsQueue
+    ensures { result ≡ numbers_over old.now queue.now }
 {
     let layout = queue.layout();
     FsQueue {
@@ -161,18 +161,22 @@ fn numbers_of(queue: &Queue) -> FsQueue
         used: layout.used(),
         size: layout.size(),
         position: queue.position(),
-        out: 0,
+        returned: queue.position(),
+        most_out: old.most_out,
         stopped: u16::from(queue.is_stopped()),
+        returning: 0,
+        begun: old.begun.wrapping_add(1),
+        taken: old.taken,
     }
 }
 
 // Puts the numbers of a record's queues over the first of some.
 fn put_queues(queues: &mut [FsQueue], restored: &[Queue])
     requires { length restored.now ≤ length queues.old }
-    ensures { queues.new ≡ map numbers_of restored.now ++ drop (length restored.now) queues.old }
+    ensures { queues.new ≡ restored_over queues.old restored.now }
 {
     for k in 0..restored.len() {
-        queues[k] = numbers_of(&restored[k]);
+        queues[k] = numbers_over(&queues[k], &restored[k]);
     }
 }
 

@@ -1,7 +1,6 @@
 //! How a chain goes back to its queue, and how it is given up.
 
-ghost use Rattle.std.specs.Prelude.{◌≡◌, ◌<◌, true, None, IfSome};
-ghost use Rattle.fs_chain.specs.Orders.{is_out};
+ghost use Rattle.std.specs.Prelude.{◌≡◌, ◌<◌, None, IfSome};
 ghost use Rattle.fs_chain_c.specs.Returning.{DropsWorkbench, DropsKept, EndsWorkbench, EndsKept, HaveNoPlaces, IsNotHere, ReturnsWorkbench, ReturnsKept, StandsHere, TellsStores, no_stores};
 
 use crate::queue::FsQueue;
@@ -97,14 +96,22 @@ fn told_stores(workbench: &Workbench, stores: &Stores) -> Option<FsStores>
 }
 
 // Tells how a chain goes back to the core's queue.
-fn return_kept(workbench: &mut Workbench, kept: &KeptQueue, front: &mut [u8]) -> (FsStores, u32)
-    ensures { ReturnsKept workbench.old kept.now front.old result.0 result.1 workbench.new front.new }
+fn return_kept(
+    workbench: &mut Workbench,
+    queue: &mut FsQueue,
+    mut kept: KeptQueue,
+    front: &mut [u8],
+) -> (FsStores, u32)
+    ensures { ReturnsKept workbench.old queue.old kept front.old result.0 result.1 workbench.new queue.new front.new }
 {
-    match workbench.begin_return(kept, front) {
-        Ok(stores) => match told_stores(workbench, &stores) {
-            Some(told) => (told, 0),
-            None => (FsStores::nothing(), NO_PLACE),
-        },
+    match workbench.begin_return(&mut kept, front) {
+        Ok(stores) => {
+            queue.put(&kept);
+            match told_stores(workbench, &stores) {
+                Some(told) => (told, 0),
+                None => (FsStores::nothing(), NO_PLACE),
+            }
+        }
         Err(error) => (FsStores::nothing(), u32::from(error.number())),
     }
 }
@@ -112,13 +119,13 @@ fn return_kept(workbench: &mut Workbench, kept: &KeptQueue, front: &mut [u8]) ->
 /// Tells how a chain goes back: the reply's front at the front of a buffer, and the stores.
 pub fn return_workbench(
     workbench: &mut Workbench,
-    queue: &FsQueue,
+    queue: &mut FsQueue,
     front: &mut [u8],
 ) -> (FsStores, u32)
-    ensures { ReturnsWorkbench workbench.old queue.now front.old result.0 result.1 workbench.new front.new }
+    ensures { ReturnsWorkbench workbench.old queue.old front.old result.0 result.1 workbench.new queue.new front.new }
 {
     match queue.kept() {
-        Some(kept) => return_kept(workbench, &kept, front),
+        Some(kept) => return_kept(workbench, queue, kept, front),
         None => (
             FsStores::nothing(),
             u32::from(ChainError::BadArgument.number()),
@@ -141,10 +148,7 @@ fn end_kept(
             workbench.abandon();
             (u8::from(told), 0)
         }
-        Err(_) => {
-            workbench.abandon();
-            (0, u32::from(ChainError::OtherQueue.number()))
-        }
+        Err(error) => (0, u32::from(error.number())),
     }
 }
 
@@ -152,21 +156,14 @@ fn end_kept(
 pub fn end_workbench(workbench: &mut Workbench, queue: &mut FsQueue, seen: u16) -> (u8, u32)
     ensures { EndsWorkbench workbench.old queue.old seen result.0 result.1 workbench.new queue.new }
 {
-    if !workbench.is_returning() {
-        return (0, u32::from(ChainError::WrongOrder.number()));
-    }
     match queue.kept() {
         Some(kept) => end_kept(workbench, queue, kept, seen),
-        None => {
-            workbench.abandon();
-            (0, u32::from(ChainError::OtherQueue.number()))
-        }
+        None => (0, u32::from(ChainError::BadArgument.number())),
     }
 }
 
-// Gives up a chain that is out, over the core's queue.
+// Gives up a chain, or a walk, over the core's queue.
 fn drop_kept(workbench: &mut Workbench, queue: &mut FsQueue, mut kept: KeptQueue) -> u32
-    requires { is_out workbench.old.state ≡ true }
     ensures { DropsKept workbench.old queue.old kept result workbench.new queue.new }
 {
     match workbench.give_up(&mut kept) {
@@ -175,29 +172,20 @@ fn drop_kept(workbench: &mut Workbench, queue: &mut FsQueue, mut kept: KeptQueue
             workbench.abandon();
             0
         }
-        Err(_) => {
-            workbench.abandon();
-            u32::from(ChainError::OtherQueue.number())
-        }
+        Err(error) => u32::from(error.number()),
     }
 }
 
-/// Gives a chain up; the queue hands it out again at its next walk.
+/// Gives a chain up that wasn't asked; the queue hands it out again at its next walk. A walk ends, whatever the queue is.
 pub fn drop_workbench(workbench: &mut Workbench, queue: &mut FsQueue) -> u32
     ensures { DropsWorkbench workbench.old queue.old result workbench.new queue.new }
 {
-    if workbench.is_returning() {
-        return u32::from(ChainError::WrongOrder.number());
-    }
     if !workbench.is_out() {
         workbench.abandon();
         return 0;
     }
     match queue.kept() {
         Some(kept) => drop_kept(workbench, queue, kept),
-        None => {
-            workbench.abandon();
-            u32::from(ChainError::OtherQueue.number())
-        }
+        None => u32::from(ChainError::BadArgument.number()),
     }
 }

@@ -72,12 +72,7 @@ fn memory_again(alloc: Global) -> Result<GuestRegions, Unmet> {
 // A queue of 64 descriptors: its table at 0, its rings at 0x400 and 0x500.
 fn queue() -> Result<KeptQueue, Unmet> {
     match QueueLayout::new(64, 0, 0x400, 0x500) {
-        Ok(layout) => Ok(KeptQueue {
-            layout,
-            position: 0,
-            out: false,
-            stopped: None,
-        }),
+        Ok(layout) => Ok(KeptQueue::begin(layout, 0, 1)),
         Err(_) => Err(Unmet::Drawing),
     }
 }
@@ -101,7 +96,7 @@ fn walk(
         Ok(went) => Ok(went),
         Err(error) => {
             trial.expect_told(error.number() == 9)?;
-            expect_kept(!queue.out && wanted_len(workbench) == load.len())?;
+            expect_kept(queue.out() == 0 && wanted_len(workbench) == load.len())?;
             met(workbench.walk(queue, load), Unmet::Memory)
         }
     }
@@ -154,7 +149,7 @@ fn expect_chain(went: Went, queue: &KeptQueue) -> Result<(), Unmet> {
                 request_len,
                 room_len,
             },
-        ) => expect((head, request_len, room_len) == (0, 46, 144) && queue.out),
+        ) => expect((head, request_len, room_len) == (0, 46, 144) && queue.out() == 1),
         _ => Err(Unmet::Answer),
     }
 }
@@ -177,7 +172,7 @@ fn give_back(workbench: &mut Workbench, queue: &mut KeptQueue, number: u16) -> R
     let stores = met(workbench.begin_return(queue, &mut front), Unmet::Answer)?;
     let told = met(workbench.end_return(queue, [0, 0]), Unmet::Answer)?;
     expect(stores.front_len == 16 && front[0] == 16 && front[8] == 7)?;
-    expect(told && queue.position == number && !queue.out)
+    expect(told && queue.position == number && queue.out() == 0)
 }
 
 // The chain is asked, which takes no memory, and given back.

@@ -8,6 +8,6 @@ pub returns-clause-back : goal.returns-clause-back
 returns-clause-back c =
     let st = c.args.workbench.now.state in
     if_ok c.end_return.result _ _
-    (λ notice told room. subst (λ (n : Bool). (acts : List Act) × (last : ℕ) × GoesBackBy room [] st acts last n) (sym told)
+    (λ notice told room. subst (λ (n : Bool). (acts : List Act) × (last : ℕ) × GoesBackBy c.args.queue.now room [] st acts last n) (sym told)
     (goes_back st c.args.queue.now _ c.in_ok-_stores._stores (0 ∷ 0 ∷ []) room c.in_ok-_stores.ensures.ok refl c.in_ok-_stores.ensures.stores))
     c.end_return.ensures.tells

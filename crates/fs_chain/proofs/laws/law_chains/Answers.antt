@@ -1,4 +1,4 @@
-use Rattle.fs_chain.proofs.WholeChains.{chain_is_step, chain_is_step_by, faulty_is_step_by, idle_is_step_by, refusal_is_step_by}
+use Rattle.fs_chain.proofs.WholeChains.{chain_is_answered_by, chain_is_step, chain_is_step_by, faulty_is_step_by, idle_is_step_by, refusal_is_step_by}
 use Rattle.fs_chain.proofs.WholeWalks.{wanted_has_a_place}
 use Rattle.fs_chain.proofs.laws.law_chains.Goals as goal
 
@@ -13,6 +13,9 @@ returns-clause-refused g c = refusal_is_step_by _
 
 pub returns-clause-faulty : goal.returns-clause-faulty
 returns-clause-faulty g c = faulty_is_step_by _
+
+pub returns-clause-answered : goal.returns-clause-answered
+returns-clause-answered g c = chain_is_answered_by _
 
 pub returns-clause-served : goal.returns-clause-served
 returns-clause-served g c = chain_is_step_by _

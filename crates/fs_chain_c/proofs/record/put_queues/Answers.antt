@@ -1,19 +1,15 @@
-use Rattle.std.proofs.Common.{◌∷◌, ◌++◌, ◌∙◌, [], length-append, refl, arith, rules}
-use Rattle.std.proofs.lemmas.Grind.{common_steps}
-use Rattle.fs_chain_c.proofs.QueueLemmas.{put_next}
+use Rattle.std.proofs.Common.{arith, rules}
+use Rattle.fs_chain_c.proofs.QueueLemmas.{over_next}
 use Rattle.fs_chain_c.proofs.record.put_queues.Goals as goal
-
-pub loop-k-init : goal.loop-k-init
-loop-k-init c = record { found = []; count = refl; few = omega arith; fits = refl; put = refl; are = refl }
 
 pub loop-k-preserved : goal.loop-k-preserved
 loop-k-preserved c =
     let inv = c.loop-k.invariant in
-    let s = c.numbers_of.result in record {
-      found = inv.found ++ s ∷ [];
-      count = length-append inv.found (s ∷ []) ∙ omega (arith, inv.count);
+    let fits = inv.fits in
+    let test = c.loop-k-test.true in
+    let few = c.requires in record {
       few = search rules;
       fits = search rules;
-      put = put_next inv.found c.args.queues.now c.loop-k.queues c.loop-k.k s inv.count inv.put (search rules);
-      are = grind (arith, common_steps);
+      are = over_next c.args.queues.now c.loop-k.queues c.args.restored.now c.loop-k.k _ c.numbers_over.result c.index-restored-k.result inv.are (omega (arith, fits, test, few)) test
+          c.index-restored-k.is c.numbers_over.ensures;
     }

@@ -5,4 +5,4 @@ pub returns-in-Ok : goal.returns-in-Ok
 returns-in-Ok c = inl (search rules, refl, search rules, search rules)
 
 pub returns-in-Err : goal.returns-in-Err
-returns-in-Err c = inr (c.in-Err.field-0, search rules, search rules)
+returns-in-Err c = inr (c.in-Err.error, search rules, search rules)
