@@ -184,9 +184,10 @@ uint16_t front_stop_ring(struct front *front, size_t ring) {
 /* ------------------------------------------------------------- the back-end */
 
 void front_connect(struct front *front) {
-    enum { OPTIONS = 9, MOST = 16 };
+    enum { OPTIONS = 11, MOST = 16 };
+    const char *threads = getenv("THREADS");
     const char *argv[MOST] = {front->server, "--socket-path", front->socket, "--shared-dir", front->dir, "--num-request-queues", "2",
-                              "--xattr", "--log-level=warn"};
+                              "--xattr", "--log-level=warn", "--thread-pool-size", threads ? threads : "0"};
     struct sockaddr_un address = {.sun_family = AF_UNIX};
     for (size_t k = 0; front->options && front->options[k]; k++) argv[OPTIONS + k] = front->options[k];
     front->pid = fork();
