@@ -5,7 +5,6 @@ pub mod Grammar
 pub mod ListingRuns
 pub mod Listings
 pub mod Rows
-pub mod Rows
 pub mod WantOfMemory
 pub mod Serving
 pub mod ReadApart
