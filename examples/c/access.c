@@ -104,10 +104,11 @@ uint32_t give_back(struct fs_chain *chain, struct fs_queue *queue, const struct 
     return status;
 }
 
-void give_up(struct fs_chain *chain, struct fs_queue *queue) {
-    uint8_t notify;
-    if (fs_drop(chain, queue) != FS_WRONG_ORDER) return;
-    /* Its stores were told, so it can't be dropped; it ends without them. */
-    uint32_t ended = fs_returned(chain, queue, 0, &notify);
-    (void)ended;
+void give_up(struct fs_chain *chain, struct fs_queue *queue, const struct marker *marker, bool *notify) {
+    uint8_t wanted;
+    if (fs_drop(chain, queue) == FS_DONE) return;
+    uint32_t status = fs_reply_bytes(chain, 0); /* silence, unless it has a reply */
+    status = give_back(chain, queue, marker, notify);
+    if (status != FS_DONE) status = fs_returned(chain, queue, 0, &wanted); /* its stores were told: it ends without them */
+    if (status != FS_DONE) fs_abandon(chain);                              /* the queue was begun anew */
 }

@@ -37,7 +37,8 @@ uint32_t ask(struct fs_chain *chain, const struct fs_device *device, uint8_t *re
  * was put into the room, mark yourself); `marker` may be NULL. `notify` becomes true if the driver wants to be told. */
 uint32_t give_back(struct fs_chain *chain, struct fs_queue *queue, const struct marker *marker, bool *notify);
 
-/* Has no chain out of the queue, whatever this one came to: what was taken and isn't given back waits as before. */
-void give_up(struct fs_chain *chain, struct fs_queue *queue);
+/* Has this chain out of the queue no more, whatever it came to: one that wasn't asked waits as before if it is the last that was taken, and
+ * any other goes back, with silence if it has no reply. `notify` as with give_back. */
+void give_up(struct fs_chain *chain, struct fs_queue *queue, const struct marker *marker, bool *notify);
 
 #endif

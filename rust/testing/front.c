@@ -184,9 +184,10 @@ uint16_t front_stop_ring(struct front *front, size_t ring) {
 /* ------------------------------------------------------------- the back-end */
 
 void front_connect(struct front *front) {
-    enum { OPTIONS = 9, MOST = 16 };
+    enum { OPTIONS = 11, MOST = 16 };
+    const char *threads = getenv("THREADS");
     const char *argv[MOST] = {front->server, "--socket-path", front->socket, "--shared-dir", front->dir, "--num-request-queues", "2",
-                              "--xattr", "--log-level=warn"};
+                              "--xattr", "--log-level=warn", "--thread-pool-size", threads ? threads : "0"};
     struct sockaddr_un address = {.sun_family = AF_UNIX};
     for (size_t k = 0; front->options && front->options[k]; k++) argv[OPTIONS + k] = front->options[k];
     front->pid = fork();
@@ -274,7 +275,7 @@ bool front_wait(struct front *front, size_t ring, int milliseconds) {
         atomic_store_explicit(flags, 0, memory_order_relaxed);
         atomic_thread_fence(memory_order_seq_cst);
         if (is_back(front, ring)) return true;
-        if (poll(&event, 1, milliseconds) <= 0) return is_back(front, ring);
+        if (poll(&event, 1, milliseconds) <= 0) return false; /* whether or not all is back: nobody said so */
         if (read(event.fd, &word, sizeof word) < 0 && errno != EAGAIN) die("no call");
     }
 }

@@ -14,8 +14,8 @@ abbrev pub label_of : Label → SecurityContext
 label_of l = record { name = l.name.now; label = l.secctx.now }
 
 -- what comes with a node that is made, where it stands
-abbrev pub extra_of : Received → Extra
-extra_of r = record { security = option_map label_of r.secctx; group = r.sup_gid }
+abbrev pub received_extra : Received → Extra
+received_extra r = record { security = option_map label_of r.secctx; group = r.sup_gid }
 
 -- the pair in front of some bytes (struct fuse_forget_one): a node, and how many times less it is held
 abbrev pub pair_in : List ℕ → ℕ × ℕ
@@ -40,9 +40,9 @@ call_of bytes (value.BatchForget context counts) = call.BatchForget context (pai
 call_of bytes (value.Getattr context node handle) = call.Getattr context node handle
 call_of bytes (value.Setattr context node attr handle valid) = call.Setattr context node attr handle valid.0
 call_of bytes (value.Readlink context node) = call.Readlink context node
-call_of bytes (value.Symlink context link node name extra) = call.Symlink context link.now node name.now (extra_of extra)
-call_of bytes (value.Mknod context node name mode rdev umask extra) = call.Mknod context node name.now mode rdev umask (extra_of extra)
-call_of bytes (value.Mkdir context node name mode umask extra) = call.Mkdir context node name.now mode umask (extra_of extra)
+call_of bytes (value.Symlink context link node name extra) = call.Symlink context link.now node name.now (received_extra extra)
+call_of bytes (value.Mknod context node name mode rdev umask extra) = call.Mknod context node name.now mode rdev umask (received_extra extra)
+call_of bytes (value.Mkdir context node name mode umask extra) = call.Mkdir context node name.now mode umask (received_extra extra)
 call_of bytes (value.Unlink context node name) = call.Unlink context node name.now
 call_of bytes (value.Rmdir context node name) = call.Rmdir context node name.now
 call_of bytes (value.Rename context node old new_dir new flags) = call.Rename context node old.now new_dir new.now flags
@@ -70,7 +70,7 @@ call_of bytes value.Ioctl = call.Ioctl
 call_of bytes value.Poll = call.Poll
 call_of bytes value.NotifyReply = call.NotifyReply
 call_of bytes (value.Access context node mask) = call.Access context node mask
-call_of bytes (value.Create context node name mode kill flags umask extra) = call.Create context node name.now mode kill flags umask (extra_of extra)
+call_of bytes (value.Create context node name mode kill flags umask extra) = call.Create context node name.now mode kill flags umask (received_extra extra)
 call_of bytes (value.Fallocate context node handle mode offset len) = call.Fallocate context node handle mode offset len
 call_of bytes (value.Lseek context node handle offset whence) = call.Lseek context node handle offset whence
 call_of bytes (value.CopyFileRange context node handle offset node_out handle_out offset_out len flags) = call.CopyFileRange context node handle offset node_out handle_out offset_out len flags

@@ -12,8 +12,6 @@ pub struct Label<'a> {
 /// What has come of the extensions, where it stands in a request.
 #[derive(Clone, Copy)]
 pub struct Received<'a> {
-    /// Whether a context was sent, be it empty.
-    pub was_sent: bool,
     /// The new node's label, if one is told (FUSE_SECURITY_CTX).
     pub secctx: Option<Label<'a>>,
     /// A group of the caller's besides its own (FUSE_CREATE_SUPP_GROUP).

@@ -3,7 +3,7 @@ use Rattle.std.specs.Prelude.{◌≡◌, Bool, true, false}
 use Rattle.fuse_in.specs.declared.session.InHeader.{InHeader}
 use Rattle.fuse_fs.specs.declared.answers.Context.{Context}
 use Rattle.fuse_fs.specs.Answers.{context_of}
-use Rattle.fuse_fs.specs.Calls.{FileCall, Init, Lookup, Symlink, Mknod, Mkdir, Link, Create, Read, Write, Readdir}
+use Rattle.fuse_fs.specs.Calls.{FileCall, Init, BatchForget, Lookup, Symlink, Mknod, Mkdir, Link, Create, Read, Write, Readdir}
 use Rattle.fuse_fs.specs.Calls.{Readlink, Statfs, Syncfs, Destroy, Getlk, Setlk, Setlkw, Bmap, Ioctl, Poll, NotifyReply, TmpFile, Unlink, Rmdir}
 use Rattle.fuse_fs.specs.Calls.{Removexattr, Getxattr, Rename, Setxattr, Forget, Getattr, Setattr, Access, Listxattr, Open, Opendir}
 use Rattle.fuse_fs.specs.Calls.{Release, Releasedir, Fsync, Fsyncdir, Flush, Fallocate, Lseek, CopyFileRange}
@@ -18,9 +18,10 @@ IsFor who (Link c o n name) = c ≡ who
 IsFor who (Create c n name m k f u x) = c ≡ who
 IsFor who _ = Unit {0}
 
--- the calls of requests that hold no data, whose room decides nothing, but INIT's
+-- the calls of requests that hold no data and no pairs, whose room decides nothing, but INIT's
 abbrev pub is_plain : FileCall → Bool
 is_plain (Init capable) = false
+is_plain (BatchForget c counts) = false
 is_plain (Read c n h r s o w f) = false
 is_plain (Write c n h b s o w d k f) = false
 is_plain (Readdir c n h s o) = false

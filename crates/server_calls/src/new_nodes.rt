@@ -1,7 +1,7 @@
 //! Requests that make a node.
 
 ghost use Rattle.std.specs.Prelude.{◌≡◌, [], refl};
-ghost use Rattle.fuse_values.specs.Values.{call_of, extra_of};
+ghost use Rattle.fuse_values.specs.Values.{call_of, received_extra};
 ghost use Rattle.server_calls.specs.Requests.{mknod_call, mkdir_call, create_call, symlink_call};
 
 use crate::values::NewNameValue;
@@ -101,7 +101,7 @@ pub fn symlink_value<'a>(
     name: &'a [u8],
     extra: Received<'a>,
 ) -> FileCall<'a>
-    ensures { call_of [] result ≡ symlink_call head.now (record { name = name.now; link = link.now; extra = extra_of extra.entry }) }
+    ensures { call_of [] result ≡ symlink_call head.now (record { name = name.now; link = link.now; extra = received_extra extra.entry }) }
 {
     FileCall::Symlink {
         context: Context::from(*head),

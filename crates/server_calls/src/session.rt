@@ -1,16 +1,14 @@
-//! INIT and DESTROY: the start and the end of a conversation; and BATCH_FORGET.
+//! INIT and DESTROY: the start and the end of a conversation.
 
-ghost use Rattle.std.specs.Prelude.{IsTrue, ◌≡◌, [], refl};
+ghost use Rattle.std.specs.Prelude.{IsTrue, refl};
 ghost use Rattle.fuse_fs.specs.Calls as call;
-ghost use Rattle.fuse_values.specs.Values.{call_of, pairs_in};
-ghost use Rattle.server_calls.specs.Requests.{batch_forget_call};
 ghost use Rattle.fuse_fs.specs.Answers.{options_answer};
 ghost use Rattle.fuse_fs.specs.Calls.{suits, Init};
 
 use crate::received::received;
 use crate::values::PlainValue;
 use bitflags::Flags;
-use fuse_fs::{Context, FileSystem};
+use fuse_fs::FileSystem;
 use fuse_in::InHeader;
 use fuse_values::FileCall;
 use fuse_wire::{Errno, FsOptions};
@@ -41,15 +39,5 @@ pub fn make_init_call<F: FileSystem>(fs: &mut F, capable: FsOptions) -> Result<F
             Ok(wanted)
         }
         Err(error) => Err(error),
-    }
-}
-
-/// BATCH_FORGET: nodes are held less, by the bytes of their pairs.
-pub fn batch_forget_value<'a>(head: &InHeader, counts: &'a [u8]) -> FileCall<'a>
-    ensures { call_of [] result ≡ batch_forget_call head.now (pairs_in counts.now) }
-{
-    FileCall::BatchForget {
-        context: Context::from(*head),
-        counts,
     }
 }

@@ -4,7 +4,7 @@ ghost use Rattle.std.specs.Prelude.{◌≡◌, ℕ, List, [], true};
 ghost use Rattle.fuse_in.specs.declared.session.InHeader.{InHeader};
 ghost use Rattle.fuse_fs.specs.Calls as call;
 ghost use Rattle.fuse_fs.specs.Calls.{Extra};
-ghost use Rattle.fuse_values.specs.Values.{call_of, extra_of};
+ghost use Rattle.fuse_values.specs.Values.{call_of, received_extra};
 ghost use Rattle.server_calls.specs.Callers.{CallSays, Header, Named, NamedRecord, Made, shape_of, is_record};
 ghost use Rattle.server_calls.specs.Requests.{if_set};
 
@@ -111,5 +111,5 @@ pub trait NewNameValue {
         name: &'a [u8],
         extra: Received<'a>,
     ) -> FileCall<'a>
-        ensures { call_of [] result ≡ call head.now request.now (name.now, extra_of extra.entry) };
+        ensures { call_of [] result ≡ call head.now request.now (name.now, received_extra extra.entry) };
 }

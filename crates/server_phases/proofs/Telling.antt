@@ -1,15 +1,14 @@
 -- What is told of a request: a reply without a call, or one call.
-use Rattle.std.proofs.Common.{◌≡◌, ◌*◌, ◌<◌, ◌≤◌, ◌^◌, ℕ, Bool, true, false, List, [], length, Ok, Err, cond, refl, sym, ap, subst, ◌∙◌, arith}
-use Rattle.std.specs.Prelude.{nat_le, nat_lt}
+use Rattle.std.proofs.Common.{◌≡◌, ◌*◌, ◌<◌, ◌≤◌, ◌^◌, ℕ, zero, suc, drop, Bool, true, false, List, [], length, Ok, Err, cond, refl, sym, ap, subst, ◌∙◌, arith}
+use Rattle.std.specs.Prelude.{◌/◌, nat_le, nat_lt}
 use Rattle.std.proofs.lemmas.Bool.Decides.{nat_tests}
 use Rattle.fuse_in.specs.declared.session.InHeader.{InHeader}
 use Rattle.fuse_in.specs.Records.{in_header}
-use Rattle.fuse_in.specs.Shapes.{Shape}
 use Rattle.fuse_fs.specs.Answers.{context_of}
 use Rattle.fuse_fs.specs.Calls.{FileCall, Init, Readdir}
 use Rattle.fuse_values.specs.declared.call.FileCall as made
 use Rattle.fuse_values.specs.declared.call.FileCall.TheVariants as value
-use Rattle.fuse_values.specs.Values.{call_of}
+use Rattle.fuse_values.specs.Values.{call_of, pairs_in, pairs_of}
 use Rattle.server_requests.specs.Fronts.{forget_pair}
 use Rattle.server_requests.specs.Reading.{Faults, many, reading_of, value_of}
 use Rattle.server_calls.specs.Callers.{CallSays, is_plain}
@@ -18,7 +17,7 @@ use Rattle.server_replies.specs.WholeReplies.{error_bytes, reply_bytes, versions
 use Rattle.server_replies.proofs.ReplyLemmas.{length_error, length_reply}
 use Rattle.server_segments.specs.declared.error.Error.{Error}
 use Rattle.server_segments.specs.declared.error.Error.TheVariants.{EncodeMessage}
-use Rattle.virtiofsd_fuse.specs.Grammar.{Meaning, IsFault, Replies, Asks, One, Given, ended, forgets_asked, one, record_row}
+use Rattle.virtiofsd_fuse.specs.Grammar.{Meaning, IsFault, IsSilent, Replies, Asks, One, Given, ended, forgets_asked, one}
 use Rattle.virtiofsd_fuse.specs.Serving.{Setting, setting}
 use Rattle.virtiofsd_fuse.proofs.Serve.{ask_of, ended_ask, ended_fault}
 use Rattle.server_phases.specs.declared.asking.Asked.{Asked}
@@ -59,6 +58,7 @@ plain_not c d e not_c is_d = let same : false ≡ true = sym not_c ∙ ap is_pla
 -- the value of such a call holds no data
 plain_by : (call : made.FileCall) (bytes : List ℕ) (c : FileCall) → call_of [] call ≡ c → is_plain c ≡ true → (call_of bytes call ≡ c) × TellsData bytes call
 plain_by (value.Write x n h b s o w d k f) bytes c e p = absurd (plain_not _ c e refl p)
+plain_by (value.BatchForget x counts) bytes c e p = absurd (plain_not _ c e refl p)
 plain_by call bytes c e p = (e, tt)
 
 -- one call is told with what it waits for
@@ -72,15 +72,26 @@ call_is_told s h bytes c call room place says e =
 pub fault_told : (s : Setting) (m : Meaning) (e : Error) → m ≡ IsFault e → IsTold s m [] (asked.Fault e)
 fault_told s m e h = rw h refl
 
-pub record_fault : {R : Type 0} → (s : Setting) (g : Given) (shape : Shape R) (call : InHeader → R → FileCall) (all : List ℕ) (e : Error) → Err (Faults e) ≡ reading_of shape all
-    → IsTold s (ended g.header.unique (record_row shape call g all)) [] (asked.Fault e)
-record_fault s g shape call all e h = rw (← h) refl
+-- no reply
+pub silence_told : (s : Setting) (m : Meaning) → m ≡ IsSilent → IsTold s m [] asked.Silence
+silence_told s m h = rw h refl
 
 -- a reply that tells the versions
 pub versions_told : (page_size options room unique : ℕ) (bytes : List ℕ)
     → IsTold (setting page_size options room) (Replies (reply_bytes unique versions_bytes)) bytes (told_reply room (reply_bytes unique versions_bytes))
 versions_told page_size options room unique bytes =
     reply_told page_size options room (reply_bytes unique versions_bytes) bytes (omega (arith, length_reply unique versions_bytes))
+
+length_pairs : (n : ℕ) (bytes : List ℕ) → length (pairs_of n bytes) ≡ n
+unfolding pairs_of
+length_pairs zero bytes = refl
+length_pairs (suc n) bytes = ap suc (length_pairs n (drop 16 bytes))
+
+-- 16 bytes a pair, and no more
+pub whole_pairs : (count : ℕ) (bytes : List ℕ) → length bytes ≡ 16 * count → length bytes ≡ 16 * length (pairs_in bytes)
+whole_pairs count bytes e =
+    let n : length bytes / 16 ≡ count = rw e (omega arith) in
+    e ∙ ap (λ k. 16 * k) (sym (length_pairs (length bytes / 16) bytes ∙ n))
 
 -- the pairs of a BATCH_FORGET
 pub forgets_read : (count : ℕ) (g : Given) (bytes : List ℕ) (pairs : List (ℕ × ℕ)) → count ≤ 65536 → Ok pairs ≡ value_of (many count forget_pair bytes)

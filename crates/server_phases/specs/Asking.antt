@@ -1,8 +1,8 @@
 -- What a request asks, as it is told to who owns the files.
-use Rattle.std.specs.Prelude.{◌≡◌, ◌==◌, ◌<◌, ℕ, Bool, true, false, ◌||◌, ◌&&◌, List, [], length, take, drop, nat_lt, nat_le, Some, None, Ok, if◌then◌else◌}
+use Rattle.std.specs.Prelude.{◌≡◌, ◌==◌, ◌<◌, ◌*◌, ℕ, Bool, true, false, ◌||◌, ◌&&◌, List, [], length, take, drop, nat_lt, nat_le, Some, None, Ok, if◌then◌else◌}
 use Rattle.fuse_values.specs.declared.call.FileCall.{FileCall}
 use Rattle.fuse_values.specs.declared.call.FileCall.TheVariants as value
-use Rattle.fuse_values.specs.Values.{call_of}
+use Rattle.fuse_values.specs.Values.{call_of, pairs_in}
 use Rattle.fuse_in.specs.declared.session.InHeader.{InHeader}
 use Rattle.fuse_in.specs.Records.{in_header}
 use Rattle.fuse_fs.specs.declared.answers.Context.{Context}
@@ -19,9 +19,10 @@ use Rattle.server_phases.specs.declared.asking.AskedFront.{AskedFront}
 use Rattle.server_phases.specs.declared.asking.AskedFront.TheVariants as asked_front
 use Rattle.server_phases.specs.Waiting.{WaitsFor, first_call}
 
--- a WRITE says how many bytes of data it has
+-- a WRITE says how many bytes of data it has, and a BATCH_FORGET has 16 bytes a pair and no more
 abbrev pub TellsData : (bytes : List ℕ) → FileCall → Type 0
 TellsData bytes (value.Write context node handle len size offset owner delayed kill flags) = len ≡ length bytes
+TellsData bytes (value.BatchForget context counts) = length counts.now ≡ 16 * length (pairs_in counts.now)
 TellsData bytes _ = Unit {0}
 
 -- the command that is asked for, the call that it makes first, and what is kept of it with its room; bytes: the data of a WRITE

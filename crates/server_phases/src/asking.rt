@@ -1,12 +1,12 @@
 //! What a request asks.
 
-ghost use Rattle.std.specs.Prelude.{◌≡◌, ℕ, ◌≤◌, [], List, true, drop, length, bit_and};
+ghost use Rattle.std.specs.Prelude.{◌≡◌, ℕ, ◌≤◌, ◌*◌, [], List, true, drop, length, bit_and};
 ghost use Rattle.fuse_fs.specs.Answers.{context_of};
 ghost use Rattle.fuse_fs.specs.Calls as call;
-ghost use Rattle.fuse_values.specs.Values.{call_of};
+ghost use Rattle.fuse_values.specs.Values.{call_of, pairs_in};
 ghost use Rattle.fuse_wire.specs.Opcodes.{opcode_of};
 ghost use Rattle.server_calls.specs.Callers.{CallSays};
-ghost use Rattle.server_calls.specs.Requests.{read_call, write_call};
+ghost use Rattle.server_calls.specs.Requests.{batch_forget_call, read_call, write_call};
 ghost use Rattle.server_replies.specs.WholeReplies.{error_bytes};
 ghost use Rattle.virtiofsd_fuse.specs.DataApart.{begins_a_write, is_write};
 ghost use Rattle.virtiofsd_fuse.specs.Grammar.{Meaning, Replies, Asks, One, Starts, given, ended, known_options, meant, meaning, read_asked, listing_asked, write_row};
@@ -73,7 +73,7 @@ pub(crate) fn refused<'a>(head: &InHeader, error: Errno, room: usize) -> Asked<'
 }
 
 /// READ, by its record.
-pub(crate) fn ask_read<'a>(head: &InHeader, request: &ReadIn, room: usize) -> Asked<'a>
+pub(crate) fn read_asked<'a>(head: &InHeader, request: &ReadIn, room: usize) -> Asked<'a>
     ensures told { (page_size options : ℕ) (more bytes : List ℕ)
         → IsTold (setting page_size options room) (ended head.now.unique (read_asked (given head.now options room) request.now more)) bytes result }
     ensures asker { IsAskedBy (context_of head.now) result }
@@ -109,7 +109,7 @@ fn read_value<'a>(head: &InHeader, request: &ReadIn, most: usize) -> FileCall<'a
 }
 
 /// READDIR and READDIRPLUS, by their record.
-pub(crate) fn ask_listing<'a>(
+pub(crate) fn listing_asked<'a>(
     head: &InHeader,
     request: &ReadIn,
     with_nodes: bool,
@@ -153,7 +153,7 @@ pub(crate) fn ask_listing<'a>(
 }
 
 // WRITE, by its record; so many bytes of data stand behind it.
-fn ask_write<'a>(head: &InHeader, request: &WriteIn, len: usize, room: usize) -> Asked<'a>
+fn write_asked<'a>(head: &InHeader, request: &WriteIn, len: usize, room: usize) -> Asked<'a>
     ensures told { (page_size options : ℕ) (bytes : List ℕ) → len ≡ length bytes
         → IsTold (setting page_size options room) (Asks (One head.now.unique (write_call head.now request.now bytes))) bytes result }
     ensures asker { IsAskedBy (context_of head.now) result }
@@ -205,6 +205,22 @@ pub(crate) fn called<'a>(head: &InHeader, made: FileCall<'a>, room: usize) -> As
     Asked::Call(made, waiting)
 }
 
+/// The call of a BATCH_FORGET, by the bytes of its pairs.
+pub(crate) fn forgets_asked<'a>(head: &InHeader, counts: &'a [u8], room: usize) -> Asked<'a>
+    ensures told { (page_size options : ℕ) (m : Meaning) (bytes : List ℕ) → length counts.now ≡ 16 * length (pairs_in counts.now)
+        → m ≡ Asks (One head.now.unique (batch_forget_call head.now (pairs_in counts.now))) → IsTold (setting page_size options room) m bytes result }
+    ensures asker { IsAskedBy (context_of head.now) result }
+{
+    let context = Context::from(*head);
+    let waiting = Waiting {
+        unique: head.unique,
+        context,
+        awaits: Awaits::Forgotten,
+        room,
+    };
+    Asked::Call(FileCall::BatchForget { context, counts }, waiting)
+}
+
 /// The call of an INIT, whose client reads `readahead` bytes ahead.
 pub(crate) fn started<'a>(
     head: &InHeader,
@@ -241,7 +257,7 @@ pub(crate) fn ask_write_row<'a>(
 {
     let mut source = source;
     match source.record() {
-        Ok(request) => ask_write(head, &request, len, room),
+        Ok(request) => write_asked(head, &request, len, room),
         Err(error) => Asked::Fault(error),
     }
 }

@@ -1,12 +1,12 @@
 -- The extensions after the names of a request that makes a node (struct fuse_ext_header, fuse_secctx and fuse_supp_groups of linux/fuse.h).
-use Rattle.std.specs.Prelude.{ℕ, zero, suc, ◌-◌, Bool, true, false, not, ◌&&◌, ◌||◌, ◌==◌, nat_le, nat_lt, List, [], ◌∷◌, length, Option, Some, None, Ok, Err, Result, if◌then◌else◌, is_none, option_map}
+use Rattle.std.specs.Prelude.{ℕ, zero, suc, ◌-◌, Bool, true, false, not, ◌&&◌, ◌||◌, ◌==◌, nat_le, nat_lt, List, [], ◌∷◌, length, Option, Some, None, Ok, Err, Result, if◌then◌else◌, is_none}
 use Rattle.vm_values.specs.Bits.{has_bit}
 use Rattle.fuse_in.specs.Shapes.{Shape, u32, ◌&◌, end}
 use Rattle.fuse_wire.specs.Records.{ext_header, secctx, supp_groups}
 use Rattle.fuse_fs.specs.Calls.{SecurityContext, Extra, NewLink}
 use Rattle.server_segments.specs.declared.error.Error.TheVariants.{DecodeMessage, MissingParameter, MissingExtension, InvalidHeaderLength, InvalidCString}
-use Rattle.fuse_values.specs.declared.received.Received.{Received}
-use Rattle.fuse_values.specs.Values.{label_of}
+use Rattle.fuse_values.specs.Values.{received_extra}
+use Rattle.server_requests.specs.declared.extensions.SoFar.{SoFar}
 use Rattle.server_requests.specs.Reading.{ReadFailure, Faults, Reading, and_then, ◌>>=◌, ◌>>◌, give, refuse, needs, rest, exactly, within, name_or, front_name, reading_of}
 
 -- FUSE_SECURITY_CTX (bit 32 of the options) is agreed
@@ -28,8 +28,8 @@ abbrev pub nothing_sent : Sent
 nothing_sent = record { was_sent = false; security = None; group = None }
 
 -- what has come, where it stands
-abbrev pub sent_of : Received → Sent
-sent_of r = record { was_sent = r.was_sent; security = option_map label_of r.secctx; group = r.sup_gid }
+abbrev pub sent_of : SoFar → Sent
+sent_of s = let parts = received_extra s.received in record { was_sent = s.was_sent; security = parts.security; group = parts.group }
 
 -- a context that isn't empty: its name and its label
 unfoldable pub security_context : Reading SecurityContext

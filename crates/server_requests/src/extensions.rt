@@ -3,8 +3,8 @@
 ghost use Rattle.std.specs.Prelude.{◌≡◌, ◌+◌, ◌<◌, ◌&&◌, ◌||◌, not, nat_le, length, is_none, Ok, Err, IfOk, IfErr, false};
 ghost use Rattle.fuse_fs.specs.Answers.{extra_of, security_of};
 ghost use Rattle.server_requests.specs.Reading.{Faults, outcome, reading_of, value_of};
-ghost use Rattle.fuse_values.specs.Values.{label_of};
-ghost use Rattle.server_requests.specs.Extras.{takes_security, takes_group, sent_of, parts_of, nothing_sent};
+ghost use Rattle.fuse_values.specs.Values.{label_of, received_extra};
+ghost use Rattle.server_requests.specs.Extras.{takes_security, takes_group, sent_of, nothing_sent};
 ghost use Rattle.server_requests.specs.Extras.{security_context, one_group, part, extension, extensions, extra_in};
 ghost use Rattle.server_requests.specs.Extras.{security_part, group_part};
 ghost use Rattle.server_segments.specs.Errors.{is_memory};
@@ -26,10 +26,17 @@ struct WithRest<'a, T> {
     rest: &'a [u8],
 }
 
-// What has come with one more extension, and the bytes after it.
+// What has come so far: whether a context was sent, be it empty, and the parts.
+#[derive(Clone, Copy)]
+struct SoFar<'a> {
+    was_sent: bool,
+    received: Received<'a>,
+}
+
+// The same with one more extension, and the bytes after it.
 #[derive(Clone, Copy)]
 struct Progress<'a> {
-    received: Received<'a>,
+    sent: SoFar<'a>,
     rest: &'a [u8],
 }
 
@@ -134,27 +141,29 @@ fn may_be_group(options: FsOptions, sup_gid: Option<u32>) -> bool
 #[tactic(auto, using(crate::proofs::ExtraLemmas::security_cases))]
 fn security_part<'a>(
     options: FsOptions,
-    received: Received<'a>,
+    sent: SoFar<'a>,
     kind: u32,
     bytes: &'a [u8],
-) -> Result<Received<'a>, Error>
-    ensures reads { outcome sent_of result ≡ value_of (security_part options.0 (sent_of received.entry) kind bytes.now) }
+) -> Result<SoFar<'a>, Error>
+    ensures reads { outcome sent_of result ≡ value_of (security_part options.0 (sent_of sent.entry) kind bytes.now) }
     ensures fault { IfErr result (λ e. is_memory e ≡ false) }
 {
-    if !may_be_context(options, received.was_sent, kind) {
+    if !may_be_context(options, sent.was_sent, kind) {
         return Err(Error::DecodeMessage);
     }
     if kind == 0 {
-        return Ok(Received {
+        return Ok(SoFar {
             was_sent: true,
-            ..received
+            received: sent.received,
         });
     }
     match security_context(bytes) {
-        Ok(label) => Ok(Received {
+        Ok(label) => Ok(SoFar {
             was_sent: true,
-            secctx: Some(label),
-            sup_gid: received.sup_gid,
+            received: Received {
+                secctx: Some(label),
+                sup_gid: sent.received.sup_gid,
+            },
         }),
         Err(error) => Err(error),
     }
@@ -162,21 +171,20 @@ fn security_part<'a>(
 
 // What has come with a group.
 #[tactic(auto, using(crate::proofs::ExtraLemmas::group_refused, crate::proofs::ExtraLemmas::group_given, crate::proofs::ExtraLemmas::group_fault))]
-fn group_part<'a>(
-    options: FsOptions,
-    received: Received<'a>,
-    bytes: &'a [u8],
-) -> Result<Received<'a>, Error>
-    ensures reads { outcome sent_of result ≡ value_of (group_part options.0 (sent_of received.entry) bytes.now) }
+fn group_part<'a>(options: FsOptions, sent: SoFar<'a>, bytes: &'a [u8]) -> Result<SoFar<'a>, Error>
+    ensures reads { outcome sent_of result ≡ value_of (group_part options.0 (sent_of sent.entry) bytes.now) }
     ensures fault { IfErr result (λ e. is_memory e ≡ false) }
 {
-    if !may_be_group(options, received.sup_gid) {
+    if !may_be_group(options, sent.received.sup_gid) {
         return Err(Error::DecodeMessage);
     }
     match one_group(bytes) {
-        Ok(group) => Ok(Received {
-            sup_gid: Some(group),
-            ..received
+        Ok(group) => Ok(SoFar {
+            was_sent: sent.was_sent,
+            received: Received {
+                secctx: sent.received.secctx,
+                sup_gid: Some(group),
+            },
         }),
         Err(error) => Err(error),
     }
@@ -189,20 +197,20 @@ const EXT_GROUPS: u32 = 32;
 #[tactic(auto, unfolding(crate::specs::Extras::part))]
 fn part<'a>(
     options: FsOptions,
-    received: Received<'a>,
+    sent: SoFar<'a>,
     kind: u32,
     bytes: &'a [u8],
-) -> Result<Received<'a>, Error>
-    ensures reads { outcome sent_of result ≡ value_of (part options.0 (sent_of received.entry) kind bytes.now) }
+) -> Result<SoFar<'a>, Error>
+    ensures reads { outcome sent_of result ≡ value_of (part options.0 (sent_of sent.entry) kind bytes.now) }
     ensures fault { IfErr result (λ e. is_memory e ≡ false) }
 {
     if kind > EXT_GROUPS {
         return Err(Error::DecodeMessage);
     }
     if kind == EXT_GROUPS {
-        group_part(options, received, bytes)
+        group_part(options, sent, bytes)
     } else {
-        security_part(options, received, kind, bytes)
+        security_part(options, sent, kind, bytes)
     }
 }
 
@@ -213,11 +221,11 @@ const EXT_HEADER_LEN: u32 = 8;
 #[tactic(auto, using(crate::proofs::ExtraLemmas::extension_cases))]
 fn extension<'a>(
     options: FsOptions,
-    received: Received<'a>,
+    sent: SoFar<'a>,
     bytes: &'a [u8],
 ) -> Result<Progress<'a>, Error>
-    ensures reads { IfOk result (λ x. Ok (sent_of x.received, x.rest.now) ≡ extension options.0 (sent_of received.entry) bytes.now) }
-    ensures fault { IfErr result (λ e. (Err (Faults e) ≡ extension options.0 (sent_of received.entry) bytes.now) × (is_memory e ≡ false)) }
+    ensures reads { IfOk result (λ x. Ok (sent_of x.sent, x.rest.now) ≡ extension options.0 (sent_of sent.entry) bytes.now) }
+    ensures fault { IfErr result (λ e. (Err (Faults e) ≡ extension options.0 (sent_of sent.entry) bytes.now) × (is_memory e ≡ false)) }
     ensures shorter { IfOk result (λ x. length x.rest.now < length bytes.now) }
 {
     match front_record::<ExtHeader>(bytes) {
@@ -230,8 +238,8 @@ fn extension<'a>(
                 return Err(Error::DecodeMessage);
             }
             let (body, rest) = head.rest.split_at(size);
-            match part(options, received, head.record.ext_type, body) {
-                Ok(received) => Ok(Progress { received, rest }),
+            match part(options, sent, head.record.ext_type, body) {
+                Ok(sent) => Ok(Progress { sent, rest }),
                 Err(error) => Err(error),
             }
         }
@@ -240,29 +248,31 @@ fn extension<'a>(
 }
 
 // Nothing has come.
-fn nothing<'a>() -> Received<'a>
+fn nothing<'a>() -> SoFar<'a>
     ensures { sent_of result ≡ nothing_sent }
 {
-    Received {
+    SoFar {
         was_sent: false,
-        secctx: None,
-        sup_gid: None,
+        received: Received {
+            secctx: None,
+            sup_gid: None,
+        },
     }
 }
 
 // What has come with all extensions.
-fn extensions<'a>(options: FsOptions, bytes: &'a [u8]) -> Result<Received<'a>, Error>
+fn extensions<'a>(options: FsOptions, bytes: &'a [u8]) -> Result<SoFar<'a>, Error>
     ensures reads { outcome sent_of result ≡ extensions options.0 (length bytes.now) nothing_sent bytes.now }
     ensures fault { IfErr result (λ e. is_memory e ≡ false) }
 {
     let mut progress = Progress {
-        received: nothing(),
+        sent: nothing(),
         rest: bytes,
     };
     while !progress.rest.is_empty() {
-        progress = extension(options, progress.received, progress.rest)?;
+        progress = extension(options, progress.sent, progress.rest)?;
     }
-    Ok(progress.received)
+    Ok(progress.sent)
 }
 
 // Whether extensions are read at all.
@@ -287,21 +297,21 @@ pub(crate) fn received_extensions<'a>(
     options: FsOptions,
     bytes: &'a [u8],
 ) -> Result<Received<'a>, Error>
-    ensures reads { outcome (λ r. parts_of (sent_of r)) result ≡ extra_in options.0 bytes.now }
+    ensures reads { outcome received_extra result ≡ extra_in options.0 bytes.now }
     ensures fault { IfErr result (λ e. is_memory e ≡ false) }
 {
     if takes_any(options) {
         match extensions(options, bytes) {
-            Ok(received) => {
-                if lacks_context(options, received.was_sent) {
+            Ok(sent) => {
+                if lacks_context(options, sent.was_sent) {
                     return Err(Error::MissingExtension);
                 }
-                Ok(received)
+                Ok(sent.received)
             }
             Err(error) => Err(error),
         }
     } else {
-        Ok(nothing())
+        Ok(nothing().received)
     }
 }
 
@@ -331,8 +341,8 @@ fn owned_label(alloc: Global, label: Label<'_>) -> Result<SecContext, Error>
 
 /// What has come as a file system gets it: a label in memory of its own. The error is `OutOfMemory`.
 pub fn owned_extensions(alloc: Global, received: Received<'_>) -> Result<Extensions, Error>
-    ensures ok { IfOk result (λ ext. extra_of ext ≡ parts_of (sent_of received.entry)) }
-    ensures err { IfErr result (λ e. (e ≡ Error.OutOfMemory) × (is_none (parts_of (sent_of received.entry)).security ≡ false)) }
+    ensures ok { IfOk result (λ ext. extra_of ext ≡ received_extra received.entry) }
+    ensures err { IfErr result (λ e. (e ≡ Error.OutOfMemory) × (is_none (received_extra received.entry).security ≡ false)) }
 {
     let sup_gid = match received.sup_gid {
         Some(group) => Some(GuestGid::from(group)),

@@ -5,18 +5,16 @@ ghost use Rattle.std.specs.Prelude.{IfSome, IfNone, false};
 ghost use Rattle.std.specs.Cow.{cow_slice_items};
 ghost use Rattle.fuse_fs.specs.Lengths.{first, past};
 ghost use Rattle.server_requests.specs.Reading.{Faults, value_of, at_zero, last_name, two_names, name_and_value, front_name};
-ghost use Rattle.server_requests.specs.Fronts.{counted, is_split, counted_split, with_bytes};
+ghost use Rattle.server_requests.specs.Fronts.{counted, is_split};
 ghost use Rattle.server_segments.specs.Errors.{is_memory};
 
-use crate::records::read_record;
-use fuse_in::InRecord;
 use server_segments::{Error, Reader};
 use std::alloc::Global;
 use std::borrow::CowSlice;
 use std::io::Read;
 
 /// Bytes of a request: where they stand, or in memory of their own where they stood in several segments.
-pub type RequestBytes<'a> = CowSlice<'a, u8, Global>;
+pub(crate) type RequestBytes<'a> = CowSlice<'a, u8, Global>;
 
 // The place of the first zero byte.
 fn zero_at(bytes: &[u8]) -> Option<usize>
@@ -55,7 +53,7 @@ fn read_bytes<'a>(alloc: Global, r: &mut Reader<'a>, n: usize) -> Result<Request
 /// `InvalidHeaderLength` if it doesn't reach so far, `DecodeMessage` if fewer bytes are there, and `OutOfMemory`
 /// only if they stand in several segments.
 #[inline(always)]
-pub fn read_counted<'a>(
+pub(crate) fn read_counted<'a>(
     alloc: Global,
     len: u32,
     fixed: u32,
@@ -75,36 +73,6 @@ pub fn read_counted<'a>(
         return Err(Error::DecodeMessage);
     }
     read_bytes(alloc, r, count as usize)
-}
-
-/// A record with the bytes after it, as many as the header's length (`len` of `struct fuse_in_header`) says.
-#[derive(Drop)]
-pub struct WithBytes<'a, T> {
-    /// The record, with which the request begins behind its header.
-    pub record: T,
-    /// The bytes after it.
-    pub bytes: RequestBytes<'a>,
-}
-
-/// A record, and as many bytes as the header's length, `len`, leaves after it. `DecodeMessage` if the record or
-/// these bytes aren't all there, `InvalidHeaderLength` if `len` ends before the record does, and `OutOfMemory` only
-/// where the bytes stand in several segments.
-pub fn read_with_bytes<'a, T: InRecord>(
-    alloc: Global,
-    len: u32,
-    r: &mut Reader<'a>,
-) -> Result<WithBytes<'a, T>, Error>
-    ensures reads { IfOk result (λ x. Ok (x.record, cow_slice_items x.bytes) ≡ value_of (with_bytes T.shape T.SIZE len r.old.left)) }
-    ensures fault { IfErr result (λ e. is_memory e ≡ false → Err (Faults e) ≡ value_of (with_bytes T.shape T.SIZE len r.old.left)) }
-    ensures in_place { counted_split len T.SIZE r.old.segments ≡ false → IfErr result (λ e. is_memory e ≡ false) }
-{
-    match read_record(r) {
-        Ok(record) => match read_counted(alloc, len, T::SIZE as u32, r) {
-            Ok(bytes) => Ok(WithBytes { record, bytes }),
-            Err(error) => Err(error),
-        },
-        Err(error) => Err(error),
-    }
 }
 
 /// The name up to the first zero byte, and the bytes after it.

@@ -3,7 +3,8 @@
 ghost use Rattle.std.specs.Prelude.{◌≡◌, ◌&&◌, Ok, Err, IfOk, IfErr, false};
 ghost use Rattle.server_segments.specs.Errors.{is_memory};
 ghost use Rattle.server_requests.specs.Reading.{Faults, value_of};
-ghost use Rattle.server_requests.specs.Extras.{sent_of, parts_of, new_name, new_link};
+ghost use Rattle.fuse_values.specs.Values.{received_extra};
+ghost use Rattle.server_requests.specs.Extras.{new_name, new_link};
 
 use crate::extensions::received_extensions;
 use crate::names::front_name;
@@ -37,7 +38,7 @@ pub struct LinkParts<'a> {
 /// and none is sent; `InvalidCString` if the name has no zero byte.
 #[tactic(auto, using(crate::proofs::ExtraLemmas::new_name_cases))]
 pub fn new_name<'a>(options: FsOptions, bytes: &'a [u8]) -> Result<NewName<'a>, Error>
-    ensures reads { IfOk result (λ x. Ok (x.name.now, parts_of (sent_of x.received)) ≡ value_of (new_name options.0 bytes.now)) }
+    ensures reads { IfOk result (λ x. Ok (x.name.now, received_extra x.received) ≡ value_of (new_name options.0 bytes.now)) }
     ensures fault { IfErr result (λ e. (Err (Faults e) ≡ value_of (new_name options.0 bytes.now)) × (is_memory e ≡ false)) }
 {
     match front_name(bytes) {
@@ -72,7 +73,7 @@ fn both_end(first: bool, second: bool) -> bool
 #[tactic(auto, using(crate::proofs::ExtraLemmas::new_link_cases))]
 pub fn new_link<'a>(options: FsOptions, bytes: &'a [u8]) -> Result<LinkParts<'a>, Error>
     ensures reads { IfOk result
-        (λ x. Ok (record { name = x.name.now; link = x.link.now; extra = parts_of (sent_of x.received) }) ≡ value_of (new_link options.0 bytes.now)) }
+        (λ x. Ok (record { name = x.name.now; link = x.link.now; extra = received_extra x.received }) ≡ value_of (new_link options.0 bytes.now)) }
     ensures fault { IfErr result (λ e. (Err (Faults e) ≡ value_of (new_link options.0 bytes.now)) × (is_memory e ≡ false)) }
 {
     match front_name(bytes) {

@@ -1,39 +1,48 @@
 //! From where requests are read: the bytes behind a header, and what of them is lent.
 
-ghost use Rattle.std.specs.Prelude.{◌≡◌, ◌≤◌, ℕ, List, Ok, Err, IfOk, IfErr};
+ghost use Rattle.std.specs.Prelude.{◌≡◌, ◌-◌, ◌≤◌, ◌*◌, ◌&&◌, ℕ, Bool, true, false, List, [], length, Ok, Err, IfOk, IfErr, OnOk};
 ghost use Rattle.fuse_values.specs.Values.{pairs_in};
 ghost use Rattle.server_requests.specs.Reading.{Faults, many, reading_of, read_result, value_of};
-ghost use Rattle.server_requests.specs.Fronts.{counted, flags2_of, forget_pair, setxattr_front, with_bytes};
+ghost use Rattle.server_requests.specs.Fronts.{counted, counted_split, flags2_of, forget_pair, is_split, setxattr_front, setxattr_len, with_bytes};
+ghost use Rattle.fuse_fs.specs.Lengths.{past};
+ghost use Rattle.server_segments.specs.Errors.{is_memory};
 
 use crate::forgets::FORGET_ONE_LEN;
-use crate::records::INIT_EXT;
+use crate::names::read_counted;
+use crate::records::{INIT_EXT, read_record};
 use crate::xattrs::{has_setxattr_ext, with_no_flags};
 use fuse_in::{InRecord, InitInCompat, InitInExt, SetxattrIn, SetxattrInCompat};
 use fuse_wire::FsOptions;
-use server_segments::Error;
+use server_segments::{Error, Reader};
+use std::alloc::Global;
+use std::borrow::CowSlice;
 
 /// From where a request is read, front to back. Bytes that are lent stay for `'a`.
 pub trait Source<'a> {
     // The bytes that are left.
     ghost left: { Self → List ℕ };
 
+    // The lengths of the segments in which they stand.
+    ghost segments: { Self → List ℕ };
+
+    // Whether they may stand in several.
+    ghost splits: { Bool };
+
     /// The record that the next bytes spell, or `DecodeMessage` if there are too few.
     fn record<T: InRecord>(&mut self) -> Result<T, Error>
         ensures reads { read_result result (left self.new) ≡ reading_of T.shape (left self.old) }
-        ensures fault { IfErr result (λ e. e ≡ Error.DecodeMessage) };
+        ensures fault { IfErr result (λ e. e ≡ Error.DecodeMessage) }
+        ensures segments { OnOk result (segments self.new ≡ past T.SIZE (segments self.old)) };
 
     /// As many bytes as the header's length, `len`, leaves after the header, 40 bytes, and `fixed` bytes of record.
-    /// `InvalidHeaderLength` if it doesn't reach so far, `DecodeMessage` if fewer bytes are there.
+    /// `InvalidHeaderLength` if it doesn't reach so far, `DecodeMessage` if fewer bytes are there, and `OutOfMemory` only
+    /// if they stand in several segments.
     fn counted(self, len: u32, fixed: u32) -> Result<&'a [u8], Error>
         requires { fixed ≤ 256 }
         ensures bytes { IfOk result (λ bytes. Ok bytes.now ≡ value_of (counted len fixed (left self))) }
-        ensures fault { IfErr result (λ e. Err (Faults e) ≡ value_of (counted len fixed (left self))) };
-
-    /// The bytes of the next `count` pairs of BATCH_FORGET (`struct fuse_forget_one`, 16 bytes each), or `DecodeMessage` if
-    /// they are not all there.
-    fn pairs(self, count: u32) -> Result<&'a [u8], Error>
-        ensures bytes { IfOk result (λ bytes. Ok (pairs_in bytes.now) ≡ value_of (many count forget_pair (left self))) }
-        ensures fault { IfErr result (λ e. Err (Faults e) ≡ value_of (many count forget_pair (left self))) };
+        ensures fault { IfErr result (λ e. is_memory e ≡ false → Err (Faults e) ≡ value_of (counted len fixed (left self))) }
+        ensures in_place { (splits && is_split (len - 40 - fixed) (segments self)) ≡ false → IfErr result (λ e. is_memory e ≡ false) }
+        ensures whole { past 0 (segments self) ≡ segments self };
 }
 
 /// The bytes that are left of a request that stands in one piece.
@@ -45,6 +54,11 @@ pub struct Flat<'a> {
 impl<'a> Source<'a> for Flat<'a> {
     ghost left = { λ s. s.bytes.now };
 
+    ghost segments = { λ s. [] };
+
+    ghost splits = { false };
+
+    #[tactic(auto, using(fuse_fs::proofs::Lengths::past_none))]
     fn record<T: InRecord>(&mut self) -> Result<T, Error> {
         let bytes = self.bytes;
         if bytes.len() < T::SIZE {
@@ -55,6 +69,7 @@ impl<'a> Source<'a> for Flat<'a> {
         Ok(T::get_bytes(front))
     }
 
+    #[tactic(auto, using(fuse_fs::proofs::Lengths::past_none))]
     fn counted(self, len: u32, fixed: u32) -> Result<&'a [u8], Error> {
         let bytes = self.bytes;
         let Some(count) = len.checked_sub(40 + fixed) else {
@@ -66,9 +81,17 @@ impl<'a> Source<'a> for Flat<'a> {
         let (front, _rest) = bytes.split_at(count as usize);
         Ok(front)
     }
+}
 
+impl<'a> Flat<'a> {
+    /// The bytes of the next `count` pairs of BATCH_FORGET (`struct fuse_forget_one`, 16 bytes each), or `DecodeMessage` if
+    /// they are not all there.
     #[tactic(auto, using(crate::proofs::ForgetLemmas::pairs_cut, crate::proofs::ForgetLemmas::pairs_read))]
-    fn pairs(self, count: u32) -> Result<&'a [u8], Error> {
+    pub fn pairs(self, count: u32) -> Result<&'a [u8], Error>
+        ensures bytes { IfOk result (λ bytes. Ok (pairs_in bytes.now) ≡ value_of (many count forget_pair self.entry.bytes.now)) }
+        ensures whole { IfOk result (λ bytes. length bytes.now ≡ 16 * count) }
+        ensures fault { IfErr result (λ e. Err (Faults e) ≡ value_of (many count forget_pair self.entry.bytes.now)) }
+    {
         let bytes = self.bytes;
         let len = count as usize * FORGET_ONE_LEN;
         if bytes.len() < len {
@@ -76,6 +99,44 @@ impl<'a> Source<'a> for Flat<'a> {
         }
         let (front, _rest) = bytes.split_at(len);
         Ok(front)
+    }
+}
+
+/// The bytes that are left of a request, in segments. Where bytes that are lent stand in several, they are copied to `held`.
+#[derive(Drop)]
+pub struct Segments<'a, 'r: 'a> {
+    pub alloc: Global,
+    pub reader: Reader<'r>,
+    pub held: &'a mut Vec<u8>,
+}
+
+impl<'a, 'r: 'a> Source<'a> for Segments<'a, 'r> {
+    ghost left = { λ s. s.reader.left };
+
+    ghost segments = { λ s. s.reader.segments };
+
+    ghost splits = { true };
+
+    #[inline(always)]
+    fn record<T: InRecord>(&mut self) -> Result<T, Error> {
+        read_record(&mut self.reader)
+    }
+
+    #[inline(always)]
+    fn counted(self, len: u32, fixed: u32) -> Result<&'a [u8], Error> {
+        let Segments {
+            alloc,
+            mut reader,
+            held,
+        } = self;
+        match read_counted(alloc, len, fixed, &mut reader) {
+            Ok(CowSlice::Borrowed(bytes)) => Ok(bytes),
+            Ok(CowSlice::Owned(bytes)) => {
+                *held = bytes;
+                Ok(&held[..])
+            }
+            Err(error) => Err(error),
+        }
     }
 }
 
@@ -103,13 +164,15 @@ pub struct RecordAndBytes<'a, T> {
 }
 
 /// A record, and as many bytes as the header's length, `len`, leaves after it. `DecodeMessage` if the record or
-/// these bytes aren't all there, `InvalidHeaderLength` if `len` ends before the record does.
+/// these bytes aren't all there, `InvalidHeaderLength` if `len` ends before the record does, and `OutOfMemory` only
+/// where the bytes stand in several segments.
 pub fn record_and_bytes<'a, T: InRecord, S: Source<'a> + Drop>(
     source: S,
     len: u32,
 ) -> Result<RecordAndBytes<'a, T>, Error>
     ensures reads { IfOk result (λ x. Ok (x.record, x.bytes.now) ≡ value_of (with_bytes T.shape T.SIZE len (S.left source))) }
-    ensures fault { IfErr result (λ e. Err (Faults e) ≡ value_of (with_bytes T.shape T.SIZE len (S.left source))) }
+    ensures fault { IfErr result (λ e. is_memory e ≡ false → Err (Faults e) ≡ value_of (with_bytes T.shape T.SIZE len (S.left source))) }
+    ensures in_place { (S.splits && counted_split len T.SIZE (S.segments source)) ≡ false → IfErr result (λ e. is_memory e ≡ false) }
 {
     let mut source = source;
     match source.record() {
@@ -122,7 +185,7 @@ pub fn record_and_bytes<'a, T: InRecord, S: Source<'a> + Drop>(
 }
 
 /// The record of SETXATTR (`struct fuse_setxattr_in`: 16 bytes with `SETXATTR_EXT`, else 8), and the bytes after it:
-/// `DecodeMessage` or `InvalidHeaderLength`, as `record_and_bytes` has them.
+/// `DecodeMessage`, `InvalidHeaderLength` or `OutOfMemory`, as `record_and_bytes` has them.
 #[tactic(auto, using(crate::proofs::NameLemmas::setxattr_long))]
 pub fn setxattr_and_bytes<'a, S: Source<'a> + Drop>(
     source: S,
@@ -130,7 +193,8 @@ pub fn setxattr_and_bytes<'a, S: Source<'a> + Drop>(
     len: u32,
 ) -> Result<RecordAndBytes<'a, SetxattrIn>, Error>
     ensures reads { IfOk result (λ x. Ok (x.record, x.bytes.now) ≡ value_of (setxattr_front options.0 len (S.left source))) }
-    ensures fault { IfErr result (λ e. Err (Faults e) ≡ value_of (setxattr_front options.0 len (S.left source))) }
+    ensures fault { IfErr result (λ e. is_memory e ≡ false → Err (Faults e) ≡ value_of (setxattr_front options.0 len (S.left source))) }
+    ensures in_place { (S.splits && counted_split len (setxattr_len options.0) (S.segments source)) ≡ false → IfErr result (λ e. is_memory e ≡ false) }
 {
     if has_setxattr_ext(options) {
         return record_and_bytes(source, len);

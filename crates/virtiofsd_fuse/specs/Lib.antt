@@ -4,6 +4,7 @@ pub mod ExamplesOfMemory
 pub mod Grammar
 pub mod ListingRuns
 pub mod Listings
+pub mod Rows
 pub mod WantOfMemory
 pub mod Serving
 pub mod ReadApart

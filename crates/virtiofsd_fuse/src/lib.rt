@@ -5,16 +5,14 @@ mod answers;
 mod data_apart;
 mod forgets;
 mod listings;
-mod new_nodes;
+mod meanings;
 mod performing;
 mod performing_names;
 mod reads;
-mod requests;
 mod serialization;
 mod server;
 mod session;
 mod writes;
-mod xattrs;
 
 pub use data_apart::{REPLY_FRONT, REQUEST_FRONT, writes_data};
 pub use forgets::MAX_FORGETS;
@@ -24,6 +22,7 @@ pub use fuse_fs::{
     OpensNothing, PositionedFile, SecContext, SerializableFileSystem, Timeout, WritevFlags,
     ZeroCopyReader, ZeroCopyWriter, defaults,
 };
+pub use meanings::{RequestMeaning, row_meaning};
 pub use reads::{ReadReply, ReadRequest};
 pub use server::{MAX_REQUEST_LEN, Server, opcode_of};
 pub use server_segments::{DescriptorType, Error, Reader, Writer, ZcReader, ZcWriter};

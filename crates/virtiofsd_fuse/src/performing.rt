@@ -1,8 +1,9 @@
-//! Calls of requests without names, performed: the file system is asked, and the client is told its answer.
+//! Calls, performed: the file system is asked, and the client is told its answer.
 
 ghost use Rattle.std.specs.Prelude.{◌≡◌, ◌<◌, ◌^◌, [], true, false, option_map};
 ghost use Rattle.fuse_values.specs.Values.{call_of};
-ghost use Rattle.server_calls.specs.Callers.{Header, OnFile, shape_of, is_record};
+ghost use Rattle.server_calls.specs.Callers.{Header, OnFile, shape_of, is_plain, is_record};
+ghost use Rattle.server_calls.specs.Requests.{owns_memory};
 ghost use Rattle.virtiofsd_fuse.specs.Grammar.{Asks, One};
 ghost use Rattle.virtiofsd_fuse.specs.Serving.{ServerHandles, Leaves};
 
@@ -15,6 +16,7 @@ use server_calls::received::{
 };
 use server_replies::answers::reply_answer;
 use server_segments::{Error, Writer};
+use std::alloc::Global;
 
 // An open file, where it is told.
 fn numbered_if<H: FileNumber>(handle: Option<u64>) -> Option<H>
@@ -27,9 +29,68 @@ fn numbered_if<H: FileNumber>(handle: Option<u64>) -> Option<H>
 }
 
 impl<F: FileSystem> Server<F> {
-    /// Performs a call whose request is nothing but its header.
+    /// Performs the one call that a request asks. What the file system owns of it takes memory, before the call.
     #[inline(always)]
-    pub(crate) fn perform_plain(
+    pub(crate) fn perform(
+        &mut self,
+        alloc: Global,
+        unique: u64,
+        call: FileCall<'_>,
+        w: &mut Writer,
+    ) -> Result<usize, Error>
+        requires fresh { w.old.written ≡ [] }
+        requires room { w.old.free < 2 ^ 32 }
+        requires plain { is_plain (call_of [] call) ≡ true }
+        ensures handles { ServerHandles F.may self.old w.old.free (Asks (One unique (call_of [] call.entry))) result w.new.written self.new }
+        ensures rest { Leaves (owns_memory (call_of [] call.entry)) result w.old w.new self.old self.new }
+    {
+        match call {
+            FileCall::Lookup { .. }
+            | FileCall::Unlink { .. }
+            | FileCall::Rmdir { .. }
+            | FileCall::Removexattr { .. } => self.perform_named(unique, call, w),
+            FileCall::Link { .. }
+            | FileCall::Rename { .. }
+            | FileCall::Setxattr { .. }
+            | FileCall::Getxattr { .. } => self.perform_recorded(unique, call, w),
+            FileCall::Symlink { .. }
+            | FileCall::Mknod { .. }
+            | FileCall::Mkdir { .. }
+            | FileCall::Create { .. } => self.perform_made(alloc, unique, call, w),
+            FileCall::Readlink { .. }
+            | FileCall::Statfs { .. }
+            | FileCall::Syncfs { .. }
+            | FileCall::Destroy
+            | FileCall::Getlk
+            | FileCall::Setlk
+            | FileCall::Setlkw
+            | FileCall::Bmap
+            | FileCall::Ioctl
+            | FileCall::Poll
+            | FileCall::NotifyReply
+            | FileCall::TmpFile => self.perform_plain(unique, call, w),
+            FileCall::Forget { .. }
+            | FileCall::Getattr { .. }
+            | FileCall::Setattr { .. }
+            | FileCall::Access { .. }
+            | FileCall::Listxattr { .. }
+            | FileCall::Open { .. }
+            | FileCall::Opendir { .. }
+            | FileCall::Release { .. }
+            | FileCall::Releasedir { .. }
+            | FileCall::Fsync { .. }
+            | FileCall::Fsyncdir { .. }
+            | FileCall::Flush { .. }
+            | FileCall::Fallocate { .. }
+            | FileCall::Lseek { .. }
+            | FileCall::CopyFileRange { .. } => self.perform_record(unique, call, w),
+            _ => unreachable!(),
+        }
+    }
+
+    // Performs a call whose request is nothing but its header.
+    #[inline(always)]
+    fn perform_plain(
         &mut self,
         unique: u64,
         call: FileCall<'_>,
@@ -70,9 +131,9 @@ impl<F: FileSystem> Server<F> {
         }
     }
 
-    /// Performs a call whose request is one record.
+    // Performs a call whose request is one record.
     #[inline(always)]
-    pub(crate) fn perform_record(
+    fn perform_record(
         &mut self,
         unique: u64,
         call: FileCall<'_>,

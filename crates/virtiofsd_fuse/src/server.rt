@@ -1,29 +1,22 @@
 //! The server: it reads a request, asks its file system, and writes the reply (virtiofsd's `Server`).
 
-ghost use Rattle.std.specs.Prelude.{◌≡◌, ◌+◌, ◌<◌, ◌≤◌, ◌^◌, false, [], length, IfOk, OnOk, OnErr, IsTrue, bit_and};
+ghost use Rattle.std.specs.Prelude.{◌≡◌, ◌+◌, ◌<◌, ◌≤◌, ◌^◌, true, false, [], length, IfOk, OnOk, OnErr, IsTrue, bit_and};
 ghost use Rattle.fuse_wire.specs.Opcodes.{opcode_of};
 ghost use Rattle.server_replies.specs.PageSizes.{is_page_size};
 ghost use Rattle.server_segments.specs.Errors.{lacks_memory};
-ghost use Rattle.virtiofsd_fuse.specs.Grammar.{given, meant, meaning, unserved_row, known_options};
+ghost use Rattle.virtiofsd_fuse.specs.Grammar.{given, meant, meaning, known_options};
+ghost use Rattle.virtiofsd_fuse.specs.Rows.{is_single};
 ghost use Rattle.virtiofsd_fuse.specs.WantOfMemory.{takes_memory, body_takes_memory, may_take_memory};
 
-use crate::session::known;
+use crate::meanings::{RequestMeaning, row_meaning};
+use crate::session::{known, silence};
 use bitflags::Flags;
 use fuse_fs::FileSystem;
 use fuse_in::InHeader;
 use fuse_wire::{Errno, FsOptions, Opcode};
-use server_calls::links::{Link, Rename, Rename2};
-use server_calls::new_nodes::{Create, Mkdir, Mknod};
-use server_calls::nodes::{
-    Access, Forget, Getattr, Lookup, Readlink, Removexattr, Rmdir, Setattr, Statfs, Syncfs, Unlink,
-};
-use server_calls::open_files::{
-    CopyFileRange, Fallocate, Flush, Fsync, Fsyncdir, Lseek, Open, Opendir, Release, Releasedir,
-};
-use server_calls::plain_requests::{Bmap, Getlk, Ioctl, NotifyReply, Poll, Setlk, Setlkw, TmpFile};
-use server_calls::session::Destroy;
 use server_replies::replies::reply_error;
 use server_requests::records::read_record;
+use server_requests::source::Segments;
 use server_segments::{Error, Reader, Writer};
 use std::alloc::Global;
 
@@ -51,7 +44,7 @@ pub fn opcode_of(number: u32) -> Option<Opcode>
 }
 
 impl<F: FileSystem> Server<F> {
-    ghost use Rattle.virtiofsd_fuse.specs.Serving.{ServerHandles, RowHandles, OpcodeHandles, Leaves};
+    ghost use Rattle.virtiofsd_fuse.specs.Serving.{ServerHandles, OpcodeHandles, Leaves};
 
     /// A server with which nothing was agreed yet. The guest's pages have `page_size` bytes.
     pub fn new(fs: F, page_size: u32) -> Server<F>
@@ -113,13 +106,35 @@ impl<F: FileSystem> Server<F> {
         &self.fs
     }
 
-    // Answers a request that isn't served.
-    fn unserved(&mut self, head: &InHeader, r: &Reader<'_>, w: &mut Writer) -> Result<usize, Error>
+    // Serves a request that asks one plain call, or none.
+    #[inline(always)]
+    fn serve_single(
+        &mut self,
+        alloc: Global,
+        opcode: Opcode,
+        head: &InHeader,
+        r: Reader<'_>,
+        w: &mut Writer,
+    ) -> Result<usize, Error>
         requires fresh { w.old.written ≡ [] }
-        ensures handles { RowHandles F.may self.old w.old.free head.now unserved_row r.now.left result w.new.written self.new }
-        ensures rest { Leaves false result w.old w.new self.old self.new }
+        requires room { w.old.free < 2 ^ 32 }
+        requires single { is_single opcode ≡ true }
+        ensures handles { OpcodeHandles F.may self.old w.old.free head.now opcode r.entry.left result w.new.written self.new }
+        ensures rest { Leaves (takes_memory (given head.now self.old.options.0 w.old.free) opcode r.entry.segments r.entry.left)
+            result w.old w.new self.old self.new }
     {
-        reply_error(w, head.unique, Errno::ENOSYS)
+        let mut held = Vec::new(alloc);
+        let source = Segments {
+            alloc,
+            reader: r,
+            held: &mut held,
+        };
+        match row_meaning(opcode, head, self.options, source) {
+            RequestMeaning::Call(call) => self.perform(alloc, head.unique, call, w),
+            RequestMeaning::Error(error) => reply_error(w, head.unique, error),
+            RequestMeaning::Silence => silence(),
+            RequestMeaning::Fault(error) => Err(error),
+        }
     }
 
     // Serves a request by its opcode.
@@ -130,64 +145,23 @@ impl<F: FileSystem> Server<F> {
         alloc: Global,
         opcode: Opcode,
         head: &InHeader,
-        r: &mut Reader<'_>,
+        mut r: Reader<'_>,
         w: &mut Writer,
     ) -> Result<usize, Error>
         requires fresh { w.old.written ≡ [] }
         requires room { w.old.free < 2 ^ 32 }
-        ensures handles { OpcodeHandles F.may self.old w.old.free head.now opcode r.old.left result w.new.written self.new }
-        ensures rest { Leaves (takes_memory (given head.now self.old.options.0 w.old.free) opcode r.old.segments r.old.left)
+        ensures handles { OpcodeHandles F.may self.old w.old.free head.now opcode r.entry.left result w.new.written self.new }
+        ensures rest { Leaves (takes_memory (given head.now self.old.options.0 w.old.free) opcode r.entry.segments r.entry.left)
             result w.old w.new self.old self.new }
     {
         match opcode {
-            Opcode::Lookup => self.name_request::<Lookup>(alloc, head, r, w),
-            Opcode::Forget => self.record_request::<Forget>(head, r, w),
-            Opcode::Getattr => self.record_request::<Getattr>(head, r, w),
-            Opcode::Readlink => self.plain_request::<Readlink>(head, r, w),
-            Opcode::Unlink => self.name_request::<Unlink>(alloc, head, r, w),
-            Opcode::Rmdir => self.name_request::<Rmdir>(alloc, head, r, w),
-            Opcode::Open => self.record_request::<Open>(head, r, w),
-            Opcode::Statfs => self.plain_request::<Statfs>(head, r, w),
-            Opcode::Release => self.record_request::<Release>(head, r, w),
-            Opcode::Fsync => self.record_request::<Fsync>(head, r, w),
-            Opcode::Removexattr => self.name_request::<Removexattr>(alloc, head, r, w),
-            Opcode::Flush => self.record_request::<Flush>(head, r, w),
-            Opcode::Opendir => self.record_request::<Opendir>(head, r, w),
-            Opcode::Releasedir => self.record_request::<Releasedir>(head, r, w),
-            Opcode::Fsyncdir => self.record_request::<Fsyncdir>(head, r, w),
-            Opcode::Getlk => self.plain_request::<Getlk>(head, r, w),
-            Opcode::Setlk => self.plain_request::<Setlk>(head, r, w),
-            Opcode::Setlkw => self.plain_request::<Setlkw>(head, r, w),
-            Opcode::Access => self.record_request::<Access>(head, r, w),
-            Opcode::Bmap => self.plain_request::<Bmap>(head, r, w),
-            Opcode::Ioctl => self.plain_request::<Ioctl>(head, r, w),
-            Opcode::Poll => self.plain_request::<Poll>(head, r, w),
-            Opcode::NotifyReply => self.plain_request::<NotifyReply>(head, r, w),
-            Opcode::Fallocate => self.record_request::<Fallocate>(head, r, w),
-            Opcode::Lseek => self.record_request::<Lseek>(head, r, w),
-            Opcode::CopyFileRange => self.record_request::<CopyFileRange>(head, r, w),
-            Opcode::Syncfs => self.plain_request::<Syncfs>(head, r, w),
-            Opcode::TmpFile => self.plain_request::<TmpFile>(head, r, w),
-            Opcode::Read => self.read(alloc, head, r, w),
-            Opcode::Setattr => self.record_request::<Setattr>(head, r, w),
-            Opcode::Interrupt => self.interrupt(head, r, w),
-            Opcode::Destroy => self.plain_request::<Destroy>(head, r, w),
-            Opcode::Write => self.write(alloc, head, r, w),
-            Opcode::Readdir => self.read_directory(head, false, r, w),
-            Opcode::Readdirplus => self.read_directory(head, true, r, w),
-            Opcode::BatchForget => self.batch_forget(alloc, head, r, w),
-            Opcode::Init => self.init(head, r, w),
-            Opcode::Setxattr => self.setxattr(alloc, head, r, w),
-            Opcode::Getxattr => self.getxattr(alloc, head, r, w),
-            Opcode::Listxattr => self.listxattr(head, r, w),
-            Opcode::Symlink => self.symlink(alloc, head, r, w),
-            Opcode::Mknod => self.new_name_request::<Mknod>(alloc, head, r, w),
-            Opcode::Mkdir => self.new_name_request::<Mkdir>(alloc, head, r, w),
-            Opcode::Create => self.new_name_request::<Create>(alloc, head, r, w),
-            Opcode::Link => self.record_name_request::<Link>(alloc, head, r, w),
-            Opcode::Rename => self.two_names_request::<Rename>(alloc, head, r, w),
-            Opcode::Rename2 => self.two_names_request::<Rename2>(alloc, head, r, w),
-            Opcode::SetupMapping | Opcode::RemoveMapping => self.unserved(head, r, w),
+            Opcode::Read => self.read(alloc, head, &mut r, w),
+            Opcode::Write => self.write(alloc, head, &mut r, w),
+            Opcode::Readdir => self.read_directory(head, false, &mut r, w),
+            Opcode::Readdirplus => self.read_directory(head, true, &mut r, w),
+            Opcode::BatchForget => self.batch_forget(alloc, head, &mut r, w),
+            Opcode::Init => self.init(head, &mut r, w),
+            _ => self.serve_single(alloc, opcode, head, r, w),
         }
     }
 
@@ -197,14 +171,14 @@ impl<F: FileSystem> Server<F> {
         &mut self,
         alloc: Global,
         head: &InHeader,
-        r: &mut Reader<'_>,
+        r: Reader<'_>,
         w: &mut Writer,
     ) -> Result<usize, Error>
         requires fresh { w.old.written ≡ [] }
         requires room { w.old.free < 2 ^ 32 }
         ensures handles { ServerHandles F.may self.old w.old.free
-            (meant (given head.now self.old.options.0 w.old.free) r.old.left) result w.new.written self.new }
-        ensures rest { Leaves (body_takes_memory (given head.now self.old.options.0 w.old.free) r.old.segments r.old.left)
+            (meant (given head.now self.old.options.0 w.old.free) r.entry.left) result w.new.written self.new }
+        ensures rest { Leaves (body_takes_memory (given head.now self.old.options.0 w.old.free) r.entry.segments r.entry.left)
             result w.old w.new self.old self.new }
     {
         if head.len > MAX_REQUEST_LEN {
@@ -238,7 +212,7 @@ impl<F: FileSystem> Server<F> {
         ensures page_size { self.new.page_size ≡ self.old.page_size }
     {
         match read_record(&mut r) {
-            Ok(head) => self.serve(alloc, &head, &mut r, w),
+            Ok(head) => self.serve(alloc, &head, r, w),
             Err(error) => Err(error),
         }
     }

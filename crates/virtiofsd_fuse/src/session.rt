@@ -2,7 +2,7 @@
 
 ghost use Rattle.std.specs.Prelude.{◌≡◌, ℕ, ◌<◌, ◌^◌, List, [], bit_and, Ok, false};
 ghost use Rattle.fuse_fs.specs.Calls.{Destroy, Done};
-ghost use Rattle.virtiofsd_fuse.specs.Grammar.{silent_row, init_row, started, known_options};
+ghost use Rattle.virtiofsd_fuse.specs.Grammar.{init_row, started, known_options};
 ghost use Rattle.virtiofsd_fuse.specs.Serving.{RowHandles, Leaves, agreed};
 
 use crate::server::Server;
@@ -91,20 +91,6 @@ impl<F: FileSystem> Server<F> {
             },
             Err(error) => Err(error),
         }
-    }
-
-    /// INTERRUPT: no call is made, and there is no reply.
-    pub(crate) fn interrupt(
-        &mut self,
-        head: &InHeader,
-        r: &Reader<'_>,
-        w: &Writer,
-    ) -> Result<usize, Error>
-        requires fresh { w.now.written ≡ [] }
-        ensures handles { RowHandles F.may self.old w.now.free head.now silent_row r.now.left result w.now.written self.new }
-        ensures rest { Leaves false result w.now w.now self.old self.new }
-    {
-        silence()
     }
 
     /// Ends a conversation: the file system is told, and nothing is agreed from then on.

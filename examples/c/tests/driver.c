@@ -42,6 +42,7 @@ static void start(struct driver *driver, uint16_t position) {
     const struct fs_region regions[REGIONS] = {
         {QUIET, QUIET_LEN, host + 2 * REGION_LEN}, {0, REGION_LEN, host}, {HIGH, REGION_LEN, host + REGION_LEN}};
     driver->live = (struct live){.queue = {.desc = DESC, .avail = AVAIL, .used = USED, .size = RING_SIZE, .position = position},
+                                 .avail_at = (uintptr_t)place_of(driver, AVAIL),
                                  .used_at = (uintptr_t)place_of(driver, USED),
                                  .kick = driver->live.kick,
                                  .call = driver->live.call,
@@ -56,7 +57,7 @@ static void start(struct driver *driver, uint16_t position) {
 static void stop(struct driver *driver) {
     live_stop(&driver->live);
     driver->served += driver->live.served;
-    driver->busy += driver->live.busy;
+    if (driver->live.most > driver->most) driver->most = driver->live.most;
 }
 
 void driver_begin(struct driver *driver, size_t thread_count) {
@@ -123,7 +124,7 @@ bool wait_for_all(struct driver *driver, int milliseconds) {
         atomic_store_explicit(flags, 0, memory_order_relaxed);
         atomic_thread_fence(memory_order_seq_cst);
         if (is_back(driver)) return true;
-        if (poll(&event, 1, milliseconds) <= 0) return is_back(driver);
+        if (poll(&event, 1, milliseconds) <= 0) return false; /* whether or not all is back: nobody said so */
         if (read(event.fd, &calls, sizeof calls) < 0 && errno != EAGAIN) die("no call");
     }
 }

@@ -18,7 +18,8 @@ struct driver {
     struct answers answers;
     size_t thread_count;
     uint16_t offered, seen; /* how many chains were offered, and how many came back */
-    uint64_t served, busy;  /* of the queues that were begun anew */
+    uint64_t served;        /* of the queues that were begun anew; */
+    uint16_t most;          /* so many chains were out at once */
 };
 
 _Noreturn void die(const char *format, ...) __attribute__((format(printf, 1, 2)));

@@ -134,7 +134,7 @@ impl<F: Served> VhostUserBackendReqHandlerMut for FrontEnd<F> {
     fn set_vring_num(&mut self, index: u32, num: u32) -> Result<()> {
         let size = Some(num).filter(|num| (1..=SIZE_MAX).contains(num) && num.is_power_of_two());
         let size = size.ok_or_else(|| told(io::Error::other("a size that no queue has")))?;
-        self.ring(index)?.state().layout.size = size as u16; // 2^15 at most
+        self.ring(index)?.state().tell(|numbers| numbers.layout.size = size as u16); // 2^15 at most
         Ok(())
     }
 
@@ -150,15 +150,16 @@ impl<F: Served> VhostUserBackendReqHandlerMut for FrontEnd<F> {
         let memory = self.core.memory();
         let at = |front_end| memory.guest_address(front_end).map_err(told);
         let (descriptors, available, used) = (at(descriptor)?, at(available)?, at(used)?);
-        let mut state = self.ring(index)?.state();
-        let size = state.layout.size;
-        state.layout = pitskhomu::QueueLayout { size, descriptors, available, used };
+        self.ring(index)?.state().tell(|numbers| {
+            let size = numbers.layout.size;
+            numbers.layout = pitskhomu::QueueLayout { size, descriptors, available, used };
+        });
         Ok(())
     }
 
     fn set_vring_base(&mut self, index: u32, base: u32) -> Result<()> {
         let position = u16::try_from(base).map_err(|_| told(io::Error::other("a base that no split queue has")))?;
-        self.ring(index)?.state().position = position;
+        self.ring(index)?.state().tell(|numbers| numbers.position = position);
         Ok(())
     }
 

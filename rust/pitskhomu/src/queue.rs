@@ -1,4 +1,5 @@
 //! A virtqueue: where its parts stand, and how far it has come.
+use crate::chain;
 use crate::status::Status;
 
 /// The size of a split virtqueue and the guest addresses of its parts (VIRTIO 1.2, 2.7), as the driver told them.
@@ -14,8 +15,7 @@ pub struct QueueLayout {
     pub used: u64,
 }
 
-/// A queue (struct fs_queue). It is told with each call, and moved on by it. To begin anew, make another; and drop the workers' chains
-/// that walk it before (a worker has none but after a panic).
+/// A queue (struct fs_queue). It is told with each call, and moved on by it. Of several workers each has at most one chain out of it.
 #[repr(C)]
 #[derive(Debug, Default)]
 pub struct Queue {
@@ -24,16 +24,48 @@ pub struct Queue {
     used: u64,
     size: u16,
     position: u16,
-    out: u16,
+    returned: u16,
+    most_out: u16,
     stopped: u16,
+    returning: u8,
+    begun: u32,
+    taken: u32,
 }
 
 impl Queue {
-    /// A queue that begins at a position of the available ring: 0 after a reset, or where another left off. Numbers that are none are
-    /// refused by the first call with it (`Status::BadArgument`).
+    /// A queue that begins at a position of the available ring: 0 after a reset, or where another left off. One chain is out of it at a time.
+    /// Numbers that are none are refused by the first call with it (`Status::BadArgument`). To begin a queue anew, hand this to its `begin`:
+    /// by its numbers alone it can't be told from one of before.
     pub const fn new(layout: QueueLayout, position: u16) -> Queue {
         let QueueLayout { size, descriptors, available, used } = layout;
-        Queue { desc: descriptors, avail: available, used, size, position, out: 0, stopped: 0 }
+        Queue {
+            desc: descriptors,
+            avail: available,
+            used,
+            size,
+            position,
+            returned: position,
+            most_out: 1,
+            stopped: 0,
+            returning: 0,
+            begun: 0,
+            taken: 0,
+        }
+    }
+
+    /// The same with up to `most` chains out at a time, 1 to the queue's size: as many as workers serve it.
+    pub const fn with_most_out(mut self, most: u16) -> Queue {
+        self.most_out = most;
+        self
+    }
+
+    /// Begins anew, as another does: its walks and the chains that are out of it are refused from here on (`Status::OtherQueue`; their
+    /// workers `abandon` them). Errors, after which it is as it was: `BadArgument`.
+    pub fn begin(&mut self, anew: Queue) -> Result<(), Status> {
+        let mut begun = Queue { begun: self.begun, ..anew };
+        chain::begin(&mut begun, anew.position)?;
+        *self = begun;
+        Ok(())
     }
 
     /// Its size, and where its parts stand.
@@ -41,14 +73,24 @@ impl Queue {
         QueueLayout { size: self.size, descriptors: self.desc, available: self.avail, used: self.used }
     }
 
-    /// Where it stands: of how many chains it was told that they went back, modulo 2^16. A chain's return moves it.
+    /// Where the next chain is taken, modulo 2^16. While none is out it is where the queue stands.
     pub const fn position(&self) -> u16 {
         self.position
     }
 
-    /// Whether a chain is out: between calls only after a panic.
-    pub const fn has_chain_out(&self) -> bool {
-        self.out != 0
+    /// How many chains went back, modulo 2^16, counted from where it began.
+    pub const fn returned(&self) -> u16 {
+        self.returned
+    }
+
+    /// How many chains are out: of one worker between calls only after a panic.
+    pub const fn out(&self) -> u16 {
+        self.position.wrapping_sub(self.returned)
+    }
+
+    /// How many may be out.
+    pub const fn most_out(&self) -> u16 {
+        self.most_out
     }
 
     /// The refusal that stopped it, if one did; of a queue of a record `Status::Stopped`.

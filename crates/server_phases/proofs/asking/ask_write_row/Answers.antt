@@ -9,7 +9,7 @@ pub returns-in-Ok-clause-told : goal.returns-in-Ok-clause-told
 returns-in-Ok-clause-told c = λ page_size options bytes begins len.
     rw (write_asks (given c.args.head.now options c.args.room) bytes (drop 40 bytes) c.in-Ok.request
     (record_by_front write_in c.args.source.bytes.now bytes c.record.new.self.bytes.now c.in-Ok.request begins c.in-Ok.ensures.reads))
-    (c.ask_write.ensures.told page_size options (drop 40 bytes) len)
+    (c.write_asked.ensures.told page_size options (drop 40 bytes) len)
 
 pub returns-in-Err-clause-told : goal.returns-in-Err-clause-told
 returns-in-Err-clause-told c = λ page_size options bytes begins len.

@@ -5,7 +5,7 @@ use Rattle.server_requests.proofs.extensions.extensions.Given as goal
 
 abbrev pub invariant-loop-options : goal.invariant-loop-options
 invariant-loop-options l =
-    ToGo l.options.0 (extensions l.options.0 (length l.fn.bytes) nothing_sent l.fn.bytes) (sent_of l.progress.received) l.progress.rest.now
+    ToGo l.options.0 (extensions l.options.0 (length l.fn.bytes) nothing_sent l.fn.bytes) (sent_of l.progress.sent) l.progress.rest.now
 
 abbrev pub decreases-loop-options : goal.decreases-loop-options
 decreases-loop-options l = length l.progress.rest.now

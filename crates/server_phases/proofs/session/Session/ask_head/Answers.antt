@@ -10,7 +10,8 @@ returns-then-head-gt-MAX_REQUEST_LEN-clause-told c =
 
 pub returns-in-Some-clause-told : goal.returns-in-Some-clause-told
 returns-in-Some-clause-told c =
-    rw (meant_row (given c.args.head.now c.args.self.now.options.0 c.args.room) c.args.source.bytes.now (Some c.in-Some.opcode) c.if-head-gt-MAX_REQUEST_LEN.false (sym c.in-Some.ensures)) c.ask_row.ensures.told
+    let g = given c.args.head.now c.args.self.now.options.0 c.args.room in
+    rw (meant_row g c.args.source.bytes.now (Some c.in-Some.opcode) c.if-head-gt-MAX_REQUEST_LEN.false (sym c.in-Some.ensures)) c.ask_row.ensures.told
 
 pub returns-in-None-clause-told : goal.returns-in-None-clause-told
 returns-in-None-clause-told c =

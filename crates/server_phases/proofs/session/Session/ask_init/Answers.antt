@@ -19,7 +19,10 @@ returns-in-Ok-flags2-clause-told c =
 
 pub returns-in-Err-flags2-clause-told : goal.returns-in-Err-flags2-clause-told
 returns-in-Err-flags2-clause-told c =
-    fault_told (setting c.args.self.now.page_size c.args.self.now.options.0 c.args.room) _ _ (init_short_later (given c.args.head.now c.args.self.now.options.0 c.args.room) _ _ _ _ c.in-Ok.ensures.reads c.in-Err-flags2.ensures)
+    fault_told (setting c.args.self.now.page_size c.args.self.now.options.0 c.args.room) _ _
+    (init_short_later (given c.args.head.now c.args.self.now.options.0 c.args.room) _ _ _ _ c.in-Ok.ensures.reads c.in-Err-flags2.ensures)
 
 pub returns-in-Err-clause-told : goal.returns-in-Err-clause-told
-returns-in-Err-clause-told c = fault_told (setting c.args.self.now.page_size c.args.self.now.options.0 c.args.room) _ _ (init_short (given c.args.head.now c.args.self.now.options.0 c.args.room) _ _ c.in-Err.ensures.reads)
+returns-in-Err-clause-told c =
+    fault_told (setting c.args.self.now.page_size c.args.self.now.options.0 c.args.room) _ _
+    (init_short (given c.args.head.now c.args.self.now.options.0 c.args.room) _ _ c.in-Err.ensures.reads)

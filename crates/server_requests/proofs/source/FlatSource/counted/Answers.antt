@@ -7,14 +7,14 @@ use Rattle.server_requests.proofs.source.FlatSource.counted.Goals as goal
 pub returns-in_default-clause-fault : goal.returns-in_default-clause-fault
 returns-in_default-clause-fault c =
     let h : c.args.len < 40 + c.args.fixed = grind (arith, common_steps) in
-    sym (counted_none _ _ _ h)
+    λ other. sym (counted_none _ _ _ h)
 
 pub returns-then-bytes-count-clause-fault : goal.returns-then-bytes-count-clause-fault
 returns-then-bytes-count-clause-fault c =
     let s = c.in-Some.ensures in
     let h : 40 + c.args.fixed ≤ c.args.len = omega arith in
     let few : length c.args.self.bytes.now < c.args.len - (40 + c.args.fixed) = omega (arith, c.if-bytes-count.true) in
-    sym (counted_short _ _ _ h few)
+    λ other. sym (counted_short _ _ _ h few)
 
 pub returns-clause-bytes : goal.returns-clause-bytes
 returns-clause-bytes c =

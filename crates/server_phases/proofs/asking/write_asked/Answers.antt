@@ -1,0 +1,14 @@
+use Rattle.std.proofs.Common.{refl}
+use Rattle.server_calls.specs.Requests.{write_call}
+use Rattle.virtiofsd_fuse.specs.Grammar.{One}
+use Rattle.server_phases.proofs.asking.write_asked.Goals as goal
+
+pub returns-clause-told : goal.returns-clause-told
+returns-clause-told c = λ page_size options bytes e. (
+  One c.args.head.now.unique (write_call c.args.head.now c.args.request.now bytes),
+  refl,
+  c.write_value.ensures.call bytes,
+  c.write_value.ensures.data_apart bytes e,
+  (refl, refl, tt, refl),
+  refl,
+)

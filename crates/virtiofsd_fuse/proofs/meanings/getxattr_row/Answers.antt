@@ -1,0 +1,44 @@
+use Rattle.std.proofs.Common.{refl, sym, ap, ◌∙◌}
+use Rattle.fuse_in.specs.declared.nodes.GetxattrIn.{GetxattrIn}
+use Rattle.fuse_in.specs.Records.{getxattr_in}
+use Rattle.virtiofsd_fuse.specs.Grammar.{Given, given, at_most_a_mebibyte}
+use Rattle.server_requests.specs.Fronts.{with_bytes}
+use Rattle.server_requests.specs.Reading.{◌>>◌, last_name}
+use Rattle.server_calls.specs.Requests.{getxattr_call}
+use Rattle.virtiofsd_fuse.proofs.Rows.{bytes_read, bytes_fault, sized, too_large}
+use Rattle.virtiofsd_fuse.proofs.Serve.{ask_of}
+use Rattle.virtiofsd_fuse.proofs.ReadRows.{call_read}
+use Rattle.virtiofsd_fuse.proofs.meanings.getxattr_row.Goals as goal
+
+pub returns-in-Ok-last_name : goal.returns-in-Ok-last_name
+returns-in-Ok-last_name g c = λ room.
+    let front = λ (x : Given). with_bytes getxattr_in 8 x.header.len in
+    let parts = λ (x : Given) (r : GetxattrIn). at_most_a_mebibyte r.size >> last_name in
+    call_read g.S.Source.splits _ c.args.head.now _ (getxattr_call c.args.head.now c.in-Ok.front.record _) _
+    (bytes_read (given c.args.head.now c.args.options.0 room) front parts getxattr_call _ c.in-Ok.front.record _ c.in-Ok.ensures.reads
+    ∙ ap (ask_of c.args.head.now.unique (getxattr_call c.args.head.now c.in-Ok.front.record)) (sized _ last_name _ c.if-front-gt-MAX_BUFFER_SIZE.false ∙ sym c.in-Ok-last_name.ensures.ok))
+    c.value.ensures refl (refl, tt)
+
+pub returns-in-Err-last_name : goal.returns-in-Err-last_name
+returns-in-Err-last_name g c = λ room.
+    let front = λ (x : Given). with_bytes getxattr_in 8 x.header.len in
+    let parts = λ (x : Given) (r : GetxattrIn). at_most_a_mebibyte r.size >> last_name in (
+      λ other. bytes_read (given c.args.head.now c.args.options.0 room) front parts getxattr_call _ c.in-Ok.front.record _ c.in-Ok.ensures.reads
+          ∙ ap (ask_of c.args.head.now.unique (getxattr_call c.args.head.now c.in-Ok.front.record)) (sized _ last_name _ c.if-front-gt-MAX_BUFFER_SIZE.false ∙ sym c.in-Err-last_name.ensures.err.0),
+      λ none. c.in-Err-last_name.ensures.err.1,
+    )
+
+pub returns-in-Err : goal.returns-in-Err
+returns-in-Err g c = λ room.
+    let front = λ (x : Given). with_bytes getxattr_in 8 x.header.len in
+    let parts = λ (x : Given) (r : GetxattrIn). at_most_a_mebibyte r.size >> last_name in (
+      λ other. bytes_fault (given c.args.head.now c.args.options.0 room) front parts getxattr_call _ _ (c.in-Err.ensures.fault other),
+      λ none. c.in-Err.ensures.in_place none,
+    )
+
+pub returns-then-front-gt-MAX_BUFFER_SIZE : goal.returns-then-front-gt-MAX_BUFFER_SIZE
+returns-then-front-gt-MAX_BUFFER_SIZE g c = λ room.
+    let front = λ (x : Given). with_bytes getxattr_in 8 x.header.len in
+    let parts = λ (x : Given) (r : GetxattrIn). at_most_a_mebibyte r.size >> last_name in
+    bytes_read (given c.args.head.now c.args.options.0 room) front parts getxattr_call _ c.in-Ok.front.record _ c.in-Ok.ensures.reads
+    ∙ ap (ask_of c.args.head.now.unique (getxattr_call c.args.head.now c.in-Ok.front.record)) (too_large _ last_name _ c.if-front-gt-MAX_BUFFER_SIZE.true)

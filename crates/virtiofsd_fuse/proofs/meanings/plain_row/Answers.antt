@@ -1,0 +1,8 @@
+use Rattle.std.proofs.Common.{refl, ap}
+use Rattle.virtiofsd_fuse.proofs.ReadRows.{call_read, is_made}
+use Rattle.virtiofsd_fuse.proofs.meanings.plain_row.Goals as goal
+
+pub returns : goal.returns
+returns g c = λ room.
+    let says = g.R.PlainValue.says c.args.head.now in
+    call_read g.S.Source.splits _ c.args.head.now _ (g.R.PlainValue.call c.args.head.now) _ refl c.value.ensures (ap is_made says.0) says.1

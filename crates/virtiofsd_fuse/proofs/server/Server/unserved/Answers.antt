@@ -1,8 +1,0 @@
-use Rattle.std.proofs.Common.{refl}
-use Rattle.virtiofsd_fuse.specs.Serving.{setting}
-use Rattle.virtiofsd_fuse.proofs.Serve.{handles_reply}
-use Rattle.virtiofsd_fuse.proofs.server.Server.unserved.Goals as goal
-
-pub returns-clause-handles : goal.returns-clause-handles
-returns-clause-handles g c =
-    handles_reply g.F.FileSystemBase.may (setting c.args.self.now.page_size c.args.self.now.options.0 c.args.w.now.free) _ _ _ _ _ refl c.reply_error.ensures.sent

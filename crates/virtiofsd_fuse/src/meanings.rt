@@ -1,0 +1,305 @@
+//! What requests mean, read once for both uses: by `Server`, which performs it, and by who is told it as a value.
+
+ghost use Rattle.std.specs.Prelude.{◌≡◌, ◌||◌, true, false};
+ghost use Rattle.server_requests.specs.Fronts.{counted_split, setxattr_len};
+ghost use Rattle.virtiofsd_fuse.specs.Grammar.{given, row, plain_row, record_row, name_row, record_name_row, two_names_row, new_name_row};
+ghost use Rattle.virtiofsd_fuse.specs.Grammar.{symlink_row, getxattr_row, listxattr_row, setxattr_row};
+ghost use Rattle.virtiofsd_fuse.specs.Rows.{RowReads, is_single};
+ghost use Rattle.virtiofsd_fuse.specs.WantOfMemory.{row_owns, takes_memory};
+
+use fuse_in::{GetxattrIn, InHeader};
+use fuse_values::FileCall;
+use fuse_wire::{Errno, FsOptions, Opcode};
+use server_calls::links::{Link, Rename, Rename2};
+use server_calls::new_nodes::{Create, Mkdir, Mknod, symlink_value};
+use server_calls::nodes::{
+    Access, Forget, Getattr, Lookup, Readlink, Removexattr, Rmdir, Setattr, Statfs, Syncfs, Unlink,
+};
+use server_calls::open_files::{
+    CopyFileRange, Fallocate, Flush, Fsync, Fsyncdir, Lseek, Open, Opendir, Release, Releasedir,
+};
+use server_calls::plain_requests::{Bmap, Getlk, Ioctl, NotifyReply, Poll, Setlk, Setlkw, TmpFile};
+use server_calls::session::Destroy;
+use server_calls::values::{
+    NameValue, NewNameValue, PlainValue, RecordNameValue, RecordValue, TwoPartsValue,
+};
+use server_calls::xattrs::{Getxattr, Listxattr, Setxattr};
+use server_replies::init::MAX_BUFFER_SIZE;
+use server_requests::names::{last_name, name_and_value, two_names};
+use server_requests::new_names::{new_link, new_name};
+use server_requests::source::{Source, record_and_bytes, setxattr_and_bytes};
+use server_segments::Error;
+
+/// What a request means that asks at most one call, whose names stand in the request.
+#[derive(Drop)]
+pub enum RequestMeaning<'a> {
+    /// This call.
+    Call(FileCall<'a>),
+    /// No call; the reply tells this error.
+    Error(Errno),
+    /// No call, and no reply.
+    Silence,
+    /// No call, and no reply: the fault.
+    Fault(Error),
+}
+
+// Nothing but the header.
+#[inline(always)]
+fn plain_row<'a, R: PlainValue, S: Source<'a> + Drop>(
+    head: &InHeader,
+    options: FsOptions,
+    source: S,
+) -> RequestMeaning<'a>
+    ensures { RowReads S.splits (λ g. false) head.now options.0 (plain_row R.call) (S.left source) result }
+{
+    RequestMeaning::Call(R::value(head))
+}
+
+// One record.
+#[inline(always)]
+fn record_row<'a, R: RecordValue, S: Source<'a> + Drop>(
+    head: &InHeader,
+    options: FsOptions,
+    source: S,
+) -> RequestMeaning<'a>
+    ensures { RowReads S.splits (λ g. false) head.now options.0 (record_row R.Record.shape R.call) (S.left source) result }
+{
+    let mut source = source;
+    match source.record() {
+        Ok(request) => RequestMeaning::Call(R::value(head, &request)),
+        Err(error) => RequestMeaning::Fault(error),
+    }
+}
+
+// One name.
+#[inline(always)]
+fn name_row<'a, R: NameValue, S: Source<'a> + Drop>(
+    head: &InHeader,
+    options: FsOptions,
+    source: S,
+) -> RequestMeaning<'a>
+    ensures { RowReads S.splits (λ g. counted_split g.header.len 0 (S.segments source)) head.now options.0 (name_row R.call) (S.left source) result }
+{
+    match source.counted(head.len, 0) {
+        Ok(bytes) => match last_name(bytes) {
+            Ok(name) => RequestMeaning::Call(R::value(head, name)),
+            Err(error) => RequestMeaning::Fault(error),
+        },
+        Err(error) => RequestMeaning::Fault(error),
+    }
+}
+
+// One record and one name.
+#[inline(always)]
+fn record_name_row<'a, R: RecordNameValue, S: Source<'a> + Drop>(
+    head: &InHeader,
+    options: FsOptions,
+    source: S,
+) -> RequestMeaning<'a>
+    ensures { RowReads S.splits (λ g. counted_split g.header.len R.Record.SIZE (S.segments source))
+        head.now options.0 (record_name_row R.Record.shape R.Record.SIZE R.call) (S.left source) result }
+{
+    match record_and_bytes::<R::Record, S>(source, head.len) {
+        Ok(front) => match last_name(front.bytes) {
+            Ok(name) => RequestMeaning::Call(R::value(head, &front.record, name)),
+            Err(error) => RequestMeaning::Fault(error),
+        },
+        Err(error) => RequestMeaning::Fault(error),
+    }
+}
+
+// One record and two names.
+#[inline(always)]
+fn two_names_row<'a, R: TwoPartsValue, S: Source<'a> + Drop>(
+    head: &InHeader,
+    options: FsOptions,
+    source: S,
+) -> RequestMeaning<'a>
+    ensures { RowReads S.splits (λ g. counted_split g.header.len R.Record.SIZE (S.segments source))
+        head.now options.0 (two_names_row R.Record.shape R.Record.SIZE R.call) (S.left source) result }
+{
+    match record_and_bytes::<R::Record, S>(source, head.len) {
+        Ok(front) => match two_names(front.bytes) {
+            Ok((old, new)) => RequestMeaning::Call(R::value(head, &front.record, old, new)),
+            Err(error) => RequestMeaning::Fault(error),
+        },
+        Err(error) => RequestMeaning::Fault(error),
+    }
+}
+
+// One record and the name of a node that is made.
+#[inline(always)]
+fn new_name_row<'a, R: NewNameValue, S: Source<'a> + Drop>(
+    head: &InHeader,
+    options: FsOptions,
+    source: S,
+) -> RequestMeaning<'a>
+    ensures { RowReads S.splits (λ g. row_owns g (new_name_row R.Record.shape R.Record.SIZE R.call) (S.left source)
+        || counted_split g.header.len R.Record.SIZE (S.segments source))
+        head.now options.0 (new_name_row R.Record.shape R.Record.SIZE R.call) (S.left source) result }
+{
+    match record_and_bytes::<R::Record, S>(source, head.len) {
+        Ok(front) => match new_name(options, front.bytes) {
+            Ok(new) => {
+                let call = R::value(head, &front.record, new.name, new.received);
+                RequestMeaning::Call(call)
+            }
+            Err(error) => RequestMeaning::Fault(error),
+        },
+        Err(error) => RequestMeaning::Fault(error),
+    }
+}
+
+// SYMLINK: two names.
+#[inline(always)]
+fn symlink_row<'a, S: Source<'a> + Drop>(
+    head: &InHeader,
+    options: FsOptions,
+    source: S,
+) -> RequestMeaning<'a>
+    ensures { RowReads S.splits (λ g. row_owns g symlink_row (S.left source)
+        || counted_split g.header.len 0 (S.segments source))
+        head.now options.0 symlink_row (S.left source) result }
+{
+    match source.counted(head.len, 0) {
+        Ok(bytes) => match new_link(options, bytes) {
+            Ok(parts) => {
+                let call = symlink_value(head, parts.link, parts.name, parts.received);
+                RequestMeaning::Call(call)
+            }
+            Err(error) => RequestMeaning::Fault(error),
+        },
+        Err(error) => RequestMeaning::Fault(error),
+    }
+}
+
+// GETXATTR: a record, and the name of an attribute, whose value has at most 2^20 bytes.
+#[inline(always)]
+fn getxattr_row<'a, S: Source<'a> + Drop>(
+    head: &InHeader,
+    options: FsOptions,
+    source: S,
+) -> RequestMeaning<'a>
+    ensures { RowReads S.splits (λ g. counted_split g.header.len 8 (S.segments source)) head.now options.0 (getxattr_row) (S.left source) result }
+{
+    match record_and_bytes::<GetxattrIn, S>(source, head.len) {
+        Ok(front) => {
+            if front.record.size > MAX_BUFFER_SIZE {
+                return RequestMeaning::Error(Errno::ENOMEM);
+            }
+            match last_name(front.bytes) {
+                Ok(name) => RequestMeaning::Call(Getxattr::value(head, &front.record, name)),
+                Err(error) => RequestMeaning::Fault(error),
+            }
+        }
+        Err(error) => RequestMeaning::Fault(error),
+    }
+}
+
+// LISTXATTR: a record, and names of at most 2^20 bytes.
+#[inline(always)]
+fn listxattr_row<'a, S: Source<'a> + Drop>(
+    head: &InHeader,
+    options: FsOptions,
+    source: S,
+) -> RequestMeaning<'a>
+    ensures { RowReads S.splits (λ g. false) head.now options.0 (listxattr_row) (S.left source) result }
+{
+    let mut source = source;
+    match source.record::<GetxattrIn>() {
+        Ok(request) => {
+            if request.size > MAX_BUFFER_SIZE {
+                return RequestMeaning::Error(Errno::ENOMEM);
+            }
+            RequestMeaning::Call(Listxattr::value(head, &request))
+        }
+        Err(error) => RequestMeaning::Fault(error),
+    }
+}
+
+// SETXATTR: a record, the name of an attribute, and its value.
+#[inline(always)]
+fn setxattr_row<'a, S: Source<'a> + Drop>(
+    head: &InHeader,
+    options: FsOptions,
+    source: S,
+) -> RequestMeaning<'a>
+    ensures { RowReads S.splits (λ g. counted_split g.header.len (setxattr_len g.options) (S.segments source))
+        head.now options.0 (setxattr_row) (S.left source) result }
+{
+    match setxattr_and_bytes(source, options, head.len) {
+        Ok(front) => match name_and_value(front.bytes, front.record.size) {
+            Ok((name, value)) => {
+                let call = Setxattr::value(head, &front.record, name, value);
+                RequestMeaning::Call(call)
+            }
+            Err(error) => RequestMeaning::Fault(error),
+        },
+        Err(error) => RequestMeaning::Fault(error),
+    }
+}
+
+/// What a request means, by its opcode and what stands behind its header. `OutOfMemory` only where names stand in several
+/// segments.
+#[tactic(auto, unfolding(crate::specs::Grammar::row))]
+#[inline(always)]
+pub fn row_meaning<'a, S: Source<'a> + Drop>(
+    opcode: Opcode,
+    head: &InHeader,
+    options: FsOptions,
+    source: S,
+) -> RequestMeaning<'a>
+    requires { is_single opcode ≡ true }
+    ensures { RowReads S.splits (λ g. takes_memory g opcode (S.segments source) (S.left source)) head.now options.0 (λ g. row g opcode) (S.left source) result }
+{
+    match opcode {
+        Opcode::Readlink => plain_row::<Readlink, S>(head, options, source),
+        Opcode::Statfs => plain_row::<Statfs, S>(head, options, source),
+        Opcode::Getlk => plain_row::<Getlk, S>(head, options, source),
+        Opcode::Setlk => plain_row::<Setlk, S>(head, options, source),
+        Opcode::Setlkw => plain_row::<Setlkw, S>(head, options, source),
+        Opcode::Bmap => plain_row::<Bmap, S>(head, options, source),
+        Opcode::Destroy => plain_row::<Destroy, S>(head, options, source),
+        Opcode::Ioctl => plain_row::<Ioctl, S>(head, options, source),
+        Opcode::Poll => plain_row::<Poll, S>(head, options, source),
+        Opcode::NotifyReply => plain_row::<NotifyReply, S>(head, options, source),
+        Opcode::Syncfs => plain_row::<Syncfs, S>(head, options, source),
+        Opcode::TmpFile => plain_row::<TmpFile, S>(head, options, source),
+        Opcode::Forget => record_row::<Forget, S>(head, options, source),
+        Opcode::Getattr => record_row::<Getattr, S>(head, options, source),
+        Opcode::Setattr => record_row::<Setattr, S>(head, options, source),
+        Opcode::Open => record_row::<Open, S>(head, options, source),
+        Opcode::Release => record_row::<Release, S>(head, options, source),
+        Opcode::Fsync => record_row::<Fsync, S>(head, options, source),
+        Opcode::Flush => record_row::<Flush, S>(head, options, source),
+        Opcode::Opendir => record_row::<Opendir, S>(head, options, source),
+        Opcode::Releasedir => record_row::<Releasedir, S>(head, options, source),
+        Opcode::Fsyncdir => record_row::<Fsyncdir, S>(head, options, source),
+        Opcode::Access => record_row::<Access, S>(head, options, source),
+        Opcode::Fallocate => record_row::<Fallocate, S>(head, options, source),
+        Opcode::Lseek => record_row::<Lseek, S>(head, options, source),
+        Opcode::CopyFileRange => record_row::<CopyFileRange, S>(head, options, source),
+        Opcode::Lookup => name_row::<Lookup, S>(head, options, source),
+        Opcode::Unlink => name_row::<Unlink, S>(head, options, source),
+        Opcode::Rmdir => name_row::<Rmdir, S>(head, options, source),
+        Opcode::Removexattr => name_row::<Removexattr, S>(head, options, source),
+        Opcode::Link => record_name_row::<Link, S>(head, options, source),
+        Opcode::Rename => two_names_row::<Rename, S>(head, options, source),
+        Opcode::Rename2 => two_names_row::<Rename2, S>(head, options, source),
+        Opcode::Mknod => new_name_row::<Mknod, S>(head, options, source),
+        Opcode::Mkdir => new_name_row::<Mkdir, S>(head, options, source),
+        Opcode::Create => new_name_row::<Create, S>(head, options, source),
+        Opcode::Symlink => symlink_row(head, options, source),
+        Opcode::Getxattr => getxattr_row(head, options, source),
+        Opcode::Listxattr => listxattr_row(head, options, source),
+        Opcode::Setxattr => setxattr_row(head, options, source),
+        Opcode::Interrupt => RequestMeaning::Silence,
+        Opcode::SetupMapping | Opcode::RemoveMapping => RequestMeaning::Error(Errno::ENOSYS),
+        Opcode::Init
+        | Opcode::BatchForget
+        | Opcode::Read
+        | Opcode::Write
+        | Opcode::Readdir
+        | Opcode::Readdirplus => unreachable!(),
+    }
+}
