@@ -38,6 +38,7 @@ use Rattle.fs_chain.specs.declared.state.Out.{Out}
 use Rattle.fs_chain.specs.declared.state.State as state
 use Rattle.fs_chain.specs.declared.state.State.TheVariants as at
 use Rattle.fs_chain.specs.declared.state.Ticket.{Ticket}
+use Rattle.fs_chain.specs.declared.loads.Went.TheVariants as wents
 use Rattle.fs_chain.specs.declared.walking.WalkOutcome as walked
 use Rattle.fs_chain.specs.declared.walking.WalkOutcome.TheVariants as says
 use Rattle.fs_chain.specs.declared.workbench.Workbench.{Workbench}
@@ -67,6 +68,7 @@ use Rattle.fs_chain.specs.Whole.{
   IsBefore,
   IsInOrder,
   IsSession,
+  LoadsOf,
   LoadsOfChain,
   RefusalIsStepBy,
   WalksBy,

@@ -18,7 +18,7 @@ pub returns-clause-answered : goal.returns-clause-answered
 returns-clause-answered g c = chain_is_answered_by _
 
 pub returns-clause-faulty_answered : goal.returns-clause-faulty_answered
-returns-clause-faulty_answered g c = faulty_is_answered_by _
+returns-clause-faulty_answered g c = faulty_is_answered_by g.F.FileSystemBase.may
 
 pub returns-clause-served : goal.returns-clause-served
 returns-clause-served g c = chain_is_step_by _
