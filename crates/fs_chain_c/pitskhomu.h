@@ -39,10 +39,10 @@
  *  4. Order of a return: data over the room, the front over its begin, the element's two halves, then the index by one atomic store
  *     of 2 bytes that releases; a full barrier (atomic_thread_fence(memory_order_seq_cst)); then the load of 2 bytes at `seen_at`.
  *  5. Windows are used until fs_returned, fs_drop or fs_abandon, and only those that were told: stores go to the room's alone.
- *  6. Memory stays mapped while a chain is out over it; a page is marked in a migration's log after the store and before fs_returned.
+ *  6. Memory stays mapped while a chain is out over it, and all chains of a queue go over the same regions: change these while none is walked or out; a page is marked in a migration's log after the store and before fs_returned.
  *  7. One call at a time on a chain, on a queue, on a device that isn't const; each with the thread's order in between.
- *  8. A queue begins anew by fs_queue_begin (or fs_restore): its walks and its chains are refused from then on, and fs_abandon frees each. No load or store of
- *     yours for them goes on by then.
+ *  8. A queue begins anew by fs_queue_begin (or fs_restore), on the struct that it has: its walks and its chains are refused from then on by each call that takes
+ *     the queue. fs_ask and the replies don't take it: let fs_abandon free each chain before. No load, store or file call of yours for them goes on by then.
  *  9. A chain that was asked is answered: with nothing else to say, by fs_reply_err(EIO), or with silence by fs_reply_bytes(0). It can't be dropped.
  * 10. malloc, realloc and free are of one allocator, aligned as C says. No call from a signal handler, nor after fork in the child
  *     of a process with threads.
@@ -310,7 +310,7 @@ struct fs_device {
 };
 #define FS_DEVICE {4096u, 0x101000u, 0u}
 
-/* A queue: zeros before its first use. You set desc, avail, used, size and most_out, and begin it by fs_queue_begin; the others are the library's. The parts'
+/* A queue: zeros before its first use, and never again. You set desc, avail, used, size and most_out, and begin it by fs_queue_begin; the others are the library's. The parts'
  * guest addresses are aligned to 16, 2 and 4 and end below 2^64; size is a power of two up to 32768. */
 struct fs_queue {
     uint64_t desc, avail, used;
@@ -320,12 +320,13 @@ struct fs_queue {
     uint16_t most_out;  /* how many may be: 1 to size; 0 counts as 1 */
     uint16_t stopped;   /* the refusal (2 to 8) that stopped it, 1 if a record tells that one did, or 0 */
     uint8_t returning;  /* 1 from fs_return to fs_returned, else 0 */
-    uint32_t begun;     /* how often it was begun anew, modulo 2^32 */
+    uint32_t begun;     /* how often it was begun anew, modulo 2^32. By parts and this number alone a queue is known, and a guest may give two the same parts:
+                           let each of yours count from a number of its own, as its index times 2^24, which you set before its first use */
     uint32_t taken;     /* how often a chain was taken or dropped, modulo 2^32 */
 };
 
 /* Begins a queue at a position (SET_VRING_BASE, 0 after a reset), by the parts that you set: no chain is out of it, and it isn't stopped. Walks and chains that
- * it had are refused from then on (FS_OTHER_QUEUE), unless it is begun anew 2^32 times.
+ * it had are refused from then on by the calls that take the queue (FS_OTHER_QUEUE), unless it is begun anew 2^32 times.
  * Errors: FS_BAD_ARGUMENT (the numbers that you set are no queue's); then nothing is done. */
 uint32_t fs_queue_begin(struct fs_queue *queue, uint16_t position) FS_CHECK FS_NONNULL(1);
 
@@ -352,7 +353,7 @@ uint32_t fs_chain_set_memory(struct fs_chain *chain, const struct fs_device *dev
                          size_t region_count) FS_CHECK FS_NONNULL(1, 2) FS_READS(3, 4);
 
 /* Frees what the chain holds (that is tried, not proved); then it is zeros. Of zeros it does nothing. A chain that is out is
- * lost to its queue, which counts it as out until it is begun anew: return it before. */
+ * lost to its queue, which counts it as out until it is begun anew, and lets no other go back if fs_return told its stores: return it before. */
 void fs_chain_free(struct fs_chain *chain) FS_NONNULL(1);
 
 /* What a walk says: with FS_LOAD, `len` bytes at `at`, 1 to FS_LOAD_MAX; with FS_DONE, the chain. Where nothing was done, the load that a walk still wants,
@@ -379,11 +380,12 @@ uint32_t fs_walk(struct fs_chain *chain, struct fs_queue *queue, const uint8_t *
 
 /* Gives a chain up that wasn't asked: free for another walk, nothing stored. The queue is told, and hands the same chain out at its next walk,
  * read anew. A walk ends, whatever the queue is; of zeros it does nothing.
- * Errors: FS_BAD_ARGUMENT (the queue's numbers are none), FS_WRONG_ORDER (it was asked, or has a fault: it goes back), FS_OTHER_QUEUE, FS_WRONG_ORDER (another chain of
- * the queue was taken or dropped since it was taken: ask it, or reply with silence). */
+ * Errors: FS_BAD_ARGUMENT (the queue's numbers are none), FS_WRONG_ORDER (it was asked, or has a fault: it goes back), FS_OTHER_QUEUE, FS_WRONG_ORDER (it isn't the last of
+ * those that were taken: drop these first, ask it, or reply with silence). */
 uint32_t fs_drop(struct fs_chain *chain, struct fs_queue *queue) FS_NONNULL(1, 2);
 
-/* Frees a chain whose queue was begun anew, wherever it is: for another walk, nothing stored, no queue told. Of zeros it does nothing. */
+/* Frees a chain whose queue was begun anew, or will be before its next call, wherever it is: for another walk, nothing stored, no queue told. Of zeros it
+ * does nothing. To the queue it is what fs_chain_free is. */
 void fs_abandon(struct fs_chain *chain) FS_NONNULL(1);
 
 /* A stretch of memory here, laid out as struct iovec is: a `struct fs_window[]` may be handed to preadv and its kin by a cast. */
@@ -566,14 +568,14 @@ struct fs_stores {
 
 /* Says how the chain goes back: at `returned` of its queue, whichever was taken first. Until fs_returned no other chain of the queue goes back.
  * Errors: FS_WRONG_ORDER (no memory was told), FS_BAD_ARGUMENT (the queue's numbers are none), FS_WRONG_ORDER (a call waits for its answer, or it was told),
- * FS_OTHER_QUEUE, FS_RETURNING, FS_SHORT_BUFFER (front isn't as long as what stands in it; FS_FRONT_MAX always is), FS_NO_PLACE (make no stores, and go on with fs_returned). */
+ * FS_OTHER_QUEUE, FS_RETURNING, FS_SHORT_BUFFER (front isn't as long as what stands in it; FS_FRONT_MAX always is), FS_NO_PLACE (rule 6 was broken: begin the queue anew). */
 uint32_t fs_return(struct fs_chain *chain, struct fs_queue *queue, uint8_t *front, size_t front_len, struct fs_stores *stores)
     FS_CHECK FS_NONNULL(1, 2, 5) FS_WRITES(3, 4) FS_FILLS(5);
 
 /* The stores are made: the queue's next chain goes back at the next place, the chain is free. `seen` are the 2 bytes at seen_at, as a number; `notify` says
  * whether the driver wants to be told: 1 or 0.
- * Errors: FS_WRONG_ORDER (no memory was told), FS_BAD_ARGUMENT (the queue's numbers are none), FS_WRONG_ORDER (fs_return told no stores), FS_OTHER_QUEUE (it was begun
- * anew: abandon the chain); then `notify` is 0. */
+ * Errors: FS_WRONG_ORDER (no memory was told), FS_BAD_ARGUMENT (the queue's numbers are none), FS_WRONG_ORDER (fs_return told no stores), FS_OTHER_QUEUE (hand over
+ * its own; if that was begun anew, abandon the chain); then `notify` is 0. */
 uint32_t fs_returned(struct fs_chain *chain, struct fs_queue *queue, uint16_t seen, uint8_t *notify)
     FS_CHECK FS_NONNULL(1, 2, 4) FS_FILLS(4);
 
@@ -587,7 +589,7 @@ uint32_t fs_save(const struct fs_device *device, const struct fs_queue *queues, 
                  size_t *len) FS_CHECK FS_NONNULL(1, 6) FS_READS(2, 3) FS_WRITES(4, 5) FS_FILLS(6);
 
 /* Reads a record: into device->options, whose page size and limit have to be the record's, and the queues, of which `count` are told. The record
- * tells whether a queue was stopped, and not by what: `stopped` is 1 then. Each queue is begun anew by it, and keeps its most_out. What it refuses leaves device and queues as they were. Other bytes may
+ * tells whether a queue was stopped, and not by what: `stopped` is 1 then. Each queue is begun anew by it, and keeps its most_out, which the record's size bounds. What it refuses leaves device and queues as they were. Other bytes may
  * stand behind the record.
  * Errors: FS_BAD_ARGUMENT (of the device), 81 to 90 by what is read first, FS_SHORT_BUFFER (of queues; count tells how many there are, and is 0
  * after the others). */

@@ -44,13 +44,13 @@ pub fn queue(rt: &impl Abort) -> KeptQueue
     ensures none_out { result.returned ≡ result.position }
 {
     let layout = QueueLayout::new(4, 0, 0x50, 0x60).expect(rt, "a layout");
-    KeptQueue::begin(layout, 0xffff, 1)
+    KeptQueue::new(layout, 0xffff, 1)
 }
 
 /// A queue of sixteen descriptors: its table at 0, its rings at 0x100 and 0x128.
 pub fn long_queue(rt: &impl Abort) -> KeptQueue {
     let layout = QueueLayout::new(16, 0, 0x100, 0x128).expect(rt, "a layout");
-    KeptQueue::begin(layout, 0xffff, 1)
+    KeptQueue::new(layout, 0xffff, 1)
 }
 
 /// A session of pages of 4096 bytes in which nothing was agreed.

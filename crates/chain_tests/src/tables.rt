@@ -32,7 +32,7 @@ fn workbench(rt: &impl Abort, alloc: Global, ranges: &[(u64, u64)]) -> Workbench
 // A queue of so many descriptors: its table at 0, its rings at 0x1000 and 0x1400.
 fn queue(rt: &impl Abort, size: u16) -> KeptQueue {
     let layout = QueueLayout::new(size, 0, 0x1000, 0x1400).expect(rt, "a layout");
-    KeptQueue::begin(layout, 0xffff, 1)
+    KeptQueue::new(layout, 0xffff, 1)
 }
 
 // Puts a descriptor behind others.

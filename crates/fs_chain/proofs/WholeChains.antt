@@ -38,6 +38,7 @@ use Rattle.fs_chain.specs.declared.state.Out.{Out}
 use Rattle.fs_chain.specs.declared.state.State as state
 use Rattle.fs_chain.specs.declared.state.State.TheVariants as at
 use Rattle.fs_chain.specs.declared.state.Ticket.{Ticket}
+use Rattle.fs_chain.specs.declared.loads.Went.TheVariants as wents
 use Rattle.fs_chain.specs.declared.walking.WalkOutcome as walked
 use Rattle.fs_chain.specs.declared.walking.WalkOutcome.TheVariants as says
 use Rattle.fs_chain.specs.declared.workbench.Workbench.{Workbench}
@@ -58,6 +59,7 @@ use Rattle.fs_chain.specs.Whole.{
   ChainIsStep,
   ChainIsStepBy,
   FaultyChainBy,
+  FaultyIsAnsweredBy,
   FaultyIsStepBy,
   FromReplied,
   FromTaken,
@@ -66,6 +68,7 @@ use Rattle.fs_chain.specs.Whole.{
   IsBefore,
   IsInOrder,
   IsSession,
+  LoadsOf,
   LoadsOfChain,
   RefusalIsStepBy,
   WalksBy,
@@ -154,15 +157,15 @@ told_so may m i kq request room files s out (asks.Fault e) asked answered (Some 
 -- a chain's loads, by which it is offered, and how it is answered
 chain_parts : {F : Type 0} (may : May F) (given : List (List ℕ)) (request : List ℕ) (calls : Calls) (acts : List Act) (last head i : ℕ) (notice : Bool)
     (old new : Workbench) (before : KeptQueue) (s : Session) (m : State F) (files : F) (run : ChainBy given request calls acts last head notice old new before s)
-    → IsBefore old before i m → IsSession s m → FileRun may m.files calls files
+    → before.stopped ≡ None → old.limit ≤ 2 ^ 31 → IsSession s m → FileRun may m.files calls files
     → (loaded : Loaded) × LoadsOfChain given request calls acts last head notice old new before s run loaded
     × OffersBy (places_in old.regions) old.limit (queue_of (course_of before old.limit)) loaded request (Offers head (IsRequest request (addresses_of (writable run.walked_bench.descriptors.items))))
     × AnsweredSo may m i (queue_back before run.back) head request (addresses_of (writable run.walked_bench.descriptors.items)) calls notice acts last new.session.options.0 files
-chain_parts {F} may given request calls acts last head i notice old new before s m files run first session files_run =
+chain_parts {F} may given request calls acts last head i notice old new before s m files run goes bound session files_run =
     let course = course_of before old.limit in
     let q = queue_of course in
     let ds = run.walked_bench.descriptors.items in
-    let all = walk_comes given old run.walked_bench before run.taken (says.Chain head run.lens.0 run.lens.1) first.goes run.walks in
+    let all = walk_comes given old run.walked_bench before run.taken (says.Chain head run.lens.0 run.lens.1) goes run.walks in
     let loaded = all.0 in
     let came = all.2 in
     let is = came_is ds came.0 head run.lens.0 run.lens.1 came.1.0 in
@@ -171,7 +174,7 @@ chain_parts {F} may given request calls acts last head i notice old new before s
     let room = addresses_of (writable ds) in
     let state_is : run.walked_bench.state ≡ at.Taken out = came.1.1 ∙ ap (λ (c : comes.Step). state_after course (ticket_of before) ds c) is.0 in
     let found : ComesTo (places_in old.regions) old.limit q loaded ds (step.Chain head None) = subst (λ (c : comes.Step). ComesTo (places_in old.regions) old.limit q loaded ds c) is.0 came.2 in
-    let fits = fits_limit (places_in old.regions) old.limit q loaded ds head first.bound found.1 in
+    let fits = fits_limit (places_in old.regions) old.limit q loaded ds head bound found.1 in
     let asked = subst (λ (st : state.State). FromTaken st (λ o. (o.request_len ≡ length request) × IsFront run.front request
     × TellsMeaning (setting s.page_size s.options.0 o.room_len) (meaning s.options.0 request o.room_len) (drop 80 request) o run.made run.asked_bench.state
     × (run.asked_bench.descriptors ≡ run.walked_bench.descriptors) × (run.asked_bench.session ≡ s))) state_is run.is_asked in
@@ -197,8 +200,8 @@ offered_so m old before i loaded lost request o first by =
     subst (λ (mm : Memory). offered_by mm m.limit q l ≡ Some o) (sym first.places) (subst (λ (k : ℕ). offered_by (places_in old.regions) k q l ≡ Some o) (sym first.limit) by)
 
 pub chain_is_answered_by : {F : Type 0} (may : May F) → ChainIsAnsweredBy may
-chain_is_answered_by {F} may given request calls acts last head i notice old new before s m files run first session files_run =
-    let parts = chain_parts may given request calls acts last head i notice old new before s m files run first session files_run in
+chain_is_answered_by {F} may given request calls acts last head i notice old new before s m files run goes bound session files_run =
+    let parts = chain_parts may given request calls acts last head i notice old new before s m files run goes bound session files_run in
     let so = parts.3 in
     (parts.0, parts.1, parts.2, so.0, so.1, so.2, so.3)
 
@@ -214,7 +217,7 @@ answered_there {F} may m i before back limit head request room calls x notice e 
 pub chain_is_step_by : {F : Type 0} (may : May F) → ChainIsStepBy may
 chain_is_step_by {F} may given request calls acts last head i notice old new before s m files run first in_order session files_run =
     let q = queue_of (course_of before old.limit) in
-    let parts = chain_parts may given request calls acts last head i notice old new before s m files run first session files_run in
+    let parts = chain_parts may given request calls acts last head i notice old new before s m files run first.goes first.bound session files_run in
     let loaded = parts.0 in
     let offers = parts.2 in
     let so = parts.3 in
@@ -336,11 +339,12 @@ refusal_is_step_by {F} may given e i old new before after m first walks =
 
 -- it goes back with nothing
 faulty_so : {F : Type 0} (may : May F) (m : State F) (i : ℕ) (kq : KeptQueue) (course : Course) (ticket : Ticket) (head : ℕ) (fault : ChainFault) (stores : Stores) (flags : List ℕ) (acts : List Act) (last : ℕ) (notice : Bool)
-    → length flags ≡ 2 → notice ≡ tells flags → kq.returned ≡ course.position → ReturnsBy kq (faulty_out course ticket head) no_reply stores → last ≡ front_len no_reply → acts ≡ acts_of [] no_reply [] stores flags
-    → ReturnsFaultyBy m i (queue_of course) head fault [] (faulty head fault) notice (record { acts = acts; last = last }) (after_chain m i (queue_of course) m.options m.files)
-faulty_so {F} may m i kq course ticket head fault stores flags acts last notice two told in_order back last_is acts_are =
-    let q = queue_of course in
-    let stored : stores_of stores.used ≡ stores_after_reply q head 0 = back.1 ∙ ap (λ (p : ℕ). stores_after_reply (at_position course.layout p) head 0) in_order in
+    → length flags ≡ 2 → notice ≡ tells flags → ReturnsBy kq (faulty_out course ticket head) no_reply stores → last ≡ front_len no_reply → acts ≡ acts_of [] no_reply [] stores flags
+    → ReturnsFaultyBy m i (at_position course.layout kq.returned) head fault [] (faulty head fault) notice (record { acts = acts; last = last })
+    (after_chain m i (at_position course.layout kq.returned) m.options m.files)
+faulty_so {F} may m i kq course ticket head fault stores flags acts last notice two told back last_is acts_are =
+    let q = at_position course.layout kq.returned in
+    let stored : stores_of stores.used ≡ stores_after_reply q head 0 = back.1 in
     let done : acts ≡ return_acts (return_stores q head [] [] last) flags =
     acts_are ∙ ap (λ (ss : List Store). map act.Stores ss ++ act.LoadsFlags flags ∷ []) stored
     ∙ sym (ap (λ (n : ℕ). return_acts (return_stores q head [] [] n) flags) last_is) in
@@ -350,13 +354,18 @@ faulty_so {F} may m i kq course ticket head fault stores flags acts last notice 
       returns = record { exchange = refl; flags = flags; flags_len = two; acts = done; state = refl; told = told };
     }
 
-pub faulty_is_step_by : {F : Type 0} (may : May F) → FaultyIsStepBy may
-faulty_is_step_by {F} may given fault acts last head i notice old before m first run in_order =
+-- its loads, by which it is offered, and how it goes back
+faulty_parts : {F : Type 0} (may : May F) (given : List (List ℕ)) (fault : ChainFault) (acts : List Act) (last head i : ℕ) (notice : Bool) (old : Workbench) (before : KeptQueue) (m : State F)
+    (run : FaultyChainBy given fault acts last head notice old before) → before.stopped ≡ None
+    → (loaded : Loaded) × LoadsOf given old run.walked_bench before run.taken (wents.On (says.Faulty head fault)) run.walks loaded
+    × OffersBy (places_in old.regions) old.limit (queue_of (course_of before old.limit)) loaded [] (Offers head (CannotFetch fault))
+    × ReturnsFaultyBy m i (queue_back before run.back) head fault [] (faulty head fault) notice (record { acts = acts; last = last }) (after_chain m i (queue_back before run.back) m.options m.files)
+faulty_parts {F} may given fault acts last head i notice old before m run goes =
     let course = course_of before old.limit in
     let ticket = ticket_of before in
     let q = queue_of course in
     let ds = run.walked_bench.descriptors.items in
-    let all = walk_comes given old run.walked_bench before run.taken (says.Faulty head fault) first.goes run.walks in
+    let all = walk_comes given old run.walked_bench before run.taken (says.Faulty head fault) goes run.walks in
     let loaded = all.0 in
     let came = all.2 in
     let is = faulty_is ds came.0 head fault came.1.0 in
@@ -365,11 +374,27 @@ faulty_is_step_by {F} may given fault acts last head i notice old before m first
     let state_is : run.walked_bench.state ≡ at.HasReply (faulty_out course ticket head) no_reply = came.1.1 ∙ ap (λ (c : comes.Step). state_after course ticket ds c) is in
     let back : ReturnsBy run.back (faulty_out course ticket head) no_reply run.returns.stores × ((last ≡ front_len no_reply) × (acts ≡ acts_of [] no_reply [] run.returns.stores run.returns.flags)) =
     subst (λ (st : state.State). FromReplied run.back st (λ reply s₁. (last ≡ front_len reply) × (acts ≡ acts_of [] reply [] s₁ run.returns.flags)) run.returns.stores) state_is run.returns.returns in
+    let done = faulty_so may m i run.back course ticket head fault run.returns.stores run.returns.flags acts last notice run.returns.flags_len run.returns.notified back.0 back.1.0 back.1.1 in
+    (loaded, all.1, found, done)
+
+pub faulty_is_answered_by : {F : Type 0} (may : May F) → FaultyIsAnsweredBy may
+faulty_is_answered_by {F} may given fault acts last head i notice old before m run goes =
+    let parts = faulty_parts may given fault acts last head i notice old before m run goes in
+    (parts.0, parts.1, parts.2, faulty head fault, parts.3)
+
+pub faulty_is_step_by : {F : Type 0} (may : May F) → FaultyIsStepBy may
+faulty_is_step_by {F} may given fault acts last head i notice old before m first run in_order =
+    let q = queue_of (course_of before old.limit) in
+    let parts = faulty_parts may given fault acts last head i notice old before m run first.goes in
+    let loaded = parts.0 in
+    let found = parts.2 in
     let l = step_loads loaded found.1 [] in
     let o = Offers head (CannotFetch fault) in
-    let done = faulty_so may m i run.back course ticket head fault run.returns.stores run.returns.flags acts last notice run.returns.flags_len run.returns.notified in_order back.0 back.1.0 back.1.1 in (
+    let e : Effects = record { acts = acts; last = last } in
+    let P : ℕ → Type 0 = λ p. ReturnsFaultyBy m i (at_position before.layout p) head fault [] (faulty head fault) notice e (after_chain m i (at_position before.layout p) m.options m.files) in
+    let done = subst P in_order parts.3 in (
       loaded,
-      all.1,
+      parts.1,
       found.1,
       (found.0, found.2),
       faulty head fault,
@@ -405,7 +430,7 @@ chain_is_step {F} may given request calls acts last head i notice old new before
     let q = queue_of (course_of before old.limit) in
     let memory = memory_of h old.regions in
     let rooms = addresses_of (writable run.walked_bench.descriptors.items) in
-    let parts = chain_parts may given request calls acts last head i notice old new before s m files run first session files_run in
+    let parts = chain_parts may given request calls acts last head i notice old new before s m files run first.goes first.bound session files_run in
     let loaded = parts.0 in
     let has = having loaded parts.1 in
     let by = parts.2 in

@@ -66,6 +66,6 @@ is_at q c t = q.begun == t.begun && q.taken == t.taken && q.position == c.positi
 abbrev pub is_out_of : KeptQueue → Out → Bool
 is_out_of q out = not (out_count q == 0) && q.begun == out.ticket.begun && is_laid_out q.layout out.course.layout
 
--- whether a chain was taken last: none was taken or given up since
+-- whether a chain is the last of those that were taken: each one that was taken after it was given up, by fewer than 2^16 takes and give-ups
 abbrev pub is_last : KeptQueue → Out → Bool
-is_last q out = q.taken == (out.ticket.taken + 1) % 2 ^ 32
+is_last q out = q.position == (out.course.position + 1) % 2 ^ 16 && nat_lt ((q.taken + (2 ^ 32 - out.ticket.taken)) % 2 ^ 32) (2 ^ 16)

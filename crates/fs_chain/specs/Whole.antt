@@ -7,7 +7,7 @@ use Rattle.fs_queue.specs.declared.fault.QueueError.{QueueError}
 use Rattle.fs_queue.specs.Queue.{Queue}
 use Rattle.fs_queue.specs.Chain.{Descriptor}
 use Rattle.fs_queue.specs.Loads.{Load}
-use Rattle.fs_queue.specs.Taking.{Offers, IsRequest, writable, addresses_of, after_refusal}
+use Rattle.fs_queue.specs.Taking.{Offers, CannotFetch, IsRequest, writable, addresses_of, after_refusal}
 use Rattle.fs_queue.specs.Returning.{tells, advanced}
 use Rattle.fs_queue.specs.ReturningView.{stores_of}
 use Rattle.fs_queue.specs.WalkingView.{at_position}
@@ -47,7 +47,7 @@ use Rattle.fs_chain.specs.Walks.{course_of, told_of}
 use Rattle.fs_device.specs.declared.error.DeviceError.TheVariants as device
 use Rattle.fs_device.specs.Step.{State, Exchange, Idle, Refused, Exchanged, Calls, Step, with_queue}
 use Rattle.fs_device.specs.StepBy as act
-use Rattle.fs_device.specs.StepBy.{AnswersBy, StepLoads, StepBy, Act, Effects, reply_stores, after_stores, stores_among, FindFlags, MayStoreLast}
+use Rattle.fs_device.specs.StepBy.{AnswersBy, ReturnsFaultyBy, StepLoads, StepBy, Act, Effects, reply_stores, after_stores, stores_among, FindFlags, MayStoreLast}
 
 -- ---- the walk
 
@@ -248,19 +248,28 @@ FaultyIsStepBy {F} may =
     × StepBy may m i (step_loads loaded lost []) [] (Exchanged x notice) (record { acts = acts; last = last })
     (after_chain m i (queue_of (course_of before old.limit)) m.options m.files)
 
+-- whichever chains of its queue go back before it, a faulty chain goes back with nothing where it does
+abbrev pub FaultyIsAnsweredBy : {F : Type 0} → May F → Type 0
+FaultyIsAnsweredBy {F} may =
+    (given : List (List ℕ)) (fault : ChainFault) (acts : List Act) (last head i : ℕ) (notice : Bool) (old : Workbench) (before : KeptQueue) (m : State F) →
+    (run : FaultyChainBy given fault acts last head notice old before) → before.stopped ≡ None → let q = queue_back before run.back in
+    (loaded : Loaded) × LoadsOf given old run.walked_bench before run.taken (wents.On (says.Faulty head fault)) run.walks loaded
+    × OffersBy (places_in old.regions) old.limit (queue_of (course_of before old.limit)) loaded [] (Offers head (CannotFetch fault)) × (x : Exchange)
+    × ReturnsFaultyBy m i q head fault [] x notice (record { acts = acts; last = last }) (after_chain m i q m.options m.files)
+
 -- these loads came of the calls of a chain's walk
 abbrev pub LoadsOfChain : (given : List (List ℕ)) (request : List ℕ) (calls : Calls) (acts : List Act) (last head : ℕ) (notice : Bool) (old new : Workbench) (before : KeptQueue) (s : Session)
     → ChainBy given request calls acts last head notice old new before s → Loaded → Type 0
 LoadsOfChain given request calls acts last head notice old new before s run loaded =
     LoadsOf given old run.walked_bench before run.taken (wents.On (says.Chain head run.lens.0 run.lens.1)) run.walks loaded
 
--- whatever the guest writes meanwhile, and whichever chains of its queue are taken and go back meanwhile, what its loads offer is answered as the plain machine answers
--- it whose queue stands where the chain goes back: by these calls, this reply and these stores
+-- whatever the guest writes meanwhile, and whichever chains of its queue are taken and go back meanwhile, what its loads offer is answered as a plain machine, whatever its
+-- memory, answers it on a queue that stands where the chain goes back: by these calls, this reply and these stores
 abbrev pub ChainIsAnsweredBy : {F : Type 0} → May F → Type 0
 ChainIsAnsweredBy {F} may =
     (given : List (List ℕ)) (request : List ℕ) (calls : Calls) (acts : List Act) (last head i : ℕ) (notice : Bool)
     (old new : Workbench) (before : KeptQueue) (s : Session) (m : State F) (files : F) →
-    (run : ChainBy given request calls acts last head notice old new before s) → IsBefore old before i m → IsSession s m → FileRun may m.files calls files →
+    (run : ChainBy given request calls acts last head notice old new before s) → before.stopped ≡ None → old.limit ≤ 2 ^ 31 → IsSession s m → FileRun may m.files calls files →
     let room = addresses_of (writable run.walked_bench.descriptors.items) in let q = queue_back before run.back in
     (loaded : Loaded) × LoadsOfChain given request calls acts last head notice old new before s run loaded
     × OffersBy (places_in old.regions) old.limit (queue_of (course_of before old.limit)) loaded request (Offers head (IsRequest request room))

@@ -32,8 +32,8 @@ impl Workbench {
     }
 
     /// Gives up a walk, or a chain whose request wasn't asked: the handle is free, and the queue hands the same chain out at its next walk, read anew.
-    /// `WrongOrder` if its request was asked, since then a reply ends it, or silence (`reply`), or if another chain was taken or given up since it
-    /// was taken; `OtherQueue` if it isn't out of this queue.
+    /// `WrongOrder` if its request was asked, since then a reply ends it, or silence (`reply`), or if it isn't the last of those that were taken;
+    /// `OtherQueue` if it isn't out of this queue.
     pub fn give_up(&mut self, queue: &mut KeptQueue) -> Result<(), ChainError>
         ensures error { IfErr result (λ e. give_up_error self.old.state queue.old ≡ Some e) }
         ensures ok { OnOk result (give_up_error self.old.state queue.old ≡ None) }

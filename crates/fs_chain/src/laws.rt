@@ -1,7 +1,7 @@
 //! Laws of the definitions: contracts of functions that do nothing.
 
 ghost use Rattle.fs_chain.specs.Laws.{WalksAreOffers};
-ghost use Rattle.fs_chain.specs.Whole.{ChainIsAnsweredBy, ChainIsStep, ChainIsStepBy, FaultyIsStepBy, IdleIsStepBy, RefusalIsStepBy, WantedHasAPlace};
+ghost use Rattle.fs_chain.specs.Whole.{ChainIsAnsweredBy, ChainIsStep, ChainIsStepBy, FaultyIsAnsweredBy, FaultyIsStepBy, IdleIsStepBy, RefusalIsStepBy, WantedHasAPlace};
 
 use fs_regions::laws::law_offers;
 use fuse_fs::FileSystem;
@@ -24,6 +24,7 @@ pub fn law_chains<F: FileSystem>()
     ensures refused { RefusalIsStepBy F.may }
     ensures faulty { FaultyIsStepBy F.may }
     ensures answered { ChainIsAnsweredBy F.may }
+    ensures faulty_answered { FaultyIsAnsweredBy F.may }
     ensures served { ChainIsStepBy F.may }
     ensures memory { ChainIsStep F.may }
 {}

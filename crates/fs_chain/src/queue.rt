@@ -39,8 +39,9 @@ fn is_laid_out(mine: &QueueLayout, other: &QueueLayout) -> bool
 }
 
 impl KeptQueue {
-    /// A queue that begins at a position: no chain is out, and at most so many may be.
-    pub fn begin(layout: QueueLayout, position: u16, most_out: u16) -> KeptQueue
+    /// A queue that begins at a position for the first time: no chain is out, and at most so many may be. One that is there is begun anew by `begin_anew`:
+    /// chains of before are known by how often.
+    pub fn new(layout: QueueLayout, position: u16, most_out: u16) -> KeptQueue
         ensures { result ≡ first_begun layout position most_out }
     {
         KeptQueue {
@@ -135,10 +136,11 @@ impl KeptQueue {
             && is_laid_out(&self.layout, &out.course.layout)
     }
 
-    // Whether a chain was taken last.
+    // Whether a chain is the last of those that were taken.
     pub(crate) fn took_last(&self, out: &Out) -> bool
         ensures { result ≡ is_last self.now out.now }
     {
-        self.taken == out.ticket.taken.wrapping_add(1)
+        self.position == out.course.position.wrapping_add(1)
+            && self.taken.wrapping_sub(out.ticket.taken) < 0x1_0000
     }
 }

@@ -99,7 +99,7 @@ read_status NoDevice = chain_error_number BadArgument
 -- and done: device and queues go on from the record, or stay as they are
 abbrev pub ReadsSo : FsDevice → List FsQueue → (saved : List ℕ) → Outcome → (count : ℕ) → FsDevice → List FsQueue → Type 0
 ReadsSo d queues saved (Read options qs) count d' queues' =
-    IsDevice d × HasRecord d saved options qs × (count ≡ length qs) × (d' ≡ record d { options = options })
+    IsDevice d × HasRecord d saved options qs × (count ≡ length qs) × (count ≤ length queues) × (d' ≡ record d { options = options })
     × (queues' ≡ restored_over queues qs)
 ReadsSo d queues saved (NoPlace options qs) count d' queues' =
     IsDevice d × HasRecord d saved options qs × (count ≡ length qs) × (length queues < count) × (d' ≡ d) × (queues' ≡ queues)

@@ -72,7 +72,7 @@ fn memory_again(alloc: Global) -> Result<GuestRegions, Unmet> {
 // A queue of 64 descriptors: its table at 0, its rings at 0x400 and 0x500.
 fn queue() -> Result<KeptQueue, Unmet> {
     match QueueLayout::new(64, 0, 0x400, 0x500) {
-        Ok(layout) => Ok(KeptQueue::begin(layout, 0, 1)),
+        Ok(layout) => Ok(KeptQueue::new(layout, 0, 1)),
         Err(_) => Err(Unmet::Drawing),
     }
 }

@@ -1,4 +1,4 @@
-use Rattle.fs_chain.proofs.WholeChains.{chain_is_answered_by, chain_is_step, chain_is_step_by, faulty_is_step_by, idle_is_step_by, refusal_is_step_by}
+use Rattle.fs_chain.proofs.WholeChains.{chain_is_answered_by, chain_is_step, chain_is_step_by, faulty_is_answered_by, faulty_is_step_by, idle_is_step_by, refusal_is_step_by}
 use Rattle.fs_chain.proofs.WholeWalks.{wanted_has_a_place}
 use Rattle.fs_chain.proofs.laws.law_chains.Goals as goal
 
@@ -16,6 +16,9 @@ returns-clause-faulty g c = faulty_is_step_by _
 
 pub returns-clause-answered : goal.returns-clause-answered
 returns-clause-answered g c = chain_is_answered_by _
+
+pub returns-clause-faulty_answered : goal.returns-clause-faulty_answered
+returns-clause-faulty_answered g c = faulty_is_answered_by g.F.FileSystemBase.may
 
 pub returns-clause-served : goal.returns-clause-served
 returns-clause-served g c = chain_is_step_by _
