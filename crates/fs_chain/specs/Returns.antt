@@ -22,6 +22,7 @@ put_front reply buffer = front_of reply ++ drop (front_len reply) buffer
 abbrev pub ReturnsBy : KeptQueue → Out → Reply → Stores → Type 0
 ReturnsBy q out reply s =
     (s.front_len ≡ front_len reply) × (stores_of s.used ≡ stores_after_reply (at_return q out) out.head (reply_len out reply)) × (s.seen_at ≡ seen_at q.event_index out.course.layout)
+    × (s.used.flags ≡ out.course.layout.avail)
 
 -- of a chain whose reply is known
 abbrev pub IfHasReply : state.State → (Out → Reply → Type 0) → Type 0

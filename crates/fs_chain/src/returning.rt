@@ -19,7 +19,7 @@ use fs_queue::Return;
 pub struct Stores {
     /// How many bytes of the front go over the room's first.
     pub front_len: usize,
-    /// The used element and the used index.
+    /// The used element, the used index, and where the available flags stand.
     pub used: Return,
     /// The guest address of the two bytes that are loaded then, behind a full barrier: whether the driver wants to be told.
     pub seen_at: u64,
