@@ -14,8 +14,9 @@ struct marker {
 /* One load of 2 bytes that acquires. */
 uint16_t load_index(uintptr_t at);
 
-/* One store of 2 bytes, and a full barrier. */
-void store_flags(uintptr_t at, uint16_t flags);
+/* Says to the driver whether its kicks are wanted (VIRTIO 1.2, 2.7.10): at most one store of 2 bytes, and a full barrier. Whether something was
+ * stored: where they are wanted, walk once more then, since a chain may have come before the driver could know. `marker` may be NULL. */
+bool ask_kicks(struct fs_chain *chain, const struct fs_queue *queue, bool wanted, const struct marker *marker);
 
 /* Walks to the next chain of a queue: the status is FS_DONE with a chain, FS_IDLE, or why there is none. */
 uint32_t take_chain(struct fs_chain *chain, struct fs_queue *queue, struct fs_step *step);
@@ -37,7 +38,8 @@ uint32_t ask(struct fs_chain *chain, const struct fs_device *device, uint8_t *re
  * was put into the room, mark yourself); `marker` may be NULL. `notify` becomes true if the driver wants to be told. */
 uint32_t give_back(struct fs_chain *chain, struct fs_queue *queue, const struct marker *marker, bool *notify);
 
-/* Has no chain out of the queue, whatever this one came to: what was taken and isn't given back waits as before. */
-void give_up(struct fs_chain *chain, struct fs_queue *queue);
+/* Has this chain out of the queue no more, whatever it came to: one that wasn't asked waits as before if it is the last that was taken, and
+ * any other goes back, with silence if it has no reply. `notify` as with give_back. */
+void give_up(struct fs_chain *chain, struct fs_queue *queue, const struct marker *marker, bool *notify);
 
 #endif

@@ -7,7 +7,7 @@
 #include <sys/eventfd.h>
 #include <unistd.h>
 
-enum { PAGE_SIZE = 4096, LIMIT = FS_REQUEST_MAX, RETRY_MILLISECONDS = 10, NO_NOTIFY = 1 };
+enum { PAGE_SIZE = 4096, LIMIT = FS_REQUEST_MAX, RETRY_MILLISECONDS = 10 };
 
 /* What came of looking for a chain: one went back, none waits, or one waits for which there is no memory yet. */
 enum found { SERVED, NOTHING, LATER };
@@ -33,15 +33,33 @@ static uint32_t serve_request(struct worker *worker, const struct fs_step *step)
     return status == FS_DONE || status == FS_NO_ROOM ? FS_DONE : fs_reply_err(&worker->chain, EIO);
 }
 
-/* Takes the next chain. The library lets one out of a queue at a time, so threads of one queue take turns. */
+/* Takes the next chain. FS_CHAIN_OUT: as many are out as the queue holds, and whoever gives one back looks again. */
 static uint32_t take(struct worker *worker, struct fs_step *step) {
     struct live *live = worker->live;
-    uint32_t status;
-    while ((status = take_chain(&worker->chain, &live->queue, step)) == FS_CHAIN_OUT) {
-        live->busy++;
-        pthread_cond_wait(&live->returned, &live->lock);
-    }
-    return status;
+    uint32_t status = live->refused ? FS_IDLE : take_chain(&worker->chain, &live->queue, step);
+    uint16_t out = (uint16_t)(live->queue.position - live->queue.returned);
+    if (out > live->most) live->most = out;
+    return status == FS_CHAIN_OUT ? FS_IDLE : status;
+}
+
+/* Says to the driver whether it has to kick, if it doesn't know. Whether it had to be told: then look once more, since a chain may have come
+ * before. */
+static bool want_kicks(struct worker *worker, bool wanted) {
+    struct live *live = worker->live;
+    uint16_t at = wanted && live->queue.event_index ? live->queue.position : 0;
+    if (live->kicks == (wanted ? WANTED : UNWANTED) && live->told_at == at) return false;
+    live->kicks = wanted ? WANTED : UNWANTED;
+    live->told_at = at;
+    return ask_kicks(&worker->chain, &live->queue, wanted, live->marker);
+}
+
+/* What comes while a chain is answered is for a thread that sleeps. If none does, this one looks again by itself, and a kick would cost
+ * the guest an exit for nothing. */
+static void hand_on(struct worker *worker) {
+    struct live *live = worker->live;
+    bool is_for_another = live->sleeping > 0;
+    want_kicks(worker, is_for_another);
+    if (is_for_another && load_index(live->avail_at + 2) != live->queue.position) signal_event(live->kick);
 }
 
 /* The lock is held, but while the request is served. */
@@ -49,8 +67,9 @@ static enum found serve_one(struct worker *worker) {
     struct live *live = worker->live;
     struct fs_step step;
     bool notify = false;
-    uint32_t status = live->refused ? FS_IDLE : take(worker, &step);
+    uint32_t status = take(worker, &step);
     if (status == FS_IDLE) return NOTHING;
+    if (status == FS_DONE) hand_on(worker);
     if (status == FS_DONE && step.fault == 0) {
         pthread_mutex_unlock(&live->lock);
         status = serve_request(worker, &step);
@@ -59,39 +78,31 @@ static enum found serve_one(struct worker *worker) {
         live->faulty++;
     }
     if (status == FS_DONE) status = give_back(&worker->chain, &live->queue, live->marker, &notify);
-    if (status != FS_DONE) give_up(&worker->chain, &live->queue);
-    pthread_cond_broadcast(&live->returned);
+    if (status != FS_DONE) give_up(&worker->chain, &live->queue, live->marker, &notify);
+    if (notify) signal_event(live->call);
     if (status == FS_OUT_OF_MEMORY) return LATER;
     if (status == FS_DONE) live->served++;
     else if (!live->refused) live->refused = status;
-    if (notify) signal_event(live->call);
     return status == FS_DONE ? SERVED : NOTHING;
 }
 
 /* ------------------------------------------------------------- sleep and wake */
 
-/* Says in the used ring's flags whether the driver has to kick (VIRTIO 1.2, 2.7.10). */
-static void want_kicks(struct live *live, bool wanted) {
-    store_flags(live->used_at, wanted ? 0 : NO_NOTIFY);
-    if (live->marker) live->marker->mark(live->marker->log, live->used_at, 2);
-}
-
-/* Serves chains until none waits. While somebody looks for chains anyway, a kick would cost the guest an exit for nothing. Behind the
- * barrier it looks once more: the driver may have read the flags before they changed. */
+/* Serves chains until none waits. */
 static enum found serve_all(struct worker *worker) {
     struct live *live = worker->live;
     enum found found;
     pthread_mutex_lock(&live->lock);
+    live->sleeping--;
     do {
-        if (live->looking++ == 0) want_kicks(live, false);
         while ((found = serve_one(worker)) == SERVED) {}
-        if (--live->looking == 0) want_kicks(live, true);
-    } while (found == NOTHING && (found = serve_one(worker)) == SERVED);
+    } while (want_kicks(worker, true));
+    live->sleeping++;
     pthread_mutex_unlock(&live->lock);
     return found;
 }
 
-/* A kick wakes the threads, each of which goes on until no chain waits: what comes behind the last walk brings a kick of its own. */
+/* A kick wakes the threads that sleep, each of which goes on until no chain waits: what comes behind the last walk brings a kick of its own. */
 static void *work(void *at) {
     struct worker *worker = at;
     struct live *live = worker->live;
@@ -122,8 +133,10 @@ static int start_worker(struct live *live, const struct fs_region *regions, size
 int live_start(struct live *live, const struct fs_region *regions, size_t region_count, size_t thread_count) {
     live->quit = eventfd(0, EFD_CLOEXEC);
     live->workers = calloc(thread_count, sizeof *live->workers);
-    if (live->quit < 0 || !live->workers || pthread_mutex_init(&live->lock, NULL) || pthread_cond_init(&live->returned, NULL))
-        return ENOMEM;
+    live->queue.most_out = thread_count < live->queue.size ? (uint16_t)thread_count : live->queue.size;
+    live->sleeping = (unsigned)thread_count;
+    if (live->quit < 0 || !live->workers || pthread_mutex_init(&live->lock, NULL)) return ENOMEM;
+    if (fs_queue_begin(&live->queue, live->queue.position) != FS_DONE) return EINVAL;
     for (size_t k = 0; k < thread_count; k++) {
         int error = start_worker(live, regions, region_count);
         if (error) return error;

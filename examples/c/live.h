@@ -19,26 +19,29 @@ struct worker {
     uint8_t *request;
 };
 
-/* Set the first eight, and the rest to 0. `used_at` is the place here of the used ring's flags. */
+/* Set the first eight, and the rest to 0; of the queue its parts, its size, whether the driver took VIRTIO_F_EVENT_IDX, and the position where it
+ * begins. `avail_at` is the place here of the available ring. */
 struct live {
     struct fs_queue queue; /* from here on the threads', under the lock */
-    uintptr_t used_at;
+    uintptr_t avail_at;
     int kick, call;
     _Atomic uint64_t *options; /* what INIT agreed on: all queues of a device share it */
     answerer *answer;
     void *files;
     const struct marker *marker; /* or NULL */
-    uint64_t served, faulty, busy; /* chains that went back, with a fault too; how often a thread waited for another's chain */
-    uint32_t refused;              /* why the queue isn't served any more, or 0 */
-    unsigned looking;              /* threads that look for chains: meanwhile no kick is wanted */
+    uint64_t served, faulty; /* chains that went back, with a fault too */
+    uint32_t refused;        /* why the queue isn't served any more, or 0 */
+    uint16_t most;           /* so many chains were out at once */
+    enum { UNTOLD, WANTED, UNWANTED } kicks; /* what the driver was told, */
+    uint16_t told_at;        /* and with an event index at which position */
+    unsigned sleeping; /* threads that wait for a kick */
     pthread_mutex_t lock;
-    pthread_cond_t returned;
     struct worker *workers;
     size_t count;
     int quit;
 };
 
-/* Starts so many threads over the guest's memory. 0 or an errno. */
+/* Begins the queue, and starts so many threads over the guest's memory, each of which has a chain out at a time. 0 or an errno. */
 int live_start(struct live *live, const struct fs_region *regions, size_t region_count, size_t thread_count);
 
 /* Why the queue isn't served any more (set DEVICE_NEEDS_RESET), or 0. */

@@ -251,7 +251,7 @@ static uint32_t serve(bool *notify) {
         if (status == FS_DONE) status = give_back(&chain, &queue, &marker, notify);
         if (status != FS_DONE) break;
     }
-    if (status != FS_IDLE) give_up(&chain, &queue); /* what was taken and isn't given back waits as before */
+    if (status != FS_IDLE) give_up(&chain, &queue, &marker, notify); /* what was taken and isn't given back */
     return status;
 }
 
@@ -284,6 +284,7 @@ int main(void) {
     struct fs_region region = {.guest = 0, .len = MEMORY, .host = (uintptr_t)memory};
     if (memory == MAP_FAILED || fs_version() != FS_VERSION) return 1;
     queue = (struct fs_queue){.desc = DESC, .avail = AVAIL, .used = USED, .size = SIZE};
+    expect(fs_queue_begin(&queue, 0), FS_DONE);
     expect(fs_chain_set_memory(&chain, &device, &region, 1), FS_DONE);
     guest_uses_a_file();
     guest_errs();

@@ -256,18 +256,24 @@ static void two_queues(unsigned seconds) {
 
 /* ------------------------------------------------------------- a slow file */
 
-/* OPEN of a file on which somebody has a lease waits for the lease, 45 seconds at most; another queue goes on. */
-static void slow_file(const char *dir) {
-    unsigned asked = 0;
-    time_t end;
+/* OPEN of a file on which somebody has a lease waits for the lease, 45 seconds at most. Answers the file that has it. */
+static int lease_slow(const char *dir) {
     char path[200];
-    struct fuse_getattr_in in = {0};
-    struct fuse_open_in open_in = {.flags = O_RDONLY};
-    uint64_t node = look_up(&front, ROOT, "slow");
     snprintf(path, sizeof path, "%s/slow", dir);
     signal(SIGIO, SIG_IGN);
     int fd = open(path, O_RDWR);
     if (fd < 0 || fcntl(fd, F_SETLEASE, F_WRLCK)) die("no lease: %s", strerror(errno));
+    return fd;
+}
+
+/* Another queue goes on. */
+static void slow_file(const char *dir) {
+    unsigned asked = 0;
+    time_t end;
+    struct fuse_getattr_in in = {0};
+    struct fuse_open_in open_in = {.flags = O_RDONLY};
+    uint64_t node = look_up(&front, ROOT, "slow");
+    int fd = lease_slow(dir);
     front_start_ring(&front, 2, 0);
     front_send(&front, 1, FUSE_OPEN, node, &open_in, sizeof open_in, 16 + 16);
     if (front_wait(&front, 1, 300)) die("the file isn't slow");
@@ -279,6 +285,56 @@ static void slow_file(const char *dir) {
     close(fd);
     if (!front_wait(&front, 1, 20000)) die("the slow file isn't opened");
     printf("a slow file: %u chains of another queue meanwhile\n", asked);
+}
+
+/* Offers a request whose head is descriptor 4 * k of ring 1, with a request and a room of its own. */
+static void send_apart(unsigned k, uint32_t opcode, uint64_t node, const void *body, uint32_t len, uint32_t room) {
+    struct fuse_in_header head = {.len = (uint32_t)sizeof head + len, .opcode = opcode, .unique = k + 1, .nodeid = node};
+    uint64_t at = request_at(1) + 0x1000 * k, table = desc_at(1);
+    memcpy(front_at(&front, at), &head, sizeof head);
+    memcpy(front_at(&front, at) + sizeof head, body, len);
+    put_descriptor(&front, table, 4 * k, at, head.len, 1, 4 * k + 1);
+    put_descriptor(&front, table, 4 * k + 1, room_at(1) + 0x1000 * k, room, 2, 0);
+    front_offer(&front, 1, (uint16_t)(4 * k));
+    front_kick(&front, 1);
+}
+
+/* Whether so many chains of ring 1 came back since it began, within 20 seconds. */
+static bool came_back(uint16_t count) {
+    for (unsigned tries = 0; tries < 200000; tries++) {
+        if (atomic_load(index_at(&front, used_at(1) + 2)) == count) return true;
+        if (tries > 1000) usleep(100);
+    }
+    return false;
+}
+
+static void *close_later(void *fd) {
+    usleep(300000);
+    close(*(int *)fd);
+    return NULL;
+}
+
+/* Threads of one queue: while one has a slow file, others go on, and their chains come back before. The ring stops when all are back. */
+static void pool(const char *dir) {
+    struct fuse_getattr_in in = {0};
+    struct fuse_open_in open_in = {.flags = O_RDONLY};
+    uint64_t node = look_up(&front, ROOT, "slow");
+    uint16_t before = front.rings[1].offered, asked = 0;
+    pthread_t closer;
+    int fd = lease_slow(dir);
+    send_apart(1, FUSE_OPEN, node, &open_in, sizeof open_in, 16 + 16);
+    for (; asked < 1000; asked++) {
+        send_apart(2 + asked % 8, FUSE_GETATTR, ROOT, &in, sizeof in, 16 + 104);
+        if (!came_back((uint16_t)(before + asked + 1))) die("GETATTR waits for a slow file of its queue");
+    }
+    pthread_create(&closer, NULL, close_later, &fd);
+    check("the position", front_stop_ring(&front, 1) == (uint16_t)(before + asked + 1));
+    check("all are back", came_back((uint16_t)(before + asked + 1)));
+    pthread_join(closer, NULL);
+    const uint8_t *element = front_at(&front, used_at(1)) + 4 + 8 * ((before + asked) % RING_SIZE);
+    check("the slow one is the last", element[0] == 4);
+    printf("a slow file: %u chains of the same queue meanwhile, and the ring stops behind it\n", asked);
+    front.rings[1].seen = front.rings[1].offered;
 }
 
 /* ------------------------------------------------------------- a group besides the caller's own */
@@ -350,6 +406,8 @@ static void run(const char *what, const char *dir, unsigned count) {
         two_queues(count);
     else if (!strcmp(what, "slow"))
         slow_file(dir);
+    else if (!strcmp(what, "pool"))
+        pool(dir);
     else if (!strcmp(what, "groups"))
         groups(dir);
     else
@@ -364,7 +422,7 @@ static const char *const *options_for(const char *what) {
 }
 
 int main(int argc, char **argv) {
-    if (argc < 4) die("usage: checks DAEMON DIR escape|readonly|sleeps|log|rings|config|memory|two|slow|groups [N]");
+    if (argc < 4) die("usage: checks DAEMON DIR escape|readonly|sleeps|log|rings|config|memory|two|slow|pool|groups [N]");
     const char *what = argv[3], *dir = argv[2];
     front_begin(&front, argv[1], dir, options_for(what));
     if (!strcmp(what, "log")) front.features |= 1ull << 26;

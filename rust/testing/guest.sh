@@ -2,6 +2,7 @@
 
 # QEMU, virtiofsd, busybox and a kernel, unpacked.
 take_guest() {
+    local name
     [ -f "$work/image" ] || {
         local packages kernel
         make_apt
@@ -82,13 +83,13 @@ make_files() {
     touch "$work/files-made"
 }
 
-# Starts a daemon on a socket: `ours`, or `virtiofsd`. Sets `server`.
+# Starts a daemon on a socket: `ours`, with THREADS for each queue, or `virtiofsd`. Sets `server`.
 start_server() {
     local kind=$1 socket=$2 log=$3
     shift 3
     rm -f "$socket"
     case $kind in
-    ours) "$DAEMON" --socket-path="$socket" --shared-dir="$share" --xattr "$@" > "$log" 2>&1 & ;;
+    ours) "$DAEMON" --socket-path="$socket" --shared-dir="$share" --xattr --thread-pool-size="${THREADS:-0}" "$@" > "$log" 2>&1 & ;;
     virtiofsd)
         # Its sandbox runs newuidmap only for who isn't root.
         (other /usr/libexec/virtiofsd --socket-path="$socket" --shared-dir="$share" --xattr "$@") > "$log" 2>&1 &
@@ -121,7 +122,7 @@ rdinit=/init scenario=$scenario" "$@") > "$run/qemu" 2>&1
 busybox=$root/usr/bin/busybox
 export root
 
-device() { echo "vhost-user-fs-pci,chardev=fs,tag=shared,queue-size=128,num-request-queues=${QUEUES:-1}${1:-}"; }
+device() { echo "vhost-user-fs-pci,chardev=fs,tag=shared,queue-size=128,num-request-queues=${QUEUES:-1}"; }
 
 # Waits for a line of the guest's.
 wait_for() {
@@ -238,14 +239,17 @@ all_are() {
 
 guest() {
     whole ours whole
+    THREADS=4 whole ours whole-threads
     QUEUES=3 whole ours whole-3 --num-request-queues 3 --cache never --killpriv-v2
     whole virtiofsd whole-virtiofsd
-    diff "$work/calls-whole-virtiofsd" "$work/calls-whole" || failure "a call came out otherwise than over virtiofsd"
+    for name in whole whole-threads; do
+        diff "$work/calls-whole-virtiofsd" "$work/calls-$name" || failure "$name: a call came out otherwise than over virtiofsd"
+    done
     make_files
     run_guest readonly ours readonly --readonly
     list_sums | expect readonly SUM
     ! grep 'NOT REFUSED' "$run/lines" || failure "readonly: a change is made"
-    run_guest pause ours pause
+    THREADS=4 run_guest pause ours pause
     all_are pause READER "$(sum "$share/files/m8")"
     ! grep 'OTHER BYTES' "$run/lines" || failure "pause: other bytes"
     run_guest unbind ours unbind

@@ -98,15 +98,21 @@ static unsigned look_about(void) {
     return count;
 }
 
+/* A stream may have had virtiofsd number its next node as one that there is: then a look-up is EIO, and the one after it goes on. */
+static uint64_t look_up_soon(const char *name) {
+    front_ask(&front, 1, FUSE_LOOKUP, ROOT, name, strlen(name) + 1, &reply);
+    return look_up(&front, ROOT, name);
+}
+
 /* From a reset to a session with some nodes, two of them open. */
 static void begin_anew(void) {
     if (front_tell(&front, RESET_DEVICE, NULL, 0, NULL, 0)) die("no reset");
     front_start_ring(&front, 1, front.rings[1].offered);
     begin_session(&front);
-    first_node = look_up(&front, ROOT, "race-link");
-    look_up(&front, ROOT, "dir");
-    first_file = open_node(&front, look_up(&front, ROOT, "file"), O_RDONLY);
-    open_node(&front, look_up(&front, ROOT, "other"), O_RDONLY);
+    first_node = look_up_soon("race-link");
+    look_up_soon("dir");
+    first_file = open_node(&front, look_up_soon("file"), O_RDONLY);
+    open_node(&front, look_up_soon("other"), O_RDONLY);
 }
 
 static void stop(void) {

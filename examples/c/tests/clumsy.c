@@ -9,7 +9,7 @@
 #include <string.h>
 #include <time.h>
 
-enum { MEMORY_LEN = 1 << 18, SIZE = 16, CHAINS = 3, QUEUES = 2, TAIL = 64, REGIONS = 6, BUFFER = 3000 };
+enum { MEMORY_LEN = 1 << 18, SIZE = 16, CHAINS = 4, QUEUES = 2, TAIL = 64, REGIONS = 6, BUFFER = 3000 };
 enum { DESC = 0, AVAIL = 0x1000, USED = 0x2000, TABLES = 0x3000, REQUESTS = 0x8000, ROOMS = 0x10000 };
 #define FAR_AWAY (1ull << 40)
 
@@ -31,6 +31,7 @@ static struct bench benches[CHAINS];
 static struct fs_queue queues[QUEUES];
 static struct fs_device device = FS_DEVICE;
 static uint64_t calls, taken, asked, replied, returned;
+static uint16_t at_once; /* so many chains were out */
 
 static _Noreturn void wrong(const char *what, uint64_t number) {
     fprintf(stderr, "FAILED: %s (%llu) after %llu calls\n", what, (unsigned long long)number,
@@ -131,14 +132,26 @@ static void stir_guest(const struct fs_queue *queue) {
 /* ------------------------------------------------------------- numbers that are lent */
 
 static void some_queue(struct fs_queue *queue) {
-    *queue = (struct fs_queue){.desc = DESC, .avail = AVAIL, .used = USED, .size = SIZE, .position = available()};
-    if (below(6) == 0) queue->desc = some_address();
-    if (below(6) == 0) queue->avail = some_address();
-    if (below(6) == 0) queue->used = some_address();
-    if (below(6) == 0) queue->size = (uint16_t)ONE_OF(0, 1, 3, 32768, chance());
-    if (below(6) == 0) queue->position = (uint16_t)chance();
-    if (below(9) == 0) queue->out = (uint16_t)below(4);
-    if (below(9) == 0) queue->stopped = (uint16_t)below(12);
+    uint16_t position = below(6) ? available() : (uint16_t)chance();
+    queue->desc = below(6) ? DESC : some_address();
+    queue->avail = below(6) ? AVAIL : some_address();
+    queue->used = below(6) ? USED : some_address();
+    queue->size = below(6) ? SIZE : (uint16_t)ONE_OF(0, 1, 3, 32768, chance());
+    queue->most_out = below(9) ? (uint16_t)below(CHAINS + 1) : (uint16_t)chance();
+    queue->event_index = (uint8_t)(below(9) ? below(2) : chance());
+    struct fs_queue before = *queue;
+    uint32_t status = named(fs_queue_begin(queue, position));
+    if (status != FS_DONE && memcmp(&before, queue, sizeof before) != 0) wrong("a queue that isn't begun is another", status);
+    if (status == FS_DONE && (queue->position != position || queue->returned != position || queue->begun != before.begun + 1))
+        wrong("a queue begins elsewhere", queue->position);
+    if (below(9)) return;
+    switch (below(5)) {
+    case 0: queue->position = (uint16_t)chance(); break;
+    case 1: queue->returned = (uint16_t)(queue->position - below(4)); break;
+    case 2: queue->stopped = (uint16_t)below(12); break;
+    case 3: queue->returning = (uint8_t)below(3); break;
+    default: queue->taken = (uint32_t)chance();
+    }
 }
 
 /* Regions over the memory, some with a second one far away for the guest, or with what none may have. */
@@ -168,6 +181,8 @@ static void tell_memory(struct bench *b) {
 
 /* ------------------------------------------------------------- calls */
 
+static uint16_t out_of(const struct fs_queue *queue) { return (uint16_t)(queue->position - queue->returned); }
+
 /* Which of the two says that nothing was done leaves the numbers as they were. */
 static void check_same(uint32_t status, const struct fs_queue *before, const struct fs_queue *after) {
     if (status >= 64 && memcmp(before, after, sizeof *before) != 0) wrong("a refusal changes a queue", status);
@@ -187,6 +202,10 @@ static uint32_t do_walk(struct bench *b, struct fs_queue *queue) {
     if (status == FS_LOAD && (b->step.len == 0 || b->step.len > FS_LOAD_MAX || !is_told(b, b->step.at, b->step.len)))
         wrong("a load lies outside", b->step.len);
     if (status != FS_DONE) return status;
+    if (queue->position != (uint16_t)(before.position + 1) || queue->returned != before.returned)
+        wrong("a chain is taken elsewhere", queue->position);
+    if (out_of(queue) > (queue->most_out ? queue->most_out : 1)) wrong("too many chains are out", out_of(queue));
+    if (out_of(queue) > at_once) at_once = out_of(queue);
     taken++;
     b->have = 0;
     b->replied = false;
@@ -197,8 +216,19 @@ static uint32_t do_walk(struct bench *b, struct fs_queue *queue) {
 
 /* Nothing is to be loaded after it. */
 static void do_drop(struct bench *b, struct fs_queue *queue) {
-    (void)named(fs_drop(&b->chain, queue));
+    struct fs_queue before = *queue;
+    uint16_t out = out_of(queue);
+    uint32_t status = named(fs_drop(&b->chain, queue));
+    check_same(status, &before, queue);
+    if (status == FS_DONE && memcmp(&before, queue, sizeof before) != 0 && out_of(queue) != out - 1)
+        wrong("a chain is dropped elsewhere", out_of(queue));
     b->step = (struct fs_step){0};
+}
+
+static void do_abandon(struct bench *b) {
+    fs_abandon(&b->chain);
+    b->step = (struct fs_step){0};
+    calls++;
 }
 
 /* Walks on until there is a chain or none. What stands in the way goes out of it now and then. */
@@ -207,7 +237,8 @@ static void walk_on(struct bench *b, struct fs_queue *queue) {
     while ((status = do_walk(b, queue)) == FS_LOAD) {}
     if (status == FS_DONE || status == FS_IDLE || below(3) > 0) return;
     for (size_t k = 0; k < QUEUES; k++) do_drop(b, &queues[k]);
-    some_queue(queue);
+    if (below(4) == 0) do_abandon(b);
+    if (below(8) == 0) some_queue(queue);
     if (b->region_count == 0) tell_memory(b);
 }
 
@@ -341,23 +372,35 @@ static void do_bytes(struct bench *b) {
         wrong("a chain has two replies", len);
 }
 
+/* A chain goes back at `returned`, whichever was taken first. */
 static void check_stores(const struct bench *b, const struct fs_queue *queue, const struct fs_stores *stores) {
-    uint64_t element = queue->used + 4 + 8 * (uint64_t)(queue->position & (queue->size - 1u));
+    uint64_t element = queue->used + 4 + 8 * (uint64_t)(queue->returned & (queue->size - 1u));
     if (!is_told(b, stores->id_at, 4) || !is_told(b, stores->len_at, 4) || !is_told(b, stores->index_at, 2) ||
         !is_told(b, stores->seen_at, 2))
         wrong("a store lies outside", element);
     if (stores->len_at - stores->id_at != 4 && b->region_count == 1) wrong("the element's halves lie apart", element);
-    if (stores->index != (uint16_t)(queue->position + 1)) wrong("another index", stores->index);
+    if (stores->index != (uint16_t)(queue->returned + 1)) wrong("another index", stores->index);
     if (stores->front_len > stores->len || stores->len > b->room_len)
         wrong("the reply is longer than the room", stores->len);
     if (b->replied && (stores->front_len || stores->len != b->replied_len)) wrong("other bytes go back", stores->len);
+}
+
+static void do_returned(struct bench *b, struct fs_queue *queue) {
+    struct fs_queue before = *queue;
+    uint8_t notify;
+    uint32_t status = named(fs_returned(&b->chain, queue, (uint16_t)chance(), &notify));
+    check_same(status, &before, queue);
+    if (notify > 1) wrong("neither 0 nor 1", notify);
+    if (status != FS_DONE) return;
+    if (queue->returned != (uint16_t)(before.returned + 1) || queue->position != before.position)
+        wrong("a chain goes back elsewhere", queue->returned);
+    returned++;
 }
 
 static void do_return(struct bench *b, struct fs_queue *queue) {
     struct fs_stores stores;
     struct fs_queue before = *queue;
     size_t len = below(20) ? FS_FRONT_MAX : below(FS_FRONT_MAX);
-    uint8_t notify;
     begin_buffer(len);
     uint32_t status = named(fs_return(&b->chain, queue, buffer, len, &stores));
     check_buffer(len);
@@ -367,10 +410,19 @@ static void do_return(struct bench *b, struct fs_queue *queue) {
         scatter(&b->chain, 0, buffer, stores.front_len);
     }
     if (below(10) == 0) do_drop(b, queue);
-    before = *queue;
-    status = named(fs_returned(&b->chain, below(20) ? queue : &queues[below(QUEUES)], (uint16_t)chance(), &notify));
-    if (status == FS_DONE) returned++;
-    if (notify > 1) wrong("neither 0 nor 1", notify);
+    if (below(20) == 0) return;
+    do_returned(b, &queues[below(QUEUES)]);
+    do_returned(b, queue);
+}
+
+/* Where the driver is told whether its kicks are wanted. */
+static void do_kicks(struct bench *b, const struct fs_queue *queue) {
+    struct fs_store store;
+    uint32_t wanted = (uint32_t)(below(9) ? below(2) : chance()), status = named(fs_ask_kicks(&b->chain, queue, wanted, &store));
+    if (status != FS_DONE) return;
+    if (store.len != 2 && (store.len != 0 || wanted || !queue->event_index)) wrong("another length", store.len);
+    if (store.len && !is_told(b, store.at, 2)) wrong("a store lies outside", store.at);
+    if (store.len && store.value != (queue->event_index ? queue->position : !wanted)) wrong("another value", store.value);
 }
 
 /* A record is written and read again, sometimes cut, with other bytes in it, or into too few queues. */
@@ -401,7 +453,9 @@ static void stumble(void) {
     stir_guest(queue);
     switch (below(40)) {
     case 0: tell_memory(b); break;
-    case 1: some_queue(queue); break;
+    case 1:
+        if (below(8) == 0) some_queue(queue);
+        break;
     case 2: do_windows(b); break;
     case 3: do_drop(b, queue); break;
     case 4:
@@ -413,6 +467,11 @@ static void stumble(void) {
     case 8: do_return(b, queue); break;
     case 9: do_move(); break;
     case 10: do_bytes(b); break;
+    case 11:
+        if (below(8) == 0) do_abandon(b);
+        break;
+    case 12: walk_on(b, queue); break; /* it stays out for a while */
+    case 13: do_kicks(b, queue); break;
     default:
         walk_on(b, queue);
         if (below(12) == 0) do_bytes(b);
@@ -439,8 +498,8 @@ int main(int argc, char **argv) {
     while (calls % 1024 > 40 || time(NULL) < end) stumble();
     for (size_t k = 0; k < CHAINS; k++) fs_chain_free(&benches[k].chain), free(benches[k].request);
     free(memory);
-    printf("clumsy author: %llu calls, %llu chains taken, %llu asked, %llu replied with bytes, %llu returned\n",
-           (unsigned long long)calls, (unsigned long long)taken, (unsigned long long)asked, (unsigned long long)replied,
+    printf("clumsy author: %llu calls, %llu chains taken, up to %u out at once, %llu asked, %llu replied with bytes, %llu returned\n",
+           (unsigned long long)calls, (unsigned long long)taken, at_once, (unsigned long long)asked, (unsigned long long)replied,
            (unsigned long long)returned);
     return 0;
 }

@@ -3,7 +3,7 @@
  * those behind it until the call ends. A call of which a request was refused says so by FS_OUT_OF_MEMORY (fs_restore by
  * FS_RECORD_OUT_OF_MEMORY), no other says that, and nothing was done: what it was lent is as before, and so is the
  * handle as far as it can be seen. Made again, it says what it says with ample memory, and so do all behind it. A call
- * of which pitskhomu.h doesn't say that memory may be wanting asks for none. */
+ * of which pitskhomu.h doesn't say that memory may be wanting asks for none. Three more handles have a chain out of the same queue meanwhile. */
 #include "pitskhomu.h"
 #include <linux/fuse.h>
 #include <stdbool.h>
@@ -53,7 +53,7 @@ void __wrap_free(void *block) {
 /* ------------------------------------------------------------- all that calls are lent */
 
 enum { PAGE = 4096, PAGES = 7, HIGH = 1, LOW = 3, LOW_MOVED = 5, BOUND = 2 * PAGE, SIZE = 64, JUNK = 0xa5 };
-enum { DESC = 0, AVAIL = 0x400, USED = 0x800, ROOM = 0xc00, REQUEST = 0x1000, ROOM_LEN = 0x400, CALLS = 400 };
+enum { DESC = 0, AVAIL = 0x400, USED = 0x800, ROOM = 0xc00, REQUEST = 0x1000, ROOM_LEN = 0x400, CALLS = 400, HANDLES = 4 };
 /* A table of descriptors one of which goes over the end of a region: the ninth, when a list of eight grows. */
 enum { SPLIT = 8, TABLE = BOUND - 16 * SPLIT - 8, PIECE = 4, ROOM_PIECE = 16, ROOM_PIECES = 10, WINDOWS = 64, NO_LOAD = FS_LOAD_MAX + 1 };
 
@@ -85,7 +85,7 @@ struct world {
 
 /* `told` is the world after each call with ample memory. */
 static struct world now, before, told[CALLS];
-static struct fs_chain chain;
+static struct fs_chain chains[HANDLES], *chain = chains; /* the handle that is looked at, and the others, which have chains out meanwhile */
 static size_t at_call, call_count;
 
 #define PLACE(member) offsetof(struct world, member), sizeof now.member
@@ -133,7 +133,7 @@ static const char *differs(const struct world *a, const struct world *b) {
 
 /* ------------------------------------------------------------- calls */
 
-enum kind { SET_MEMORY, WALK, SAVE, RESTORE, ASK, DROP, REPLY, RETURN, RETURNED, FREE, KINDS };
+enum kind { SET_MEMORY, WALK, SAVE, RESTORE, ASK, DROP, REPLY, RETURN, RETURNED, KICKS, FREE, KINDS };
 
 static const struct {
     const char *name;
@@ -150,6 +150,7 @@ static const struct {
     [REPLY] = {.name = "an answer"},
     [RETURN] = {.name = "fs_return"},
     [RETURNED] = {.name = "fs_returned"},
+    [KICKS] = {.name = "fs_ask_kicks"},
     [FREE] = {.name = "fs_chain_free"},
 };
 
@@ -184,17 +185,17 @@ static void look(void) {
     struct fs_call call;
     uint64_t made = heap.made;
     memset(seen, 0, sizeof *seen);
-    seen->walks = fs_walk(&chain, queue, nothing, sizeof nothing, &seen->wanted);
+    seen->walks = fs_walk(chain, queue, nothing, sizeof nothing, &seen->wanted);
     if (seen->walks == FS_BAD_ARGUMENT && seen->wanted.len == 0) {
-        seen->begins = fs_walk(&chain, queue, nothing, 0, &seen->first);
-        (void)fs_drop(&chain, queue);
+        seen->begins = fs_walk(chain, queue, nothing, 0, &seen->first);
+        (void)fs_drop(chain, queue);
     }
-    seen->asks = fs_ask(&chain, &now.device, nothing, sizeof nothing, &call);
+    seen->asks = fs_ask(chain, &now.device, nothing, sizeof nothing, &call);
     bool is_seek = now.call.answer == FS_ANSWER_LSEEK;
-    seen->answers = is_seek ? fs_reply_open(&chain, 1, 0) : fs_reply_lseek(&chain, 1);
-    seen->request_count = fs_request_windows(&chain, 0, UINT64_MAX, seen->request, WINDOWS);
-    seen->room_count = fs_room_windows(&chain, 0, UINT64_MAX, seen->room, WINDOWS);
-    seen->range_count = fs_room_ranges(&chain, 0, UINT64_MAX, seen->ranges, WINDOWS);
+    seen->answers = is_seek ? fs_reply_open(chain, 1, 0) : fs_reply_lseek(chain, 1);
+    seen->request_count = fs_request_windows(chain, 0, UINT64_MAX, seen->request, WINDOWS);
+    seen->room_count = fs_room_windows(chain, 0, UINT64_MAX, seen->room, WINDOWS);
+    seen->range_count = fs_room_ranges(chain, 0, UINT64_MAX, seen->ranges, WINDOWS);
     if (heap.made != made) wrong("a look at the handle asks for memory", "");
 }
 
@@ -341,7 +342,7 @@ static void tell_memory(unsigned low, uint64_t high, uint32_t wanted) {
     uintptr_t host = (uintptr_t)now.pages;
     struct fs_region regions[] = {{high, PAGE, host + HIGH * PAGE}, {0, 2 * PAGE, host + low * PAGE}};
     do begin(SET_MEMORY);
-    while (again(fs_chain_set_memory(&chain, &now.device, regions, 2), wanted));
+    while (again(fs_chain_set_memory(chain, &now.device, regions, 2), wanted));
 }
 
 /* Walks on to a place that is to be loaded, or to the end where there is none. How many bytes a load has is the library's. */
@@ -353,7 +354,7 @@ static void walk_to(uintptr_t end, uint32_t wanted) {
     do {
         do {
             begin(WALK);
-            status = fs_walk(&chain, &now.queues[0], bytes, len, &now.step);
+            status = fs_walk(chain, &now.queues[0], bytes, len, &now.step);
         } while (again(status, status == FS_LOAD ? FS_LOAD : wanted));
         len = now.step.len;
         if (len > 0) memcpy(bytes, (const void *)now.step.at, len);
@@ -364,7 +365,7 @@ static void walk(uint32_t wanted) { walk_to(0, wanted); }
 
 static void drop(void) {
     do begin(DROP);
-    while (again(fs_drop(&chain, &now.queues[0]), FS_DONE));
+    while (again(fs_drop(chain, &now.queues[0]), FS_DONE));
 }
 
 static void ask(const struct row *row) {
@@ -375,10 +376,10 @@ static void ask(const struct row *row) {
         memcpy(request + have, (const void *)now.seen.request[k].at, now.seen.request[k].len);
     now.device.options = row->options;
     do begin(ASK);
-    while (again(fs_ask(&chain, &now.device, request, first, &now.call), first < whole ? more : FS_DONE));
+    while (again(fs_ask(chain, &now.device, request, first, &now.call), first < whole ? more : FS_DONE));
     if (now.status == FS_MORE) {
         do begin(ASK);
-        while (again(fs_ask(&chain, &now.device, request, have, &now.call), FS_DONE));
+        while (again(fs_ask(chain, &now.device, request, have, &now.call), FS_DONE));
     }
     if (now.call.kind != row->kind || now.call.answer != row->answer)
         wrong("another call: ", fs_call_name(now.call.kind));
@@ -389,25 +390,25 @@ static const struct fs_entry entry = {.node = 2, .entry_secs = 1, .attr = {.ino 
 static uint32_t add(const char *name, uint64_t next) {
     const uint8_t *bytes = (const uint8_t *)name;
     if (now.call.kind == FS_CALL_READDIR)
-        return fs_add_direntry(&chain, now.list, sizeof now.list, bytes, strlen(name), 2, next, 8);
-    return fs_add_direntry_plus(&chain, now.list, sizeof now.list, bytes, strlen(name), &entry, next);
+        return fs_add_direntry(chain, now.list, sizeof now.list, bytes, strlen(name), 2, next, 8);
+    return fs_add_direntry_plus(chain, now.list, sizeof now.list, bytes, strlen(name), &entry, next);
 }
 
 static uint32_t answer_so(uint32_t answer) {
     static const struct fs_statfs statfs = {.blocks = 1, .bsize = PAGE};
     switch (answer) {
-    case FS_ANSWER_ENTRY: return fs_reply_entry(&chain, &entry);
-    case FS_ANSWER_ATTR: return fs_reply_attr(&chain, &entry.attr, 1, 0);
-    case FS_ANSWER_OPEN: return fs_reply_open(&chain, 1, 0);
-    case FS_ANSWER_CREATE: return fs_reply_create(&chain, &entry, 1, 0);
-    case FS_ANSWER_DATA: return fs_reply_data(&chain, 100);
-    case FS_ANSWER_XATTR: return fs_reply_xattr(&chain, 5);
-    case FS_ANSWER_STATFS: return fs_reply_statfs(&chain, &statfs);
-    case FS_ANSWER_WRITE: return fs_reply_write(&chain, 5);
-    case FS_ANSWER_LSEEK: return fs_reply_lseek(&chain, 5);
-    case FS_ANSWER_ENTRIES: return fs_reply_entries(&chain, &now.listed);
-    case FS_ANSWER_INIT: return fs_reply_init(&chain, &now.device, 0);
-    default: return fs_reply_err(&chain, 0);
+    case FS_ANSWER_ENTRY: return fs_reply_entry(chain, &entry);
+    case FS_ANSWER_ATTR: return fs_reply_attr(chain, &entry.attr, 1, 0);
+    case FS_ANSWER_OPEN: return fs_reply_open(chain, 1, 0);
+    case FS_ANSWER_CREATE: return fs_reply_create(chain, &entry, 1, 0);
+    case FS_ANSWER_DATA: return fs_reply_data(chain, 100);
+    case FS_ANSWER_XATTR: return fs_reply_xattr(chain, 5);
+    case FS_ANSWER_STATFS: return fs_reply_statfs(chain, &statfs);
+    case FS_ANSWER_WRITE: return fs_reply_write(chain, 5);
+    case FS_ANSWER_LSEEK: return fs_reply_lseek(chain, 5);
+    case FS_ANSWER_ENTRIES: return fs_reply_entries(chain, &now.listed);
+    case FS_ANSWER_INIT: return fs_reply_init(chain, &now.device, 0);
+    default: return fs_reply_err(chain, 0);
     }
 }
 
@@ -435,14 +436,14 @@ static void scatter(const uint8_t *bytes, size_t len) {
 static void give_back(void) {
     uint16_t seen;
     do begin(RETURN);
-    while (again(fs_return(&chain, &now.queues[0], now.front, sizeof now.front, &now.stores), FS_DONE));
+    while (again(fs_return(chain, &now.queues[0], now.front, sizeof now.front, &now.stores), FS_DONE));
     scatter(now.front, now.stores.front_len);
     memcpy((void *)now.stores.id_at, &now.stores.id, 4);
     memcpy((void *)now.stores.len_at, &now.stores.len, 4);
     memcpy((void *)now.stores.index_at, &now.stores.index, 2);
     memcpy(&seen, (const void *)now.stores.seen_at, 2);
     do begin(RETURNED);
-    while (again(fs_returned(&chain, &now.queues[0], seen, &now.notify), FS_DONE));
+    while (again(fs_returned(chain, &now.queues[0], seen, &now.notify), FS_DONE));
 }
 
 static void play(const struct row *row) {
@@ -464,6 +465,46 @@ static void play(const struct row *row) {
     give_back();
 }
 
+/* Each of the other handles has a LOOKUP out: one that wasn't asked, one that waits for its answer, one that has it. */
+static const struct row held = {ASKS(LOOKUP, ENTRY), BYTES("held")};
+
+static void look_at(size_t handle) {
+    chain = &chains[handle];
+    look();
+}
+
+static void hold(void) {
+    row_name = "the other handles";
+    for (size_t k = 1; k < HANDLES; k++) {
+        look_at(k);
+        tell_memory(LOW, BOUND, FS_DONE);
+        offer(&held);
+        walk(FS_DONE);
+        if (k > 1) ask(&held);
+        if (k > 2) answer(&held);
+    }
+    look_at(0);
+}
+
+/* They go back in another order than they were taken in. */
+static void let_go(void) {
+    row_name = "the other handles";
+    put_request(&held);
+    for (size_t k = HANDLES - 1; k > 0; k--) {
+        look_at(k);
+        if (k == 1) ask(&held);
+        if (k <= 2) answer(&held);
+        give_back();
+    }
+    look_at(0);
+}
+
+static void ask_kicks(void) {
+    struct fs_store store;
+    do begin(KICKS);
+    while (again(fs_ask_kicks(chain, &now.queues[0], 1, &store), FS_DONE));
+}
+
 static void save(size_t room, uint32_t wanted) {
     do begin(SAVE);
     while (again(fs_save(&now.device, now.queues, 2, now.record, room, &now.len), wanted));
@@ -474,6 +515,12 @@ static void restore(size_t room, uint32_t wanted) {
     while (again(fs_restore(&now.moved, now.restored, room, now.record, now.len, &now.count), wanted));
 }
 
+/* A queue of a record is begun anew, so it isn't the same in all. */
+static bool is_alike(const struct fs_queue *a, const struct fs_queue *b) {
+    return a->desc == b->desc && a->avail == b->avail && a->used == b->used && a->size == b->size && a->position == b->position &&
+           a->returned == b->returned && a->stopped == b->stopped;
+}
+
 static void move(void) {
     row_name = "a record";
     now.device.options = FUSE_SECURITY_CTX;
@@ -481,16 +528,20 @@ static void move(void) {
     save(sizeof now.record, FS_DONE);
     restore(1, FS_SHORT_BUFFER);
     restore(2, FS_DONE);
-    if (memcmp(now.restored, now.queues, sizeof now.queues) || now.moved.options != now.device.options)
-        wrong("another record", "");
+    for (size_t k = 0; k < 2; k++)
+        if (!is_alike(&now.restored[k], &now.queues[k])) wrong("another queue", "");
+    if (now.moved.options != now.device.options) wrong("another record", "");
 }
 
-static void free_chain(void) {
+static void free_chains(void) {
     row_name = "the end";
-    begin(FREE);
-    fs_chain_free(&chain);
-    (void)again(FS_DONE, FS_DONE);
-    if (chain.at != NULL || chain.full != 0) wrong("the handle isn't zeros", "");
+    for (size_t k = HANDLES; k > 0; k--) {
+        look_at(k - 1);
+        begin(FREE);
+        fs_chain_free(chain);
+        (void)again(FS_DONE, FS_DONE);
+        if (chain->at != NULL || chain->full != 0) wrong("the handle isn't zeros", "");
+    }
     if (heap.held != 0) wrong("memory isn't freed", "");
 }
 
@@ -498,7 +549,11 @@ static void play_script(void) {
     row_name = "memory";
     tell_memory(LOW, BOUND, FS_DONE);
     walk(FS_IDLE);
+    hold();
+    ask_kicks();
     for (size_t k = 0; k < sizeof rows / sizeof rows[0]; k++) play(&rows[k]);
+    save(sizeof now.record, FS_CHAIN_OUT);
+    let_go();
     move();
     row_name = "other memory";
     tell_memory(LOW_MOVED, PAGE, FS_BAD_ARGUMENT);
@@ -506,7 +561,7 @@ static void play_script(void) {
     tell_memory(LOW_MOVED, BOUND, FS_DONE);
     now.low = LOW_MOVED;
     play(&rows[0]);
-    free_chain();
+    free_chains();
 }
 
 /* ------------------------------------------------------------- runs */
@@ -519,9 +574,10 @@ static bool run(uint64_t number, bool goes_on) {
     heap.goes_on = goes_on;
     now.low = LOW;
     now.device = now.moved = (struct fs_device)FS_DEVICE;
-    now.queues[0] = (struct fs_queue){.desc = DESC, .avail = AVAIL, .used = USED, .size = SIZE};
-    now.queues[1] = (struct fs_queue){.used = 0x1000, .size = 8, .position = 7, .stopped = FS_STOPPED};
-    chain = (struct fs_chain){0};
+    now.queues[0] = (struct fs_queue){.desc = DESC, .avail = AVAIL, .used = USED, .size = SIZE, .most_out = HANDLES};
+    now.queues[1] = (struct fs_queue){.used = 0x1000, .size = 8, .position = 7, .returned = 7, .stopped = FS_STOPPED};
+    memset(chains, 0, sizeof chains);
+    chain = chains;
     at_call = 0;
     row_name = "no memory";
     look();

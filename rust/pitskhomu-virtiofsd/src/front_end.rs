@@ -7,7 +7,7 @@ use crate::marks::Log;
 use crate::memory::Table;
 use crate::migration::Migration;
 use crate::ring::{Ring, SIZE_MAX};
-use crate::serve::{Core, Served};
+use crate::serve::{Bench, Core, Served};
 use log::{debug, error, info};
 use std::fs::File;
 use std::io;
@@ -15,7 +15,7 @@ use std::sync::Arc;
 use vhost::vhost_user::message::*;
 use vhost::vhost_user::{Error, GpuBackend, Result, VhostUserBackendReqHandlerMut};
 use virtio_bindings::bindings::virtio_config::VIRTIO_F_VERSION_1;
-use virtio_bindings::bindings::virtio_ring::VIRTIO_RING_F_INDIRECT_DESC;
+use virtio_bindings::bindings::virtio_ring::{VIRTIO_RING_F_EVENT_IDX, VIRTIO_RING_F_INDIRECT_DESC};
 use virtiofsd::vhost_user::MAX_TAG_LEN;
 
 /// What the daemon does on behalf of one front-end.
@@ -25,6 +25,8 @@ pub struct FrontEnd<F> {
     features: u64,
     log: Option<Arc<Log>>,
     migration: Migration<F>,
+    /// What rings are told with that stop.
+    bench: Bench<F>,
 }
 
 fn told(e: io::Error) -> Error {
@@ -35,15 +37,25 @@ fn unsupported(what: &'static str) -> Error {
     told(io::Error::new(io::ErrorKind::Unsupported, what))
 }
 
+fn no_queue() -> Error {
+    told(io::Error::other("no such queue"))
+}
+
 impl<F: Served> FrontEnd<F> {
     /// `scratch` is state::scratch's.
     pub fn new(core: Arc<Core<F>>, tag: Option<String>, scratch: File) -> FrontEnd<F> {
-        let migration = Migration::new(core.clone(), scratch);
-        FrontEnd { core, tag, features: 0, log: None, migration }
+        let (migration, bench) = (Migration::new(core.clone(), scratch), Bench::new(core.clone(), 0));
+        FrontEnd { core, tag, features: 0, log: None, migration, bench }
     }
 
     fn ring(&self, index: impl Into<u32>) -> Result<&Ring> {
-        self.core.rings.get(index.into() as usize).ok_or_else(|| told(io::Error::other("no such queue")))
+        self.core.rings.get(index.into() as usize).ok_or_else(no_queue)
+    }
+
+    /// Chains of all rings are served, or wait.
+    fn enable_all(&mut self, enabled: bool) {
+        let memory = self.core.memory();
+        self.core.rings.iter().for_each(|ring| ring.enable(enabled, &mut self.bench, &memory));
     }
 
     fn logs(&self) -> bool {
@@ -81,17 +93,16 @@ impl<F: Served> VhostUserBackendReqHandlerMut for FrontEnd<F> {
     }
 
     fn reset_device(&mut self) -> Result<()> {
-        let memory = self.core.memory();
-        self.core.rings.iter().for_each(|ring| ring.enable(false, &memory));
+        self.enable_all(false);
         self.core.wait_for_chains();
         self.core.end_session();
         Ok(())
     }
 
     fn get_features(&mut self) -> Result<u64> {
-        // No VIRTIO_RING_F_EVENT_IDX: the library has none yet.
         Ok((1 << VIRTIO_F_VERSION_1)
             | (1 << VIRTIO_RING_F_INDIRECT_DESC)
+            | (1 << VIRTIO_RING_F_EVENT_IDX)
             | VhostUserVirtioFeatures::PROTOCOL_FEATURES.bits()
             | VhostUserVirtioFeatures::LOG_ALL.bits())
     }
@@ -101,9 +112,12 @@ impl<F: Served> VhostUserBackendReqHandlerMut for FrontEnd<F> {
             return Err(told(io::Error::other("features that weren't offered")));
         }
         self.features = features;
+        let has_event_index = features & (1 << VIRTIO_RING_F_EVENT_IDX) != 0;
+        for ring in &self.core.rings {
+            ring.state().tell(|numbers| numbers.has_event_index = has_event_index);
+        }
         if features & VhostUserVirtioFeatures::PROTOCOL_FEATURES.bits() == 0 {
-            let memory = self.core.memory();
-            self.core.rings.iter().for_each(|ring| ring.enable(true, &memory));
+            self.enable_all(true);
         }
         if self.logs() {
             self.migration.prepare();
@@ -134,7 +148,7 @@ impl<F: Served> VhostUserBackendReqHandlerMut for FrontEnd<F> {
     fn set_vring_num(&mut self, index: u32, num: u32) -> Result<()> {
         let size = Some(num).filter(|num| (1..=SIZE_MAX).contains(num) && num.is_power_of_two());
         let size = size.ok_or_else(|| told(io::Error::other("a size that no queue has")))?;
-        self.ring(index)?.state().layout.size = size as u16; // 2^15 at most
+        self.ring(index)?.state().tell(|numbers| numbers.layout.size = size as u16); // 2^15 at most
         Ok(())
     }
 
@@ -150,22 +164,24 @@ impl<F: Served> VhostUserBackendReqHandlerMut for FrontEnd<F> {
         let memory = self.core.memory();
         let at = |front_end| memory.guest_address(front_end).map_err(told);
         let (descriptors, available, used) = (at(descriptor)?, at(available)?, at(used)?);
-        let mut state = self.ring(index)?.state();
-        let size = state.layout.size;
-        state.layout = pitskhomu::QueueLayout { size, descriptors, available, used };
+        self.ring(index)?.state().tell(|numbers| {
+            let size = numbers.layout.size;
+            numbers.layout = pitskhomu::QueueLayout { size, descriptors, available, used };
+        });
         Ok(())
     }
 
     fn set_vring_base(&mut self, index: u32, base: u32) -> Result<()> {
         let position = u16::try_from(base).map_err(|_| told(io::Error::other("a base that no split queue has")))?;
-        self.ring(index)?.state().position = position;
+        self.ring(index)?.state().tell(|numbers| numbers.position = position);
         Ok(())
     }
 
     fn get_vring_base(&mut self, index: u32) -> Result<VhostUserVringState> {
         // It is answered by the base alone, so there is no telling of an error.
         let ring = self.core.rings.get(index as usize).ok_or(Error::InvalidParam)?;
-        Ok(VhostUserVringState::new(index, ring.stop(&self.core.memory()).into()))
+        let position = ring.stop(&mut self.bench, &self.core.memory());
+        Ok(VhostUserVringState::new(index, position.into()))
     }
 
     fn set_vring_kick(&mut self, index: u8, kick: Option<File>) -> Result<()> {
@@ -213,7 +229,8 @@ impl<F: Served> VhostUserBackendReqHandlerMut for FrontEnd<F> {
         if self.features & VhostUserVirtioFeatures::PROTOCOL_FEATURES.bits() == 0 {
             return Err(unsupported("SET_VRING_ENABLE without the protocol's features"));
         }
-        self.ring(index)?.enable(enable, &self.core.memory());
+        let ring = self.core.rings.get(index as usize).ok_or_else(no_queue)?;
+        ring.enable(enable, &mut self.bench, &self.core.memory());
         Ok(())
     }
 

@@ -117,6 +117,9 @@ pub struct Options {
     /// Request queues, 1 to 63; QEMU's `num-request-queues` is at most that
     #[arg(long, default_value_t = 1, value_parser = clap::value_parser!(u8).range(1..=63))]
     pub num_request_queues: u8,
+    /// Threads of each request queue, which serve a chain each; 0 for one, and no more
+    #[arg(long, default_value_t = 0, value_parser = clap::value_parser!(u16).range(0..=1024))]
+    pub thread_pool_size: u16,
     /// How the daemon is held in the directory: namespace, chroot, none
     #[arg(long, default_value = "namespace")]
     pub sandbox: SandboxMode,
@@ -211,9 +214,6 @@ pub struct Options {
 /// Options of virtiofsd that aren't served.
 #[derive(Debug, clap::Args)]
 struct Refused {
-    /// Refused but for 0: one chain is out of a queue at a time (see --num-request-queues)
-    #[arg(long)]
-    thread_pool_size: Option<usize>,
     /// Refused: the core doesn't tell the flags of FUSE_SETXATTR_EXT
     #[arg(long)]
     posix_acl: bool,
@@ -230,11 +230,6 @@ impl Options {
     pub fn refusal(&self) -> Option<String> {
         let asked = &self.refused;
         let refusals = [
-            (
-                asked.thread_pool_size.is_some_and(|size| size > 0),
-                "--thread-pool-size: the core lets one chain out of a queue at a time, so a pool would wait for itself. \
-                 Several request queues (--num-request-queues, QEMU's num-request-queues) are served at once",
-            ),
             (asked.posix_acl, "--posix-acl: the core doesn't tell the flags of FUSE_SETXATTR_EXT, which these want"),
             (asked.security_label, "--security-label: the core doesn't tell the label of a new file"),
             (!asked.o.is_empty(), "-o: these are options of the C virtiofsd; take --shared-dir and its kin"),
@@ -259,15 +254,12 @@ mod tests {
 
     #[test]
     fn what_is_not_served_is_refused_by_name() {
-        for (words, name) in [
-            ("--thread-pool-size=4", "--thread-pool-size"),
-            ("--posix-acl", "--posix-acl"),
-            ("--security-label", "--security-label"),
-            ("-o source=/d", "-o"),
-        ] {
+        for (words, name) in
+            [("--posix-acl", "--posix-acl"), ("--security-label", "--security-label"), ("-o source=/d", "-o")]
+        {
             assert!(options(words).expect(words).refusal().expect(words).starts_with(name));
         }
-        assert_eq!(options("--thread-pool-size=0 --xattr").expect("options").refusal(), None);
+        assert_eq!(options("--xattr").expect("options").refusal(), None);
     }
 
     #[test]
@@ -282,9 +274,18 @@ mod tests {
         let all =
             "--sandbox=chroot --seccomp=log --cache=never --allow-mmap --xattrmap=:map::user.virtiofs.: --killpriv-v2 \
                    --announce-submounts --inode-file-handles=mandatory --rlimit-nofile=0 --modcaps=+sys_admin:-chown \
-                   --translate-uid=map:0:1000:1 --migration-mode=file-handles --log-level=debug --syslog --tag=shared";
+                   --translate-uid=map:0:1000:1 --migration-mode=file-handles --log-level=debug --syslog --tag=shared \
+                   --thread-pool-size=64";
         assert_eq!(options(all).expect("options").refusal(), None);
-        for wrong in ["--cache=some", "--sandbox=x", "--num-request-queues=64", "--tag=", "--modcaps=chown", "--fd=3"] {
+        for wrong in [
+            "--cache=some",
+            "--sandbox=x",
+            "--thread-pool-size=1025",
+            "--num-request-queues=64",
+            "--tag=",
+            "--modcaps=chown",
+            "--fd=3",
+        ] {
             assert!(options(wrong).is_err(), "{wrong}");
         }
     }

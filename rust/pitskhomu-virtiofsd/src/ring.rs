@@ -1,13 +1,13 @@
-//! A queue: where it stands, its descriptors, and the thread that serves it. Whoever looks at a ring holds its lock, and the thread
-//! holds it while a chain is out: so what the front-end is told (a position, a memory that is gone) is true when it is told.
+//! A queue: where it stands, its descriptors, and the threads that serve it. Chains are taken and given back under its lock, and answered
+//! without it; each thread has one at a time. Who changes a ring, or says where it stands, has the lock with no chain out: so what the
+//! front-end is told (a position, a memory that is gone) is true when it is told.
 use crate::memory::Table;
 use log::{error, warn};
+use pitskhomu::{Queue, QueueLayout, Status};
 use std::fs::File;
-use std::io::{self, ErrorKind, Read, Write};
+use std::io::{self, ErrorKind, Write};
 use std::os::fd::AsRawFd;
-use std::sync::atomic::{AtomicUsize, Ordering};
-use std::sync::{Arc, Mutex, MutexGuard, PoisonError};
-use std::thread;
+use std::sync::{Arc, Condvar, Mutex, MutexGuard, PoisonError};
 use vmm_sys_util::epoll::{ControlOperation, Epoll, EpollEvent, EventSet};
 use vmm_sys_util::eventfd::EventFd;
 
@@ -21,26 +21,41 @@ const AGAIN_MILLISECONDS: i32 = 100;
 enum Source {
     /// The driver.
     Kick = 0,
-    /// The front-end's thread: something changed.
+    /// The front-end's thread: something changed. Or another of the ring's threads: a chain waits.
     Wake = 1,
 }
 
-/// Where the ring's parts stand in the guest, and how far it came.
+/// What the front-end tells of a ring.
+#[derive(Debug, Clone, Copy, Default, PartialEq, Eq)]
+pub struct Numbers {
+    /// Its size, and where its parts stand in the guest.
+    pub layout: QueueLayout,
+    /// Where the next chain is taken. While none is out, it is where the ring stands.
+    pub position: u16,
+    /// The driver took VIRTIO_F_EVENT_IDX.
+    pub has_event_index: bool,
+}
+
+/// A ring, as its threads and the front-end's see it under its lock.
 #[derive(Debug, Default)]
 pub struct State {
-    /// Its size, and where its parts stand.
-    pub layout: pitskhomu::QueueLayout,
-    /// Where the next chain is taken, and the next one goes back.
-    pub position: u16,
+    numbers: Numbers,
+    /// The queue as the library has it; it isn't begun yet with these numbers if they are new.
+    queue: Queue,
+    is_new: bool,
     /// From SET_VRING_KICK to GET_VRING_BASE.
-    pub is_started: bool,
+    is_started: bool,
     /// By SET_VRING_ENABLE.
-    pub is_enabled: bool,
+    is_enabled: bool,
     /// It was refused, and isn't served until it begins anew.
-    pub is_refused: bool,
-    /// What the used ring says of kicks; of one that begins, nothing is known.
-    wants_kicks: Option<bool>,
-    kick: Option<Arc<File>>,
+    is_refused: bool,
+    /// What the driver was told of kicks, and at which position with an event index; of a ring that begins, nothing is known.
+    told: Option<(bool, u16)>,
+    /// How many threads sleep until something happens.
+    sleeping: u16,
+    /// How many wait until no chain is out; meanwhile none is taken.
+    held: usize,
+    kick: Option<File>,
     call: Option<File>,
     /// The driver was to be interrupted while nobody had said where: QEMU says so after it has started a ring that chains wait in.
     owes_call: bool,
@@ -48,28 +63,45 @@ pub struct State {
 }
 
 impl State {
-    /// Says to the driver whether its kicks are wanted, if it doesn't know: while chains are looked for anyway, they aren't.
-    fn want_kicks(&mut self, wanted: bool, memory: &Table) -> bool {
-        let changes = self.wants_kicks != Some(wanted);
-        if changes {
-            memory.want_kicks(self.layout.used, wanted);
-            self.wants_kicks = Some(wanted);
+    /// The front-end says other numbers: if they are others, the queue begins anew with them.
+    pub fn tell(&mut self, change: impl FnOnce(&mut Numbers)) {
+        let before = self.numbers;
+        change(&mut self.numbers);
+        self.is_new |= self.numbers != before;
+    }
+
+    /// The queue for a record, if the front-end ever told its numbers.
+    pub fn queue_if_begun(&self) -> Option<Queue> {
+        let Numbers { layout, position, .. } = self.numbers;
+        (layout.size != 0 && layout.descriptors != 0).then(|| Queue::new(layout, position))
+    }
+
+    fn begin(&mut self, threads: u16) -> Result<(), Status> {
+        let Numbers { layout, position, has_event_index } = self.numbers;
+        let anew = Queue::new(layout, position).with_most_out(threads.min(layout.size));
+        self.queue.begin(anew.with_event_index(has_event_index))?;
+        (self.is_new, self.told) = (false, None);
+        Ok(())
+    }
+
+    /// Says to the driver whether its kicks are wanted, if it doesn't know. Whether it had to be told: then a chain may have come before.
+    fn want_kicks(&mut self, wanted: bool, server: &mut impl Server, memory: &Arc<Table>) -> bool {
+        let Numbers { position, has_event_index, .. } = self.numbers;
+        let telling = Some((wanted, if wanted && has_event_index { position } else { 0 }));
+        if !self.is_live() || self.is_new || self.told == telling {
+            return false;
         }
-        changes
+        self.told = telling;
+        server.ask_kicks(&self.queue, wanted, memory)
     }
 
     fn is_live(&self) -> bool {
         self.is_started && self.is_enabled && !self.is_refused
     }
 
-    /// The queue as the library takes it: its numbers stand here alone, so the front-end's messages need no second place.
-    pub fn queue(&self) -> pitskhomu::Queue {
-        pitskhomu::Queue::new(self.layout, self.position)
-    }
-
-    /// The same, if the front-end ever told these numbers.
-    pub fn queue_if_begun(&self) -> Option<pitskhomu::Queue> {
-        (self.layout.size != 0 && self.layout.descriptors != 0).then(|| self.queue())
+    /// Whether the driver has offered a chain that isn't taken: by the ring's own word, so it is a hint.
+    fn has_more(&self, memory: &Table) -> bool {
+        memory.available_index(self.numbers.layout.available) != Some(self.numbers.position)
     }
 
     /// Interrupts the driver, as soon as it is known where.
@@ -84,7 +116,7 @@ impl State {
     }
 
     /// The ring is refused: the front-end is told by its err descriptor.
-    pub fn refuse(&mut self) {
+    fn refuse(&mut self) {
         self.is_refused = true;
         if let Some(Err(e)) = self.err.as_mut().map(|err| err.write(&1u64.to_ne_bytes())) {
             warn!("the front-end isn't told that a ring is refused: {e}");
@@ -95,55 +127,87 @@ impl State {
 /// What came of looking for a chain.
 #[derive(Debug, Clone, Copy, PartialEq, Eq)]
 pub enum Looked {
-    /// One went back.
-    Served,
-    /// None waits.
+    /// One was taken.
+    Taken,
+    /// None waits, or as many are out as may be.
     Idle,
     /// The same one is to be tried again later.
     Again,
 }
 
-/// Who serves chains, on a ring's own thread.
+/// Who serves chains, on a ring's thread.
 pub trait Server {
-    /// Serves the next chain over this memory, if one waits.
-    fn serve(&mut self, state: &mut State, memory: &Arc<Table>) -> Looked;
+    /// Takes the next chain over this memory, if one waits.
+    fn take(&mut self, queue: &mut Queue, memory: &Arc<Table>) -> Result<bool, Status>;
+
+    /// Makes the reply of the chain that was taken. The ring isn't locked.
+    fn answer(&mut self);
+
+    /// Gives the chain back, and says whether the driver wants to be told.
+    fn give_back(&mut self, queue: &mut Queue) -> Result<bool, Status>;
+
+    /// Says to the driver whether its kicks are wanted. Whether something was stored for that; where there is no ring, nothing is.
+    fn ask_kicks(&mut self, queue: &Queue, wanted: bool, memory: &Arc<Table>) -> bool;
 }
 
-/// A queue, shared by its thread and the front-end's.
+/// A queue, shared by its threads and the front-end's.
 #[derive(Debug)]
 pub struct Ring {
     index: usize,
+    /// How many threads serve it.
+    pub threads: u16,
     state: Mutex<State>,
-    /// How many wait for the lock besides the ring's own thread, which lets them go first.
-    waiting: AtomicUsize,
+    /// A chain went back, or whoever waited for that is done.
+    changed: Condvar,
     events: Epoll,
     wake: EventFd,
 }
 
 impl Ring {
-    /// A ring that isn't started.
-    pub fn new(index: usize) -> io::Result<Ring> {
+    /// A ring that isn't started, for so many threads.
+    pub fn new(index: usize, threads: u16) -> io::Result<Ring> {
         let (events, wake) = (Epoll::new()?, EventFd::new(libc::EFD_NONBLOCK | libc::EFD_CLOEXEC)?);
-        events.ctl(ControlOperation::Add, wake.as_raw_fd(), EpollEvent::new(EventSet::IN, Source::Wake as u64))?;
-        Ok(Ring { index, state: Mutex::default(), waiting: AtomicUsize::new(0), events, wake })
+        let ring = Ring { index, threads, state: Mutex::default(), changed: Condvar::new(), events, wake };
+        ring.listen(ring.wake.as_raw_fd(), Source::Wake)?;
+        Ok(ring)
+    }
+
+    /// Each event wakes one thread, and nobody reads it: so none waits in a read for what another has read.
+    fn listen(&self, fd: i32, source: Source) -> io::Result<()> {
+        let event = EpollEvent::new(EventSet::IN | EventSet::EDGE_TRIGGERED, source as u64);
+        self.events.ctl(ControlOperation::Add, fd, event)
+    }
+
+    fn lock(&self) -> MutexGuard<'_, State> {
+        self.state.lock().unwrap_or_else(PoisonError::into_inner)
+    }
+
+    fn wait_while<'a>(
+        &self,
+        state: MutexGuard<'a, State>,
+        condition: impl FnMut(&mut State) -> bool,
+    ) -> MutexGuard<'a, State> {
+        self.changed.wait_while(state, condition).unwrap_or_else(PoisonError::into_inner)
     }
 
     /// The ring with no chain out.
     pub fn state(&self) -> MutexGuard<'_, State> {
-        self.waiting.fetch_add(1, Ordering::SeqCst);
-        let state = self.state.lock().unwrap_or_else(PoisonError::into_inner);
-        self.waiting.fetch_sub(1, Ordering::SeqCst);
+        let mut state = self.lock();
+        state.held += 1;
+        let mut state = self.wait_while(state, |state| state.queue.out() > 0);
+        state.held -= 1;
+        self.changed.notify_all();
         state
     }
 
-    /// Has the thread look for chains.
+    /// Has a thread look for chains.
     pub fn look(&self) {
         let _ = self.wake.write(1); // full is as good
     }
 
     fn forget_kick(&self, state: &mut State) {
         if let Some(kick) = state.kick.take() {
-            // What was taken out already, because it was broken, can't be taken out again.
+            // What was taken out already, because it ended, can't be taken out again.
             let _ = self.events.ctl(ControlOperation::Delete, kick.as_raw_fd(), EpollEvent::default());
         }
     }
@@ -152,25 +216,23 @@ impl Ring {
     pub fn start(&self, kick: File) -> io::Result<()> {
         let mut state = self.state();
         self.forget_kick(&mut state);
-        self.events.ctl(ControlOperation::Add, kick.as_raw_fd(), EpollEvent::new(EventSet::IN, Source::Kick as u64))?;
-        state.kick = Some(Arc::new(kick));
+        self.listen(kick.as_raw_fd(), Source::Kick)?;
+        state.kick = Some(kick);
         if !state.is_started {
-            (state.is_started, state.is_refused, state.wants_kicks) = (true, false, None);
+            (state.is_started, state.is_refused, state.is_new) = (true, false, true);
         }
         self.look(); // chains may wait since before
         Ok(())
     }
 
     /// The ring ends, and says where it stood. Who goes on with it may not know that kicks can be unwanted.
-    pub fn stop(&self, memory: &Table) -> u16 {
+    pub fn stop(&self, server: &mut impl Server, memory: &Arc<Table>) -> u16 {
         let mut state = self.state();
-        if state.is_started {
-            state.want_kicks(true, memory);
-        }
+        state.want_kicks(true, server, memory);
         self.forget_kick(&mut state);
         state.call = None;
         (state.is_started, state.is_refused) = (false, false);
-        state.position
+        state.numbers.position
     }
 
     /// The driver isn't listened to any more.
@@ -193,26 +255,18 @@ impl Ring {
     }
 
     /// Chains are served or wait.
-    pub fn enable(&self, enabled: bool, memory: &Table) {
+    pub fn enable(&self, enabled: bool, server: &mut impl Server, memory: &Arc<Table>) {
         let mut state = self.state();
-        if state.is_live() {
-            state.want_kicks(true, memory);
-        }
+        state.want_kicks(true, server, memory);
         state.is_enabled = enabled;
         drop(state);
         self.look();
     }
 
-    fn take_kick(&self) {
-        let Some(kick) = self.state().kick.clone() else { return };
-        let why = match (&*kick).read(&mut [0; 8]) {
-            Ok(count) if count > 0 => return,
-            Ok(_) => "it ended".into(),
-            Err(e) if matches!(e.kind(), ErrorKind::WouldBlock | ErrorKind::Interrupted) => return,
-            Err(e) => e.to_string(),
-        };
-        warn!("queue {}: kicks aren't heard any more: {why}", self.index);
-        let _ = self.events.ctl(ControlOperation::Delete, kick.as_raw_fd(), EpollEvent::default());
+    /// Where kicks came from has ended.
+    fn lose_kick(&self) {
+        warn!("queue {}: kicks aren't heard any more", self.index);
+        self.forget_kick(&mut self.lock());
     }
 
     /// Waits until something happens.
@@ -222,52 +276,93 @@ impl Ring {
             Err(e) if e.kind() == ErrorKind::Interrupted => 0,
             counted => counted?,
         };
-        for event in &events[..count] {
-            if event.data() == Source::Kick as u64 {
-                self.take_kick();
-            } else {
-                let _ = self.wake.read();
-            }
+        let ended = EventSet::HANG_UP | EventSet::ERROR;
+        if events[..count]
+            .iter()
+            .any(|event| event.data() == Source::Kick as u64 && event.event_set().intersects(ended))
+        {
+            self.lose_kick();
         }
         Ok(())
     }
 
-    fn serve_next(&self, server: &mut impl Server, memory: &impl Fn() -> Arc<Table>) -> Looked {
-        while self.waiting.load(Ordering::SeqCst) > 0 {
-            thread::yield_now();
-        }
-        let mut state = self.state.lock().unwrap_or_else(PoisonError::into_inner);
+    /// Takes the next chain, if one waits.
+    fn take(&self, state: &mut State, server: &mut impl Server, memory: &Arc<Table>) -> Looked {
         if !state.is_live() {
             return Looked::Idle;
         }
-        // The memory is asked for under the lock: whoever changes it takes the lock afterwards.
-        server.serve(&mut state, &memory())
+        let begun = if state.is_new { state.begin(self.threads) } else { Ok(()) };
+        match begun.and_then(|()| server.take(&mut state.queue, memory)) {
+            Ok(taken) => {
+                state.numbers.position = state.queue.position();
+                if taken {
+                    Looked::Taken
+                } else {
+                    Looked::Idle
+                }
+            }
+            Err(Status::ChainOut) => Looked::Idle, // who gives one back looks again
+            Err(status) if status.is_out_of_memory() => {
+                warn!("queue {}: memory is wanting, and a chain waits", self.index);
+                Looked::Again
+            }
+            Err(status) => {
+                error!("queue {} is refused, and isn't served until it begins anew: {status}", self.index);
+                state.refuse();
+                Looked::Idle
+            }
+        }
     }
 
-    /// Whether the driver had to be told.
-    fn want_kicks(&self, wanted: bool, memory: &impl Fn() -> Arc<Table>) -> bool {
-        let mut state = self.state.lock().unwrap_or_else(PoisonError::into_inner);
-        state.is_live() && state.want_kicks(wanted, &memory())
+    /// What comes while the chain that was taken is answered is for a thread that sleeps, and else for this one.
+    fn hand_on(&self, state: &mut State, server: &mut impl Server, memory: &Arc<Table>) {
+        let is_for_another = state.sleeping > 0;
+        state.want_kicks(is_for_another, server, memory);
+        if is_for_another && state.has_more(memory) {
+            self.look();
+        }
+    }
+
+    fn give_back(&self, state: &mut State, server: &mut impl Server) {
+        match server.give_back(&mut state.queue) {
+            Ok(true) => state.notify(),
+            Ok(false) => {}
+            Err(status) => {
+                error!("queue {} is refused, since a chain can't go back: {status}", self.index);
+                state.refuse();
+                let _ = state.begin(self.threads); // so none is out
+            }
+        }
+        if state.held > 0 {
+            self.changed.notify_all();
+        }
     }
 
     /// Serves chains until none waits. A chain that comes while kicks aren't wanted is met by the look after they are.
     fn serve_all(&self, server: &mut impl Server, memory: &impl Fn() -> Arc<Table>) -> Looked {
+        let mut state = self.lock();
+        state.sleeping -= 1;
         loop {
-            let mut looked = self.serve_next(server, memory);
-            if looked == Looked::Served {
-                self.want_kicks(false, memory);
-            }
-            while looked == Looked::Served {
-                looked = self.serve_next(server, memory);
-            }
-            if !self.want_kicks(true, memory) {
+            state = self.wait_while(state, |state| state.held > 0);
+            // The memory is asked for under the lock: whoever changes it takes the lock afterwards.
+            let table = memory();
+            let looked = self.take(&mut state, server, &table);
+            if looked == Looked::Taken {
+                self.hand_on(&mut state, server, &table);
+                drop(state);
+                server.answer();
+                state = self.lock();
+                self.give_back(&mut state, server);
+            } else if !state.want_kicks(true, server, &table) {
+                state.sleeping += 1;
                 return looked;
             }
         }
     }
 
-    /// The ring's thread; it ends with the process.
+    /// What each of the ring's threads does; it ends with the process.
     pub fn run(&self, server: &mut impl Server, memory: impl Fn() -> Arc<Table>) {
+        self.lock().sleeping += 1;
         let mut wait = -1;
         loop {
             if let Err(e) = self.wait(wait) {
@@ -282,6 +377,7 @@ impl Ring {
 #[cfg(test)]
 mod tests {
     use super::*;
+    use std::io::Read;
     use std::os::fd::FromRawFd;
 
     fn event() -> File {
@@ -299,7 +395,7 @@ mod tests {
 
     #[test]
     fn an_interrupt_waits_for_its_place() {
-        let (ring, event) = (Ring::new(0).expect("a ring"), event());
+        let (ring, event) = (Ring::new(0, 1).expect("a ring"), event());
         let call = || Some(event.try_clone().expect("a descriptor"));
         ring.state().notify();
         ring.set_call(None);

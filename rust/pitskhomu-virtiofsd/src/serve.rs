@@ -1,8 +1,8 @@
 //! What the queues' threads and the front-end's share, and what a queue's thread serves chains with.
 use crate::adapter::Adapter;
 use crate::memory::Table;
-use crate::ring::{Looked, Ring, Server, State};
-use log::{debug, error, warn};
+use crate::ring::{Ring, Server};
+use log::{debug, error};
 use pitskhomu::{Queue, Status};
 use std::io;
 use std::panic::{catch_unwind, AssertUnwindSafe};
@@ -25,12 +25,13 @@ pub struct Core<F> {
 }
 
 impl<F: Served> Core<F> {
-    /// A device without memory whose rings aren't started.
-    pub fn new(fs: F, request_queues: usize) -> io::Result<Core<F>> {
+    /// A device without memory whose rings aren't started. Each request queue is served by so many threads.
+    pub fn new(fs: F, request_queues: usize, threads: u16) -> io::Result<Core<F>> {
         if pitskhomu::version() != pitskhomu::VERSION {
             return Err(io::Error::other("the archive is of another version than the wrapper"));
         }
-        let rings = (0..=request_queues).map(Ring::new).collect::<io::Result<_>>()?;
+        let ring = |index| Ring::new(index, if index == 0 { 1 } else { threads });
+        let rings = (0..=request_queues).map(ring).collect::<io::Result<_>>()?;
         Ok(Core { fs, device: pitskhomu::Device::default(), rings, memory: RwLock::default() })
     }
 
@@ -83,50 +84,51 @@ impl<F: Served> Bench<F> {
         Ok(())
     }
 
-    /// Has the worker serve the next chain. What a guest makes the file system panic at is answered EIO, and costs it no more.
-    fn serve_chain(&mut self, queue: &mut Queue, memory: &Arc<Table>) -> Result<Option<pitskhomu::Served>, Status> {
-        self.work_over(memory)?;
-        let core = &self.core;
-        let adapter = Adapter { fs: &core.fs, memory };
-        let mut serve = || self.worker.serve(queue, &core.device, &adapter, &**memory);
-        catch_unwind(AssertUnwindSafe(&mut serve))
-            .or_else(|_| {
-                error!("queue {}: a call panicked, and is answered EIO", self.index);
-                catch_unwind(AssertUnwindSafe(&mut serve)) // the worker gives the same chain back
-            })
-            .unwrap_or(Err(Status::WrongOrder))
-    }
-
-    fn went_back(&self, state: &mut State, queue: &Queue, served: &pitskhomu::Served) -> Looked {
-        state.position = queue.position();
+    fn log(&self, served: &pitskhomu::Served) {
         if let Some(fault) = served.fault {
             debug!("queue {}: a faulty chain went back with no reply: {fault}", self.index);
         }
         if let Some(fault) = served.request_fault {
             debug!("queue {}: a request {} went back with no reply: {fault}", self.index, served.opcode);
         }
-        if served.notify {
-            state.notify();
-        }
-        Looked::Served
     }
 }
 
 impl<F: Served> Server for Bench<F> {
-    fn serve(&mut self, state: &mut State, memory: &Arc<Table>) -> Looked {
-        let mut queue = state.queue();
-        match self.serve_chain(&mut queue, memory) {
-            Ok(Some(served)) => self.went_back(state, &queue, &served),
-            Ok(None) => Looked::Idle,
-            Err(status) if status.is_out_of_memory() => {
-                warn!("queue {}: memory is wanting, and a chain waits", self.index);
-                Looked::Again
-            }
-            Err(status) => {
-                error!("queue {} is refused, and isn't served until it begins anew: {status}", self.index);
-                state.refuse();
-                Looked::Idle
-            }
+    fn take(&mut self, queue: &mut Queue, memory: &Arc<Table>) -> Result<bool, Status> {
+        self.work_over(memory)?;
+        self.worker.take(queue, &**memory)
+    }
+
+    /// What a guest makes the file system panic at is answered EIO, and costs it no more.
+    fn answer(&mut self) {
+        let (core, Some(memory)) = (&self.core, &self.told) else { return };
+        let adapter = Adapter { fs: &core.fs, memory };
+        let mut answer = || self.worker.answer(&core.device, &adapter, &**memory);
+        let answered = catch_unwind(AssertUnwindSafe(&mut answer)).or_else(|_| {
+            error!("queue {}: a call panicked, and is answered EIO", self.index);
+            catch_unwind(AssertUnwindSafe(&mut answer))
+        });
+        if let Ok(Err(status)) = answered {
+            error!("queue {}: a chain is answered EIO: {status}", self.index);
         }
+    }
+
+    fn give_back(&mut self, queue: &mut Queue) -> Result<bool, Status> {
+        let memory = self.told.as_deref().ok_or(Status::WrongOrder)?;
+        let served = self.worker.give_back(queue, memory);
+        self.worker.abandon(); // it has one only if this is refused
+        served.map(|served| {
+            self.log(&served);
+            served.notify
+        })
+    }
+
+    fn ask_kicks(&mut self, queue: &Queue, wanted: bool, memory: &Arc<Table>) -> bool {
+        let asked = self.work_over(memory).and_then(|()| self.worker.ask_kicks(queue, wanted, &**memory));
+        asked.unwrap_or_else(|status| {
+            debug!("queue {}: the driver isn't told of kicks: {status}", self.index);
+            false
+        })
     }
 }

@@ -137,6 +137,7 @@ struct Serving {
     scratch: File,
     tag: Option<String>,
     request_queues: usize,
+    threads: u16,
     capabilities: crate::options::CapabilityChanges,
     handles: Handles,
     seccomp: crate::options::Seccomp,
@@ -150,6 +151,7 @@ impl Serving {
             scratch,
             tag: options.tag.take(),
             request_queues: options.num_request_queues.into(),
+            threads: options.thread_pool_size.max(1),
             capabilities: options.modcaps.take().unwrap_or_default(),
             handles: options.inode_file_handles,
             seccomp: options.seccomp,
@@ -158,13 +160,15 @@ impl Serving {
     }
 
     fn serve<F: Served>(self, fs: F) -> Result<(), Failure> {
-        let core = Arc::new(Core::new(fs, self.request_queues)?);
+        let core = Arc::new(Core::new(fs, self.request_queues, self.threads)?);
         capabilities::give_up(&self.capabilities, self.handles)?;
         if let Some(action) = self.seccomp.action() {
             enable_seccomp(action, self.syslog)?; // threads have it from this one
         }
-        for index in 0..core.rings.len() {
-            start_queue(core.clone(), index)?;
+        for (index, ring) in core.rings.iter().enumerate() {
+            for _ in 0..ring.threads {
+                start_thread(core.clone(), index)?;
+            }
         }
         let front_end = Arc::new(Mutex::new(FrontEnd::new(core.clone(), self.tag, self.scratch)));
         let mut listener = BackendListener::new(self.listener, front_end)?;
@@ -181,7 +185,7 @@ impl Serving {
     }
 }
 
-fn start_queue<F: Served>(core: Arc<Core<F>>, index: usize) -> Result<(), Failure> {
+fn start_thread<F: Served>(core: Arc<Core<F>>, index: usize) -> Result<(), Failure> {
     let mut bench = Bench::new(core.clone(), index);
     thread::Builder::new().name(format!("queue {index}")).spawn(move || {
         // virtiofsd changes a thread's working directory for extended attributes.

@@ -92,6 +92,20 @@ impl Chain {
         Status::check(unsafe { sys::fs_drop(&mut self.0, queue) })
     }
 
+    /// The chain is free; its queue isn't told.
+    pub fn abandon(&mut self) {
+        // SAFETY: as the module says.
+        unsafe { sys::fs_abandon(&mut self.0) }
+    }
+
+    /// What says to the driver whether its kicks are wanted.
+    pub fn ask_kicks(&mut self, queue: &Queue, wanted: bool) -> Result<sys::Store, Status> {
+        let mut store = sys::Store::default();
+        // SAFETY: as the module says.
+        Status::check(unsafe { sys::fs_ask_kicks(&mut self.0, queue, wanted.into(), &mut store) })?;
+        Ok(store)
+    }
+
     pub fn request_windows<'w>(&mut self, from: u64, len: u64, windows: &'w mut [Window]) -> &'w [Window] {
         // SAFETY: as the module says; it fills no more than the slice has.
         let count = unsafe { sys::fs_request_windows(&mut self.0, from, len, windows.as_mut_ptr(), windows.len()) };
@@ -208,7 +222,7 @@ impl Chain {
         Status::check(unsafe { sys::fs_reply_bytes(&mut self.0, len) })
     }
 
-    pub fn begin_return(&mut self, queue: &Queue, front: &mut [u8]) -> Result<sys::Stores, Status> {
+    pub fn begin_return(&mut self, queue: &mut Queue, front: &mut [u8]) -> Result<sys::Stores, Status> {
         let mut stores = sys::Stores::default();
         // SAFETY: as the module says.
         Status::check(unsafe { sys::fs_return(&mut self.0, queue, front.as_mut_ptr(), front.len(), &mut stores) })?;
@@ -240,6 +254,12 @@ fn added(number: u32) -> Result<Added, Status> {
         status::LIST_FAILS => Ok(Added::NoRoom),
         _ => Err(Status::of(number)),
     }
+}
+
+/// Begins a queue anew.
+pub(crate) fn begin(queue: &mut Queue, position: u16) -> Result<(), Status> {
+    // SAFETY: as the module says.
+    Status::check(unsafe { sys::fs_queue_begin(queue, position) })
 }
 
 /// The header's number of the archive.

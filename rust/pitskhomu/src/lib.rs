@@ -5,7 +5,7 @@
 //!
 //! - [`GuestMemory`] is the guest's memory, which runs meanwhile: copies in and out of it by number.
 //! - [`FileSystem`] is what the guest mounts: a method for each call, with a default for all but two.
-//! - A [`Worker`] on each thread serves a [`Queue`]; all share a [`Device`].
+//! - A [`Worker`] on each thread serves a [`Queue`] of its own, or one that several serve ([`Worker::take`]); all share a [`Device`].
 //!
 //! ```no_run
 //! use pitskhomu::{Device, FileSystem, GuestMemory, Queue, QueueLayout, Region, Status, Worker};

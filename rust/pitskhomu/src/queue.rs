@@ -1,4 +1,5 @@
 //! A virtqueue: where its parts stand, and how far it has come.
+use crate::chain;
 use crate::status::Status;
 
 /// The size of a split virtqueue and the guest addresses of its parts (VIRTIO 1.2, 2.7), as the driver told them.
@@ -14,8 +15,7 @@ pub struct QueueLayout {
     pub used: u64,
 }
 
-/// A queue (struct fs_queue). It is told with each call, and moved on by it. To begin anew, make another; and drop the workers' chains
-/// that walk it before (a worker has none but after a panic).
+/// A queue (struct fs_queue). It is told with each call, and moved on by it. Of several workers each has at most one chain out of it.
 #[repr(C)]
 #[derive(Debug, Default)]
 pub struct Queue {
@@ -24,16 +24,57 @@ pub struct Queue {
     used: u64,
     size: u16,
     position: u16,
-    out: u16,
+    returned: u16,
+    most_out: u16,
     stopped: u16,
+    returning: u8,
+    begun: u32,
+    taken: u32,
+    event_index: u8,
 }
 
 impl Queue {
-    /// A queue that begins at a position of the available ring: 0 after a reset, or where another left off. Numbers that are none are
-    /// refused by the first call with it (`Status::BadArgument`).
+    /// A queue that begins at a position of the available ring: 0 after a reset, or where another left off. One chain is out of it at a time.
+    /// Numbers that are none are refused by the first call with it (`Status::BadArgument`). To begin a queue anew, hand this to its `begin`:
+    /// by its numbers alone it can't be told from one of before.
     pub const fn new(layout: QueueLayout, position: u16) -> Queue {
         let QueueLayout { size, descriptors, available, used } = layout;
-        Queue { desc: descriptors, avail: available, used, size, position, out: 0, stopped: 0 }
+        Queue {
+            desc: descriptors,
+            avail: available,
+            used,
+            size,
+            position,
+            returned: position,
+            most_out: 1,
+            stopped: 0,
+            returning: 0,
+            begun: 0,
+            taken: 0,
+            event_index: 0,
+        }
+    }
+
+    /// The same with up to `most` chains out at a time, 1 to the queue's size: as many as workers serve it.
+    pub const fn with_most_out(mut self, most: u16) -> Queue {
+        self.most_out = most;
+        self
+    }
+
+    /// The same for a driver that took VIRTIO_F_EVENT_IDX, or that didn't: by it driver and device say at which chain they want to be told
+    /// next, and not by flags (VIRTIO 1.2, 2.7.7 and 2.7.10).
+    pub const fn with_event_index(mut self, is_taken: bool) -> Queue {
+        self.event_index = is_taken as u8;
+        self
+    }
+
+    /// Begins anew, as another does: its walks and the chains that are out of it are refused from here on (`Status::OtherQueue`; their
+    /// workers `abandon` them). Errors, after which it is as it was: `BadArgument`.
+    pub fn begin(&mut self, anew: Queue) -> Result<(), Status> {
+        let mut begun = Queue { begun: self.begun, ..anew };
+        chain::begin(&mut begun, anew.position)?;
+        *self = begun;
+        Ok(())
     }
 
     /// Its size, and where its parts stand.
@@ -41,18 +82,42 @@ impl Queue {
         QueueLayout { size: self.size, descriptors: self.desc, available: self.avail, used: self.used }
     }
 
-    /// Where it stands: of how many chains it was told that they went back, modulo 2^16. A chain's return moves it.
+    /// Where the next chain is taken, modulo 2^16. While none is out it is where the queue stands.
     pub const fn position(&self) -> u16 {
         self.position
     }
 
-    /// Whether a chain is out: between calls only after a panic.
-    pub const fn has_chain_out(&self) -> bool {
-        self.out != 0
+    /// How many chains went back, modulo 2^16, counted from where it began.
+    pub const fn returned(&self) -> u16 {
+        self.returned
+    }
+
+    /// How many chains are out: of one worker between calls only after a panic.
+    pub const fn out(&self) -> u16 {
+        self.position.wrapping_sub(self.returned)
+    }
+
+    /// How many may be out.
+    pub const fn most_out(&self) -> u16 {
+        self.most_out
+    }
+
+    /// Whether the driver took VIRTIO_F_EVENT_IDX.
+    pub const fn has_event_index(&self) -> bool {
+        self.event_index != 0
     }
 
     /// The refusal that stopped it, if one did; of a queue of a record `Status::Stopped`.
     pub fn stopped(&self) -> Option<Status> {
         Some(self.stopped).filter(|&number| number != 0).map(|number| Status::of(number.into()))
+    }
+
+    /// The guest address of what says whether the driver's kicks are wanted: avail_event, or the flags of the used ring (VIRTIO 1.2, 2.7.8).
+    pub(crate) const fn kick_address(&self) -> u64 {
+        if self.has_event_index() {
+            self.used + 4 + 8 * self.size as u64
+        } else {
+            self.used
+        }
     }
 }

@@ -78,6 +78,8 @@ numbered! {
         ChainOut = 76, "a chain is out";
         /// What is to be loaded or stored has no place.
         NoPlace = 77, "what is to be loaded or stored has no place";
+        /// Another chain of the queue is being returned.
+        Returning = 78, "another chain of the queue is being returned";
         /// A record ends early.
         RecordTruncated = 81, "the record ends early";
         /// It isn't a record.

@@ -4,7 +4,7 @@ use crate::memory::{GuestRange as Range, Region, Window};
 use crate::queue::Queue;
 use core::ffi::c_void;
 
-pub const VERSION: u32 = 5;
+pub const VERSION: u32 = 6;
 pub const REGIONS_MAX: usize = 64;
 pub const QUEUES_MAX: usize = 64;
 pub const FIRST: usize = 80;
@@ -209,6 +209,14 @@ pub struct Stores {
     pub seen_at: usize,
 }
 
+#[repr(C)]
+#[derive(Clone, Copy, Debug, Default)]
+pub struct Store {
+    pub at: usize,
+    pub value: u16,
+    pub len: u8,
+}
+
 #[rustfmt::skip]
 extern "C" {
     pub fn fs_version() -> u32;
@@ -216,6 +224,9 @@ extern "C" {
     pub fn fs_chain_set_memory(chain: &mut Chain, device: &Device, regions: *const Region, region_count: usize) -> u32;
     pub fn fs_chain_free(chain: &mut Chain);
     pub fn fs_walk(chain: &mut Chain, queue: &mut Queue, loaded: *const u8, loaded_len: usize, step: &mut Step) -> u32;
+    pub fn fs_queue_begin(queue: &mut Queue, position: u16) -> u32;
+    pub fn fs_abandon(chain: &mut Chain);
+    pub fn fs_ask_kicks(chain: &mut Chain, queue: &Queue, wanted: u32, store: &mut Store) -> u32;
     pub fn fs_drop(chain: &mut Chain, queue: &mut Queue) -> u32;
     pub fn fs_request_windows(chain: &mut Chain, from: u64, len: u64, windows: *mut Window, window_count: usize) -> usize;
     pub fn fs_room_windows(chain: &mut Chain, from: u64, len: u64, windows: *mut Window, window_count: usize) -> usize;
@@ -238,7 +249,7 @@ extern "C" {
         entry: &Entry, next_offset: u64) -> u32;
     pub fn fs_reply_entries(chain: &mut Chain, len: &mut u64) -> u32;
     pub fn fs_reply_bytes(chain: &mut Chain, len: u64) -> u32;
-    pub fn fs_return(chain: &mut Chain, queue: &Queue, front: *mut u8, front_len: usize, stores: &mut Stores) -> u32;
+    pub fn fs_return(chain: &mut Chain, queue: &mut Queue, front: *mut u8, front_len: usize, stores: &mut Stores) -> u32;
     pub fn fs_returned(chain: &mut Chain, queue: &mut Queue, seen: u16, notify: &mut u8) -> u32;
     pub fn fs_save(device: &Device, queues: *const Queue, queue_count: usize, buffer: *mut u8, buffer_len: usize,
         len: &mut usize) -> u32;

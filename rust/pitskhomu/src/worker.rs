@@ -46,8 +46,10 @@ pub struct Served {
 #[derive(Clone, Copy, Debug, PartialEq, Eq)]
 enum Phase {
     Free,
-    /// It is walked, or out, and its request isn't read.
+    /// It is walked.
     Walking,
+    /// It is out, and nobody was told of its request.
+    Taken,
     /// Its request was handed to the file system, which may reply by bytes.
     Handed,
     /// A call waits for its answer.
@@ -113,10 +115,10 @@ impl Worker {
         self.chain.set_memory(&device.numbers(), regions)
     }
 
-    /// Serves the next chain of a queue, if one waits: walks it, asks the file system, and gives it back with the reply. Chains of one queue
-    /// are served by one worker at a time. Errors, after which no chain is out: those of `Status::stops_queue`, `OutOfMemory` (the chain waits
-    /// still; the driver doesn't notify again), `BadArgument` (numbers of the queue or the device that are none), `WrongOrder` (no memory was told),
-    /// `ChainOut` (of another worker).
+    /// Serves the next chain of a queue, if one waits: takes it, asks the file system, and gives it back with the reply. Errors, after which
+    /// this worker has no chain out: those of `Status::stops_queue`, `OutOfMemory` (the chain waits still; the driver doesn't notify again),
+    /// `BadArgument` (numbers of the queue or the device that are none), `WrongOrder` (no memory was told), `ChainOut` (as many are out by
+    /// other workers as may be).
     ///
     /// After a panic of the file system, hand the same queue again: the call is answered EIO, and that chain is what was served. After
     /// one of the memory a chain may be lost to the guest.
@@ -130,28 +132,87 @@ impl Worker {
         if let Some(served) = self.finish_left(queue, memory) {
             return Ok(Some(served));
         }
-        let served = self.serve_next(queue, device, file_system, memory);
-        if served.is_err() {
-            self.abandon(queue);
+        if !self.take(queue, memory)? {
+            return Ok(None);
         }
-        served
+        if let Err(status) = self.exchange(device, file_system, memory) {
+            self.give_up(queue, memory);
+            return Err(status);
+        }
+        self.give_back(queue, memory).map(Some)
+    }
+
+    /// Takes the next chain of a queue, if one waits: then `answer` it and `give_back`, in this order. Several workers may have a chain each
+    /// out of one queue, up to `Queue::most_out`: keep it behind a lock, and hold that for `take` and for `give_back`, and not for
+    /// `answer`. Chains go back in any order. Errors, after which this worker has no chain but one that it had before: those of `serve`,
+    /// and `WrongOrder` (it has one).
+    pub fn take(&mut self, queue: &mut Queue, memory: &dyn GuestMemory) -> Result<bool, Status> {
+        match self.phase {
+            Phase::Free => {}
+            Phase::Walking => self.abandon(), // a walk at whose loads the memory panicked
+            _ => return Err(Status::WrongOrder),
+        }
+        grow(&mut self.request, sys::FIRST)?;
+        self.phase = Phase::Walking;
+        self.call = sys::Call::default();
+        self.replied = Replied::Whole;
+        self.written = 0;
+        let walked = self.walk(queue, memory);
+        self.phase = match walked {
+            Ok(true) if self.step.fault == 0 => Phase::Taken,
+            Ok(true) => Phase::Answered,
+            _ => Phase::Free,
+        };
+        if walked.is_err() {
+            let _ = self.chain.give_up(queue); // a walk ends
+        }
+        walked
+    }
+
+    /// Asks the file system what the chain that was taken asks for, and makes the reply. After a panic of the file system call it again: EIO
+    /// is the answer. Without a chain, or where one is answered, it does nothing. Errors: `BadArgument` (numbers of the device that are
+    /// none), and the chain is answered EIO.
+    pub fn answer(
+        &mut self,
+        device: &Device,
+        file_system: &dyn FileSystem,
+        memory: &dyn GuestMemory,
+    ) -> Result<(), Status> {
+        match self.phase {
+            Phase::Taken => {}
+            _ => return self.answer_left(memory),
+        }
+        let answered = self.exchange(device, file_system, memory);
+        if answered.is_err() {
+            self.phase = Phase::Handed;
+            self.answer_left(memory)?;
+        }
+        answered
+    }
+
+    /// Answers EIO if a panic left a call without an answer.
+    fn answer_left(&mut self, memory: &dyn GuestMemory) -> Result<(), Status> {
+        match self.phase {
+            Phase::Handed => self.reply_error(memory, Errno::EIO)?,
+            Phase::Asked => self.answer_error()?,
+            _ => return Ok(()),
+        }
+        self.phase = Phase::Answered;
+        Ok(())
+    }
+
+    /// Whether this worker has a chain: it was taken, and isn't given back.
+    pub fn has_chain(&self) -> bool {
+        self.phase != Phase::Free
     }
 
     /// Ends what a panic left: answers EIO if a call waits.
     fn finish_left(&mut self, queue: &mut Queue, memory: &dyn GuestMemory) -> Option<Served> {
-        let answered = match self.phase {
-            Phase::Handed => self.reply_error(memory, Errno::EIO),
-            Phase::Asked => self.answer_error(),
-            _ => Ok(()),
-        };
-        if matches!(self.phase, Phase::Handed | Phase::Asked) && answered.is_ok() {
-            self.phase = Phase::Answered;
-        }
-        let served = match self.phase {
-            Phase::Answered => self.give_back(queue, memory).ok(),
+        let served = match self.answer_left(memory) {
+            Ok(()) if self.phase == Phase::Answered => self.give_back(queue, memory).ok(),
             _ => None,
         };
-        self.abandon(queue);
+        self.give_up(queue, memory);
         served
     }
 
@@ -164,38 +225,27 @@ impl Worker {
         Ok(())
     }
 
-    /// Has no chain out. One whose stores were told can't be given up: it ends.
-    fn abandon(&mut self, queue: &mut Queue) {
-        if self.phase == Phase::Free {
-            return;
+    /// Has no chain out: one of which nobody was told waits again, any other goes back with no reply.
+    fn give_up(&mut self, queue: &mut Queue, memory: &dyn GuestMemory) {
+        if matches!(self.phase, Phase::Walking | Phase::Taken) && self.chain.give_up(queue).is_ok() {
+            self.phase = Phase::Free;
         }
-        if self.chain.give_up(queue) == Err(Status::WrongOrder) {
-            // Whether the driver wants to be told isn't known.
-            let _ = self.chain.end_return(queue, 0);
+        if matches!(self.phase, Phase::Taken | Phase::Handed | Phase::Asked) {
+            let _ = self.chain.reply_bytes(0);
+            self.phase = Phase::Answered;
         }
-        self.phase = Phase::Free;
+        if self.phase != Phase::Free {
+            let _ = self.give_back(queue, memory);
+        }
+        self.abandon();
     }
 
-    fn serve_next(
-        &mut self,
-        queue: &mut Queue,
-        device: &Device,
-        file_system: &dyn FileSystem,
-        memory: &dyn GuestMemory,
-    ) -> Result<Option<Served>, Status> {
-        self.phase = Phase::Walking;
-        self.call = sys::Call::default();
-        self.replied = Replied::Whole;
-        self.written = 0;
-        if !self.walk(queue, memory)? {
-            self.phase = Phase::Free;
-            return Ok(None);
+    /// Lets go of a chain whose queue was begun anew (`Queue::begin`), or is gone. A queue that goes on has it out for ever.
+    pub fn abandon(&mut self) {
+        if self.phase != Phase::Free {
+            self.chain.abandon();
         }
-        if self.step.fault == 0 {
-            self.exchange(device, file_system, memory)?;
-        }
-        self.phase = Phase::Answered;
-        self.give_back(queue, memory).map(Some)
+        self.phase = Phase::Free;
     }
 
     /// From the request to the reply.
@@ -205,18 +255,23 @@ impl Worker {
         file_system: &dyn FileSystem,
         memory: &dyn GuestMemory,
     ) -> Result<(), Status> {
-        let front = self.load_front(memory)?;
-        if self.reply_by_bytes(front, file_system, memory)? {
+        if self.phase != Phase::Taken {
             return Ok(());
         }
-        self.phase = Phase::Walking;
+        let front = self.load_front(memory);
+        if self.reply_by_bytes(front, file_system, memory)? {
+            self.phase = Phase::Answered;
+            return Ok(());
+        }
+        self.phase = Phase::Taken;
         self.ask(front, device, memory)?;
         self.phase = if self.call.answer == sys::answer::NONE { Phase::Answered } else { Phase::Asked };
-        match self.answer(device, file_system, memory) {
+        match self.answer_call(device, file_system, memory) {
             Ok(replied) => self.replied = replied,
             // An answer that the library doesn't take: files may have changed, so the call isn't asked again.
             Err(_) => self.answer_error()?,
         }
+        self.phase = Phase::Answered;
         Ok(())
     }
 
@@ -247,11 +302,10 @@ impl Worker {
     }
 
     /// Loads the request's first bytes, and says how many.
-    fn load_front(&mut self, memory: &dyn GuestMemory) -> Result<usize, Status> {
+    fn load_front(&mut self, memory: &dyn GuestMemory) -> usize {
         let len = self.step.request_len.min(sys::FIRST as u64) as usize;
-        grow(&mut self.request, len)?;
         load_request(&mut self.chain, memory, 0, &mut self.request[..len]);
-        Ok(len)
+        len
     }
 
     /// The chain by its bytes, of which the first are loaded.
@@ -306,11 +360,43 @@ impl Worker {
         }
     }
 
-    /// Stores the reply, the used element and the used index, in this order (VIRTIO 1.2, 2.7.8), and says what came of the chain.
-    fn give_back(&mut self, queue: &mut Queue, memory: &dyn GuestMemory) -> Result<Served, Status> {
-        let began = self.chain.begin_return(queue, &mut self.front);
-        self.phase = Phase::Returning;
-        let stores = began?;
+    /// Gives the chain back: stores the reply, the used element and the used index, in this order (VIRTIO 1.2, 2.7.8), and says what came of
+    /// it. Errors: `WrongOrder` (no chain is answered), `Returning` (another chain of the queue is between its stores, by a worker whose
+    /// memory panicked; this one may be given back later); after any other this worker has no chain: `OtherQueue` (the queue was begun anew).
+    ///
+    /// After a panic of the memory call it again: the chain ends, and `WrongOrder` is told.
+    pub fn give_back(&mut self, queue: &mut Queue, memory: &dyn GuestMemory) -> Result<Served, Status> {
+        match self.phase {
+            Phase::Answered => {}
+            Phase::Returning => {
+                self.end_return(queue);
+                return Err(Status::WrongOrder);
+            }
+            _ => return Err(Status::WrongOrder),
+        }
+        match self.chain.begin_return(queue, &mut self.front) {
+            Ok(stores) => {
+                self.phase = Phase::Returning;
+                let notify = self.store(queue, memory, &stores)?;
+                self.phase = Phase::Free;
+                Ok(self.served(stores.len, notify))
+            }
+            Err(Status::Returning) => Err(Status::Returning),
+            Err(status) => {
+                self.end_return(queue);
+                Err(status)
+            }
+        }
+    }
+
+    /// Ends a return whose stores weren't all made: whether the driver wants to be told isn't known.
+    fn end_return(&mut self, queue: &mut Queue) {
+        let _ = self.chain.end_return(queue, 0);
+        self.abandon();
+    }
+
+    /// Makes the stores of a return, and says whether the driver wants to be told.
+    fn store(&mut self, queue: &mut Queue, memory: &dyn GuestMemory, stores: &sys::Stores) -> Result<bool, Status> {
         if self.replied == Replied::Entries {
             let len = (stores.len as usize).saturating_sub(stores.front_len);
             store_room(&mut self.chain, memory, sys::HEADER, &self.list[..len]);
@@ -323,12 +409,26 @@ impl Worker {
         if memory.is_logging() {
             self.mark_written(queue, memory, u64::from(stores.len).max(self.written));
         }
-        // The flags are read after the driver can see the index, or a notification is lost.
+        // What the driver wants is read after it can see the index, or a notification is lost.
         fence(Ordering::SeqCst);
-        let seen = memory.load_u16(stores.seen_at);
-        let notify = self.chain.end_return(queue, seen)?;
-        self.phase = Phase::Free;
-        Ok(self.served(stores.len, notify))
+        self.chain.end_return(queue, memory.load_u16(stores.seen_at))
+    }
+
+    /// Says to the driver whether its kicks are wanted (VIRTIO 1.2, 2.7.10): they are before you sleep, and needn't be while a worker looks for
+    /// chains anyway. Whether something was stored: where they are wanted look once more then, by `take`, since a chain may have come before
+    /// the driver could know. It is no matter whether this worker has a chain. Errors: `WrongOrder` (no memory was told), `BadArgument` (the
+    /// queue's numbers are none), `NoPlace` (the ring isn't in the memory).
+    pub fn ask_kicks(&mut self, queue: &Queue, wanted: bool, memory: &dyn GuestMemory) -> Result<bool, Status> {
+        let store = self.chain.ask_kicks(queue, wanted)?;
+        if store.len == 0 {
+            return Ok(false);
+        }
+        memory.store_u16(store.at, store.value);
+        if memory.is_logging() {
+            memory.mark(GuestRange { guest: queue.kick_address(), len: store.len.into() });
+        }
+        fence(Ordering::SeqCst); // what waits is looked for behind it
+        Ok(true)
     }
 
     /// Tells what was written: so many bytes of the room, the used element and the used index (VIRTIO 1.2, 2.7.8).
@@ -346,7 +446,7 @@ impl Worker {
             }
         }
         let layout = queue.layout();
-        let element = u64::from(queue.position() % layout.size);
+        let element = u64::from(queue.returned() % layout.size);
         memory.mark(GuestRange { guest: layout.used + 4 + 8 * element, len: 8 });
         memory.mark(GuestRange { guest: layout.used + 2, len: 2 });
     }

@@ -36,7 +36,7 @@ fn an_idle_queue() {
     let (mut guest, recorder) = (Guest::new(), Recorder::default());
     assert_eq!(serve(&mut guest, &recorder), Ok(None));
     assert_eq!((guest.queue.layout(), guest.queue.position()), (layout(), u16::MAX - 2));
-    assert_eq!((guest.queue.stopped(), guest.queue.has_chain_out()), (None, false));
+    assert_eq!((guest.queue.stopped(), guest.queue.out()), (None, 0));
     assert_eq!((guest.device.page_size(), guest.device.limit()), (4096, Device::LEAST_LIMIT));
 }
 
@@ -284,7 +284,7 @@ fn a_call_that_panics_is_answered_eio() {
     for (call, opcode, args, room, wanted) in cases {
         guest.offer_request(&request(opcode, 5, &args.0), room);
         panics(&mut guest, &Panics(call));
-        assert!(guest.queue.has_chain_out());
+        assert_eq!(guest.queue.out(), 1);
         assert_eq!(guest.worker.set_memory(&guest.device, &[]), Err(Status::ChainOut));
         let (served, reply) = guest.serve(&recorder);
         assert_eq!((served.opcode, served.unique, served.notify, reply), (opcode, UNIQUE, true, wanted));
@@ -306,7 +306,7 @@ fn a_memory_that_panics_loses_no_other_chain() {
             // In the walk: the chain waits still.
             0 | 1 => assert_eq!(guest.serve(&recorder).1.data().len(), 128),
             // At the flags, when all was stored: the chain went back, and whether the driver wants to be told isn't known.
-            _ => assert!(guest.queue.has_chain_out()),
+            _ => assert_eq!(guest.queue.out(), 1),
         }
         assert!(guest.is_idle(&recorder));
         assert_eq!(recorder.taken().len(), 1);

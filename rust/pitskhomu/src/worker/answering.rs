@@ -34,7 +34,7 @@ fn told<T>(is_told: u8, value: T) -> Option<T> {
 
 impl Worker {
     /// Makes the call, if there is one, and answers it.
-    pub(super) fn answer(
+    pub(super) fn answer_call(
         &mut self,
         device: &Device,
         file_system: &dyn FileSystem,

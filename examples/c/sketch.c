@@ -1,0 +1,116 @@
+/* The loop at the top of pitskhomu.h as a program, by the library's calls alone: a queue is served until no chain waits. Beside it stands a guest
+ * that looks a name up. monitor.c has a file system; access.c, live.c and monitor.c are there to be copied. */
+#include <errno.h>
+#include <pitskhomu.h>
+#include <stdatomic.h>
+#include <stdio.h>
+#include <string.h>
+
+enum { SIZE = 8, DESC = 0x1000, AVAIL = 0x2000, USED = 0x3000, REQUEST = 0x4000, ROOM = 0x5000, MEMORY = 0x6000, WINDOWS = 8 };
+
+static _Alignas(4096) uint8_t memory[MEMORY]; /* the guest's, from its address 0 on */
+static struct fs_device device = FS_DEVICE;
+static struct fs_queue queue = {.desc = DESC, .avail = AVAIL, .used = USED, .size = SIZE};
+static struct fs_chain chain;
+
+/* ------------------------------------------------------------- loads and stores */
+
+static void load(void *to, uintptr_t at, size_t len) {
+    uint16_t two = 0;
+    if (len == 2) two = atomic_load_explicit((_Atomic uint16_t *)at, memory_order_acquire);
+    memcpy(to, len == 2 ? (const void *)&two : (const void *)at, len);
+}
+
+static void gather(uint8_t *request, size_t from, size_t to) {
+    struct fs_window w[WINDOWS];
+    size_t count;
+    while (from < to && (count = fs_request_windows(&chain, from, to - from, w, WINDOWS)) > 0)
+        for (size_t k = 0; k < count; from += w[k++].len) memcpy(request + from, (const void *)w[k].at, w[k].len);
+}
+
+static void scatter(const uint8_t *front, size_t len) {
+    struct fs_window w[WINDOWS];
+    size_t count, from = 0;
+    while (from < len && (count = fs_room_windows(&chain, from, len - from, w, WINDOWS)) > 0)
+        for (size_t k = 0; k < count; from += w[k++].len) memcpy((void *)w[k].at, front + from, w[k].len);
+}
+
+/* ------------------------------------------------------------- one chain */
+
+/* Each byte of the request is loaded once: its first, and then as many as the library needs. */
+static uint32_t ask(const struct fs_step *step, struct fs_call *call) {
+    static uint8_t request[FS_REQUEST_MAX];
+    size_t have = 0, want = step->request_len < FS_FIRST ? (size_t)step->request_len : FS_FIRST;
+    for (;;) {
+        gather(request, have, want);
+        uint32_t s = fs_ask(&chain, &device, request, have = want, call);
+        if (s != FS_MORE) return s;
+        want = call->needed;
+    }
+}
+
+/* The file system: each name is there. */
+static uint32_t answer(const struct fs_call *call) {
+    struct fs_entry entry = {.node = 2, .attr = {.ino = 2, .mode = 0100644, .nlink = 1}};
+    if (call->answer == FS_ANSWER_NONE) return FS_DONE; /* the reply is known, or there is none */
+    switch (call->kind) {
+    case FS_CALL_LOOKUP: return fs_reply_entry(&chain, &entry);
+    case FS_CALL_DESTROY: return fs_reply_err(&chain, 0);
+    default: return fs_reply_err(&chain, ENOSYS);
+    }
+}
+
+/* The reply's front, the used element, and then the index, which the guest may see when all else is there. */
+static uint32_t give_back(uint8_t *notify) {
+    uint8_t front[FS_FRONT_MAX];
+    struct fs_stores out;
+    uint16_t seen;
+    uint32_t s = fs_return(&chain, &queue, front, sizeof front, &out);
+    if (s != FS_DONE) return s;
+    scatter(front, out.front_len);
+    memcpy((void *)out.id_at, &out.id, 4);
+    memcpy((void *)out.len_at, &out.len, 4);
+    atomic_store_explicit((_Atomic uint16_t *)out.index_at, out.index, memory_order_release);
+    atomic_thread_fence(memory_order_seq_cst);
+    load(&seen, out.seen_at, 2);
+    return fs_returned(&chain, &queue, seen, notify);
+}
+
+/* FS_IDLE: no chain waits. Else why the queue isn't served any more, or not now. */
+static uint32_t serve(uint8_t *notify) {
+    uint8_t bytes[FS_LOAD_MAX];
+    uint32_t s;
+    for (;;) {
+        struct fs_step step = {0};
+        struct fs_call call;
+        while ((s = fs_walk(&chain, &queue, bytes, step.len, &step)) == FS_LOAD) load(bytes, step.at, step.len);
+        if (s != FS_DONE) return s;
+        if (step.fault == 0 && ((s = ask(&step, &call)) != FS_DONE || ((s = answer(&call)) != FS_DONE && s != FS_NO_ROOM))) return s;
+        if ((s = give_back(notify)) != FS_DONE) return s;
+    }
+}
+
+/* ------------------------------------------------------------- a guest that stands still */
+
+static void put(size_t at, uint64_t value, size_t len) { memcpy(memory + at, &value, len); }
+
+static void offer_lookup(void) {
+    put(REQUEST, 45, 4), put(REQUEST + 4, 1, 4), put(REQUEST + 8, 77, 8), put(REQUEST + 16, 1, 8);
+    memcpy(memory + REQUEST + 40, "name", 5);
+    put(DESC, REQUEST, 8), put(DESC + 8, 45, 4), put(DESC + 12, 1, 2), put(DESC + 14, 1, 2);
+    put(DESC + 16, ROOM, 8), put(DESC + 24, 144, 4), put(DESC + 28, 2, 2);
+    put(AVAIL + 2, 1, 2);
+}
+
+int main(void) {
+    struct fs_region region = {.guest = 0, .len = MEMORY, .host = (uintptr_t)memory};
+    uint8_t notify = 0;
+    uint64_t node;
+    if (fs_version() != FS_VERSION || fs_queue_begin(&queue, 0) || fs_chain_set_memory(&chain, &device, &region, 1)) return 1;
+    offer_lookup();
+    uint32_t s = serve(&notify);
+    memcpy(&node, memory + ROOM + FS_HEADER, sizeof node);
+    printf("%s; the name is node %llu; notify: %u\n", fs_status_name(s), (unsigned long long)node, notify);
+    fs_chain_free(&chain);
+    return s != FS_IDLE || node != 2 || notify != 1;
+}
