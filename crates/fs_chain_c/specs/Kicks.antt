@@ -1,5 +1,5 @@
 -- What C stores to be told of new chains, or of none.
-use Rattle.std.specs.Prelude.{◌≡◌, ◌⊎◌, ℕ, not, ◌==◌, Option, Some, None}
+use Rattle.std.specs.Prelude.{◌≡◌, ◌⊎◌, ℕ, not, ◌==◌, List, Option, Some, None}
 use Rattle.std.specs.Int.{w16, to_le_bytes}
 use Rattle.vm_memory.specs.Layout.{Region}
 use Rattle.fs_queue.specs.Returning.{Store}
