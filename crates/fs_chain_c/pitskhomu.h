@@ -322,7 +322,7 @@ struct fs_queue {
     uint16_t most_out;  /* how many may be: 1 to size; 0 counts as 1 */
     uint16_t stopped;   /* the refusal (2 to 8) that stopped it, 1 if a record tells that one did, or 0 */
     uint8_t returning;  /* 1 from fs_return to fs_returned, else 0 */
-    uint8_t event_index; /* 1 if VIRTIO_F_EVENT_IDX was agreed on, else 0 */
+    uint8_t event_index; /* 1 if VIRTIO_F_EVENT_IDX was agreed on, else 0. With 1 a walk is refused where used_event (7) or avail_event (6) has no place */
     uint32_t begun;     /* how often it was begun anew, modulo 2^32 */
     uint32_t taken;     /* how often a chain was taken or dropped, modulo 2^32 */
 };
