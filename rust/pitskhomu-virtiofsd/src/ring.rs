@@ -32,6 +32,8 @@ pub struct Numbers {
     pub layout: QueueLayout,
     /// Where the next chain is taken. While none is out, it is where the ring stands.
     pub position: u16,
+    /// The driver took VIRTIO_F_EVENT_IDX.
+    pub has_event_index: bool,
 }
 
 /// A ring, as its threads and the front-end's see it under its lock.
@@ -47,8 +49,8 @@ pub struct State {
     is_enabled: bool,
     /// It was refused, and isn't served until it begins anew.
     is_refused: bool,
-    /// What the used ring says of kicks; of one that begins, nothing is known.
-    wants_kicks: Option<bool>,
+    /// What the driver was told of kicks, and at which position with an event index; of a ring that begins, nothing is known.
+    told: Option<(bool, u16)>,
     /// How many threads sleep until something happens.
     sleeping: u16,
     /// How many wait until no chain is out; meanwhile none is taken.
@@ -70,25 +72,27 @@ impl State {
 
     /// The queue for a record, if the front-end ever told its numbers.
     pub fn queue_if_begun(&self) -> Option<Queue> {
-        let Numbers { layout, position } = self.numbers;
+        let Numbers { layout, position, .. } = self.numbers;
         (layout.size != 0 && layout.descriptors != 0).then(|| Queue::new(layout, position))
     }
 
     fn begin(&mut self, threads: u16) -> Result<(), Status> {
-        let Numbers { layout, position } = self.numbers;
-        self.queue.begin(Queue::new(layout, position).with_most_out(threads.min(layout.size)))?;
-        (self.is_new, self.wants_kicks) = (false, None);
+        let Numbers { layout, position, has_event_index } = self.numbers;
+        let anew = Queue::new(layout, position).with_most_out(threads.min(layout.size));
+        self.queue.begin(anew.with_event_index(has_event_index))?;
+        (self.is_new, self.told) = (false, None);
         Ok(())
     }
 
     /// Says to the driver whether its kicks are wanted, if it doesn't know. Whether it had to be told: then a chain may have come before.
-    fn want_kicks(&mut self, wanted: bool, memory: &Table) -> bool {
-        let changes = self.is_live() && self.wants_kicks != Some(wanted);
-        if changes {
-            memory.want_kicks(self.numbers.layout.used, wanted);
-            self.wants_kicks = Some(wanted);
+    fn want_kicks(&mut self, wanted: bool, server: &mut impl Server, memory: &Arc<Table>) -> bool {
+        let Numbers { position, has_event_index, .. } = self.numbers;
+        let telling = Some((wanted, if wanted && has_event_index { position } else { 0 }));
+        if !self.is_live() || self.is_new || self.told == telling {
+            return false;
         }
-        changes
+        self.told = telling;
+        server.ask_kicks(&self.queue, wanted, memory)
     }
 
     fn is_live(&self) -> bool {
@@ -141,6 +145,9 @@ pub trait Server {
 
     /// Gives the chain back, and says whether the driver wants to be told.
     fn give_back(&mut self, queue: &mut Queue) -> Result<bool, Status>;
+
+    /// Says to the driver whether its kicks are wanted. Whether something was stored for that; where there is no ring, nothing is.
+    fn ask_kicks(&mut self, queue: &Queue, wanted: bool, memory: &Arc<Table>) -> bool;
 }
 
 /// A queue, shared by its threads and the front-end's.
@@ -219,9 +226,9 @@ impl Ring {
     }
 
     /// The ring ends, and says where it stood. Who goes on with it may not know that kicks can be unwanted.
-    pub fn stop(&self, memory: &Table) -> u16 {
+    pub fn stop(&self, server: &mut impl Server, memory: &Arc<Table>) -> u16 {
         let mut state = self.state();
-        state.want_kicks(true, memory);
+        state.want_kicks(true, server, memory);
         self.forget_kick(&mut state);
         state.call = None;
         (state.is_started, state.is_refused) = (false, false);
@@ -248,9 +255,9 @@ impl Ring {
     }
 
     /// Chains are served or wait.
-    pub fn enable(&self, enabled: bool, memory: &Table) {
+    pub fn enable(&self, enabled: bool, server: &mut impl Server, memory: &Arc<Table>) {
         let mut state = self.state();
-        state.want_kicks(true, memory);
+        state.want_kicks(true, server, memory);
         state.is_enabled = enabled;
         drop(state);
         self.look();
@@ -308,9 +315,9 @@ impl Ring {
     }
 
     /// What comes while the chain that was taken is answered is for a thread that sleeps, and else for this one.
-    fn hand_on(&self, state: &mut State, memory: &Table) {
+    fn hand_on(&self, state: &mut State, server: &mut impl Server, memory: &Arc<Table>) {
         let is_for_another = state.sleeping > 0;
-        state.want_kicks(is_for_another, memory);
+        state.want_kicks(is_for_another, server, memory);
         if is_for_another && state.has_more(memory) {
             self.look();
         }
@@ -341,12 +348,12 @@ impl Ring {
             let table = memory();
             let looked = self.take(&mut state, server, &table);
             if looked == Looked::Taken {
-                self.hand_on(&mut state, &table);
+                self.hand_on(&mut state, server, &table);
                 drop(state);
                 server.answer();
                 state = self.lock();
                 self.give_back(&mut state, server);
-            } else if !state.want_kicks(true, &table) {
+            } else if !state.want_kicks(true, server, &table) {
                 state.sleeping += 1;
                 return looked;
             }

@@ -123,4 +123,12 @@ impl<F: Served> Server for Bench<F> {
             served.notify
         })
     }
+
+    fn ask_kicks(&mut self, queue: &Queue, wanted: bool, memory: &Arc<Table>) -> bool {
+        let asked = self.work_over(memory).and_then(|()| self.worker.ask_kicks(queue, wanted, &**memory));
+        asked.unwrap_or_else(|status| {
+            debug!("queue {}: the driver isn't told of kicks: {status}", self.index);
+            false
+        })
+    }
 }
