@@ -51,8 +51,10 @@
  * first fs_walk to FS_DONE, and from fs_return to fs_returned. A walk between whose calls another chain is taken is refused (FS_OTHER_QUEUE): drop it, and
  * begin again. Chains go back in any order.
  *
- * WHAT MAY COME without a change to your loops: the event index (`seen_at` is elsewhere then; a call for before you sleep is added),
- * an IOMMU (a status that names a missing address is added). Fields are added at a struct's end: begin with zeros.
+ * FEATURES of VIRTIO 1.2 that may be offered: VERSION_1 (32, insist on it), INDIRECT_DESC (28), EVENT_IDX (29, with `event_index` set), and IN_ORDER (35), if you
+ * return the chains of a queue in the order of their walks. Not RING_PACKED (34), not ACCESS_PLATFORM (33).
+ *
+ * WHAT MAY COME without a change to your loops: an IOMMU (a status that names a missing address is added). Fields are added at a struct's end: begin with zeros.
  *
  * ERRORS. A call answers an enum fs_status. Below 32 it is a refusal of the queue's that stops it (but 1 and 9); 32 to 63 say how
  * to go on; from 64 on nothing was done, and what was there before is there still, unless the function says otherwise (FS_NO_PLACE). "Errors" below are in the order in
@@ -310,7 +312,7 @@ struct fs_device {
 };
 #define FS_DEVICE {4096u, 0x101000u, 0u}
 
-/* A queue: zeros before its first use. You set desc, avail, used, size and most_out, and begin it by fs_queue_begin; the others are the library's. The parts'
+/* A queue: zeros before its first use. You set desc, avail, used, size, most_out and event_index, and begin it by fs_queue_begin; the others are the library's. The parts'
  * guest addresses are aligned to 16, 2 and 4 and end below 2^64; size is a power of two up to 32768. */
 struct fs_queue {
     uint64_t desc, avail, used;
@@ -320,6 +322,7 @@ struct fs_queue {
     uint16_t most_out;  /* how many may be: 1 to size; 0 counts as 1 */
     uint16_t stopped;   /* the refusal (2 to 8) that stopped it, 1 if a record tells that one did, or 0 */
     uint8_t returning;  /* 1 from fs_return to fs_returned, else 0 */
+    uint8_t event_index; /* 1 if VIRTIO_F_EVENT_IDX was agreed on, else 0 */
     uint32_t begun;     /* how often it was begun anew, modulo 2^32 */
     uint32_t taken;     /* how often a chain was taken or dropped, modulo 2^32 */
 };
@@ -561,7 +564,7 @@ struct fs_stores {
     uint32_t id, len;
     uintptr_t index_at;         /* 3. the used index: 2 bytes, one store that releases */
     uint16_t index;
-    uintptr_t seen_at;          /* 4. after a full barrier, 2 bytes: the available flags */
+    uintptr_t seen_at;          /* 4. after a full barrier, 2 bytes: the available flags, or used_event */
 };
 
 /* Says how the chain goes back: at `returned` of its queue, whichever was taken first. Until fs_returned no other chain of the queue goes back.
@@ -577,6 +580,22 @@ uint32_t fs_return(struct fs_chain *chain, struct fs_queue *queue, uint8_t *fron
 uint32_t fs_returned(struct fs_chain *chain, struct fs_queue *queue, uint16_t seen, uint8_t *notify)
     FS_CHECK FS_NONNULL(1, 2, 4) FS_FILLS(4);
 
+/* ---------------------------------------------------------------- kicks */
+
+/* A store of 2 bytes (len 2), or none (len 0, all zeros). */
+struct fs_store {
+    uintptr_t at;
+    uint16_t value;
+    uint8_t len;
+};
+
+/* What is stored to be told (1) of the next chain of a queue, or of none (0): the used flags, or with event_index the position as avail_event, and nothing for 0
+ * (VIRTIO 1.2, 2.7.10). To be told: before you sleep make this store, a full barrier (atomic_thread_fence(memory_order_seq_cst)), and one more walk. Of the chain
+ * only the regions count, and it stays as it was. `wanted` other than 0 is 1.
+ * Errors: FS_WRONG_ORDER (no memory was told), FS_BAD_ARGUMENT (the queue's numbers are none), FS_NO_PLACE; then `store` is zeros. */
+uint32_t fs_ask_kicks(struct fs_chain *chain, const struct fs_queue *queue, uint32_t wanted, struct fs_store *store)
+    FS_CHECK FS_NONNULL(1, 2, 4) FS_FILLS(4);
+
 /* ---------------------------------------------------------------- moving to another host */
 
 /* Puts the record of device and queues (positions, options, page size, limit; no chain, no memory, no file) at the front of a buffer;
@@ -587,7 +606,7 @@ uint32_t fs_save(const struct fs_device *device, const struct fs_queue *queues, 
                  size_t *len) FS_CHECK FS_NONNULL(1, 6) FS_READS(2, 3) FS_WRITES(4, 5) FS_FILLS(6);
 
 /* Reads a record: into device->options, whose page size and limit have to be the record's, and the queues, of which `count` are told. The record
- * tells whether a queue was stopped, and not by what: `stopped` is 1 then. Each queue is begun anew by it, and keeps its most_out. What it refuses leaves device and queues as they were. Other bytes may
+ * tells whether a queue was stopped, and not by what: `stopped` is 1 then. Each queue is begun anew by it, and keeps its most_out and event_index. What it refuses leaves device and queues as they were. Other bytes may
  * stand behind the record.
  * Errors: FS_BAD_ARGUMENT (of the device), 81 to 90 by what is read first, FS_SHORT_BUFFER (of queues; count tells how many there are, and is 0
  * after the others). */

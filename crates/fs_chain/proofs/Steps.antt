@@ -17,7 +17,8 @@ use Rattle.fs_chain.specs.declared.state.State.TheVariants as at
 use Rattle.fs_chain.specs.declared.state.Ticket.{Ticket}
 use Rattle.fs_chain.specs.declared.walking.WalkOutcome as walked
 use Rattle.fs_chain.specs.declared.workbench.Workbench.{Workbench}
-use Rattle.fs_chain.specs.Walks.{GoesOn, GoesOnUnless, LeavesNone, WalksFrom, WalksOn, left_of}
+use Rattle.fs_chain.specs.Events.{event_fault}
+use Rattle.fs_chain.specs.Walks.{Begins, BeginsUnless, BeginsWhere, GoesOn, GoesOnUnless, LeavesNone, WalksFrom, WalksOn, left_of}
 
 -- of a faulty chain none are kept, and none are spoken of
 pub comes_left : (m : Memory) (limit : ℕ) (q : Queue) (loaded : Loaded) (ds : List Descriptor) (came : comes.Step)
@@ -49,6 +50,13 @@ comes_taken course walk taken bytes came regions ds left same by_taken =
     let P : QueueWalk → Type 0 = λ w. (loaded : Loaded) → StandsAt (places_in regions) (queue_of course) loaded ds w
     → ComesBy (places_in regions) course.limit (queue_of course) loaded w bytes left came in
     subst P same by_taken
+
+-- a handle's walk begins, unless the queue's event index has no place
+pub begins_where : (old new : Workbench) (before after : KeptQueue) (told : walked.WalkOutcome) (fault : Option QueueError) → before.stopped ≡ None
+    → fault ≡ event_fault (places_in old.regions) before → BeginsWhere fault old new before after told → Begins old new before after told
+begins_where old new before after told fault goes is begins =
+    let there = subst (λ (f : Option QueueError). BeginsWhere f old new before after told) is begins in
+    subst (λ (s : Option QueueError). BeginsUnless s old new before after told) (sym goes) there
 
 -- a handle's walk goes on, unless its queue was stopped
 pub walks_unless : (course : Course) (ticket : Ticket) (walk : QueueWalk) (bytes : List ℕ) (old new : Workbench) (before after : KeptQueue) (told : walked.WalkOutcome)

@@ -24,6 +24,8 @@ pub struct KeptQueue {
     pub begun: u32,
     /// How often a chain was taken or given up, modulo 2^32.
     pub taken: u32,
+    /// Whether VIRTIO_F_EVENT_IDX was agreed on.
+    pub event_index: bool,
     /// The refusal that stopped it.
     pub stopped: Option<QueueError>,
 }
@@ -39,7 +41,7 @@ fn is_laid_out(mine: &QueueLayout, other: &QueueLayout) -> bool
 }
 
 impl KeptQueue {
-    /// A queue that begins at a position: no chain is out, and at most so many may be.
+    /// A queue that begins at a position, without the event index: no chain is out, and at most so many may be.
     pub fn begin(layout: QueueLayout, position: u16, most_out: u16) -> KeptQueue
         ensures { result ≡ first_begun layout position most_out }
     {
@@ -51,6 +53,7 @@ impl KeptQueue {
             returning: false,
             begun: 0,
             taken: 0,
+            event_index: false,
             stopped: None,
         }
     }
