@@ -28,9 +28,9 @@ pub struct Queue {
     most_out: u16,
     stopped: u16,
     returning: u8,
+    event_index: u8,
     begun: u32,
     taken: u32,
-    event_index: u8,
 }
 
 impl Queue {
@@ -49,9 +49,9 @@ impl Queue {
             most_out: 1,
             stopped: 0,
             returning: 0,
+            event_index: 0,
             begun: 0,
             taken: 0,
-            event_index: 0,
         }
     }
 
