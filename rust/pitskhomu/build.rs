@@ -14,6 +14,8 @@ fn main() {
     println!("cargo:rerun-if-changed=build.rs");
     let set = variable("PITSKHOMU_ARCHIVE").map(PathBuf::from);
     let archive = set.unwrap_or_else(of_repository);
+    // A file that isn't there counts as changed, so it is seen as soon as it was made.
+    println!("cargo:rerun-if-changed={}", archive.display());
     if !archive.is_file() {
         // Nothing is linked: so the crate can be checked and documented all the same.
         println!(
@@ -41,10 +43,7 @@ fn variable(name: &str) -> Option<OsString> {
 fn of_repository() -> PathBuf {
     let package = variable("CARGO_MANIFEST_DIR").map(PathBuf::from).unwrap_or_default();
     let top = package.ancestors().nth(2).map(Path::to_path_buf).unwrap_or_default();
-    let archive = top.join("crates/fs_chain_c/out/libfs_chain_c.a");
-    // A file that isn't there counts as changed, so it is seen as soon as it was made.
-    println!("cargo:rerun-if-changed={}", archive.display());
-    archive
+    top.join("crates/fs_chain_c/out/libfs_chain_c.a")
 }
 
 fn heap_beside(archive: &Path) -> Option<PathBuf> {
