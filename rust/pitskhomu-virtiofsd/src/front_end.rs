@@ -67,10 +67,11 @@ impl<F: Served> FrontEnd<F> {
         self.log.as_ref().filter(|_| self.logs())
     }
 
-    fn set_memory(&self, table: io::Result<Table>) -> Result<()> {
+    fn set_memory(&mut self, table: io::Result<Table>) -> Result<()> {
         let table = table.map_err(told)?;
         table.set_log(self.active_log());
         self.core.set_memory(table);
+        self.bench.forget_memory(); // else what the front-end doesn't share any more stays mapped
         Ok(())
     }
 
@@ -113,9 +114,7 @@ impl<F: Served> VhostUserBackendReqHandlerMut for FrontEnd<F> {
         }
         self.features = features;
         let has_event_index = features & (1 << VIRTIO_RING_F_EVENT_IDX) != 0;
-        for ring in &self.core.rings {
-            ring.state().tell(|numbers| numbers.has_event_index = has_event_index);
-        }
+        self.core.rings.iter().for_each(|ring| ring.set_event_index(has_event_index));
         if features & VhostUserVirtioFeatures::PROTOCOL_FEATURES.bits() == 0 {
             self.enable_all(true);
         }

@@ -84,6 +84,11 @@ impl<F: Served> Bench<F> {
         Ok(())
     }
 
+    /// Lets go of the memory that it worked over: while it has no chain.
+    pub fn forget_memory(&mut self) {
+        self.told = None;
+    }
+
     fn log(&self, served: &pitskhomu::Served) {
         if let Some(fault) = served.fault {
             debug!("queue {}: a faulty chain went back with no reply: {fault}", self.index);
@@ -124,11 +129,8 @@ impl<F: Served> Server for Bench<F> {
         })
     }
 
-    fn ask_kicks(&mut self, queue: &Queue, wanted: bool, memory: &Arc<Table>) -> bool {
-        let asked = self.work_over(memory).and_then(|()| self.worker.ask_kicks(queue, wanted, &**memory));
-        asked.unwrap_or_else(|status| {
-            debug!("queue {}: the driver isn't told of kicks: {status}", self.index);
-            false
-        })
+    fn ask_kicks(&mut self, queue: &Queue, wanted: bool, memory: &Arc<Table>) -> Result<bool, Status> {
+        self.work_over(memory)?;
+        self.worker.ask_kicks(queue, wanted, &**memory)
     }
 }
