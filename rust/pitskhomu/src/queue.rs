@@ -112,7 +112,7 @@ impl Queue {
         Some(self.stopped).filter(|&number| number != 0).map(|number| Status::of(number.into()))
     }
 
-    /// The guest address of what says whether the driver's kicks are wanted: avail_event, or the flags of the used ring (VIRTIO 1.2, 2.7.8).
+    /// The guest address of what says whether the driver's kicks are wanted: avail_event, or the flags of the used ring (VIRTIO 1.2, 2.7.8 and 2.7.10).
     pub(crate) const fn kick_address(&self) -> u64 {
         if self.has_event_index() {
             self.used + 4 + 8 * self.size as u64
