@@ -1,6 +1,6 @@
-/* No notification is lost: sleeps COUNT [THREADS [event]], with an event index or flags. A driver sleeps as soon as it may (VIRTIO 1.2, 2.7.7), beside a device that is as
- * fast as it can be, and asks for no kick while it looks anyway (2.7.10). Each chain comes back once. With several threads of the
- * queue each has a handle of its own, and chains go back in any order. */
+/* No notification is lost: sleeps COUNT [THREADS [event]], with an event index or flags. A driver sleeps as soon as it may (VIRTIO 1.2,
+ * 2.7.7), beside a device that is as fast as it can be, and asks for no kick while it looks anyway (2.7.10). Each chain comes back once. With
+ * several threads of the queue each has a handle of its own, and chains go back in any order. */
 #include "driver.h"
 #include <linux/fuse.h>
 #include <stdio.h>
