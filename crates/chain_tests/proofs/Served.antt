@@ -24,7 +24,6 @@ use Rattle.fs_chain.specs.Queues.{ticket_of}
 use Rattle.fs_chain.specs.Returns.{IfHasReply, ReturnsBy}
 use Rattle.fs_chain.specs.Walks.{course_of, queue_after, state_after, told_of}
 use Rattle.fs_chain.specs.Whole.{FromTaken, GoesBackBy, IsByFlags, IsWalked, acts_of}
-use Rattle.fs_chain.proofs.WholeChains.{has_events}
 use Rattle.fs_chain.proofs.WholeWalks.{walk_comes}
 
 abbrev IsAChain : walked.WalkOutcome → Type 0
@@ -44,10 +43,10 @@ by_came ds (step.Chain h None) course ticket st head n r told is = subst (λ (s 
 by_came ds (step.Chain h (Some fault)) course ticket st head n r told is = absurd (subst IsAChain told tt)
 
 -- a chain that was walked has as many bytes of request as were told
-pub taken_so : (old new : Workbench) (before after : KeptQueue) (head n r : ℕ) → before.stopped ≡ None → IsByFlags before → IsWalked old new before after (wents.On (says.Chain head n r)) →
+pub taken_so : (old new : Workbench) (before after : KeptQueue) (head n r : ℕ) → before.stopped ≡ None → IsWalked old new before after (wents.On (says.Chain head n r)) →
     FromTaken new.state (λ out. out.request_len ≡ n)
-taken_so old new before after head n r goes by_flags walked =
-    let came = walk_comes walked.0 old new before after (says.Chain head n r) goes (has_events old before by_flags) walked.1 in
+taken_so old new before after head n r goes walked =
+    let came = walk_comes walked.0 old new before after (says.Chain head n r) goes tt walked.1 in
     by_came new.descriptors.items came.2.0 (course_of before old.limit) (ticket_of before) new.state head n r came.2.1.0 came.2.1.1
 
 -- a walk leaves where the next chain goes back, and the event index
@@ -60,7 +59,7 @@ stays_there q (step.Chain head fault) = (refl, refl)
 pub queue_stays : (old new : Workbench) (before after : KeptQueue) (head n r : ℕ) → before.stopped ≡ None → IsByFlags before → IsWalked old new before after (wents.On (says.Chain head n r)) →
     (after.returned ≡ before.returned) × IsByFlags after
 queue_stays old new before after head n r goes by_flags walked =
-    let came = walk_comes walked.0 old new before after (says.Chain head n r) goes (has_events old before by_flags) walked.1 in
+    let came = walk_comes walked.0 old new before after (says.Chain head n r) goes tt walked.1 in
     let there = stays_there before came.2.0 in
     (ap (λ (q : KeptQueue). q.returned) came.2.1.2 ∙ there.0, ap (λ (q : KeptQueue). q.event_index) came.2.1.2 ∙ there.1 ∙ by_flags)
 

@@ -73,7 +73,6 @@ use Rattle.fs_chain.specs.Whole.{
   LoadsOf,
   LoadsOfChain,
   RefusalIsStepBy,
-  WalksBy,
   acts_of,
   after_chain,
   data_behind,
@@ -113,7 +112,7 @@ came_is ds (step.Chain h (Some fault)) head n r e = absurd (subst IsAChain e tt)
 
 -- ---- a queue without the event index
 
-pub has_events : (w : Workbench) (q : KeptQueue) → IsByFlags q → HasEvents w q
+has_events : (w : Workbench) (q : KeptQueue) → IsByFlags q → HasEvents w q
 has_events w q is = rw is refl
 
 flags_tell : (q : KeptQueue) (flags : List ℕ) → IsByFlags q → tells_of q flags ≡ tells flags
@@ -167,15 +166,15 @@ told_so may m i kq request room files s out (asks.Fault e) asked answered (Some 
 -- a chain's loads, by which it is offered, and how it is answered
 chain_parts : {F : Type 0} (may : May F) (given : List (List ℕ)) (request : List ℕ) (calls : Calls) (acts : List Act) (last head i : ℕ) (notice : Bool)
     (old new : Workbench) (before : KeptQueue) (s : Session) (m : State F) (files : F) (run : ChainBy given request calls acts last head notice old new before s)
-    → before.stopped ≡ None → HasEvents old before → old.limit ≤ 2 ^ 31 → IsByFlags run.back → IsSession s m → FileRun may m.files calls files
+    → before.stopped ≡ None → old.limit ≤ 2 ^ 31 → IsByFlags run.back → IsSession s m → FileRun may m.files calls files
     → (loaded : Loaded) × LoadsOfChain given request calls acts last head notice old new before s run loaded
     × OffersBy (places_in old.regions) old.limit (queue_of (course_of before old.limit)) loaded request (Offers head (IsRequest request (addresses_of (writable run.walked_bench.descriptors.items))))
     × AnsweredSo may m i (queue_back before run.back) head request (addresses_of (writable run.walked_bench.descriptors.items)) calls notice acts last new.session.options.0 files
-chain_parts {F} may given request calls acts last head i notice old new before s m files run goes events bound by_flags session files_run =
+chain_parts {F} may given request calls acts last head i notice old new before s m files run goes bound by_flags session files_run =
     let course = course_of before old.limit in
     let q = queue_of course in
     let ds = run.walked_bench.descriptors.items in
-    let all = walk_comes given old run.walked_bench before run.taken (says.Chain head run.lens.0 run.lens.1) goes events run.walks in
+    let all = walk_comes given old run.walked_bench before run.taken (says.Chain head run.lens.0 run.lens.1) goes tt run.walks in
     let loaded = all.0 in
     let came = all.2 in
     let is = came_is ds came.0 head run.lens.0 run.lens.1 came.1.0 in
@@ -210,8 +209,8 @@ offered_so m old before i loaded lost request o first by =
     subst (λ (mm : Memory). offered_by mm m.limit q l ≡ Some o) (sym first.places) (subst (λ (k : ℕ). offered_by (places_in old.regions) k q l ≡ Some o) (sym first.limit) by)
 
 pub chain_is_answered_by : {F : Type 0} (may : May F) → ChainIsAnsweredBy may
-chain_is_answered_by {F} may given request calls acts last head i notice old new before s m files run goes events bound by_flags session files_run =
-    let parts = chain_parts may given request calls acts last head i notice old new before s m files run goes events bound by_flags session files_run in
+chain_is_answered_by {F} may given request calls acts last head i notice old new before s m files run goes bound by_flags session files_run =
+    let parts = chain_parts may given request calls acts last head i notice old new before s m files run goes bound by_flags session files_run in
     let so = parts.3 in
     (parts.0, parts.1, parts.2, so.0, so.1, so.2, so.3)
 
@@ -227,7 +226,7 @@ answered_there {F} may m i before back limit head request room calls x notice e 
 pub chain_is_step_by : {F : Type 0} (may : May F) → ChainIsStepBy may
 chain_is_step_by {F} may given request calls acts last head i notice old new before s m files run first by_flags in_order session files_run =
     let q = queue_of (course_of before old.limit) in
-    let parts = chain_parts may given request calls acts last head i notice old new before s m files run first.goes (has_events old before first.by_flags) first.bound by_flags session files_run in
+    let parts = chain_parts may given request calls acts last head i notice old new before s m files run first.goes first.bound by_flags session files_run in
     let loaded = parts.0 in
     let offers = parts.2 in
     let so = parts.3 in
@@ -299,7 +298,7 @@ pub idle_is_step_by : {F : Type 0} (may : May F) → IdleIsStepBy may
 idle_is_step_by {F} may given i old new before after m first walks =
     let course = course_of before old.limit in
     let q = queue_of course in
-    let all = walk_comes given old new before after says.Idle first.goes (has_events old before first.by_flags) walks in
+    let all = walk_comes given old new before after says.Idle first.goes tt walks in
     let loaded = all.0 in
     let came = all.2 in
     let is = idle_is new.descriptors.items came.0 came.1.0 in
@@ -366,16 +365,16 @@ faulty_so {F} may m i kq course ticket head fault stores flags acts last notice 
 
 -- its loads, by which it is offered, and how it goes back
 faulty_parts : {F : Type 0} (may : May F) (given : List (List ℕ)) (fault : ChainFault) (acts : List Act) (last head i : ℕ) (notice : Bool) (old : Workbench) (before : KeptQueue) (m : State F)
-    (run : FaultyChainBy given fault acts last head notice old before) → before.stopped ≡ None → HasEvents old before → IsByFlags run.back
+    (run : FaultyChainBy given fault acts last head notice old before) → before.stopped ≡ None → IsByFlags run.back
     → (loaded : Loaded) × LoadsOf given old run.walked_bench before run.taken (wents.On (says.Faulty head fault)) run.walks loaded
     × OffersBy (places_in old.regions) old.limit (queue_of (course_of before old.limit)) loaded [] (Offers head (CannotFetch fault))
     × ReturnsFaultyBy m i (queue_back before run.back) head fault [] (faulty head fault) notice (record { acts = acts; last = last }) (after_chain m i (queue_back before run.back) m.options m.files)
-faulty_parts {F} may given fault acts last head i notice old before m run goes events by_flags =
+faulty_parts {F} may given fault acts last head i notice old before m run goes by_flags =
     let course = course_of before old.limit in
     let ticket = ticket_of before in
     let q = queue_of course in
     let ds = run.walked_bench.descriptors.items in
-    let all = walk_comes given old run.walked_bench before run.taken (says.Faulty head fault) goes events run.walks in
+    let all = walk_comes given old run.walked_bench before run.taken (says.Faulty head fault) goes tt run.walks in
     let loaded = all.0 in
     let came = all.2 in
     let is = faulty_is ds came.0 head fault came.1.0 in
@@ -388,14 +387,14 @@ faulty_parts {F} may given fault acts last head i notice old before m run goes e
     (loaded, all.1, found, done)
 
 pub faulty_is_answered_by : {F : Type 0} (may : May F) → FaultyIsAnsweredBy may
-faulty_is_answered_by {F} may given fault acts last head i notice old before m run goes events by_flags =
-    let parts = faulty_parts may given fault acts last head i notice old before m run goes events by_flags in
+faulty_is_answered_by {F} may given fault acts last head i notice old before m run goes by_flags =
+    let parts = faulty_parts may given fault acts last head i notice old before m run goes by_flags in
     (parts.0, parts.1, parts.2, faulty head fault, parts.3)
 
 pub faulty_is_step_by : {F : Type 0} (may : May F) → FaultyIsStepBy may
 faulty_is_step_by {F} may given fault acts last head i notice old before m first run by_flags in_order =
     let q = queue_of (course_of before old.limit) in
-    let parts = faulty_parts may given fault acts last head i notice old before m run first.goes (has_events old before first.by_flags) by_flags in
+    let parts = faulty_parts may given fault acts last head i notice old before m run first.goes by_flags in
     let loaded = parts.0 in
     let found = parts.2 in
     let l = step_loads loaded found.1 [] in
@@ -440,7 +439,7 @@ chain_is_step {F} may given request calls acts last head i notice old new before
     let q = queue_of (course_of before old.limit) in
     let memory = memory_of h old.regions in
     let rooms = addresses_of (writable run.walked_bench.descriptors.items) in
-    let parts = chain_parts may given request calls acts last head i notice old new before s m files run first.goes (has_events old before first.by_flags) first.bound by_flags session files_run in
+    let parts = chain_parts may given request calls acts last head i notice old new before s m files run first.goes first.bound by_flags session files_run in
     let loaded = parts.0 in
     let has = having loaded parts.1 in
     let by = parts.2 in

@@ -113,6 +113,11 @@ GoesOn course ticket walk bytes old new before after told =
 abbrev pub HasEvents : Workbench → KeptQueue → Type 0
 HasEvents w q = event_fault (places_in w.regions) q ≡ None
 
+-- what is told is no refusal, or the event index has its places: without them a walk that begins is refused
+abbrev pub RefusalHasEvents : walked.WalkOutcome → Workbench → KeptQueue → Type 0
+RefusalHasEvents (tells.Refused e) w q = HasEvents w q
+RefusalHasEvents _ w q = Unit {0}
+
 -- a walk begins, unless the queue's event index has no place: then it is refused by that, which stops the queue
 abbrev pub BeginsWhere : (fault : Option QueueError) → (old new : Workbench) → (before after : KeptQueue) → walked.WalkOutcome → Type 0
 BeginsWhere (Some e) old new before after told = (told ≡ tells.Refused e) × IsAllButPart old new × (after ≡ record before { stopped = Some e })

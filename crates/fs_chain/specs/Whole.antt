@@ -1,4 +1,5 @@
--- A whole chain by the calls of a handle, from its walk to its return, for a guest that writes meanwhile (VIRTIO 1.2, 2.7.5 to 2.7.8). Listings are left out.
+-- A whole chain by the calls of a handle, from its walk to its return, for a guest that writes meanwhile (VIRTIO 1.2, 2.7.5 to 2.7.8). Listings are left out, and of queues
+-- with the event index all but that what a walk wants has a place.
 use Rattle.std.specs.Prelude.{false, All, ◌≡◌, ◌≤◌, ◌^◌, ℕ, Bool, List, [], ◌∷◌, ◌++◌, length, map, drop, Option, Some, None, slice_get}
 use Rattle.vm_memory_core.specs.Host.{Host, changed_at}
 use Rattle.vm_memory.specs.Memory.{memory_of}
@@ -44,7 +45,7 @@ use Rattle.fs_chain.specs.Events.{tells_of}
 use Rattle.fs_chain.specs.Orders.{front_len}
 use Rattle.fs_chain.specs.Returns.{ReturnsBy}
 use Rattle.fs_chain.specs.Loads.{GoesSo, HasNoPlace, came, whole}
-use Rattle.fs_chain.specs.Walks.{HasEvents, course_of, told_of}
+use Rattle.fs_chain.specs.Walks.{course_of, told_of}
 use Rattle.fs_device.specs.declared.error.DeviceError.TheVariants as device
 use Rattle.fs_device.specs.Step.{State, Exchange, Idle, Refused, Exchanged, Calls, Step, with_queue}
 use Rattle.fs_device.specs.StepBy as act
@@ -87,7 +88,7 @@ IsWalked old new before after told = (given : List (List ℕ)) × WalksBy given 
 -- what a walk by calls of the handle wants has a place, so that no call is refused for it
 abbrev pub WantedHasAPlace : Type 0
 WantedHasAPlace =
-    (given : List (List ℕ)) (old new : Workbench) (before after : KeptQueue) (told : went.Went) → before.stopped ≡ None → HasEvents old before →
+    (given : List (List ℕ)) (old new : Workbench) (before after : KeptQueue) (told : went.Went) → before.stopped ≡ None →
     WalksBy given old new before after told → WantsBytes told → HasNoPlace new (came new) → ⊥
 
 -- ---- the call and its answer
@@ -258,7 +259,7 @@ FaultyIsStepBy {F} may =
 abbrev pub FaultyIsAnsweredBy : {F : Type 0} → May F → Type 0
 FaultyIsAnsweredBy {F} may =
     (given : List (List ℕ)) (fault : ChainFault) (acts : List Act) (last head i : ℕ) (notice : Bool) (old : Workbench) (before : KeptQueue) (m : State F) →
-    (run : FaultyChainBy given fault acts last head notice old before) → before.stopped ≡ None → HasEvents old before → IsByFlags run.back → let q = queue_back before run.back in
+    (run : FaultyChainBy given fault acts last head notice old before) → before.stopped ≡ None → IsByFlags run.back → let q = queue_back before run.back in
     (loaded : Loaded) × LoadsOf given old run.walked_bench before run.taken (wents.On (says.Faulty head fault)) run.walks loaded
     × OffersBy (places_in old.regions) old.limit (queue_of (course_of before old.limit)) loaded [] (Offers head (CannotFetch fault)) × (x : Exchange)
     × ReturnsFaultyBy m i q head fault [] x notice (record { acts = acts; last = last }) (after_chain m i q m.options m.files)
@@ -275,7 +276,7 @@ abbrev pub ChainIsAnsweredBy : {F : Type 0} → May F → Type 0
 ChainIsAnsweredBy {F} may =
     (given : List (List ℕ)) (request : List ℕ) (calls : Calls) (acts : List Act) (last head i : ℕ) (notice : Bool)
     (old new : Workbench) (before : KeptQueue) (s : Session) (m : State F) (files : F) →
-    (run : ChainBy given request calls acts last head notice old new before s) → before.stopped ≡ None → HasEvents old before → old.limit ≤ 2 ^ 31 → IsByFlags run.back → IsSession s m → FileRun may m.files calls files →
+    (run : ChainBy given request calls acts last head notice old new before s) → before.stopped ≡ None → old.limit ≤ 2 ^ 31 → IsByFlags run.back → IsSession s m → FileRun may m.files calls files →
     let room = addresses_of (writable run.walked_bench.descriptors.items) in let q = queue_back before run.back in
     (loaded : Loaded) × LoadsOfChain given request calls acts last head notice old new before s run loaded
     × OffersBy (places_in old.regions) old.limit (queue_of (course_of before old.limit)) loaded request (Offers head (IsRequest request room))

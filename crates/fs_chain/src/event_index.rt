@@ -73,8 +73,9 @@ impl KeptQueue {
         None
     }
 
-    /// What the device stores to be told of the next chain, or of none. To be told: before it sleeps, and then, behind a full barrier, it
-    /// walks once more. With the event index nothing is stored to be told of none.
+    /// What the device stores to be told of the next chain, or of none. To be told: before it sleeps, and then, behind a full barrier, it walks once
+    /// more; of a queue with several threads all of that stands under the queue's lock. With the event index nothing is stored to be told of none, and
+    /// the next chain alone is told: who takes one while another thread sleeps stores anew, at the position behind it, and looks once more.
     pub fn kick_store(&self, wanted: bool) -> Option<KickStore>
         ensures { option_map store_of result ≡ kick_store self.now wanted }
     {

@@ -18,7 +18,7 @@ reply-requires-clause-taken g c =
     let same : n ≡ length c.args.request.now = grind (arith, nat_tests, test) in
     more_taken c.walk_chain.new.workbench.state _ _ (λ out is. is ∙ same)
     (taken_so c.args.workbench.now c.walk_chain.new.workbench c.args.queue.now c.walk_chain.new.queue c.in_ok-request_len.field-0-0 n c.in_ok-request_len.field-0-2
-    c.requires.goes c.requires.by_flags c.in_ok-request_len.ensures.walked)
+    c.requires.goes c.in_ok-request_len.ensures.walked)
 
 pub returns : goal.returns
 returns g c =
