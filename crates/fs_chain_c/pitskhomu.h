@@ -39,7 +39,8 @@
  *  4. Order of a return: data over the room, the front over its begin, the element's two halves, then the index by one atomic store
  *     of 2 bytes that releases; a full barrier (atomic_thread_fence(memory_order_seq_cst)); then the load of 2 bytes at `seen_at`.
  *  5. Windows are used until fs_returned, fs_drop or fs_abandon, and only those that were told: stores go to the room's alone.
- *  6. Memory stays mapped while a chain is out over it, and all chains of a queue go over the same regions: change these while none is walked or out; a page is marked in a migration's log after the store and before fs_returned.
+ *  6. Memory stays mapped while a chain is out over it, and all chains of a queue go over the same regions: change these while none is walked or out. A page
+ *     is marked in a migration's log after the store and before fs_returned; that of fs_ask_kicks's store after it, under the same lock.
  *  7. One call at a time on a chain, on a queue, on a device that isn't const; each with the thread's order in between.
  *  8. A queue begins anew by fs_queue_begin (or fs_restore), on the struct that it has: its walks and its chains are refused from then on by each call that takes
  *     the queue. fs_ask and the replies don't take it: let fs_abandon free each chain before. No load, store or file call of yours for them goes on by then.
@@ -48,11 +49,16 @@
  *     of a process with threads.
  *
  * SEVERAL CHAINS out of a queue, as many as its `most_out`, each by a `struct fs_chain` of its own. A queue's calls are one at a time: a lock is held from the
- * first fs_walk to FS_DONE, and from fs_return to fs_returned. A walk between whose calls another chain is taken is refused (FS_OTHER_QUEUE): drop it, and
- * begin again. Chains go back in any order.
+ * first fs_walk to FS_DONE, from fs_return to fs_returned, and from fs_ask_kicks (though the queue is const there) through its store and its barrier to the end
+ * of the walk behind it. A walk between whose calls another chain is taken is refused (FS_OTHER_QUEUE): drop it, and begin again. Chains go back in any order.
+ * With the event index the driver kicks for the chain at the stored position alone. So whoever takes a chain while another thread of the queue sleeps asks anew
+ * before it lets the lock go, which is at the position behind that chain: fs_ask_kicks, the store, the barrier, and one more look, at the available index. A
+ * chain that is there already brings no kick: wake a thread for it. Without all this the one that sleeps may sleep on.
  *
- * WHAT MAY COME without a change to your loops: the event index (`seen_at` is elsewhere then; a call for before you sleep is added),
- * an IOMMU (a status that names a missing address is added). Fields are added at a struct's end: begin with zeros.
+ * FEATURES of VIRTIO 1.2 that may be offered: VERSION_1 (32, insist on it), INDIRECT_DESC (28), EVENT_IDX (29, with `event_index` set), and IN_ORDER (35), if
+ * you return the chains of a queue in the order of their walks. Not RING_PACKED (34), not ACCESS_PLATFORM (33).
+ *
+ * WHAT MAY COME without a change to your loops: an IOMMU (a status that names a missing address is added). Fields are added at a struct's end: begin with zeros.
  *
  * ERRORS. A call answers an enum fs_status. Below 32 it is a refusal of the queue's that stops it (but 1 and 9); 32 to 63 say how
  * to go on; from 64 on nothing was done, and what was there before is there still, unless the function says otherwise (FS_NO_PLACE). "Errors" below are in the order in
@@ -137,7 +143,8 @@ enum fs_status {
     FS_OTHER_KIND = 75,             /* the call wants an answer of another kind (`answer` of the call) */
     FS_CHAIN_OUT = 76,              /* the queue has as many chains out as it may (most_out), or the chain is walked or out; of fs_save: one is out */
     FS_NO_PLACE = 77,               /* what is to be loaded or stored has no place. The walk found that it has, and regions don't change while a
-                                       chain is walked or out: so this isn't told. Of loads that is proved (law_chains of fs_chain), of stores not */
+                                       chain is walked or out: so fs_walk and fs_return don't tell this. Of loads that is proved (law_chains of
+                                       fs_chain), of stores not. fs_ask_kicks tells it of a ring that no walk has found to have its place */
     FS_RETURNING = 78,              /* another chain of the queue is between fs_return and fs_returned */
     FS_RECORD_TRUNCATED = 81,       /* 81 to 90: nothing goes on from the record */
     FS_RECORD_BAD_MAGIC = 82,
@@ -310,8 +317,8 @@ struct fs_device {
 };
 #define FS_DEVICE {4096u, 0x101000u, 0u}
 
-/* A queue: zeros before its first use, and never again. You set desc, avail, used, size and most_out, and begin it by fs_queue_begin; the others are the library's. The parts'
- * guest addresses are aligned to 16, 2 and 4 and end below 2^64; size is a power of two up to 32768. */
+/* A queue: zeros before its first use, and never again. You set desc, avail, used, size, most_out and event_index, and begin it by fs_queue_begin; the others
+ * are the library's. The parts' guest addresses are aligned to 16, 2 and 4 and end below 2^64; size is a power of two up to 32768. */
 struct fs_queue {
     uint64_t desc, avail, used;
     uint16_t size;
@@ -320,6 +327,8 @@ struct fs_queue {
     uint16_t most_out;  /* how many may be: 1 to size; 0 counts as 1 */
     uint16_t stopped;   /* the refusal (2 to 8) that stopped it, 1 if a record tells that one did, or 0 */
     uint8_t returning;  /* 1 from fs_return to fs_returned, else 0 */
+    uint8_t event_index; /* 1 if VIRTIO_F_EVENT_IDX was agreed on, else 0. With 1 a walk is refused as it begins where used_event (7) or avail_event (6) has
+                            no place */
     uint32_t begun;     /* how often it was begun anew, modulo 2^32. By parts and this number alone a queue is known, and a guest may give two the same parts:
                            let each of yours count from a number of its own, as its index times 2^24, which you set before its first use */
     uint32_t taken;     /* how often a chain was taken or dropped, modulo 2^32 */
@@ -563,7 +572,7 @@ struct fs_stores {
     uint32_t id, len;
     uintptr_t index_at;         /* 3. the used index: 2 bytes, one store that releases */
     uint16_t index;
-    uintptr_t seen_at;          /* 4. after a full barrier, 2 bytes: the available flags */
+    uintptr_t seen_at;          /* 4. after a full barrier, 2 bytes: the available flags, or used_event */
 };
 
 /* Says how the chain goes back: at `returned` of its queue, whichever was taken first. Until fs_returned no other chain of the queue goes back.
@@ -579,6 +588,24 @@ uint32_t fs_return(struct fs_chain *chain, struct fs_queue *queue, uint8_t *fron
 uint32_t fs_returned(struct fs_chain *chain, struct fs_queue *queue, uint16_t seen, uint8_t *notify)
     FS_CHECK FS_NONNULL(1, 2, 4) FS_FILLS(4);
 
+/* ---------------------------------------------------------------- kicks */
+
+/* A store of 2 bytes (len 2), or none (len 0, all zeros). */
+struct fs_store {
+    uintptr_t at;
+    uint16_t value;
+    uint8_t len;
+};
+
+/* What is stored to be told (1) of the next chain of a queue, or of none (0): the used flags, or with event_index the position as avail_event, and nothing
+ * for 0 (VIRTIO 1.2, 2.7.10). To be told: before you sleep make this store, a full barrier (atomic_thread_fence(memory_order_seq_cst)), and one more walk, all
+ * under the queue's lock; with event_index also when you took a chain and another thread of the queue sleeps (SEVERAL CHAINS, above). Of the chain only the
+ * regions count, and it stays as it was. `wanted` other than 0 is 1. The guest address of the store is `used`, or with event_index used + 4 + 8 * size.
+ * Errors: FS_WRONG_ORDER (no memory was told), FS_BAD_ARGUMENT (the queue's numbers are none), FS_NO_PLACE (these two bytes are in no region: a walk looks for
+ * those of event_index as it begins, and for the flags' as it takes a chain); then `store` is zeros. */
+uint32_t fs_ask_kicks(struct fs_chain *chain, const struct fs_queue *queue, uint32_t wanted, struct fs_store *store)
+    FS_CHECK FS_NONNULL(1, 2, 4) FS_FILLS(4);
+
 /* ---------------------------------------------------------------- moving to another host */
 
 /* Puts the record of device and queues (positions, options, page size, limit; no chain, no memory, no file) at the front of a buffer;
@@ -589,7 +616,8 @@ uint32_t fs_save(const struct fs_device *device, const struct fs_queue *queues, 
                  size_t *len) FS_CHECK FS_NONNULL(1, 6) FS_READS(2, 3) FS_WRITES(4, 5) FS_FILLS(6);
 
 /* Reads a record: into device->options, whose page size and limit have to be the record's, and the queues, of which `count` are told. The record
- * tells whether a queue was stopped, and not by what: `stopped` is 1 then. Each queue is begun anew by it, and keeps its most_out, which the record's size bounds. What it refuses leaves device and queues as they were. Other bytes may
+ * tells whether a queue was stopped, and not by what: `stopped` is 1 then. Each queue is begun anew by it, and keeps its event_index and its most_out, which
+ * the record doesn't tell: set them before (most_out is at most the record's size). What it refuses leaves device and queues as they were. Other bytes may
  * stand behind the record.
  * Errors: FS_BAD_ARGUMENT (of the device), 81 to 90 by what is read first, FS_SHORT_BUFFER (of queues; count tells how many there are, and is 0
  * after the others). */

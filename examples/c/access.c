@@ -6,11 +6,6 @@ enum { WINDOWS = 16 };
 
 uint16_t load_index(uintptr_t at) { return atomic_load_explicit((_Atomic uint16_t *)at, memory_order_acquire); }
 
-void store_flags(uintptr_t at, uint16_t flags) {
-    atomic_store_explicit((_Atomic uint16_t *)at, flags, memory_order_relaxed);
-    atomic_thread_fence(memory_order_seq_cst);
-}
-
 /* Each byte once. The fence holds the compiler, which might look at the guest's bytes again in place of the copy. */
 static void copy_out(void *to, uintptr_t at, size_t len) {
     memcpy(to, (const void *)at, len);
@@ -102,6 +97,15 @@ uint32_t give_back(struct fs_chain *chain, struct fs_queue *queue, const struct 
     status = fs_returned(chain, queue, load_index(stores.seen_at), &wanted);
     *notify = *notify || wanted;
     return status;
+}
+
+bool ask_kicks(struct fs_chain *chain, const struct fs_queue *queue, bool wanted, const struct marker *marker) {
+    struct fs_store store;
+    if (fs_ask_kicks(chain, queue, wanted, &store) != FS_DONE || store.len == 0) return false;
+    atomic_store_explicit((_Atomic uint16_t *)store.at, store.value, memory_order_relaxed);
+    if (marker) marker->mark(marker->log, store.at, store.len);
+    atomic_thread_fence(memory_order_seq_cst);
+    return true;
 }
 
 void give_up(struct fs_chain *chain, struct fs_queue *queue, const struct marker *marker, bool *notify) {

@@ -14,8 +14,9 @@ struct marker {
 /* One load of 2 bytes that acquires. */
 uint16_t load_index(uintptr_t at);
 
-/* One store of 2 bytes, and a full barrier. */
-void store_flags(uintptr_t at, uint16_t flags);
+/* Says to the driver whether its kicks are wanted (VIRTIO 1.2, 2.7.10): at most one store of 2 bytes, and a full barrier. Whether something was
+ * stored: where they are wanted, walk once more then, since a chain may have come before the driver could know. `marker` may be NULL. */
+bool ask_kicks(struct fs_chain *chain, const struct fs_queue *queue, bool wanted, const struct marker *marker);
 
 /* Walks to the next chain of a queue: the status is FS_DONE with a chain, FS_IDLE, or why there is none. */
 uint32_t take_chain(struct fs_chain *chain, struct fs_queue *queue, struct fs_step *step);

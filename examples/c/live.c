@@ -7,7 +7,7 @@
 #include <sys/eventfd.h>
 #include <unistd.h>
 
-enum { PAGE_SIZE = 4096, LIMIT = FS_REQUEST_MAX, RETRY_MILLISECONDS = 10, NO_NOTIFY = 1 };
+enum { PAGE_SIZE = 4096, LIMIT = FS_REQUEST_MAX, RETRY_MILLISECONDS = 10 };
 
 /* What came of looking for a chain: one went back, none waits, or one waits for which there is no memory yet. */
 enum found { SERVED, NOTHING, LATER };
@@ -42,21 +42,23 @@ static uint32_t take(struct worker *worker, struct fs_step *step) {
     return status == FS_CHAIN_OUT ? FS_IDLE : status;
 }
 
-/* Says in the used ring's flags whether the driver has to kick (VIRTIO 1.2, 2.7.10). Whether it had to be told: then look once more, since a
- * chain may have come before it knew. */
-static bool want_kicks(struct live *live, bool wanted) {
-    if (live->kicks == (wanted ? WANTED : UNWANTED)) return false;
+/* Says to the driver whether it has to kick, if it doesn't know. Whether it had to be told: then look once more, since a chain may have come
+ * before. */
+static bool want_kicks(struct worker *worker, bool wanted) {
+    struct live *live = worker->live;
+    uint16_t at = wanted && live->queue.event_index ? live->queue.position : 0;
+    if (live->kicks == (wanted ? WANTED : UNWANTED) && live->told_at == at) return false;
     live->kicks = wanted ? WANTED : UNWANTED;
-    store_flags(live->used_at, wanted ? 0 : NO_NOTIFY);
-    if (live->marker) live->marker->mark(live->marker->log, live->used_at, 2);
-    return true;
+    live->told_at = at;
+    return ask_kicks(&worker->chain, &live->queue, wanted, live->marker);
 }
 
 /* What comes while a chain is answered is for a thread that sleeps. If none does, this one looks again by itself, and a kick would cost
  * the guest an exit for nothing. */
-static void hand_on(struct live *live) {
+static void hand_on(struct worker *worker) {
+    struct live *live = worker->live;
     bool is_for_another = live->sleeping > 0;
-    want_kicks(live, is_for_another);
+    want_kicks(worker, is_for_another);
     if (is_for_another && load_index(live->avail_at + 2) != live->queue.position) signal_event(live->kick);
 }
 
@@ -67,7 +69,7 @@ static enum found serve_one(struct worker *worker) {
     bool notify = false;
     uint32_t status = take(worker, &step);
     if (status == FS_IDLE) return NOTHING;
-    if (status == FS_DONE) hand_on(live);
+    if (status == FS_DONE) hand_on(worker);
     if (status == FS_DONE && step.fault == 0) {
         pthread_mutex_unlock(&live->lock);
         status = serve_request(worker, &step);
@@ -94,7 +96,7 @@ static enum found serve_all(struct worker *worker) {
     live->sleeping--;
     do {
         while ((found = serve_one(worker)) == SERVED) {}
-    } while (want_kicks(live, true));
+    } while (want_kicks(worker, true));
     live->sleeping++;
     pthread_mutex_unlock(&live->lock);
     return found;

@@ -19,11 +19,11 @@ struct worker {
     uint8_t *request;
 };
 
-/* Set the first nine, and the rest to 0; of the queue its parts, its size, and the position where it begins. `avail_at` and `used_at` are the places
- * here of the available ring and of the used one. */
+/* Set the first eight, and the rest to 0; of the queue its parts, its size, whether the driver took VIRTIO_F_EVENT_IDX, and the position where it
+ * begins. `avail_at` is the place here of the available ring. */
 struct live {
     struct fs_queue queue; /* from here on the threads', under the lock */
-    uintptr_t avail_at, used_at;
+    uintptr_t avail_at;
     int kick, call;
     _Atomic uint64_t *options; /* what INIT agreed on: all queues of a device share it */
     answerer *answer;
@@ -32,7 +32,8 @@ struct live {
     uint64_t served, faulty; /* chains that went back, with a fault too */
     uint32_t refused;        /* why the queue isn't served any more, or 0 */
     uint16_t most;           /* so many chains were out at once */
-    enum { UNTOLD, WANTED, UNWANTED } kicks;
+    enum { UNTOLD, WANTED, UNWANTED } kicks; /* what the driver was told, */
+    uint16_t told_at;        /* and with an event index at which position */
     unsigned sleeping; /* threads that wait for a kick */
     pthread_mutex_t lock;
     struct worker *workers;

@@ -24,7 +24,8 @@ snapshot() {
     find "$work/yard" -path "$work/yard/share" -prune -o -type f -printf '%P %m %s %T@ %U %G ' -exec cat {} \;
 }
 
-# Runs a program of the tests over the daemon; what it prints is shown. THREADS of the environment is the daemon's --thread-pool-size.
+# Runs a program of the tests over the daemon; what it prints is shown. THREADS of the environment is the daemon's --thread-pool-size; with
+# EVENT_INDEX=1 the driver takes VIRTIO_F_EVENT_IDX.
 try() {
     local program=$1 what=$2 status=0
     make_yard
@@ -65,8 +66,12 @@ alone() {
     THREADS=4 try checks two 5
     try checks sleeps "${SLEEPS:-500000}"
     THREADS=4 try checks sleeps "${SLEEPS:-500000}"
+    EVENT_INDEX=1 try checks sleeps "${SLEEPS:-500000}"
+    THREADS=4 EVENT_INDEX=1 try checks sleeps "${SLEEPS:-500000}"
+    EVENT_INDEX=1 try checks rings
+    THREADS=4 EVENT_INDEX=1 try checks pool
     try hostile guest "$SECONDS_EACH"
-    THREADS=4 try hostile guest "$SECONDS_EACH"
+    THREADS=4 EVENT_INDEX=1 try hostile guest "$SECONDS_EACH"
     try hostile front-end "$SECONDS_EACH"
     try hostile cut 1
     grep -q 'lent is gone (SIGBUS)' "$work/hostile-cut.errors" || failure "cut: the daemon doesn't say why it ended"

@@ -166,6 +166,7 @@ void front_start_ring(struct front *front, size_t ring, uint16_t position) {
         uint32_t index, flags;
         uint64_t desc, used, avail, log;
     } address = {number, 0, user + desc_at(ring), user + used_at(ring), user + avail_at(ring), used_at(ring)};
+    r->told = position;
     must_tell(front, SET_VRING_NUM, size, sizeof size, NULL, 0);
     must_tell(front, SET_VRING_BASE, base, sizeof base, NULL, 0);
     must_tell(front, SET_VRING_ADDR, &address, sizeof address, NULL, 0);
@@ -205,7 +206,9 @@ void front_connect(struct front *front) {
 
 void front_begin(struct front *front, const char *server, const char *dir, const char *const *options) {
     *front = (struct front){.server = server, .dir = dir, .options = options};
-    front->features = 1ull << 32 | 1ull << 30 | 1ull << 28;
+    const char *event_index = getenv("EVENT_INDEX");
+    front->has_event_index = event_index && !strcmp(event_index, "1");
+    front->features = 1ull << 32 | 1ull << 30 | 1ull << 28 | (front->has_event_index ? 1ull << 29 : 0);
     const char *folder = getenv("TMPDIR");
     snprintf(front->folder, sizeof front->folder, "%s/front_XXXXXX", folder ? folder : "/tmp");
     if (!mkdtemp(front->folder)) die("no folder for the socket");
@@ -252,10 +255,23 @@ void front_offer(struct front *front, size_t ring, uint16_t head) {
     atomic_store_explicit(index_at(front, avail_at(ring) + 2), r->offered, memory_order_release);
 }
 
+/* Whether `wanted`, an index that the other side has named, is one of those from `from` on and before `to`. */
+static bool is_passed(uint16_t wanted, uint16_t from, uint16_t to) { return (uint16_t)(to - wanted - 1) < (uint16_t)(to - from); }
+
+/* Whether the device wants to be told of the chains that were offered since it was told last. */
+static bool wants_kick(struct front *front, size_t ring) {
+    struct front_ring *r = &front->rings[ring];
+    uint16_t told = r->told;
+    r->told = r->offered;
+    if (!front->has_event_index) return !(atomic_load_explicit(index_at(front, used_at(ring)), memory_order_relaxed) & NO_NOTIFY);
+    uint16_t avail_event = atomic_load_explicit(index_at(front, used_at(ring) + 4 + 8 * RING_SIZE), memory_order_relaxed);
+    return is_passed(avail_event, told, r->offered);
+}
+
 void front_kick(struct front *front, size_t ring) {
     uint64_t one = 1;
     atomic_thread_fence(memory_order_seq_cst);
-    if (atomic_load_explicit(index_at(front, used_at(ring)), memory_order_relaxed) & NO_NOTIFY) return;
+    if (!wants_kick(front, ring)) return;
     if (write(front->rings[ring].kick, &one, sizeof one) < 0) die("no kick");
 }
 
@@ -265,16 +281,26 @@ static bool is_back(struct front *front, size_t ring) {
     return r->seen == r->offered;
 }
 
+/* Wants to be called: at the next chain that comes back, or not. Behind it the driver looks again. */
+static void want_call(struct front *front, size_t ring, bool wanted) {
+    uint64_t avail = avail_at(ring);
+    if (front->has_event_index && wanted)
+        atomic_store_explicit(index_at(front, avail + 4 + 2 * RING_SIZE), front->rings[ring].seen, memory_order_relaxed);
+    if (!front->has_event_index) atomic_store_explicit(index_at(front, avail), wanted ? 0 : NO_INTERRUPT, memory_order_relaxed);
+    if (wanted) atomic_thread_fence(memory_order_seq_cst);
+}
+
 bool front_wait(struct front *front, size_t ring, int milliseconds) {
-    _Atomic uint16_t *flags = index_at(front, avail_at(ring));
-    struct pollfd event = {front->rings[ring].call, POLLIN, 0};
+    struct front_ring *r = &front->rings[ring];
+    struct pollfd event = {r->call, POLLIN, 0};
     uint64_t word;
     for (;;) {
-        atomic_store_explicit(flags, NO_INTERRUPT, memory_order_relaxed);
+        want_call(front, ring, false);
         if (is_back(front, ring)) return true;
-        atomic_store_explicit(flags, 0, memory_order_relaxed);
-        atomic_thread_fence(memory_order_seq_cst);
+        uint16_t seen = r->seen;
+        want_call(front, ring, true);
         if (is_back(front, ring)) return true;
+        if (r->seen != seen) continue; /* the device may have named this one before it was wanted */
         if (poll(&event, 1, milliseconds) <= 0) return false; /* whether or not all is back: nobody said so */
         if (read(event.fd, &word, sizeof word) < 0 && errno != EAGAIN) die("no call");
     }

@@ -17,6 +17,7 @@ enum { RINGS = 3, RING_SIZE = 128, REGIONS = 3, REGION_LEN = 8 << 20, QUIET_LEN 
 struct front_ring {
     int kick, call, err;
     uint16_t offered, seen; /* how many chains were offered, and how many came back */
+    uint16_t told;          /* and how many were offered when the device was last told, or wasn't since it needn't be */
     uint64_t unique;        /* of the last request */
 };
 
@@ -28,6 +29,7 @@ struct front {
     int connection, memory_fd;
     uint8_t *memory;
     uint64_t features;
+    bool has_event_index; /* EVENT_INDEX of the environment is 1: VIRTIO_F_EVENT_IDX is taken */
     struct front_ring rings[RINGS];
 };
 
@@ -73,7 +75,7 @@ void put_descriptor(const struct front *front, uint64_t table, unsigned k, uint6
                     unsigned next);
 void front_offer(struct front *front, size_t ring, uint16_t head);
 
-/* Kicks, unless the device says that it looks anyway. */
+/* Kicks, unless the device says that it looks anyway (VIRTIO 1.2, 2.7.10). */
 void front_kick(struct front *front, size_t ring);
 
 /* Sleeps as VIRTIO 1.2, 2.7.7 says until all that was offered is back; false if that takes longer. */

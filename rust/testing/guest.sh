@@ -122,7 +122,7 @@ rdinit=/init scenario=$scenario" "$@") > "$run/qemu" 2>&1
 busybox=$root/usr/bin/busybox
 export root
 
-device() { echo "vhost-user-fs-pci,chardev=fs,tag=shared,queue-size=128,num-request-queues=${QUEUES:-1}${1:-}"; }
+device() { echo "vhost-user-fs-pci,chardev=fs,tag=shared,queue-size=128,num-request-queues=${QUEUES:-1}"; }
 
 # Waits for a line of the guest's.
 wait_for() {

@@ -91,9 +91,9 @@ conclude() {
     cp -r "$run" "$kept" 2> "$work/none" || true
 }
 
-# One migration: the source's daemon, the target's, what is added to QEMU's device.
+# One migration: the source's daemon, and the target's.
 move() {
-    local from=$1 to=$2 more=$3 status=0 there source target here_qemu there_qemu
+    local from=$1 to=$2 status=0 there source target here_qemu there_qemu
     make_files
     run=$work/run-migrate-$from-$to there=$work/run-migrate-$from-$to/there
     rm -rf "$run"
@@ -102,9 +102,9 @@ move() {
     source=$server
     start_server "$to" "$there/socket" "$there/server" || return 0
     target=$server
-    qemu "$run" migrate "$run/socket" -m 256M -no-reboot -device "$(device "$more")" &
+    qemu "$run" migrate "$run/socket" -m 256M -no-reboot -device "$(device)" &
     here_qemu=$!
-    qemu "$there" migrate "$there/socket" -m 256M -no-reboot -device "$(device "$more")" -incoming "unix:$there/stream" &
+    qemu "$there" migrate "$there/socket" -m 256M -no-reboot -device "$(device)" -incoming "unix:$there/stream" &
     there_qemu=$!
     go_over "$run" "$there" "$there_qemu"
     [ "$outcome" != failed ] || ! is_alive "$there_qemu" || say "$there" quit
@@ -144,10 +144,7 @@ migrate() {
     : > "$work/migrations"
     for round in $(seq "${MIGRATIONS:-3}"); do
         for pair in ${PAIRS:-ours-ours ours-virtiofsd virtiofsd-ours}; do
-            case $pair in
-            virtiofsd-ours) move virtiofsd ours ',event_idx=off' ;;
-            *) move "${pair%-*}" "${pair#*-}" '' ;;
-            esac
+            move "${pair%-*}" "${pair#*-}"
             echo "round $round of ${MIGRATIONS:-3}, $pair: $outcome"
         done
     done

@@ -2,7 +2,6 @@
 use Rattle.std.proofs.Common.{◌≡◌, ℕ, List, [], length, Some, None, Result, Ok, Err, IfOk, OnOk, refl, subst, sym, ap, ◌∙◌, arith}
 use Rattle.std.proofs.lemmas.List.{take_all}
 use Rattle.fs_queue.specs.Chain.{Descriptor}
-use Rattle.fs_queue.specs.Returning.{tells}
 use Rattle.fs_regions.specs.declared.course.Course.{Course}
 use Rattle.fs_regions.specs.declared.step.Step as comes
 use Rattle.fs_regions.specs.declared.step.Step.TheVariants as step
@@ -19,11 +18,12 @@ use Rattle.fs_chain.specs.declared.walking.WalkOutcome as walked
 use Rattle.fs_chain.specs.declared.walking.WalkOutcome.TheVariants as says
 use Rattle.fs_chain.specs.declared.workbench.Workbench.{Workbench}
 use Rattle.fs_chain.specs.Asking.{IfTaken}
+use Rattle.fs_chain.specs.Events.{tells_of}
 use Rattle.fs_chain.specs.Orders.{front_len, return_error}
 use Rattle.fs_chain.specs.Queues.{ticket_of}
 use Rattle.fs_chain.specs.Returns.{IfHasReply, ReturnsBy}
 use Rattle.fs_chain.specs.Walks.{course_of, queue_after, state_after, told_of}
-use Rattle.fs_chain.specs.Whole.{FromTaken, GoesBackBy, IsWalked, acts_of}
+use Rattle.fs_chain.specs.Whole.{FromTaken, GoesBackBy, IsByFlags, IsWalked, acts_of}
 use Rattle.fs_chain.proofs.WholeWalks.{walk_comes}
 
 abbrev IsAChain : walked.WalkOutcome → Type 0
@@ -46,21 +46,22 @@ by_came ds (step.Chain h (Some fault)) course ticket st head n r told is = absur
 pub taken_so : (old new : Workbench) (before after : KeptQueue) (head n r : ℕ) → before.stopped ≡ None → IsWalked old new before after (wents.On (says.Chain head n r)) →
     FromTaken new.state (λ out. out.request_len ≡ n)
 taken_so old new before after head n r goes walked =
-    let came = walk_comes walked.0 old new before after (says.Chain head n r) goes walked.1 in
+    let came = walk_comes walked.0 old new before after (says.Chain head n r) goes tt walked.1 in
     by_came new.descriptors.items came.2.0 (course_of before old.limit) (ticket_of before) new.state head n r came.2.1.0 came.2.1.1
 
--- a walk leaves where the next chain goes back
-stays_there : (q : KeptQueue) (came : comes.Step) → (queue_after q came).returned ≡ q.returned
-stays_there q (step.Load walk) = refl
-stays_there q step.Idle = refl
-stays_there q (step.Refused e) = refl
-stays_there q (step.Chain head fault) = refl
+-- a walk leaves where the next chain goes back, and the event index
+stays_there : (q : KeptQueue) (came : comes.Step) → ((queue_after q came).returned ≡ q.returned) × ((queue_after q came).event_index ≡ q.event_index)
+stays_there q (step.Load walk) = (refl, refl)
+stays_there q step.Idle = (refl, refl)
+stays_there q (step.Refused e) = (refl, refl)
+stays_there q (step.Chain head fault) = (refl, refl)
 
-pub returned_stays : (old new : Workbench) (before after : KeptQueue) (head n r : ℕ) → before.stopped ≡ None → IsWalked old new before after (wents.On (says.Chain head n r)) →
-    after.returned ≡ before.returned
-returned_stays old new before after head n r goes walked =
-    let came = walk_comes walked.0 old new before after (says.Chain head n r) goes walked.1 in
-    ap (λ (q : KeptQueue). q.returned) came.2.1.2 ∙ stays_there before came.2.0
+pub queue_stays : (old new : Workbench) (before after : KeptQueue) (head n r : ℕ) → before.stopped ≡ None → IsByFlags before → IsWalked old new before after (wents.On (says.Chain head n r)) →
+    (after.returned ≡ before.returned) × IsByFlags after
+queue_stays old new before after head n r goes by_flags walked =
+    let came = walk_comes walked.0 old new before after (says.Chain head n r) goes tt walked.1 in
+    let there = stays_there before came.2.0 in
+    (ap (λ (q : KeptQueue). q.returned) came.2.1.2 ∙ there.0, ap (λ (q : KeptQueue). q.event_index) came.2.1.2 ∙ there.1 ∙ by_flags)
 
 -- of a chain that is out, both
 pub both_taken : (st : state.State) (P Q : Out → Type 0) → FromTaken st P → IfTaken st Q → FromTaken st (λ out. P out × Q out)
@@ -86,7 +87,7 @@ whole_front request = take_all (length request) request (omega arith)
 
 -- a chain whose reply is known goes back by what begin_return told
 pub goes_back : (st : state.State) (q : KeptQueue) (len : ℕ) (s : Stores) (flags : List ℕ) (room : List ℕ) → return_error st q len ≡ None → length flags ≡ 2 →
-    IfHasReply st (λ out reply. ReturnsBy q out reply s) → (acts : List Act) × (last : ℕ) × GoesBackBy q room [] st acts last (tells flags)
+    IfHasReply st (λ out reply. ReturnsBy q out reply s) → (acts : List Act) × (last : ℕ) × GoesBackBy q room [] st acts last (tells_of q flags)
 goes_back (at.HasReply out reply) q len s flags room can two back =
     (acts_of room reply [] s flags, front_len reply, record { stores = s; flags = flags; flags_len = two; returns = (back, (refl, refl)); notified = refl })
 goes_back at.Free q len s flags room can two back = absurd (cc)

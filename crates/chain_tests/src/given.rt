@@ -1,6 +1,6 @@
 //! What the tests share: a queue, a workbench, and a chain that asks for a name.
 
-ghost use Rattle.std.specs.Prelude.{◌≡◌, None};
+ghost use Rattle.std.specs.Prelude.{◌≡◌, false, None};
 ghost use Rattle.fs_chain.specs.declared.state.State.TheVariants as at;
 
 use fs_chain::{KeptQueue, WalkOutcome, Went, Workbench};
@@ -42,6 +42,7 @@ pub fn workbench_over(rt: &impl Abort, alloc: Global, pages: &[u64]) -> Workbenc
 pub fn queue(rt: &impl Abort) -> KeptQueue
     ensures goes { result.stopped ≡ None }
     ensures none_out { result.returned ≡ result.position }
+    ensures by_flags { result.event_index ≡ false }
 {
     let layout = QueueLayout::new(4, 0, 0x50, 0x60).expect(rt, "a layout");
     KeptQueue::new(layout, 0xffff, 1)

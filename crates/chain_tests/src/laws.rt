@@ -10,7 +10,7 @@ ghost use Rattle.fs_regions.specs.declared.course.Course.{Course};
 ghost use Rattle.fs_regions.specs.declared.walk.QueueWalk.{QueueWalk};
 ghost use Rattle.fs_chain.specs.Laws.{GoesOnByLoads, TellsOffer};
 ghost use Rattle.fs_chain.specs.Loads.{whole};
-ghost use Rattle.fs_chain.specs.Walks.{course_of};
+ghost use Rattle.fs_chain.specs.Walks.{RefusalHasEvents, course_of};
 ghost use Rattle.fs_chain.specs.declared.state.State.TheVariants as at;
 ghost use Rattle.fs_chain.specs.declared.state.Ticket.{Ticket};
 
@@ -23,7 +23,7 @@ fn begin(
     workbench: &mut Workbench,
     queue: &mut KeptQueue,
 ) -> Result<Option<WalkOutcome>, ChainError>
-    ensures offered { IfOk result (λ on. IfSome on (λ told. (h : Host) → queue.old.stopped ≡ None → workbench.old.state ≡ at.Free
+    ensures offered { IfOk result (λ on. IfSome on (λ told. (h : Host) → queue.old.stopped ≡ None → RefusalHasEvents told workbench.old queue.old → workbench.old.state ≡ at.Free
         → HasLoaded (memory_of h workbench.old.regions) (queue_of (course_of queue.old workbench.old.limit)) nothing []
         → TellsOffer (memory_of h workbench.old.regions) (course_of queue.old workbench.old.limit) workbench.new told [])) }
 {

@@ -1,6 +1,6 @@
 //! What calls of a handle come to from a walk's beginning on is a step of the plain machine.
 
-ghost use Rattle.std.specs.Prelude.{◌≡◌, ℕ, List, [], length, Option, None, Ok, IfOk, OnOk, true};
+ghost use Rattle.std.specs.Prelude.{◌≡◌, ℕ, List, [], length, Option, None, Ok, IfOk, OnOk, false, true};
 ghost use Rattle.fuse_fs.specs.Calls.{FileRun};
 ghost use Rattle.server_phases.specs.Answering.{TellsBytes};
 ghost use Rattle.fs_device.specs.Step.{Calls, Exchange, Exchanged, State, Idle, Refused, with_queue};
@@ -134,6 +134,7 @@ fn serve<F: FileSystem>(
     requires free { workbench.old.state ≡ at.Free }
     requires goes { queue.old.stopped ≡ None }
     requires none_out { queue.old.returned ≡ queue.old.position }
+    requires by_flags { queue.old.event_index ≡ false }
     requires data { TellsBytes [] answer }
     ensures step { IfOk result (λ notice. (i : ℕ) (m : State F) (files : F) → IsBefore workbench.old queue.old i m → IsSession session m
         → (calls : Calls) × (FileRun F.may m.files calls files → (l : StepLoads) × (x : Exchange) × (e : Effects) × (x.request ≡ request.now)

@@ -8,6 +8,7 @@ use Rattle.fs_queue.specs.declared.fault.QueueError.{QueueError}
 use Rattle.fs_regions.specs.declared.course.Course.{Course}
 use Rattle.fs_regions.specs.declared.walk.QueueWalk.{QueueWalk}
 use Rattle.fs_regions.specs.declared.walk.QueueWalk.TheVariants as walks
+use Rattle.fs_regions.specs.Places.{places_in}
 use Rattle.fs_regions.specs.Walks.{asked_len}
 use Rattle.fs_chain.specs.declared.state.State as state
 use Rattle.fs_chain.specs.declared.state.State.TheVariants as at
@@ -16,7 +17,8 @@ use Rattle.fs_chain.specs.declared.error.ChainError.{ChainError}
 use Rattle.fs_chain.specs.declared.error.ChainError.TheVariants.{OutOfMemory}
 use Rattle.fs_chain.specs.declared.queue.KeptQueue.{KeptQueue}
 use Rattle.fs_chain.specs.Orders.{entries_asked, IfWalking, IsWalking, load_len, walk_error}
-use Rattle.fs_chain.specs.Walks.{BeginsUnless, GoesOnUnless, LacksRoom, WalksFrom, WalksOn}
+use Rattle.fs_chain.specs.Events.{event_fault}
+use Rattle.fs_chain.specs.Walks.{BeginsUnless, BeginsWhere, GoesOnUnless, LacksRoom, WalksFrom, WalksOn}
 use Rattle.fs_chain.specs.declared.walking.WalkOutcome as walked
 use Rattle.fs_chain.specs.declared.workbench.Workbench.{Workbench}
 use Rattle.fs_chain.specs.Loads.{AreDue, AreWanted, AreWhole, RefusesWalk, came, due_len, whole}
@@ -85,8 +87,12 @@ module _ (w w' : Workbench) (aside kept : Vec ℕ) (q q' : KeptQueue) (told : wa
   abbrev after : Workbench
   after = record w' { part = kept }
 
+  begins_where : (fault : Option QueueError) → BeginsWhere fault before w' q q' told → BeginsWhere fault w after q q' told
+  begins_where None h = h
+  begins_where (Some e) h = h
+
   begins : (stopped : Option QueueError) → BeginsUnless stopped before w' q q' told → BeginsUnless stopped w after q q' told
-  begins None h = h
+  begins None h = begins_where (event_fault (places_in w.regions) q) h
   begins (Some why) h = h
 
   goes_on : (stopped : Option QueueError) (course : Course) (ticket : Ticket) (walk : QueueWalk) (bytes : List ℕ) → GoesOnUnless stopped course ticket walk bytes before w' q q' told

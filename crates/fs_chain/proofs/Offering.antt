@@ -21,7 +21,8 @@ use Rattle.fs_chain.specs.declared.state.Ticket.{Ticket}
 use Rattle.fs_chain.specs.declared.walking.WalkOutcome as walked
 use Rattle.fs_chain.specs.declared.workbench.Workbench.{Workbench}
 use Rattle.fs_chain.specs.Laws.{GoesOnByLoads, IsTold, TellsOffer, WalksAreOffers}
-use Rattle.fs_chain.specs.Walks.{BeginsUnless, GoesOnUnless, WalksFrom, WalksOn, course_of, told_of}
+use Rattle.fs_chain.specs.Walks.{BeginsUnless, BeginsWhere, GoesOnUnless, HasEvents, RefusalHasEvents, WalksFrom, WalksOn, course_of, told_of}
+use Rattle.fs_chain.proofs.Steps.{begun_has_events}
 
 -- without a request nothing is owed of it
 unasked : (m : Memory) (q : Queue) (loaded : Loaded) (request : List ℕ) → HasLoaded m q loaded request → HasLoaded m q loaded []
@@ -45,13 +46,15 @@ comes_to law h regions limit q loaded ds (step.Chain head (Some fault)) request 
 comes_to law h regions limit q loaded ds (step.Chain head None) request runs came has =
     λ len. sym (law h regions limit q loaded request _ runs (came.1 request len) has)
 
-begins : OffersAreTheMemorys → (h : Host) (bytes request : List ℕ) (old new : Workbench) (before after : KeptQueue) (told : walked.WalkOutcome) → before.stopped ≡ None → old.state ≡ at.Free
+begins : OffersAreTheMemorys → (h : Host) (bytes request : List ℕ) (old new : Workbench) (before after : KeptQueue) (told : walked.WalkOutcome) → before.stopped ≡ None → RefusalHasEvents told old before → old.state ≡ at.Free
     → WalksOn bytes old new before after told → HasLoaded (memory_of h old.regions) (queue_of (course_of before old.limit)) nothing request
     → TellsOffer (memory_of h old.regions) (course_of before old.limit) new told request
-begins law h bytes request old new before after told running free walks has =
+begins law h bytes request old new before after told running refusal free walks has =
     let course : Course = course_of before old.limit in
     let from : WalksFrom at.Free bytes old new before after told = subst (λ (s : state.State). WalksFrom s bytes old new before after told) free walks in
-    let went : BeginsUnless None old new before after told = subst (λ (o : Option QueueError). BeginsUnless o old new before after told) running from in
+    let unless : BeginsUnless None old new before after told = subst (λ (o : Option QueueError). BeginsUnless o old new before after told) running from in
+    let events : HasEvents old before = begun_has_events old new before after told refusal unless in
+    let went : BeginsWhere None old new before after told = subst (λ (f : Option QueueError). BeginsWhere f old new before after told) events unless in
     subst (λ (t : walked.WalkOutcome). TellsOffer (memory_of h old.regions) course new t request) (sym went.1.0)
     (comes_to law h old.regions course.limit (queue_of course) nothing new.descriptors.items went.0 request refl went.2 has)
 

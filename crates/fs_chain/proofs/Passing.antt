@@ -8,7 +8,7 @@ use Rattle.vm_memory_core.specs.Window.{Window}
 use Rattle.vm_memory.specs.Layout.{Region, place}
 use Rattle.vm_memory.specs.Memory.{located}
 use Rattle.fs_queue.specs.Chain.{Descriptor, is_writable}
-use Rattle.fs_queue.specs.Taking.{all_reach, total_len, access_of, addresses_of, of_direction}
+use Rattle.fs_queue.specs.Taking.{all_reach, total_len, access_of, of_direction}
 use Rattle.fs_regions.specs.Places.{places_in}
 use Rattle.fs_regions.specs.Windows.{IsWindowFrom, StandsIn}
 use Rattle.fs_regions.proofs.Directions.{Skips, skips_begin, skips_on, skips_other}

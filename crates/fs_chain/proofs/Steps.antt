@@ -16,8 +16,10 @@ use Rattle.fs_chain.specs.declared.state.State as state
 use Rattle.fs_chain.specs.declared.state.State.TheVariants as at
 use Rattle.fs_chain.specs.declared.state.Ticket.{Ticket}
 use Rattle.fs_chain.specs.declared.walking.WalkOutcome as walked
+use Rattle.fs_chain.specs.declared.walking.WalkOutcome.TheVariants as tells
 use Rattle.fs_chain.specs.declared.workbench.Workbench.{Workbench}
-use Rattle.fs_chain.specs.Walks.{GoesOn, GoesOnUnless, LeavesNone, WalksFrom, WalksOn, left_of}
+use Rattle.fs_chain.specs.Events.{event_fault}
+use Rattle.fs_chain.specs.Walks.{Begins, BeginsUnless, BeginsWhere, GoesOn, GoesOnUnless, HasEvents, LeavesNone, RefusalHasEvents, WalksFrom, WalksOn, left_of}
 
 -- of a faulty chain none are kept, and none are spoken of
 pub comes_left : (m : Memory) (limit : ℕ) (q : Queue) (loaded : Loaded) (ds : List Descriptor) (came : comes.Step)
@@ -49,6 +51,33 @@ comes_taken course walk taken bytes came regions ds left same by_taken =
     let P : QueueWalk → Type 0 = λ w. (loaded : Loaded) → StandsAt (places_in regions) (queue_of course) loaded ds w
     → ComesBy (places_in regions) course.limit (queue_of course) loaded w bytes left came in
     subst P same by_taken
+
+-- a handle's walk begins, unless the queue's event index has no place
+pub begins_where : (old new : Workbench) (before after : KeptQueue) (told : walked.WalkOutcome) (fault : Option QueueError) → before.stopped ≡ None
+    → fault ≡ event_fault (places_in old.regions) before → BeginsWhere fault old new before after told → Begins old new before after told
+begins_where old new before after told fault goes is begins =
+    let there = subst (λ (f : Option QueueError). BeginsWhere f old new before after told) is begins in
+    subst (λ (s : Option QueueError). BeginsUnless s old new before after told) (sym goes) there
+
+-- a walk that begins tells a refusal alone where the event index has no place
+abbrev IsRefused : walked.WalkOutcome → Type 0
+IsRefused (tells.Refused e) = Unit {0}
+IsRefused _ = ⊥
+
+goes_by_none : (old new : Workbench) (before after : KeptQueue) (told : walked.WalkOutcome) (fault : Option QueueError)
+    → (IsRefused told → ⊥) → BeginsWhere fault old new before after told → fault ≡ None
+goes_by_none old new before after told None goes begins = refl
+goes_by_none old new before after told (Some e) goes begins = absurd (goes (subst IsRefused (sym begins.0) tt))
+
+pub begun_has_events : (old new : Workbench) (before after : KeptQueue) (told : walked.WalkOutcome) → RefusalHasEvents told old before
+    → BeginsUnless None old new before after told → HasEvents old before
+begun_has_events old new before after (tells.Refused e) has begins = has
+begun_has_events old new before after (tells.Load n) has begins = goes_by_none old new before after (tells.Load n) (event_fault (places_in old.regions) before) (λ no. no) begins
+begun_has_events old new before after tells.Idle has begins = goes_by_none old new before after tells.Idle (event_fault (places_in old.regions) before) (λ no. no) begins
+begun_has_events old new before after (tells.Chain head n r) has begins =
+    goes_by_none old new before after (tells.Chain head n r) (event_fault (places_in old.regions) before) (λ no. no) begins
+begun_has_events old new before after (tells.Faulty head fault) has begins =
+    goes_by_none old new before after (tells.Faulty head fault) (event_fault (places_in old.regions) before) (λ no. no) begins
 
 -- a handle's walk goes on, unless its queue was stopped
 pub walks_unless : (course : Course) (ticket : Ticket) (walk : QueueWalk) (bytes : List ℕ) (old new : Workbench) (before after : KeptQueue) (told : walked.WalkOutcome)

@@ -1,22 +1,18 @@
 -- A chain whose request was asked and answered is answered as the plain machine does.
-use Rattle.std.proofs.Common.{arith, append-nil, ◌≡◌, ℕ, ◌+◌, ◌≤◌, ◌^◌, Bool, List, [], ◌∷◌, length, Option, Some, None, refl, subst, sym, ap, ◌∙◌}
-use Rattle.std.specs.Prelude.{drop}
+use Rattle.std.proofs.Common.{arith, append-nil, ◌≡◌, ℕ, ◌+◌, ◌≤◌, ◌^◌, Bool, List, [], length, Option, Some, None, refl, subst, sym, ap, ◌∙◌}
 use Rattle.fs_queue.specs.Queue.{Queue}
 use Rattle.fs_queue.specs.Returning.{stores_after_reply, tells}
 use Rattle.fs_queue.specs.ReturningView.{stores_of}
 use Rattle.fuse_fs.specs.Calls.{FileRun}
-use Rattle.fuse_values.specs.Values.{call_of}
 use Rattle.fuse_values.specs.declared.answer.FileAnswer.{FileAnswer}
 use Rattle.fuse_values.specs.declared.call.FileCall as made_call
-use Rattle.virtiofsd_fuse.specs.Grammar.{Meaning, meaning}
+use Rattle.virtiofsd_fuse.specs.Grammar.{meaning}
 use Rattle.virtiofsd_fuse.specs.Serving.{May, Setting, Served, setting, served}
 use Rattle.virtiofsd_fuse.specs.Serving as serving_words
 use Rattle.virtiofsd_fuse.proofs.Serve.{served_fits}
-use Rattle.server_phases.specs.declared.answering.Answered.{Answered}
 use Rattle.server_phases.specs.Asking.{IsTold, all_reply}
 use Rattle.server_segments.specs.declared.error.Error.{Error}
 use Rattle.server_phases.specs.Answering.{Gives, TellsBytes, served_by}
-use Rattle.server_phases.specs.Waiting.{WaitsFor}
 use Rattle.fs_chain.specs.declared.answering.Replied.{Replied}
 use Rattle.fs_chain.specs.declared.asking.Told.TheVariants as asks
 use Rattle.fs_chain.specs.declared.queue.KeptQueue.{KeptQueue}

@@ -47,7 +47,8 @@ use Rattle.fs_chain.specs.Answers.{IfWaits, IsGiven}
 use Rattle.fs_chain.specs.Orders.{front_len}
 use Rattle.fs_chain.specs.Queues.{at_return, ticket_of}
 use Rattle.fs_chain.specs.Returns.{ReturnsBy}
-use Rattle.fs_chain.specs.Walks.{count, course_of, out_of, faulty_out, no_reply, told_of, state_after}
+use Rattle.fs_chain.specs.Events.{tells_of}
+use Rattle.fs_chain.specs.Walks.{HasEvents, count, course_of, out_of, faulty_out, no_reply, told_of, state_after}
 use Rattle.fs_device.specs.declared.error.DeviceError.TheVariants as device
 use Rattle.fs_device.specs.Step.{State, Exchange, Idle, Refused, Exchanged, Calls, with_queue, faulty}
 use Rattle.fs_device.specs.StepBy as act
@@ -66,12 +67,12 @@ use Rattle.fs_chain.specs.Whole.{
   HasReply,
   IdleIsStepBy,
   IsBefore,
+  IsByFlags,
   IsInOrder,
   IsSession,
   LoadsOf,
   LoadsOfChain,
   RefusalIsStepBy,
-  WalksBy,
   acts_of,
   after_chain,
   data_behind,
@@ -108,6 +109,14 @@ came_is ds step.Idle head n r e = absurd (subst IsAChain e tt)
 came_is ds (step.Refused error) head n r e = absurd (subst IsAChain e tt)
 came_is ds (step.Chain h None) head n r e = (ap (λ (x : ℕ). step.Chain x None) (sym (ap head_in e)), ap request_in e, ap room_in e)
 came_is ds (step.Chain h (Some fault)) head n r e = absurd (subst IsAChain e tt)
+
+-- ---- a queue without the event index
+
+has_events : (w : Workbench) (q : KeptQueue) → IsByFlags q → HasEvents w q
+has_events w q is = rw is refl
+
+flags_tell : (q : KeptQueue) (flags : List ℕ) → IsByFlags q → tells_of q flags ≡ tells flags
+flags_tell q flags is = rw is refl
 
 -- ---- what was told of the request, and how it was answered
 
@@ -157,15 +166,15 @@ told_so may m i kq request room files s out (asks.Fault e) asked answered (Some 
 -- a chain's loads, by which it is offered, and how it is answered
 chain_parts : {F : Type 0} (may : May F) (given : List (List ℕ)) (request : List ℕ) (calls : Calls) (acts : List Act) (last head i : ℕ) (notice : Bool)
     (old new : Workbench) (before : KeptQueue) (s : Session) (m : State F) (files : F) (run : ChainBy given request calls acts last head notice old new before s)
-    → before.stopped ≡ None → old.limit ≤ 2 ^ 31 → IsSession s m → FileRun may m.files calls files
+    → before.stopped ≡ None → old.limit ≤ 2 ^ 31 → IsByFlags run.back → IsSession s m → FileRun may m.files calls files
     → (loaded : Loaded) × LoadsOfChain given request calls acts last head notice old new before s run loaded
     × OffersBy (places_in old.regions) old.limit (queue_of (course_of before old.limit)) loaded request (Offers head (IsRequest request (addresses_of (writable run.walked_bench.descriptors.items))))
     × AnsweredSo may m i (queue_back before run.back) head request (addresses_of (writable run.walked_bench.descriptors.items)) calls notice acts last new.session.options.0 files
-chain_parts {F} may given request calls acts last head i notice old new before s m files run goes bound session files_run =
+chain_parts {F} may given request calls acts last head i notice old new before s m files run goes bound by_flags session files_run =
     let course = course_of before old.limit in
     let q = queue_of course in
     let ds = run.walked_bench.descriptors.items in
-    let all = walk_comes given old run.walked_bench before run.taken (says.Chain head run.lens.0 run.lens.1) goes run.walks in
+    let all = walk_comes given old run.walked_bench before run.taken (says.Chain head run.lens.0 run.lens.1) goes tt run.walks in
     let loaded = all.0 in
     let came = all.2 in
     let is = came_is ds came.0 head run.lens.0 run.lens.1 came.1.0 in
@@ -184,7 +193,7 @@ chain_parts {F} may given request calls acts last head i notice old new before s
     let small : out.room_len ≤ 2 ^ 31 = fits.2 in
     let so : AnsweredSo may m i back head request room (file_calls (drop 80 request) run.made run.given) notice acts last new.session.options.0 files =
     told_so may m i run.back request room files s out run.made run.asked_bench new run.given run.returns.stores run.returns.flags notice acts last session.0 session.1
-    room_is small asked.2 asked.4 run.replies run.returns.returns run.returns.flags_len run.returns.notified (subst (λ (cs : Calls). FileRun may m.files cs files) run.calls_are files_run) in
+    room_is small asked.2 asked.4 run.replies run.returns.returns run.returns.flags_len (run.returns.notified ∙ flags_tell run.back run.returns.flags by_flags) (subst (λ (cs : Calls). FileRun may m.files cs files) run.calls_are files_run) in
     let with_calls : AnsweredSo may m i back head request room calls notice acts last new.session.options.0 files =
     subst (λ (cs : Calls). AnsweredSo may m i back head request room cs notice acts last new.session.options.0 files) (sym run.calls_are) so in
     (loaded, all.1, offers, with_calls)
@@ -200,8 +209,8 @@ offered_so m old before i loaded lost request o first by =
     subst (λ (mm : Memory). offered_by mm m.limit q l ≡ Some o) (sym first.places) (subst (λ (k : ℕ). offered_by (places_in old.regions) k q l ≡ Some o) (sym first.limit) by)
 
 pub chain_is_answered_by : {F : Type 0} (may : May F) → ChainIsAnsweredBy may
-chain_is_answered_by {F} may given request calls acts last head i notice old new before s m files run goes bound session files_run =
-    let parts = chain_parts may given request calls acts last head i notice old new before s m files run goes bound session files_run in
+chain_is_answered_by {F} may given request calls acts last head i notice old new before s m files run goes bound by_flags session files_run =
+    let parts = chain_parts may given request calls acts last head i notice old new before s m files run goes bound by_flags session files_run in
     let so = parts.3 in
     (parts.0, parts.1, parts.2, so.0, so.1, so.2, so.3)
 
@@ -215,9 +224,9 @@ answered_there {F} may m i before back limit head request room calls x notice e 
     subst P in_order answers
 
 pub chain_is_step_by : {F : Type 0} (may : May F) → ChainIsStepBy may
-chain_is_step_by {F} may given request calls acts last head i notice old new before s m files run first in_order session files_run =
+chain_is_step_by {F} may given request calls acts last head i notice old new before s m files run first by_flags in_order session files_run =
     let q = queue_of (course_of before old.limit) in
-    let parts = chain_parts may given request calls acts last head i notice old new before s m files run first.goes first.bound session files_run in
+    let parts = chain_parts may given request calls acts last head i notice old new before s m files run first.goes first.bound by_flags session files_run in
     let loaded = parts.0 in
     let offers = parts.2 in
     let so = parts.3 in
@@ -289,7 +298,7 @@ pub idle_is_step_by : {F : Type 0} (may : May F) → IdleIsStepBy may
 idle_is_step_by {F} may given i old new before after m first walks =
     let course = course_of before old.limit in
     let q = queue_of course in
-    let all = walk_comes given old new before after says.Idle first.goes walks in
+    let all = walk_comes given old new before after says.Idle first.goes tt walks in
     let loaded = all.0 in
     let came = all.2 in
     let is = idle_is new.descriptors.items came.0 came.1.0 in
@@ -321,7 +330,7 @@ pub refusal_is_step_by : {F : Type 0} (may : May F) → RefusalIsStepBy may
 refusal_is_step_by {F} may given e i old new before after m first walks =
     let course = course_of before old.limit in
     let q = queue_of course in
-    let all = walk_comes given old new before after (says.Refused e) first.goes walks in
+    let all = walk_comes given old new before after (says.Refused e) first.goes (has_events old before first.by_flags) walks in
     let loaded = all.0 in
     let came = all.2 in
     let is = refusal_is new.descriptors.items came.0 e came.1.0 in
@@ -356,16 +365,16 @@ faulty_so {F} may m i kq course ticket head fault stores flags acts last notice 
 
 -- its loads, by which it is offered, and how it goes back
 faulty_parts : {F : Type 0} (may : May F) (given : List (List ℕ)) (fault : ChainFault) (acts : List Act) (last head i : ℕ) (notice : Bool) (old : Workbench) (before : KeptQueue) (m : State F)
-    (run : FaultyChainBy given fault acts last head notice old before) → before.stopped ≡ None
+    (run : FaultyChainBy given fault acts last head notice old before) → before.stopped ≡ None → IsByFlags run.back
     → (loaded : Loaded) × LoadsOf given old run.walked_bench before run.taken (wents.On (says.Faulty head fault)) run.walks loaded
     × OffersBy (places_in old.regions) old.limit (queue_of (course_of before old.limit)) loaded [] (Offers head (CannotFetch fault))
     × ReturnsFaultyBy m i (queue_back before run.back) head fault [] (faulty head fault) notice (record { acts = acts; last = last }) (after_chain m i (queue_back before run.back) m.options m.files)
-faulty_parts {F} may given fault acts last head i notice old before m run goes =
+faulty_parts {F} may given fault acts last head i notice old before m run goes by_flags =
     let course = course_of before old.limit in
     let ticket = ticket_of before in
     let q = queue_of course in
     let ds = run.walked_bench.descriptors.items in
-    let all = walk_comes given old run.walked_bench before run.taken (says.Faulty head fault) goes run.walks in
+    let all = walk_comes given old run.walked_bench before run.taken (says.Faulty head fault) goes tt run.walks in
     let loaded = all.0 in
     let came = all.2 in
     let is = faulty_is ds came.0 head fault came.1.0 in
@@ -374,18 +383,18 @@ faulty_parts {F} may given fault acts last head i notice old before m run goes =
     let state_is : run.walked_bench.state ≡ at.HasReply (faulty_out course ticket head) no_reply = came.1.1 ∙ ap (λ (c : comes.Step). state_after course ticket ds c) is in
     let back : ReturnsBy run.back (faulty_out course ticket head) no_reply run.returns.stores × ((last ≡ front_len no_reply) × (acts ≡ acts_of [] no_reply [] run.returns.stores run.returns.flags)) =
     subst (λ (st : state.State). FromReplied run.back st (λ reply s₁. (last ≡ front_len reply) × (acts ≡ acts_of [] reply [] s₁ run.returns.flags)) run.returns.stores) state_is run.returns.returns in
-    let done = faulty_so may m i run.back course ticket head fault run.returns.stores run.returns.flags acts last notice run.returns.flags_len run.returns.notified back.0 back.1.0 back.1.1 in
+    let done = faulty_so may m i run.back course ticket head fault run.returns.stores run.returns.flags acts last notice run.returns.flags_len (run.returns.notified ∙ flags_tell run.back run.returns.flags by_flags) back.0 back.1.0 back.1.1 in
     (loaded, all.1, found, done)
 
 pub faulty_is_answered_by : {F : Type 0} (may : May F) → FaultyIsAnsweredBy may
-faulty_is_answered_by {F} may given fault acts last head i notice old before m run goes =
-    let parts = faulty_parts may given fault acts last head i notice old before m run goes in
+faulty_is_answered_by {F} may given fault acts last head i notice old before m run goes by_flags =
+    let parts = faulty_parts may given fault acts last head i notice old before m run goes by_flags in
     (parts.0, parts.1, parts.2, faulty head fault, parts.3)
 
 pub faulty_is_step_by : {F : Type 0} (may : May F) → FaultyIsStepBy may
-faulty_is_step_by {F} may given fault acts last head i notice old before m first run in_order =
+faulty_is_step_by {F} may given fault acts last head i notice old before m first run by_flags in_order =
     let q = queue_of (course_of before old.limit) in
-    let parts = faulty_parts may given fault acts last head i notice old before m run first.goes in
+    let parts = faulty_parts may given fault acts last head i notice old before m run first.goes by_flags in
     let loaded = parts.0 in
     let found = parts.2 in
     let l = step_loads loaded found.1 [] in
@@ -426,11 +435,11 @@ both m [] lost are more = more
 both m (l ∷ ls) lost are more = (are.0, both m ls lost are.1 more)
 
 pub chain_is_step : {F : Type 0} (may : May F) → ChainIsStep may
-chain_is_step {F} may given request calls acts last head i notice old new before s m files h room run first in_order session files_run having flags room_is apart =
+chain_is_step {F} may given request calls acts last head i notice old new before s m files h room run first by_flags in_order session files_run having flags room_is apart =
     let q = queue_of (course_of before old.limit) in
     let memory = memory_of h old.regions in
     let rooms = addresses_of (writable run.walked_bench.descriptors.items) in
-    let parts = chain_parts may given request calls acts last head i notice old new before s m files run first.goes first.bound session files_run in
+    let parts = chain_parts may given request calls acts last head i notice old new before s m files run first.goes first.bound by_flags session files_run in
     let loaded = parts.0 in
     let has = having loaded parts.1 in
     let by = parts.2 in

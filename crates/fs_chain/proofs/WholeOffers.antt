@@ -1,18 +1,17 @@
 -- What is offered by loads: a request and a room within the limit, and never want of memory.
-use Rattle.std.proofs.Common.{◌≡◌, ℕ, ◌≤◌, Bool, true, false, List, [], ◌∷◌, ◌++◌, length, ◌+◌, ◌-◌, ◌^◌, min, Option, Some, None, refl, subst, sym, ap, ◌∙◌, arith, length-append}
-use Rattle.std.specs.Prelude.{if◌then◌else◌, ◌==◌, ◌||◌, ◌&&◌, not, nat_lt, nat_le, option_map, option_and_then, flat_map, replicate}
+use Rattle.std.proofs.Common.{◌≡◌, ℕ, ◌≤◌, Bool, true, false, List, [], ◌∷◌, ◌++◌, length, ◌+◌, ◌^◌, Option, Some, None, refl, subst, sym, ap, ◌∙◌, arith, length-append}
+use Rattle.std.specs.Prelude.{if◌then◌else◌, ◌==◌, ◌||◌, not, nat_lt, option_map, option_and_then, flat_map, replicate}
 use Rattle.std.proofs.lemmas.Bool.{eqb-true, ltb-false}
 use Rattle.vm_iotlb.specs.declared.permissions.Permissions.TheVariants.{Read, Write}
-use Rattle.vm_memory.specs.Memory.{Memory, addresses, bytes, reach}
+use Rattle.vm_memory.specs.Memory.{Memory, addresses, bytes}
 use Rattle.fs_queue.specs.declared.fault.ChainFault.{ChainFault}
 use Rattle.fs_queue.specs.declared.fault.ChainFault.TheVariants.{OverLimit, RequestUnreachable, RoomUnreachable}
-use Rattle.fs_queue.specs.declared.fault.QueueError.{QueueError}
 use Rattle.fs_queue.specs.declared.fault.QueueError.TheVariants as stop
-use Rattle.fs_queue.specs.Queue.{Queue, element_at, index_at}
+use Rattle.fs_queue.specs.Queue.{Queue}
 use Rattle.fs_queue.specs.NextAvail as avail
 use Rattle.fs_queue.specs.NextAvail.{NextAvail, next_avail}
 use Rattle.fs_queue.specs.Chain.{Descriptor, Found, IsChain, HasFault, StopsQueue}
-use Rattle.fs_queue.specs.Loads.{Load, holding, index_load, entry_load, asks_entry, is_whole, chain_exactly}
+use Rattle.fs_queue.specs.Loads.{Load, holding, index_load, entry_load, chain_exactly}
 use Rattle.fs_queue.specs.OfferLoads.{without_request, without_chain, without_loads, without_entry, waits_by, with_request, with_loaded, on_waits, offer_by}
 use Rattle.fs_queue.specs.Taking.{readable, writable, total_len, all_reach, RequestAndRoom, IsRequest, CannotFetch, Offer, Refuses, Offers, offer_of, addresses_of}
 use Rattle.fs_queue.specs.Taking as taking

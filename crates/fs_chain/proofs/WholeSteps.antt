@@ -1,20 +1,9 @@
 -- A chain by the calls of a handle is a step by loads and stores.
-use Rattle.std.proofs.Common.{◌≡◌, ℕ, ◌+◌, ◌≤◌, ◌^◌, min, Bool, true, false, IsTrue, List, [], ◌∷◌, ◌++◌, length, map, Option, Some, None, slice_get, refl, subst, sym, ap, ◌∙◌, arith, length-append}
-use Rattle.std.specs.Prelude.{drop}
+use Rattle.std.proofs.Common.{◌≡◌, ℕ, ◌+◌, ◌≤◌, ◌^◌, Bool, false, List, [], ◌∷◌, ◌++◌, length, map, Option, Some, None, refl, sym, ap, ◌∙◌, arith, length-append}
 use Rattle.std.proofs.lemmas.Bool.{true≢false}
-use Rattle.vm_memory_core.specs.Host.{changed_at}
-use Rattle.vm_memory.specs.Memory.{Memory}
-use Rattle.fs_queue.specs.Chain.{Descriptor}
 use Rattle.fs_queue.specs.Queue.{Queue}
-use Rattle.fs_queue.specs.Loads.{Load}
-use Rattle.fs_queue.specs.Taking.{Offer, Offers, IsRequest, readable, writable, total_len}
-use Rattle.fs_queue.specs.Taking.{addresses_of}
-use Rattle.fs_queue.specs.Returning.{Store, stores_after_reply, tells, advanced}
+use Rattle.fs_queue.specs.Returning.{Store, stores_after_reply, tells}
 use Rattle.fs_queue.specs.ReturningView.{stores_of}
-use Rattle.fs_regions.specs.declared.step.Step as comes
-use Rattle.fs_regions.specs.declared.step.Step.TheVariants as step
-use Rattle.fs_regions.specs.Places.{places_in}
-use Rattle.fs_regions.specs.Walks.{Loaded, queue_of, ComesTo}
 use Rattle.fuse_fs.specs.declared.answers.Context.{Context}
 use Rattle.fuse_fs.specs.Calls.{FileCall, FileRun}
 use Rattle.fuse_fs.specs.Calls as file
@@ -23,22 +12,21 @@ use Rattle.fuse_values.specs.Values.{call_of}
 use Rattle.fuse_values.specs.declared.answer.FileAnswer.{FileAnswer}
 use Rattle.fuse_values.specs.declared.answer.FileAnswer.TheVariants as value
 use Rattle.fuse_values.specs.declared.call.FileCall as made_call
-use Rattle.virtiofsd_fuse.specs.Grammar.{Meaning, Asks, FileCommand, One, Starts, Lists, meaning}
-use Rattle.virtiofsd_fuse.specs.Serving.{May, Setting, Served, setting, served, commanded}
+use Rattle.virtiofsd_fuse.specs.Grammar.{Meaning, Asks, FileCommand, One, Starts, Lists}
+use Rattle.virtiofsd_fuse.specs.Serving.{May, Setting, Served, served, commanded}
 use Rattle.server_phases.specs.declared.answering.Answered.{Answered}
 use Rattle.server_phases.specs.declared.answering.Sent.{Sent}
 use Rattle.server_phases.specs.declared.answering.Sent.TheVariants as sent
 use Rattle.server_phases.specs.Answering.{Gives, TellsBytes, forget_call, served_by}
 use Rattle.server_phases.specs.Gathering.{is_listing}
 use Rattle.server_phases.specs.Waiting.{first_call}
-use Rattle.fs_chain.specs.declared.answering.Replied.{Replied}
 use Rattle.fs_chain.specs.declared.asking.Told.TheVariants as asks
 use Rattle.fs_chain.specs.declared.returning.Stores.{Stores}
 use Rattle.fs_chain.specs.declared.state.Out.{Out}
 use Rattle.fs_chain.specs.declared.state.Reply.{Reply}
 use Rattle.fs_chain.specs.Answers.{data_len, reply_of, replied_of}
 use Rattle.fs_chain.specs.Orders.{front_len, reply_len}
-use Rattle.fs_device.specs.Step.{State, Exchange, Calls, ServesRequest, calls_alone, answers_alone, served_exchange}
+use Rattle.fs_device.specs.Step.{State, Calls, ServesRequest, calls_alone, answers_alone, served_exchange}
 use Rattle.fs_device.specs.StepBy.{AnswersBy, Act, reply_stores}
 use Rattle.fs_device.specs.StepBy as act
 use Rattle.fs_chain.specs.Whole.{file_calls, front_if, acts_of, after_chain}

@@ -1,5 +1,5 @@
 -- A walk by calls of the handle comes to what all its loads tell.
-use Rattle.std.proofs.Common.{◌≡◌, ◌+◌, ◌<◌, ℕ, ◌^◌, zero, suc, Bool, true, false, List, [], ◌∷◌, ◌++◌, length, length-append, Option, Some, None, refl, subst, sym, ap, ◌∙◌, arith}
+use Rattle.std.proofs.Common.{◌≡◌, ◌+◌, ◌<◌, ℕ, ◌^◌, zero, suc, true, false, List, [], ◌∷◌, ◌++◌, length, length-append, Option, Some, None, refl, subst, sym, ap, ◌∙◌, arith}
 use Rattle.vm_memory.specs.Layout.{Region}
 use Rattle.std.specs.Prelude.{is_some, nat_lt}
 use Rattle.std.specs.List.{list_all}
@@ -21,14 +21,15 @@ use Rattle.fs_chain.specs.declared.state.Ticket.{Ticket}
 use Rattle.fs_chain.specs.declared.walking.WalkOutcome as walked
 use Rattle.fs_chain.specs.declared.walking.WalkOutcome.TheVariants as says
 use Rattle.fs_chain.specs.declared.workbench.Workbench.{Workbench}
-use Rattle.fs_chain.specs.Walks.{WalksOn, WalksFrom, Begins, BeginsOn, BeginsUnless, GoesOn, GoesOnUnless, Keeps, IsAllBut, LeavesNone, course_of, queue_after}
+use Rattle.fs_chain.specs.Walks.{WalksOn, WalksFrom, Begins, BeginsOn, BeginsUnless, BeginsWhere, GoesOn, GoesOnUnless, HasEvents, Keeps, RefusalHasEvents, course_of, queue_after}
 use Rattle.fs_chain.specs.declared.loads.Went as went
 use Rattle.fs_chain.specs.declared.loads.Went.TheVariants as wents
-use Rattle.fs_chain.specs.Loads.{GoesSo, HasNoPlace, came, whole}
+use Rattle.fs_chain.specs.Loads.{GoesSo, came, whole}
 use Rattle.fs_chain.specs.Orders.{IfWalking, load_len}
 use Rattle.fs_chain.specs.Queues.{ticket_of}
 use Rattle.fs_chain.specs.Whole.{AddsSo, BeginsBy, IsWalked, LoadsOf, WalksBy, WantedHasAPlace, WantsBytes}
 use Rattle.fs_queue.specs.Chain.{Descriptor}
+use Rattle.fs_chain.proofs.Steps.{begun_has_events}
 
 -- what a walk told and kept comes to
 abbrev pub ComesSo : Loaded → (old new : Workbench) → (before after : KeptQueue) → walked.WalkOutcome → Type 0
@@ -94,14 +95,20 @@ abbrev Comes : Loaded → (old new : Workbench) → (before after : KeptQueue) �
 Comes loaded old new before after wents.Part = Wants loaded old new before after
 Comes loaded old new before after (wents.On told) = ComesSo loaded old new before after told × (new.part.items ≡ [])
 
-first : (old new : Workbench) (before after : KeptQueue) (told : went.Went) → before.stopped ≡ None → BeginsBy old new before after told → Comes nothing old new before after told
-first old new before after wents.Part goes by = absurd (begins_whole old before new after by.0 by.1)
-first old new before after (wents.On told) goes by =
-    let call = by.1 in
-    let walks : WalksOn [] old new before after told = subst (λ (bs : List ℕ). WalksOn bs old new before after told) (whole_of_none old by.0) call.4 in
+-- the first call of a walk through a queue that isn't stopped
+begun : (old new : Workbench) (before after : KeptQueue) (told : walked.WalkOutcome) → before.stopped ≡ None → BeginsBy old new before after (wents.On told)
+    → BeginsUnless None old new before after told
+begun old new before after told goes by =
+    let walks : WalksOn [] old new before after told = subst (λ (bs : List ℕ). WalksOn bs old new before after told) (whole_of_none old by.0) by.1.4 in
     let begins : Begins old new before after told = subst (λ (s : state.State). WalksFrom s [] old new before after told) by.0 walks in
-    let on : BeginsOn (course_of before old.limit) (ticket_of before) old new before after told = subst (λ (s : Option QueueError). BeginsUnless s old new before after told) goes begins in
-    ((on.0, on.1, on.2), call.1)
+    subst (λ (s : Option QueueError). BeginsUnless s old new before after told) goes begins
+
+first : (old new : Workbench) (before after : KeptQueue) (told : went.Went) → before.stopped ≡ None → HasEvents old before → BeginsBy old new before after told → Comes nothing old new before after told
+first old new before after wents.Part goes events by = absurd (begins_whole old before new after by.0 by.1)
+first old new before after (wents.On told) goes events by =
+    let unless = begun old new before after told goes by in
+    let on : BeginsOn (course_of before old.limit) (ticket_of before) old new before after told = subst (λ (f : Option QueueError). BeginsWhere f old new before after told) events unless in
+    ((on.0, on.1, on.2), by.1.1)
 
 -- the loads after a call, and what it comes to by them
 abbrev ComesAfter : (old w new : Workbench) → (before after : KeptQueue) → (l : Loaded) → (bs : List ℕ) → went.Went → Type 0
@@ -172,18 +179,43 @@ wanted l old w before q (wents.On (says.Refused e)) wants comes = absurd wants
 wanted l old w before q (wents.On (says.Chain head n r)) wants comes = absurd wants
 wanted l old w before q (wents.On (says.Faulty head fault)) wants comes = absurd wants
 
+-- a walk has told no refusal, or the queue's event index has its places
+abbrev HasNoneRefused : went.Went → Workbench → KeptQueue → Type 0
+HasNoneRefused wents.Part w q = Unit {0}
+HasNoneRefused (wents.On told) w q = RefusalHasEvents told w q
+
+wants_unrefused : (w : Workbench) (q : KeptQueue) (told : went.Went) → WantsBytes told → HasNoneRefused told w q
+wants_unrefused w q wents.Part wants = tt
+wants_unrefused w q (wents.On (says.Load n)) wants = tt
+wants_unrefused w q (wents.On says.Idle) wants = absurd wants
+wants_unrefused w q (wents.On (says.Refused e)) wants = absurd wants
+wants_unrefused w q (wents.On (says.Chain head n r)) wants = absurd wants
+wants_unrefused w q (wents.On (says.Faulty head fault)) wants = absurd wants
+
+first_has_events : (old new : Workbench) (before after : KeptQueue) (told : went.Went) → before.stopped ≡ None → HasNoneRefused told old before
+    → BeginsBy old new before after told → HasEvents old before
+first_has_events old new before after wents.Part goes has by = absurd (begins_whole old before new after by.0 by.1)
+first_has_events old new before after (wents.On told) goes has by = begun_has_events old new before after told has (begun old new before after told goes by)
+
+-- then it has them: its first call would have told a refusal
+walk_has_events : (given : List (List ℕ)) (old new : Workbench) (before after : KeptQueue) (told : went.Went) → before.stopped ≡ None → HasNoneRefused told old before
+    → WalksBy given old new before after told → HasEvents old before
+walk_has_events [] old new before after told goes has walks = first_has_events old new before after told goes has walks
+walk_has_events (bs ∷ given) old new before after told goes has walks =
+    walk_has_events given old walks.0 before walks.1 walks.2 goes (wants_unrefused old before walks.2 walks.4) walks.3
+
 -- the loads of a walk's calls, and what they come to
 abbrev AllCome : (given : List (List ℕ)) (old new : Workbench) (before after : KeptQueue) (told : went.Went) → WalksBy given old new before after told → Type 0
 AllCome given old new before after told walks = (loaded : Loaded) × LoadsOf given old new before after told walks loaded × Comes loaded old new before after told
 
-all_come : (given : List (List ℕ)) (old new : Workbench) (before after : KeptQueue) (told : went.Went) → before.stopped ≡ None
+all_come : (given : List (List ℕ)) (old new : Workbench) (before after : KeptQueue) (told : went.Went) → before.stopped ≡ None → HasEvents old before
     → (walks : WalksBy given old new before after told) → AllCome given old new before after told walks
-all_come [] old new before after told goes walks = (nothing, refl, first old new before after told goes walks)
-all_come (bs ∷ given) old new before after told goes walks =
+all_come [] old new before after told goes events walks = (nothing, refl, first old new before after told goes events walks)
+all_come (bs ∷ given) old new before after told goes events walks =
     let w = walks.0 in
     let q = walks.1 in
     let earlier = walks.2 in
-    let e : AllCome given old w before q earlier walks.3 = all_come given old w before q earlier goes walks.3 in
+    let e : AllCome given old w before q earlier walks.3 = all_come given old w before q earlier goes events walks.3 in
     let n : ComesAfter old w new before after e.0 bs told = on_load bs e.0 old w new before q after told goes (wanted e.0 old w before q earlier walks.4 e.2) walks.5 in
     (n.0, (e.0, e.1, n.1), n.2)
 
@@ -192,15 +224,17 @@ abbrev pub CameSo : (given : List (List ℕ)) (old new : Workbench) (before afte
 CameSo given old new before after told walks =
     (loaded : Loaded) × LoadsOf given old new before after (wents.On told) walks loaded × ComesSo loaded old new before after told
 
-pub walk_comes : (given : List (List ℕ)) (old new : Workbench) (before after : KeptQueue) (told : walked.WalkOutcome) → before.stopped ≡ None
+pub walk_comes : (given : List (List ℕ)) (old new : Workbench) (before after : KeptQueue) (told : walked.WalkOutcome) → before.stopped ≡ None → RefusalHasEvents told old before
     → (walks : WalksBy given old new before after (wents.On told)) → CameSo given old new before after told walks
-walk_comes given old new before after told goes walks =
-    let all = all_come given old new before after (wents.On told) goes walks in
+walk_comes given old new before after told goes refusal walks =
+    let events = walk_has_events given old new before after (wents.On told) goes refusal walks in
+    let all = all_come given old new before after (wents.On told) goes events walks in
     (all.0, all.1, all.2.0)
 
 pub wanted_has_a_place : WantedHasAPlace
 wanted_has_a_place given old new before after told goes walks wants lacks =
-    let all = all_come given old new before after told goes walks in
+    let events = walk_has_events given old new before after told goes (wants_unrefused old before told wants) walks in
+    let all = all_come given old new before after told goes events walks in
     let w = wanted all.0 old new before after told wants all.2 in
     let none : came new < asked_len w.walk → place new.regions (asked_by w.walk + came new) ≡ None =
     subst (λ (s : state.State). IfWalking s (λ walk. came new < asked_len walk → place new.regions (asked_by walk + came new) ≡ None)) w.state lacks in

@@ -16,7 +16,7 @@ use Rattle.fs_chain.specs.declared.state.Ticket.{Ticket}
 use Rattle.fs_chain.specs.declared.walking.WalkOutcome as walked
 use Rattle.fs_chain.specs.declared.walking.WalkOutcome.TheVariants as tells
 use Rattle.fs_chain.specs.declared.workbench.Workbench.{Workbench}
-use Rattle.fs_chain.specs.Walks.{WalksOn, course_of, told_of}
+use Rattle.fs_chain.specs.Walks.{RefusalHasEvents, WalksOn, course_of, told_of}
 
 -- what a walk tells, of these descriptors, is this offer; a chain without a fault, if so many bytes are its request; a load leaves it open
 abbrev pub IsTold : List Descriptor → walked.WalkOutcome → (request : List ℕ) → Offer → Type 0
@@ -40,7 +40,7 @@ pub record GoesOnByLoads (loaded : Loaded) (course : Course) (walk : QueueWalk) 
 
 -- what a call of walk tells, of a queue that wasn't stopped, is what the queue offers in each memory of the handle's regions that has all loads of the walk, and the request's bytes
 pub record WalksAreOffers : Type 0 where
-  pub begins : (h : Host) (bytes request : List ℕ) (old new : Workbench) (before after : KeptQueue) (told : walked.WalkOutcome) → before.stopped ≡ None → old.state ≡ at.Free
+  pub begins : (h : Host) (bytes request : List ℕ) (old new : Workbench) (before after : KeptQueue) (told : walked.WalkOutcome) → before.stopped ≡ None → RefusalHasEvents told old before → old.state ≡ at.Free
       → WalksOn bytes old new before after told → HasLoaded (memory_of h old.regions) (queue_of (course_of before old.limit)) nothing request
       → TellsOffer (memory_of h old.regions) (course_of before old.limit) new told request
   pub goes_on : (loaded : Loaded) (course : Course) (ticket : Ticket) (walk : QueueWalk) (bytes : List ℕ) (old new : Workbench) (before after : KeptQueue) (told : walked.WalkOutcome)

@@ -1,5 +1,6 @@
 pub mod Answers
 pub mod Asking
+pub mod Events
 pub mod Laws
 pub mod Listings
 pub mod Loads

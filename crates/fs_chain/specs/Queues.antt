@@ -36,7 +36,7 @@ gave q = record q { returned = (q.returned + 1) % 2 ^ 16; returning = false }
 abbrev pub at_return : KeptQueue → Out → Queue
 at_return q out = at_position out.course.layout q.returned
 
--- a queue that begins: no chain is out of it
+-- a queue that begins, without the event index: no chain is out of it
 abbrev pub first_begun : QueueLayout → (position most_out : ℕ) → KeptQueue
 first_begun layout position most_out = record {
   layout = layout;
@@ -46,6 +46,7 @@ first_begun layout position most_out = record {
   returning = false;
   begun = 0;
   taken = 0;
+  event_index = false;
   stopped = None;
 }
 

@@ -9,6 +9,7 @@ use Rattle.fs_chain.specs.declared.state.Reply.{Reply}
 use Rattle.fs_chain.specs.declared.state.State as state
 use Rattle.fs_chain.specs.declared.state.State.TheVariants as at
 use Rattle.fs_chain.specs.declared.workbench.Workbench.{Workbench}
+use Rattle.fs_chain.specs.Events.{seen_at}
 use Rattle.fs_chain.specs.Orders.{front_len, front_of, reply_len}
 use Rattle.fs_chain.specs.Queues.{at_return}
 use Rattle.fs_chain.specs.Walks.{IsAllButPart}
@@ -20,7 +21,8 @@ put_front reply buffer = front_of reply ++ drop (front_len reply) buffer
 -- what is told of a chain's return with this reply, at the position where its queue's next one goes back
 abbrev pub ReturnsBy : KeptQueue → Out → Reply → Stores → Type 0
 ReturnsBy q out reply s =
-    (s.front_len ≡ front_len reply) × (stores_of s.used ≡ stores_after_reply (at_return q out) out.head (reply_len out reply)) × (s.used.flags ≡ out.course.layout.avail)
+    (s.front_len ≡ front_len reply) × (stores_of s.used ≡ stores_after_reply (at_return q out) out.head (reply_len out reply)) × (s.seen_at ≡ seen_at q.event_index out.course.layout)
+    × (s.used.flags ≡ out.course.layout.avail)
 
 -- of a chain whose reply is known
 abbrev pub IfHasReply : state.State → (Out → Reply → Type 0) → Type 0

@@ -21,6 +21,7 @@ use Rattle.fs_chain.specs.declared.state.State.TheVariants as at
 use Rattle.fs_chain.specs.declared.walking.WalkOutcome as walked
 use Rattle.fs_chain.specs.declared.walking.WalkOutcome.TheVariants as tells
 use Rattle.fs_chain.specs.declared.workbench.Workbench.{Workbench}
+use Rattle.fs_chain.specs.Events.{event_fault}
 use Rattle.fs_chain.specs.Orders.{entries_asked}
 use Rattle.fs_chain.specs.Queues.{ticket_of, took}
 
@@ -108,10 +109,24 @@ GoesOn course ticket walk bytes old new before after told =
     × ((loaded : Loaded) → StandsAt (places_in old.regions) (queue_of course) loaded old.descriptors.items walk
     → ComesBy (places_in old.regions) course.limit (queue_of course) loaded walk bytes new.descriptors.items came)
 
+-- the event index has its places, if the queue has it
+abbrev pub HasEvents : Workbench → KeptQueue → Type 0
+HasEvents w q = event_fault (places_in w.regions) q ≡ None
+
+-- what is told is no refusal, or the event index has its places: without them a walk that begins is refused
+abbrev pub RefusalHasEvents : walked.WalkOutcome → Workbench → KeptQueue → Type 0
+RefusalHasEvents (tells.Refused e) w q = HasEvents w q
+RefusalHasEvents _ w q = Unit {0}
+
+-- a walk begins, unless the queue's event index has no place: then it is refused by that, which stops the queue
+abbrev pub BeginsWhere : (fault : Option QueueError) → (old new : Workbench) → (before after : KeptQueue) → walked.WalkOutcome → Type 0
+BeginsWhere (Some e) old new before after told = (told ≡ tells.Refused e) × IsAllButPart old new × (after ≡ record before { stopped = Some e })
+BeginsWhere None old new before after told = BeginsOn (course_of before old.limit) (ticket_of before) old new before after told
+
 -- a stopped queue refuses each walk
 abbrev pub BeginsUnless : (stopped : Option QueueError) → (old new : Workbench) → (before after : KeptQueue) → walked.WalkOutcome → Type 0
 BeginsUnless (Some why) old new before after told = (told ≡ tells.Refused Stopped) × IsAllButPart old new × (after ≡ before)
-BeginsUnless None old new before after told = BeginsOn (course_of before old.limit) (ticket_of before) old new before after told
+BeginsUnless None old new before after told = BeginsWhere (event_fault (places_in old.regions) before) old new before after told
 
 abbrev pub Begins : (old new : Workbench) → (before after : KeptQueue) → walked.WalkOutcome → Type 0
 Begins old new before after told = BeginsUnless before.stopped old new before after told

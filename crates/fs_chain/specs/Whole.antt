@@ -1,5 +1,6 @@
--- A whole chain by the calls of a handle, from its walk to its return, for a guest that writes meanwhile (VIRTIO 1.2, 2.7.5 to 2.7.8). Listings are left out.
-use Rattle.std.specs.Prelude.{All, ◌≡◌, ◌≤◌, ◌^◌, ℕ, Bool, List, [], ◌∷◌, ◌++◌, length, map, drop, Option, Some, None, slice_get}
+-- A whole chain by the calls of a handle, from its walk to its return, for a guest that writes meanwhile (VIRTIO 1.2, 2.7.5 to 2.7.8). Listings are left out, and of queues
+-- with the event index all but that what a walk wants has a place.
+use Rattle.std.specs.Prelude.{false, All, ◌≡◌, ◌≤◌, ◌^◌, ℕ, Bool, List, [], ◌∷◌, ◌++◌, length, map, drop, Option, Some, None, slice_get}
 use Rattle.vm_memory_core.specs.Host.{Host, changed_at}
 use Rattle.vm_memory.specs.Memory.{memory_of}
 use Rattle.fs_queue.specs.declared.fault.ChainFault.{ChainFault}
@@ -8,7 +9,7 @@ use Rattle.fs_queue.specs.Queue.{Queue}
 use Rattle.fs_queue.specs.Chain.{Descriptor}
 use Rattle.fs_queue.specs.Loads.{Load}
 use Rattle.fs_queue.specs.Taking.{Offers, CannotFetch, IsRequest, writable, addresses_of, after_refusal}
-use Rattle.fs_queue.specs.Returning.{tells, advanced}
+use Rattle.fs_queue.specs.Returning.{advanced}
 use Rattle.fs_queue.specs.ReturningView.{stores_of}
 use Rattle.fs_queue.specs.WalkingView.{at_position}
 use Rattle.fs_regions.specs.Places.{places_in}
@@ -40,6 +41,7 @@ use Rattle.fs_chain.specs.declared.loads.Went.TheVariants as wents
 use Rattle.fs_chain.specs.declared.workbench.Workbench.{Workbench}
 use Rattle.fs_chain.specs.Answers.{IfWaits, IsGiven, IsWaiting}
 use Rattle.fs_chain.specs.Asking.{TellsMeaning}
+use Rattle.fs_chain.specs.Events.{tells_of}
 use Rattle.fs_chain.specs.Orders.{front_len}
 use Rattle.fs_chain.specs.Returns.{ReturnsBy}
 use Rattle.fs_chain.specs.Loads.{GoesSo, HasNoPlace, came, whole}
@@ -154,7 +156,7 @@ pub record GoesBackBy (back : KeptQueue) (room : List ℕ) (behind : List ℕ) (
   pub flags : List ℕ
   pub flags_len : length flags ≡ 2
   pub returns : FromReplied back from (λ reply s. (last ≡ front_len reply) × (acts ≡ acts_of room reply behind s flags)) stores
-  pub notified : notice ≡ tells flags
+  pub notified : notice ≡ tells_of back flags
 
 -- ---- the whole
 
@@ -194,9 +196,14 @@ queue_back before back = at_position before.layout back.returned
 abbrev pub IsInOrder : (before back : KeptQueue) → Type 0
 IsInOrder before back = back.returned ≡ before.position
 
+-- the driver is told by the available flags: the plain machine has no event index
+abbrev pub IsByFlags : KeptQueue → Type 0
+IsByFlags q = q.event_index ≡ false
+
 -- the state of the plain machine before: its memory's places are the regions', its queue is the kept one, which isn't stopped, and the limit is one
 pub record IsBefore {F : Type 0} (old : Workbench) (before : KeptQueue) (i : ℕ) (m : State F) : Type 0 where
   pub goes : before.stopped ≡ None
+  pub by_flags : IsByFlags before
   pub places : m.memory ≡ places_in old.regions
   pub limit : m.limit ≡ old.limit
   pub bound : old.limit ≤ 2 ^ 31
@@ -242,7 +249,7 @@ RefusalIsStepBy {F} may =
 abbrev pub FaultyIsStepBy : {F : Type 0} → May F → Type 0
 FaultyIsStepBy {F} may =
     (given : List (List ℕ)) (fault : ChainFault) (acts : List Act) (last head i : ℕ) (notice : Bool) (old : Workbench) (before : KeptQueue) (m : State F) →
-    IsBefore old before i m → (run : FaultyChainBy given fault acts last head notice old before) → IsInOrder before run.back →
+    IsBefore old before i m → (run : FaultyChainBy given fault acts last head notice old before) → IsByFlags run.back → IsInOrder before run.back →
     (loaded : Loaded) × LoadsOf given old run.walked_bench before run.taken (wents.On (says.Faulty head fault)) run.walks loaded
     × (lost : List Load) × LackPlaces old before loaded lost × (x : Exchange) × (x.head ≡ head)
     × StepBy may m i (step_loads loaded lost []) [] (Exchanged x notice) (record { acts = acts; last = last })
@@ -252,7 +259,7 @@ FaultyIsStepBy {F} may =
 abbrev pub FaultyIsAnsweredBy : {F : Type 0} → May F → Type 0
 FaultyIsAnsweredBy {F} may =
     (given : List (List ℕ)) (fault : ChainFault) (acts : List Act) (last head i : ℕ) (notice : Bool) (old : Workbench) (before : KeptQueue) (m : State F) →
-    (run : FaultyChainBy given fault acts last head notice old before) → before.stopped ≡ None → let q = queue_back before run.back in
+    (run : FaultyChainBy given fault acts last head notice old before) → before.stopped ≡ None → IsByFlags run.back → let q = queue_back before run.back in
     (loaded : Loaded) × LoadsOf given old run.walked_bench before run.taken (wents.On (says.Faulty head fault)) run.walks loaded
     × OffersBy (places_in old.regions) old.limit (queue_of (course_of before old.limit)) loaded [] (Offers head (CannotFetch fault)) × (x : Exchange)
     × ReturnsFaultyBy m i q head fault [] x notice (record { acts = acts; last = last }) (after_chain m i q m.options m.files)
@@ -269,7 +276,7 @@ abbrev pub ChainIsAnsweredBy : {F : Type 0} → May F → Type 0
 ChainIsAnsweredBy {F} may =
     (given : List (List ℕ)) (request : List ℕ) (calls : Calls) (acts : List Act) (last head i : ℕ) (notice : Bool)
     (old new : Workbench) (before : KeptQueue) (s : Session) (m : State F) (files : F) →
-    (run : ChainBy given request calls acts last head notice old new before s) → before.stopped ≡ None → old.limit ≤ 2 ^ 31 → IsSession s m → FileRun may m.files calls files →
+    (run : ChainBy given request calls acts last head notice old new before s) → before.stopped ≡ None → old.limit ≤ 2 ^ 31 → IsByFlags run.back → IsSession s m → FileRun may m.files calls files →
     let room = addresses_of (writable run.walked_bench.descriptors.items) in let q = queue_back before run.back in
     (loaded : Loaded) × LoadsOfChain given request calls acts last head notice old new before s run loaded
     × OffersBy (places_in old.regions) old.limit (queue_of (course_of before old.limit)) loaded request (Offers head (IsRequest request room))
@@ -281,7 +288,7 @@ abbrev pub ChainIsStepBy : {F : Type 0} → May F → Type 0
 ChainIsStepBy {F} may =
     (given : List (List ℕ)) (request : List ℕ) (calls : Calls) (acts : List Act) (last head i : ℕ) (notice : Bool)
     (old new : Workbench) (before : KeptQueue) (s : Session) (m : State F) (files : F) →
-    (run : ChainBy given request calls acts last head notice old new before s) → IsBefore old before i m → IsInOrder before run.back → IsSession s m → FileRun may m.files calls files →
+    (run : ChainBy given request calls acts last head notice old new before s) → IsBefore old before i m → IsByFlags run.back → IsInOrder before run.back → IsSession s m → FileRun may m.files calls files →
     (loaded : Loaded) × LoadsOfChain given request calls acts last head notice old new before s run loaded
     × (lost : List Load) × LackPlaces old before loaded lost × (x : Exchange) × (x.head ≡ head) × (x.request ≡ request)
     × StepBy may m i (step_loads loaded lost request) calls (Exchanged x notice) (record { acts = acts; last = last })
@@ -294,7 +301,7 @@ ChainIsStep {F} may =
     (given : List (List ℕ)) (request : List ℕ) (calls : Calls) (acts : List Act) (last head i : ℕ) (notice : Bool)
     (old new : Workbench) (before : KeptQueue) (s : Session) (m : State F) (files : F) (h : Host) (room : List ℕ) →
     let q = queue_of (course_of before old.limit) in let memory = memory_of h old.regions in
-    (run : ChainBy given request calls acts last head notice old new before s) → IsBefore old before i m → IsInOrder before run.back → IsSession s m → FileRun may m.files calls files →
+    (run : ChainBy given request calls acts last head notice old new before s) → IsBefore old before i m → IsByFlags run.back → IsInOrder before run.back → IsSession s m → FileRun may m.files calls files →
     ((loaded : Loaded) → LoadsOfChain given request calls acts last head notice old new before s run loaded → HasLoaded memory q loaded request) →
     FindFlags memory q acts → room ≡ addresses_of (writable run.walked_bench.descriptors.items) → MayStoreLast memory room last →
     (x : Exchange) × (x.head ≡ head) × (x.request ≡ request)

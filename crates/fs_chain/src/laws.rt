@@ -7,7 +7,8 @@ use fs_regions::laws::law_offers;
 use fuse_fs::FileSystem;
 
 /// Whatever a walk tells of a queue that wasn't stopped, a memory of the handle's regions that has all its loads offers just that:
-/// nothing, a refusal, or the chain, with its fault or with its request and the addresses of its room.
+/// nothing, a refusal, or the chain, with its fault or with its request and the addresses of its room. But that the event index has no place is
+/// a refusal of the walk's own.
 pub fn law_walks()
     ensures { WalksAreOffers }
 {
@@ -17,7 +18,7 @@ pub fn law_walks()
 /// Whatever the guest writes meanwhile, what the calls of a handle come to from a walk's beginning to a chain's return is the plain machine's step by
 /// what was loaded: the file calls, the stores, and the answer to whether the driver wants to be told. Over a memory that has what was loaded it is
 /// the machine's step. So it is of a chain that goes back at the position where it was taken; of any other its answer is that of a machine whose
-/// queue stands where it goes back. What a walk wants has a place. Listings are left out.
+/// queue stands where it goes back. What a walk wants has a place. Listings are left out, and so are queues with the event index, but for the places.
 pub fn law_chains<F: FileSystem>()
     ensures places { WantedHasAPlace }
     ensures idle { IdleIsStepBy F.may }

@@ -4,6 +4,7 @@
 mod answering;
 mod asking;
 mod error;
+mod event_index;
 mod giving_up;
 mod going_on;
 pub mod laws;
@@ -21,6 +22,7 @@ mod workbench;
 pub use answering::Replied;
 pub use asking::Told;
 pub use error::ChainError;
+pub use event_index::KickStore;
 pub use listing::Added;
 pub use loads::Went;
 pub use passed::Passed;

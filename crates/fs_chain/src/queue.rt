@@ -24,6 +24,9 @@ pub struct KeptQueue {
     pub begun: u32,
     /// How often a chain was taken or given up, modulo 2^32.
     pub taken: u32,
+    /// Whether VIRTIO_F_EVENT_IDX was agreed on. Then a walk is refused where used_event (`AvailFlagsUnreachable`) or avail_event (`UsedUnreachable`)
+    /// has no place.
+    pub event_index: bool,
     /// The refusal that stopped it.
     pub stopped: Option<QueueError>,
 }
@@ -39,8 +42,8 @@ fn is_laid_out(mine: &QueueLayout, other: &QueueLayout) -> bool
 }
 
 impl KeptQueue {
-    /// A queue that begins at a position for the first time: no chain is out, and at most so many may be. One that is there is begun anew by `begin_anew`:
-    /// chains of before are known by how often.
+    /// A queue that begins at a position for the first time, without the event index: no chain is out, and at most so many may be. One that is there is
+    /// begun anew by `begin_anew`: chains of before are known by how often.
     pub fn new(layout: QueueLayout, position: u16, most_out: u16) -> KeptQueue
         ensures { result ≡ first_begun layout position most_out }
     {
@@ -52,12 +55,13 @@ impl KeptQueue {
             returning: false,
             begun: 0,
             taken: 0,
+            event_index: false,
             stopped: None,
         }
     }
 
     /// Begins the queue anew with its parts there, at a position: no chain is out. Each walk and each chain that it had is refused from then on
-    /// (`OtherQueue`), unless it is begun anew 2^32 times.
+    /// (`OtherQueue`), unless it is begun anew 2^32 times. How many may be out stays, and the event index.
     pub fn begin_anew(&mut self, layout: QueueLayout, position: u16)
         ensures { self.new ≡ begun_anew self.old layout position }
     {

@@ -1,13 +1,14 @@
 //! How a chain goes back to its queue.
 
 ghost use Rattle.std.specs.Prelude.{◌≡◌, ◌<◌, true, nat_lt, IfSome, None, Some, false, Err, IfErr, IfOk, OnOk, OnErr, length};
-ghost use Rattle.fs_queue.specs.Returning.{tells};
+ghost use Rattle.fs_chain.specs.Events.{tells_of};
 ghost use Rattle.fs_chain.specs.Orders.{end_error, front_len, return_error};
 ghost use Rattle.fs_chain.specs.Queues.{gave};
 ghost use Rattle.fs_chain.specs.Returns.{IfHasReply, ReturnsBy, put_front};
 ghost use Rattle.fs_chain.specs.declared.state.State.TheVariants as at;
 
 use crate::error::ChainError;
+use crate::event_index::seen_at;
 use crate::queue::KeptQueue;
 use crate::state::{Out, Reply, State};
 use crate::workbench::Workbench;
@@ -18,8 +19,10 @@ use fs_queue::Return;
 pub struct Stores {
     /// How many bytes of the front go over the room's first.
     pub front_len: usize,
-    /// The used element, the used index, and the available flags.
+    /// The used element, the used index, and where the available flags stand.
     pub used: Return,
+    /// The guest address of the two bytes that are loaded then, behind a full barrier: whether the driver wants to be told.
+    pub seen_at: u64,
 }
 
 // Copies a reply's front over the first bytes of a buffer; its length, or none if the buffer is shorter.
@@ -70,7 +73,12 @@ fn stores_of(
         out.head,
         len.min(u32::MAX as usize) as u32,
     );
-    Ok(Stores { front_len, used })
+    let seen_at = seen_at(queue.event_index, &out.course.layout);
+    Ok(Stores {
+        front_len,
+        used,
+        seen_at,
+    })
 }
 
 impl Workbench {
@@ -108,23 +116,24 @@ impl Workbench {
     }
 
     /// The stores are made: the queue's next chain goes back at the next position, and the handle is free. Whether the driver wants to be told, by the
-    /// available flags. `WrongOrder` if no stores were told, `OtherQueue` if they were another queue's.
-    pub fn end_return(&mut self, queue: &mut KeptQueue, flags: [u8; 2]) -> Result<bool, ChainError>
+    /// two bytes that were loaded. `WrongOrder` if no stores were told, `OtherQueue` if they were another queue's.
+    pub fn end_return(&mut self, queue: &mut KeptQueue, seen: [u8; 2]) -> Result<bool, ChainError>
         ensures error { IfErr result (λ e. end_error self.old.state queue.old ≡ Some e) }
         ensures ok { OnOk result (end_error self.old.state queue.old ≡ None) }
         ensures same { OnErr result ((self.new ≡ self.old) × (queue.new ≡ queue.old)) }
         ensures free { OnOk result (self.new ≡ record self.old { state = at.Free }) }
         ensures queue { OnOk result (queue.new ≡ gave queue.old) }
-        ensures tells { IfOk result (λ told. told ≡ tells flags) }
+        ensures tells { IfOk result (λ told. told ≡ tells_of queue.old seen) }
     {
         match &self.state {
             State::Returning(out) => {
                 if !queue.has_out(out) || !queue.returning {
                     return Err(ChainError::OtherQueue);
                 }
+                let told = queue.tells(seen);
                 self.state = State::Free;
                 queue.end_return();
-                Ok(Return::tells(flags))
+                Ok(told)
             }
             _ => Err(ChainError::WrongOrder),
         }

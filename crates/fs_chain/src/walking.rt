@@ -2,8 +2,8 @@
 
 ghost use Rattle.std.specs.Prelude.{◌≡◌, [], true, Some, None, IfErr, IfOk, OnOk, OnErr, length};
 ghost use Rattle.fs_chain.specs.Orders.{begin_error};
-ghost use Rattle.fs_chain.specs.Queues.{took};
-ghost use Rattle.fs_chain.specs.Walks.{told_of, state_after, queue_after, left_of, Begins, IsAllBut};
+ghost use Rattle.fs_chain.specs.Queues.{ticket_of, took};
+ghost use Rattle.fs_chain.specs.Walks.{course_of, told_of, state_after, queue_after, left_of, Begins, BeginsOn, IsAllBut};
 ghost use Rattle.fs_chain.specs.declared.state.State.TheVariants as at;
 
 use crate::error::ChainError;
@@ -151,12 +151,27 @@ impl Workbench {
         }
     }
 
-    // Begins a walk through what waits at the queue's position.
-    #[inline(always)]
+    // Begins a walk through what waits at the queue's position, if its event index has a place.
     fn begin_course(&mut self, queue: &mut KeptQueue) -> WalkOutcome
         requires free { self.old.state ≡ at.Free }
         requires goes { queue.old.stopped ≡ None }
         ensures begins { Begins self.old self.new queue.old queue.new result }
+        ensures apart { (self.new.part ≡ self.old.part) × (self.new.session ≡ self.old.session) }
+    {
+        match queue.event_fault(&self.regions) {
+            Some(error) => {
+                queue.stopped = Some(error);
+                WalkOutcome::Refused(error)
+            }
+            None => self.begin_there(queue),
+        }
+    }
+
+    // Begins a walk through what waits at the queue's position.
+    #[inline(always)]
+    fn begin_there(&mut self, queue: &mut KeptQueue) -> WalkOutcome
+        requires { self.old.state ≡ at.Free }
+        ensures begins { BeginsOn (course_of queue.old self.old.limit) (ticket_of queue.old) self.old self.new queue.old queue.new result }
         ensures apart { (self.new.part ≡ self.old.part) × (self.new.session ≡ self.old.session) }
     {
         let course = Course {

@@ -1,6 +1,7 @@
 pub mod Asking
 pub mod Calls
 pub mod Handles
+pub mod Kicks
 pub mod Listing
 pub mod Memory
 pub mod Names

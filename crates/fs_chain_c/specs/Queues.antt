@@ -40,7 +40,7 @@ chains_out q = (q.position + (2 ^ 16 - q.returned)) % 2 ^ 16
 -- these are a queue's numbers: no more chains are out, or may be, than it has descriptors
 abbrev pub IsQueue : FsQueue → Type 0
 IsQueue q =
-    (layout_error q.size q.desc q.avail q.used ≡ None) × (chains_out q ≤ q.size) × (q.most_out ≤ q.size) × (q.returning ≤ 1) × IsSome (stop_of q.stopped)
+    (layout_error q.size q.desc q.avail q.used ≡ None) × (chains_out q ≤ q.size) × (q.most_out ≤ q.size) × (q.returning ≤ 1) × (q.event_index ≤ 1) × IsSome (stop_of q.stopped)
 
 -- the core's queue has these numbers
 pub record IsKept (q : FsQueue) (k : KeptQueue) : Type 0 where
@@ -56,6 +56,8 @@ pub record IsKept (q : FsQueue) (k : KeptQueue) : Type 0 where
   pub few : q.most_out ≤ q.size
   pub returning : k.returning ≡ (q.returning == 1)
   pub bit : q.returning ≤ 1
+  pub event_index : k.event_index ≡ (q.event_index == 1)
+  pub event_bit : q.event_index ≤ 1
   pub begun : k.begun ≡ q.begun
   pub taken : k.taken ≡ q.taken
   pub stopped : stop_of q.stopped ≡ Some k.stopped

@@ -4,13 +4,13 @@ use Rattle.std.specs.Int.{w16, to_le_bytes}
 use Rattle.vm_memory_core.specs.Window.{Window}
 use Rattle.vm_memory.specs.Layout.{Region, left_at, place}
 use Rattle.vm_memory.specs.Slices.{IsWindowAt}
-use Rattle.fs_queue.specs.Returning.{tells}
 use Rattle.fs_chain.specs.declared.error.ChainError.{ChainError}
 use Rattle.fs_chain.specs.declared.error.ChainError.TheVariants.{BadArgument, ShortBuffer}
 use Rattle.fs_chain.specs.declared.queue.KeptQueue.{KeptQueue}
 use Rattle.fs_chain.specs.declared.returning.Stores.{Stores}
 use Rattle.fs_chain.specs.declared.state.State.TheVariants as at
 use Rattle.fs_chain.specs.Numbers.{chain_error_number}
+use Rattle.fs_chain.specs.Events.{tells_of}
 use Rattle.fs_chain.specs.Orders.{end_error, give_up_error, is_out, return_error}
 use Rattle.fs_chain.specs.Queues.{gave, untook}
 use Rattle.fs_chain.specs.Returns.{IfHasReply, IsFreed, ReturnsBy, put_front}
@@ -36,7 +36,7 @@ TellsStores regions s told =
     (told.front_len ≡ s.front_len) × StandsHere regions s.used.head.address 4 told.id_at × (told.id ≡ s.used.head.value)
     × StandsHere regions s.used.len.address 4 told.len_at × (told.len ≡ s.used.len.value)
     × StandsHere regions s.used.index.address 2 told.index_at × (told.index ≡ s.used.index.value)
-    × StandsHere regions s.used.flags 2 told.seen_at
+    × StandsHere regions s.seen_at 2 told.seen_at
 
 -- they don't: their first one has no place, or their region ends before them
 abbrev pub IsNotHere : List Region → (guest len : ℕ) → Type 0
@@ -47,7 +47,7 @@ IsNotHere regions guest len =
 abbrev pub HaveNoPlaces : List Region → Stores → Type 0
 HaveNoPlaces regions s =
     IsNotHere regions s.used.head.address 4 ⊎ IsNotHere regions s.used.len.address 4 ⊎ IsNotHere regions s.used.index.address 2
-    ⊎ IsNotHere regions s.used.flags 2
+    ⊎ IsNotHere regions s.seen_at 2
 
 -- a chain whose reply is known goes back to its queue by these stores, with the front at the front of the buffer; if they have no places, that is told by 77
 abbrev pub ReturnsSo : Workbench → KeptQueue → (front : List ℕ) → FsStores → (status : ℕ) → Workbench → (front' : List ℕ) → Type 0
@@ -78,7 +78,7 @@ Refuses b q e status b' q' = (status ≡ chain_error_number e) × (b' ≡ b) × 
 -- the stores are made, of the core's queue: its next chain goes back at the next position; refused by its error
 abbrev pub EndsKept : Workbench → FsQueue → KeptQueue → (seen notify status : ℕ) → Workbench → FsQueue → Type 0
 EndsKept b q k seen notify status b' q' =
-    ((end_error b.state k ≡ None) × (status ≡ 0) × (notify ≡ flag (tells (to_le_bytes w16 seen))) × IsFreed b b' × (q' ≡ put q (gave k)))
+    ((end_error b.state k ≡ None) × (status ≡ 0) × (notify ≡ flag (tells_of k (to_le_bytes w16 seen))) × IsFreed b b' × (q' ≡ put q (gave k)))
     ⊎ ((e : ChainError) × (end_error b.state k ≡ Some e) × (notify ≡ 0) × Refuses b q e status b' q')
 
 -- a return ends over a queue of C's; a bad argument, if its numbers are none

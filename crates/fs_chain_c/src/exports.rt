@@ -187,7 +187,7 @@ pub extern "C" fn fs_return(
     status
 }
 
-/// The stores are made, and these are the available flags: the queue's next chain goes back at the next position, and whether the driver wants to be told.
+/// The stores are made, and these are the two bytes at `seen_at`: the queue's next chain goes back at the next position, and whether the driver wants to be told.
 #[unsafe(no_mangle)]
 pub extern "C" fn fs_returned(
     alloc: Global,

@@ -10,6 +10,7 @@ mod device;
 mod exports;
 mod fields;
 mod handle;
+mod kicks;
 mod listing;
 mod memory;
 mod names;
@@ -29,6 +30,7 @@ pub use exports::{
     fs_abandon, fs_chain_free, fs_chain_set_memory, fs_drop, fs_queue_begin, fs_request_windows,
     fs_return, fs_returned, fs_room_windows, fs_version, fs_walk,
 };
+pub use kicks::fs_ask_kicks;
 pub use listing::{fs_add_direntry, fs_add_direntry_plus, fs_reply_entries, fs_reply_err};
 pub use names::fs_is_name;
 pub use ranges::fs_room_ranges;

@@ -28,6 +28,8 @@ pub struct FsQueue {
     pub stopped: u16,
     /// Whether the stores of a return were told, and not made yet: 0 or 1.
     pub returning: u8,
+    /// Whether VIRTIO_F_EVENT_IDX was agreed on: 0 or 1.
+    pub event_index: u8,
     /// How often it was begun anew, modulo 2^32.
     pub begun: u32,
     /// How often a chain was taken or given up, modulo 2^32.
@@ -82,7 +84,10 @@ impl FsQueue {
         let Some(stopped) = stop_of(self.stopped) else {
             return None;
         };
-        if self.out() > self.size || self.most_out > self.size || self.returning > 1 {
+        if self.out() > self.size || self.most_out > self.size {
+            return None;
+        }
+        if self.returning > 1 || self.event_index > 1 {
             return None;
         }
         Some(KeptQueue {
@@ -93,6 +98,7 @@ impl FsQueue {
             returning: self.returning == 1,
             begun: self.begun,
             taken: self.taken,
+            event_index: self.event_index == 1,
             stopped,
         })
     }

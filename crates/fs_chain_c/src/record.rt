@@ -165,6 +165,7 @@ fn numbers_over(old: &FsQueue, queue: &Queue) -> FsQueue
         most_out: old.most_out,
         stopped: u16::from(queue.is_stopped()),
         returning: 0,
+        event_index: old.event_index,
         begun: old.begun.wrapping_add(1),
         taken: old.taken,
     }

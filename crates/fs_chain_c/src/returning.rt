@@ -25,7 +25,7 @@ pub struct FsStores {
     pub index_at: usize,
     /// What is stored there, by a store that releases.
     pub index: u16,
-    /// Where the available flags stand: 2 bytes, loaded after a full barrier.
+    /// Where 2 bytes stand that are loaded after a full barrier: whether the driver wants to be told.
     pub seen_at: usize,
 }
 
@@ -48,7 +48,7 @@ impl FsStores {
 }
 
 // Where so many bytes from a guest address on stand here; None if they don't stand in one piece.
-fn here(workbench: &Workbench, guest: u64, len: usize) -> Option<usize>
+pub(crate) fn here(workbench: &Workbench, guest: u64, len: usize) -> Option<usize>
     requires { 0 < len }
     ensures some { IfSome result (StandsHere workbench.now.regions guest len) }
     ensures none { result ≡ None → IsNotHere workbench.now.regions guest len }
@@ -80,7 +80,7 @@ fn told_stores(workbench: &Workbench, stores: &Stores) -> Option<FsStores>
     let Some(index_at) = here(workbench, used.index.address, 2) else {
         return None;
     };
-    let Some(seen_at) = here(workbench, used.flags, 2) else {
+    let Some(seen_at) = here(workbench, stores.seen_at, 2) else {
         return None;
     };
     Some(FsStores {

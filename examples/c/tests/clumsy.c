@@ -138,6 +138,7 @@ static void some_queue(struct fs_queue *queue) {
     queue->used = below(6) ? USED : some_address();
     queue->size = below(6) ? SIZE : (uint16_t)ONE_OF(0, 1, 3, 32768, chance());
     queue->most_out = below(9) ? (uint16_t)below(CHAINS + 1) : (uint16_t)chance();
+    queue->event_index = (uint8_t)(below(9) ? below(2) : chance());
     struct fs_queue before = *queue;
     uint32_t status = named(fs_queue_begin(queue, position));
     if (status != FS_DONE && memcmp(&before, queue, sizeof before) != 0) wrong("a queue that isn't begun is another", status);
@@ -414,6 +415,16 @@ static void do_return(struct bench *b, struct fs_queue *queue) {
     do_returned(b, queue);
 }
 
+/* Where the driver is told whether its kicks are wanted. */
+static void do_kicks(struct bench *b, const struct fs_queue *queue) {
+    struct fs_store store;
+    uint32_t wanted = (uint32_t)(below(9) ? below(2) : chance()), status = named(fs_ask_kicks(&b->chain, queue, wanted, &store));
+    if (status != FS_DONE) return;
+    if (store.len != 2 && (store.len != 0 || wanted || !queue->event_index)) wrong("another length", store.len);
+    if (store.len && !is_told(b, store.at, 2)) wrong("a store lies outside", store.at);
+    if (store.len && store.value != (queue->event_index ? queue->position : !wanted)) wrong("another value", store.value);
+}
+
 /* A record is written and read again, sometimes cut, with other bytes in it, or into too few queues. */
 static void do_move(void) {
     struct fs_device lent = device;
@@ -460,6 +471,7 @@ static void stumble(void) {
         if (below(8) == 0) do_abandon(b);
         break;
     case 12: walk_on(b, queue); break; /* it stays out for a while */
+    case 13: do_kicks(b, queue); break;
     default:
         walk_on(b, queue);
         if (below(12) == 0) do_bytes(b);

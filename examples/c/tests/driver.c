@@ -41,15 +41,19 @@ static void start(struct driver *driver, uint16_t position) {
     uintptr_t host = (uintptr_t)driver->memory;
     const struct fs_region regions[REGIONS] = {
         {QUIET, QUIET_LEN, host + 2 * REGION_LEN}, {0, REGION_LEN, host}, {HIGH, REGION_LEN, host + REGION_LEN}};
-    driver->live = (struct live){.queue = {.desc = DESC, .avail = AVAIL, .used = USED, .size = RING_SIZE, .position = position},
+    driver->live = (struct live){.queue = {.desc = DESC,
+                                           .avail = AVAIL,
+                                           .used = USED,
+                                           .size = RING_SIZE,
+                                           .position = position,
+                                           .event_index = driver->event_index},
                                  .avail_at = (uintptr_t)place_of(driver, AVAIL),
-                                 .used_at = (uintptr_t)place_of(driver, USED),
                                  .kick = driver->live.kick,
                                  .call = driver->live.call,
                                  .options = &driver->options,
                                  .answer = answer_some,
                                  .files = &driver->answers};
-    driver->offered = driver->seen = position;
+    driver->offered = driver->seen = driver->told = position;
     int error = live_start(&driver->live, regions, REGIONS, driver->thread_count);
     if (error) die("the queue doesn't start: %s", strerror(error));
 }
@@ -60,8 +64,8 @@ static void stop(struct driver *driver) {
     if (driver->live.most > driver->most) driver->most = driver->live.most;
 }
 
-void driver_begin(struct driver *driver, size_t thread_count) {
-    *driver = (struct driver){.thread_count = thread_count, .answers = {.yields = thread_count > 1}};
+void driver_begin(struct driver *driver, size_t thread_count, bool event_index) {
+    *driver = (struct driver){.thread_count = thread_count, .event_index = event_index, .answers = {.yields = thread_count > 1}};
     driver->memory = mmap(NULL, MEMORY_LEN, PROT_READ | PROT_WRITE, MAP_SHARED | MAP_ANONYMOUS, -1, 0);
     driver->live.kick = eventfd(0, EFD_NONBLOCK | EFD_CLOEXEC);
     driver->live.call = eventfd(0, EFD_NONBLOCK | EFD_CLOEXEC);
@@ -102,10 +106,22 @@ void offer(struct driver *driver, uint16_t head) {
     atomic_store_explicit(index_of(driver, AVAIL + 2), driver->offered, memory_order_release);
 }
 
+/* Whether `wanted`, an index that the device has named, is one of those from `from` on and before `to`. */
+static bool is_passed(uint16_t wanted, uint16_t from, uint16_t to) { return (uint16_t)(to - wanted - 1) < (uint16_t)(to - from); }
+
+/* Whether the device wants to be told of the chains that were offered since it was told last. */
+static bool wants_kick(struct driver *driver) {
+    uint16_t told = driver->told, flags = atomic_load_explicit(index_of(driver, USED), memory_order_relaxed);
+    driver->told = driver->offered;
+    if (!driver->event_index) return !(flags & NO_NOTIFY);
+    uint16_t avail_event = atomic_load_explicit(index_of(driver, USED + 4 + 8 * RING_SIZE), memory_order_relaxed);
+    return is_passed(avail_event, told, driver->offered);
+}
+
 void kick(struct driver *driver) {
     uint64_t one = 1;
     atomic_thread_fence(memory_order_seq_cst);
-    if (atomic_load_explicit(index_of(driver, USED), memory_order_relaxed) & NO_NOTIFY) return;
+    if (!wants_kick(driver)) return;
     if (write(driver->live.kick, &one, sizeof one) < 0) die("no kick");
 }
 
@@ -114,16 +130,24 @@ static bool is_back(struct driver *driver) {
     return driver->seen == driver->offered;
 }
 
+/* Wants to be called when the next chain comes back, or not. Behind it the driver looks again. */
+static void want_call(struct driver *driver, bool wanted) {
+    _Atomic uint16_t *used_event = index_of(driver, AVAIL + 4 + 2 * RING_SIZE);
+    if (!driver->event_index) atomic_store_explicit(index_of(driver, AVAIL), wanted ? 0 : NO_INTERRUPT, memory_order_relaxed);
+    else if (wanted) atomic_store_explicit(used_event, driver->seen, memory_order_relaxed);
+    if (wanted) atomic_thread_fence(memory_order_seq_cst);
+}
+
 bool wait_for_all(struct driver *driver, int milliseconds) {
-    _Atomic uint16_t *flags = index_of(driver, AVAIL);
     struct pollfd event = {driver->live.call, POLLIN, 0};
     uint64_t calls;
     for (;;) {
-        atomic_store_explicit(flags, NO_INTERRUPT, memory_order_relaxed);
+        want_call(driver, false);
         if (is_back(driver)) return true;
-        atomic_store_explicit(flags, 0, memory_order_relaxed);
-        atomic_thread_fence(memory_order_seq_cst);
+        uint16_t seen = driver->seen;
+        want_call(driver, true);
         if (is_back(driver)) return true;
+        if (driver->seen != seen) continue; /* that one may have come back before it was wanted */
         if (poll(&event, 1, milliseconds) <= 0) return false; /* whether or not all is back: nobody said so */
         if (read(event.fd, &calls, sizeof calls) < 0 && errno != EAGAIN) die("no call");
     }

@@ -17,15 +17,17 @@ struct driver {
     _Atomic uint64_t options;
     struct answers answers;
     size_t thread_count;
-    uint16_t offered, seen; /* how many chains were offered, and how many came back */
+    bool event_index;
+    uint16_t offered, seen; /* how many chains were offered, and how many came back; */
+    uint16_t told;          /* and how many were offered when it was asked last whether to kick */
     uint64_t served;        /* of the queues that were begun anew; */
     uint16_t most;          /* so many chains were out at once */
 };
 
 _Noreturn void die(const char *format, ...) __attribute__((format(printf, 1, 2)));
 
-/* Makes memory, and begins the queue; begins it anew, as after a reset; ends it. */
-void driver_begin(struct driver *driver, size_t thread_count);
+/* Makes memory, and begins the queue, with an event index (VIRTIO 1.2, 2.7.7 and 2.7.10) or flags; begins it anew, as after a reset; ends it. */
+void driver_begin(struct driver *driver, size_t thread_count, bool event_index);
 void driver_reset(struct driver *driver);
 void driver_end(struct driver *driver);
 

@@ -133,7 +133,7 @@ static const char *differs(const struct world *a, const struct world *b) {
 
 /* ------------------------------------------------------------- calls */
 
-enum kind { SET_MEMORY, WALK, SAVE, RESTORE, ASK, DROP, REPLY, RETURN, RETURNED, FREE, KINDS };
+enum kind { SET_MEMORY, WALK, SAVE, RESTORE, ASK, DROP, REPLY, RETURN, RETURNED, KICKS, FREE, KINDS };
 
 static const struct {
     const char *name;
@@ -150,6 +150,7 @@ static const struct {
     [REPLY] = {.name = "an answer"},
     [RETURN] = {.name = "fs_return"},
     [RETURNED] = {.name = "fs_returned"},
+    [KICKS] = {.name = "fs_ask_kicks"},
     [FREE] = {.name = "fs_chain_free"},
 };
 
@@ -498,6 +499,12 @@ static void let_go(void) {
     look_at(0);
 }
 
+static void ask_kicks(void) {
+    struct fs_store store;
+    do begin(KICKS);
+    while (again(fs_ask_kicks(chain, &now.queues[0], 1, &store), FS_DONE));
+}
+
 static void save(size_t room, uint32_t wanted) {
     do begin(SAVE);
     while (again(fs_save(&now.device, now.queues, 2, now.record, room, &now.len), wanted));
@@ -543,6 +550,7 @@ static void play_script(void) {
     tell_memory(LOW, BOUND, FS_DONE);
     walk(FS_IDLE);
     hold();
+    ask_kicks();
     for (size_t k = 0; k < sizeof rows / sizeof rows[0]; k++) play(&rows[k]);
     save(sizeof now.record, FS_CHAIN_OUT);
     let_go();

@@ -1,6 +1,6 @@
-/* No notification is lost: sleeps COUNT [THREADS]. A driver sleeps as soon as it may (VIRTIO 1.2, 2.7.7), beside a device that is as
- * fast as it can be, and asks for no kick while it looks anyway (2.7.10). Each chain comes back once. With several threads of the
- * queue each has a handle of its own, and chains go back in any order. */
+/* No notification is lost: sleeps COUNT [THREADS [event]], with an event index or flags. A driver sleeps as soon as it may (VIRTIO 1.2,
+ * 2.7.7), beside a device that is as fast as it can be, and asks for no kick while it looks anyway (2.7.10). Each chain comes back once. With
+ * several threads of the queue each has a handle of its own, and chains go back in any order. */
 #include "driver.h"
 #include <linux/fuse.h>
 #include <stdio.h>
@@ -25,8 +25,8 @@ static void draw_requests(void) {
 int main(int argc, char **argv) {
     uint64_t wanted = argc > 1 ? strtoull(argv[1], NULL, 10) : 0, seed = 1, slept = 0, chains = 0;
     size_t thread_count = argc > 2 ? strtoul(argv[2], NULL, 10) : 1;
-    if (wanted == 0 || thread_count == 0) return fprintf(stderr, "usage: sleeps COUNT [THREADS]\n"), 2;
-    driver_begin(&driver, thread_count);
+    if (wanted == 0 || thread_count == 0) return fprintf(stderr, "usage: sleeps COUNT [THREADS [event]]\n"), 2;
+    driver_begin(&driver, thread_count, argc > 3);
     draw_requests();
     for (; slept < wanted; slept++) {
         seed = seed * 6364136223846793005u + 1442695040888963407u;

@@ -7,7 +7,7 @@ use crate::marks::Log;
 use crate::memory::Table;
 use crate::migration::Migration;
 use crate::ring::{Ring, SIZE_MAX};
-use crate::serve::{Core, Served};
+use crate::serve::{Bench, Core, Served};
 use log::{debug, error, info};
 use std::fs::File;
 use std::io;
@@ -15,7 +15,7 @@ use std::sync::Arc;
 use vhost::vhost_user::message::*;
 use vhost::vhost_user::{Error, GpuBackend, Result, VhostUserBackendReqHandlerMut};
 use virtio_bindings::bindings::virtio_config::VIRTIO_F_VERSION_1;
-use virtio_bindings::bindings::virtio_ring::VIRTIO_RING_F_INDIRECT_DESC;
+use virtio_bindings::bindings::virtio_ring::{VIRTIO_RING_F_EVENT_IDX, VIRTIO_RING_F_INDIRECT_DESC};
 use virtiofsd::vhost_user::MAX_TAG_LEN;
 
 /// What the daemon does on behalf of one front-end.
@@ -25,6 +25,8 @@ pub struct FrontEnd<F> {
     features: u64,
     log: Option<Arc<Log>>,
     migration: Migration<F>,
+    /// What rings are told with that stop.
+    bench: Bench<F>,
 }
 
 fn told(e: io::Error) -> Error {
@@ -35,15 +37,25 @@ fn unsupported(what: &'static str) -> Error {
     told(io::Error::new(io::ErrorKind::Unsupported, what))
 }
 
+fn no_queue() -> Error {
+    told(io::Error::other("no such queue"))
+}
+
 impl<F: Served> FrontEnd<F> {
     /// `scratch` is state::scratch's.
     pub fn new(core: Arc<Core<F>>, tag: Option<String>, scratch: File) -> FrontEnd<F> {
-        let migration = Migration::new(core.clone(), scratch);
-        FrontEnd { core, tag, features: 0, log: None, migration }
+        let (migration, bench) = (Migration::new(core.clone(), scratch), Bench::new(core.clone(), 0));
+        FrontEnd { core, tag, features: 0, log: None, migration, bench }
     }
 
     fn ring(&self, index: impl Into<u32>) -> Result<&Ring> {
-        self.core.rings.get(index.into() as usize).ok_or_else(|| told(io::Error::other("no such queue")))
+        self.core.rings.get(index.into() as usize).ok_or_else(no_queue)
+    }
+
+    /// Chains of all rings are served, or wait.
+    fn enable_all(&mut self, enabled: bool) {
+        let memory = self.core.memory();
+        self.core.rings.iter().for_each(|ring| ring.enable(enabled, &mut self.bench, &memory));
     }
 
     fn logs(&self) -> bool {
@@ -55,10 +67,11 @@ impl<F: Served> FrontEnd<F> {
         self.log.as_ref().filter(|_| self.logs())
     }
 
-    fn set_memory(&self, table: io::Result<Table>) -> Result<()> {
+    fn set_memory(&mut self, table: io::Result<Table>) -> Result<()> {
         let table = table.map_err(told)?;
         table.set_log(self.active_log());
         self.core.set_memory(table);
+        self.bench.forget_memory(); // else what the front-end doesn't share any more stays mapped
         Ok(())
     }
 
@@ -81,17 +94,16 @@ impl<F: Served> VhostUserBackendReqHandlerMut for FrontEnd<F> {
     }
 
     fn reset_device(&mut self) -> Result<()> {
-        let memory = self.core.memory();
-        self.core.rings.iter().for_each(|ring| ring.enable(false, &memory));
+        self.enable_all(false);
         self.core.wait_for_chains();
         self.core.end_session();
         Ok(())
     }
 
     fn get_features(&mut self) -> Result<u64> {
-        // No VIRTIO_RING_F_EVENT_IDX: the library has none yet.
         Ok((1 << VIRTIO_F_VERSION_1)
             | (1 << VIRTIO_RING_F_INDIRECT_DESC)
+            | (1 << VIRTIO_RING_F_EVENT_IDX)
             | VhostUserVirtioFeatures::PROTOCOL_FEATURES.bits()
             | VhostUserVirtioFeatures::LOG_ALL.bits())
     }
@@ -101,9 +113,10 @@ impl<F: Served> VhostUserBackendReqHandlerMut for FrontEnd<F> {
             return Err(told(io::Error::other("features that weren't offered")));
         }
         self.features = features;
+        let has_event_index = features & (1 << VIRTIO_RING_F_EVENT_IDX) != 0;
+        self.core.rings.iter().for_each(|ring| ring.set_event_index(has_event_index));
         if features & VhostUserVirtioFeatures::PROTOCOL_FEATURES.bits() == 0 {
-            let memory = self.core.memory();
-            self.core.rings.iter().for_each(|ring| ring.enable(true, &memory));
+            self.enable_all(true);
         }
         if self.logs() {
             self.migration.prepare();
@@ -166,7 +179,8 @@ impl<F: Served> VhostUserBackendReqHandlerMut for FrontEnd<F> {
     fn get_vring_base(&mut self, index: u32) -> Result<VhostUserVringState> {
         // It is answered by the base alone, so there is no telling of an error.
         let ring = self.core.rings.get(index as usize).ok_or(Error::InvalidParam)?;
-        Ok(VhostUserVringState::new(index, ring.stop(&self.core.memory()).into()))
+        let position = ring.stop(&mut self.bench, &self.core.memory());
+        Ok(VhostUserVringState::new(index, position.into()))
     }
 
     fn set_vring_kick(&mut self, index: u8, kick: Option<File>) -> Result<()> {
@@ -214,7 +228,8 @@ impl<F: Served> VhostUserBackendReqHandlerMut for FrontEnd<F> {
         if self.features & VhostUserVirtioFeatures::PROTOCOL_FEATURES.bits() == 0 {
             return Err(unsupported("SET_VRING_ENABLE without the protocol's features"));
         }
-        self.ring(index)?.enable(enable, &self.core.memory());
+        let ring = self.core.rings.get(index as usize).ok_or_else(no_queue)?;
+        ring.enable(enable, &mut self.bench, &self.core.memory());
         Ok(())
     }
 

@@ -4,7 +4,7 @@
 use crate::marks::{Log, Marks, MarksFrom};
 use std::fs::File;
 use std::io;
-use std::sync::atomic::{fence, Ordering};
+use std::sync::atomic::Ordering;
 use std::sync::Arc;
 use vhost::vhost_user::message::VhostUserMemoryRegion;
 use vm_memory::{
@@ -108,13 +108,6 @@ impl Table {
     pub fn available_index(&self, available: u64) -> Option<u16> {
         let at = GuestAddress(available.saturating_add(2));
         self.guest.load::<u16>(at, Ordering::Acquire).ok().map(u16::from_le)
-    }
-
-    /// Says in the used ring whether the driver's kicks are wanted (VIRTIO 1.2, 2.7.10). Where there is no ring, nothing is done.
-    pub fn want_kicks(&self, used: u64, wanted: bool) {
-        let flags: u16 = if wanted { 0 } else { 1 };
-        let _ = self.guest.store(flags.to_le(), GuestAddress(used), Ordering::Release);
-        fence(Ordering::SeqCst); // the available index is looked at after it
     }
 }
 

@@ -2,7 +2,7 @@
 //! without it; each thread has one at a time. Who changes a ring, or says where it stands, has the lock with no chain out: so what the
 //! front-end is told (a position, a memory that is gone) is true when it is told.
 use crate::memory::Table;
-use log::{error, warn};
+use log::{debug, error, warn};
 use pitskhomu::{Queue, QueueLayout, Status};
 use std::fs::File;
 use std::io::{self, ErrorKind, Write};
@@ -32,6 +32,8 @@ pub struct Numbers {
     pub layout: QueueLayout,
     /// Where the next chain is taken. While none is out, it is where the ring stands.
     pub position: u16,
+    /// The driver took VIRTIO_F_EVENT_IDX.
+    pub has_event_index: bool,
 }
 
 /// A ring, as its threads and the front-end's see it under its lock.
@@ -47,8 +49,8 @@ pub struct State {
     is_enabled: bool,
     /// It was refused, and isn't served until it begins anew.
     is_refused: bool,
-    /// What the used ring says of kicks; of one that begins, nothing is known.
-    wants_kicks: Option<bool>,
+    /// What the driver was told of kicks, and at which position with an event index; of a ring that begins, nothing is known.
+    told: Option<(bool, u16)>,
     /// How many threads sleep until something happens.
     sleeping: u16,
     /// How many wait until no chain is out; meanwhile none is taken.
@@ -70,25 +72,29 @@ impl State {
 
     /// The queue for a record, if the front-end ever told its numbers.
     pub fn queue_if_begun(&self) -> Option<Queue> {
-        let Numbers { layout, position } = self.numbers;
+        let Numbers { layout, position, .. } = self.numbers;
         (layout.size != 0 && layout.descriptors != 0).then(|| Queue::new(layout, position))
     }
 
     fn begin(&mut self, threads: u16) -> Result<(), Status> {
-        let Numbers { layout, position } = self.numbers;
-        self.queue.begin(Queue::new(layout, position).with_most_out(threads.min(layout.size)))?;
-        (self.is_new, self.wants_kicks) = (false, None);
+        let Numbers { layout, position, has_event_index } = self.numbers;
+        let anew = Queue::new(layout, position).with_most_out(threads.min(layout.size));
+        self.queue.begin(anew.with_event_index(has_event_index))?;
+        (self.is_new, self.told) = (false, None);
         Ok(())
     }
 
-    /// Says to the driver whether its kicks are wanted, if it doesn't know. Whether it had to be told: then a chain may have come before.
-    fn want_kicks(&mut self, wanted: bool, memory: &Table) -> bool {
-        let changes = self.is_live() && self.wants_kicks != Some(wanted);
-        if changes {
-            memory.want_kicks(self.numbers.layout.used, wanted);
-            self.wants_kicks = Some(wanted);
+    /// Says to the driver whether its kicks are wanted, if it doesn't know. Whether it had to be told: then a chain may have come before. After
+    /// an error it knows what it knew.
+    fn want_kicks(&mut self, wanted: bool, server: &mut impl Server, memory: &Arc<Table>) -> Result<bool, Status> {
+        let Numbers { position, has_event_index, .. } = self.numbers;
+        let telling = Some((wanted, if wanted && has_event_index { position } else { 0 }));
+        if !self.is_live() || self.is_new || self.told == telling {
+            return Ok(false);
         }
-        changes
+        let is_stored = server.ask_kicks(&self.queue, wanted, memory)?;
+        self.told = telling;
+        Ok(is_stored)
     }
 
     fn is_live(&self) -> bool {
@@ -127,7 +133,7 @@ pub enum Looked {
     Taken,
     /// None waits, or as many are out as may be.
     Idle,
-    /// The same one is to be tried again later.
+    /// The same is to be tried again later.
     Again,
 }
 
@@ -141,6 +147,9 @@ pub trait Server {
 
     /// Gives the chain back, and says whether the driver wants to be told.
     fn give_back(&mut self, queue: &mut Queue) -> Result<bool, Status>;
+
+    /// Says to the driver whether its kicks are wanted. Whether something had to be stored for that.
+    fn ask_kicks(&mut self, queue: &Queue, wanted: bool, memory: &Arc<Table>) -> Result<bool, Status>;
 }
 
 /// A queue, shared by its threads and the front-end's.
@@ -183,6 +192,13 @@ impl Ring {
         self.changed.wait_while(state, condition).unwrap_or_else(PoisonError::into_inner)
     }
 
+    /// Whether the driver took VIRTIO_F_EVENT_IDX. What it was already waits for no chain.
+    pub fn set_event_index(&self, has_event_index: bool) {
+        if self.lock().numbers.has_event_index != has_event_index {
+            self.state().tell(|numbers| numbers.has_event_index = has_event_index);
+        }
+    }
+
     /// The ring with no chain out.
     pub fn state(&self) -> MutexGuard<'_, State> {
         let mut state = self.lock();
@@ -219,9 +235,11 @@ impl Ring {
     }
 
     /// The ring ends, and says where it stood. Who goes on with it may not know that kicks can be unwanted.
-    pub fn stop(&self, memory: &Table) -> u16 {
+    pub fn stop(&self, server: &mut impl Server, memory: &Arc<Table>) -> u16 {
         let mut state = self.state();
-        state.want_kicks(true, memory);
+        if let Err(status) = state.want_kicks(true, server, memory) {
+            warn!("queue {}: it ends, and the driver may not kick who goes on with it: {status}", self.index);
+        }
         self.forget_kick(&mut state);
         state.call = None;
         (state.is_started, state.is_refused) = (false, false);
@@ -248,9 +266,9 @@ impl Ring {
     }
 
     /// Chains are served or wait.
-    pub fn enable(&self, enabled: bool, memory: &Table) {
+    pub fn enable(&self, enabled: bool, server: &mut impl Server, memory: &Arc<Table>) {
         let mut state = self.state();
-        state.want_kicks(true, memory);
+        let _ = state.want_kicks(true, server, memory); // a thread says it before it sleeps
         state.is_enabled = enabled;
         drop(state);
         self.look();
@@ -307,11 +325,12 @@ impl Ring {
         }
     }
 
-    /// What comes while the chain that was taken is answered is for a thread that sleeps, and else for this one.
-    fn hand_on(&self, state: &mut State, memory: &Table) {
+    /// What comes while the chain that was taken is answered is for a thread that sleeps, and else for this one. If the driver can't be told so, a
+    /// thread that sleeps goes on to try.
+    fn hand_on(&self, state: &mut State, server: &mut impl Server, memory: &Arc<Table>) {
         let is_for_another = state.sleeping > 0;
-        state.want_kicks(is_for_another, memory);
-        if is_for_another && state.has_more(memory) {
+        let told = state.want_kicks(is_for_another, server, memory);
+        if is_for_another && (told.is_err() || state.has_more(memory)) {
             self.look();
         }
     }
@@ -341,15 +360,23 @@ impl Ring {
             let table = memory();
             let looked = self.take(&mut state, server, &table);
             if looked == Looked::Taken {
-                self.hand_on(&mut state, &table);
+                self.hand_on(&mut state, server, &table);
                 drop(state);
                 server.answer();
                 state = self.lock();
                 self.give_back(&mut state, server);
-            } else if !state.want_kicks(true, &table) {
-                state.sleeping += 1;
-                return looked;
+                continue;
             }
+            let looked = match state.want_kicks(true, server, &table) {
+                Ok(true) => continue,
+                Ok(false) => looked,
+                Err(status) => {
+                    debug!("queue {}: the driver isn't told yet to kick: {status}", self.index);
+                    Looked::Again
+                }
+            };
+            state.sleeping += 1;
+            return looked;
         }
     }
 
@@ -384,6 +411,41 @@ mod tests {
     /// Whether it was written to since the last look.
     fn is_called(mut event: &File) -> bool {
         event.read(&mut [0; 8]).is_ok()
+    }
+
+    /// Has no chain, and what is said of kicks fails so many times.
+    struct Failing(usize);
+
+    impl Server for Failing {
+        fn take(&mut self, _queue: &mut Queue, _memory: &Arc<Table>) -> Result<bool, Status> {
+            Ok(false)
+        }
+
+        fn answer(&mut self) {}
+
+        fn give_back(&mut self, _queue: &mut Queue) -> Result<bool, Status> {
+            Ok(false)
+        }
+
+        fn ask_kicks(&mut self, _queue: &Queue, _wanted: bool, _memory: &Arc<Table>) -> Result<bool, Status> {
+            let failing = self.0 > 0;
+            self.0 = self.0.saturating_sub(1);
+            if failing {
+                Err(Status::OutOfMemory)
+            } else {
+                Ok(true)
+            }
+        }
+    }
+
+    #[test]
+    fn what_could_not_be_said_of_kicks_is_said_again() {
+        let (ring, memory, mut server) = (Ring::new(0, 1).expect("a ring"), Arc::new(Table::default()), Failing(1));
+        *ring.lock() = State { is_started: true, is_enabled: true, sleeping: 1, ..State::default() };
+        assert_eq!(ring.serve_all(&mut server, &|| memory.clone()), Looked::Again);
+        assert_eq!(ring.lock().told, None);
+        assert_eq!(ring.serve_all(&mut server, &|| memory.clone()), Looked::Idle);
+        assert_eq!(ring.lock().told, Some((true, 0)));
     }
 
     #[test]

@@ -84,6 +84,11 @@ impl<F: Served> Bench<F> {
         Ok(())
     }
 
+    /// Lets go of the memory that it worked over: while it has no chain.
+    pub fn forget_memory(&mut self) {
+        self.told = None;
+    }
+
     fn log(&self, served: &pitskhomu::Served) {
         if let Some(fault) = served.fault {
             debug!("queue {}: a faulty chain went back with no reply: {fault}", self.index);
@@ -122,5 +127,10 @@ impl<F: Served> Server for Bench<F> {
             self.log(&served);
             served.notify
         })
+    }
+
+    fn ask_kicks(&mut self, queue: &Queue, wanted: bool, memory: &Arc<Table>) -> Result<bool, Status> {
+        self.work_over(memory)?;
+        self.worker.ask_kicks(queue, wanted, &**memory)
     }
 }

@@ -98,6 +98,14 @@ impl Chain {
         unsafe { sys::fs_abandon(&mut self.0) }
     }
 
+    /// What says to the driver whether its kicks are wanted.
+    pub fn ask_kicks(&mut self, queue: &Queue, wanted: bool) -> Result<sys::Store, Status> {
+        let mut store = sys::Store::default();
+        // SAFETY: as the module says.
+        Status::check(unsafe { sys::fs_ask_kicks(&mut self.0, queue, wanted.into(), &mut store) })?;
+        Ok(store)
+    }
+
     pub fn request_windows<'w>(&mut self, from: u64, len: u64, windows: &'w mut [Window]) -> &'w [Window] {
         // SAFETY: as the module says; it fills no more than the slice has.
         let count = unsafe { sys::fs_request_windows(&mut self.0, from, len, windows.as_mut_ptr(), windows.len()) };

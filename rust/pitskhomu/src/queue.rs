@@ -28,6 +28,7 @@ pub struct Queue {
     most_out: u16,
     stopped: u16,
     returning: u8,
+    event_index: u8,
     begun: u32,
     taken: u32,
 }
@@ -48,6 +49,7 @@ impl Queue {
             most_out: 1,
             stopped: 0,
             returning: 0,
+            event_index: 0,
             begun: 0,
             taken: 0,
         }
@@ -56,6 +58,13 @@ impl Queue {
     /// The same with up to `most` chains out at a time, 1 to the queue's size: as many as workers serve it.
     pub const fn with_most_out(mut self, most: u16) -> Queue {
         self.most_out = most;
+        self
+    }
+
+    /// The same for a driver that took VIRTIO_F_EVENT_IDX, or that didn't: by it driver and device say at which chain they want to be told
+    /// next, and not by flags (VIRTIO 1.2, 2.7.7 and 2.7.10).
+    pub const fn with_event_index(mut self, is_taken: bool) -> Queue {
+        self.event_index = is_taken as u8;
         self
     }
 
@@ -93,8 +102,22 @@ impl Queue {
         self.most_out
     }
 
+    /// Whether the driver took VIRTIO_F_EVENT_IDX.
+    pub const fn has_event_index(&self) -> bool {
+        self.event_index != 0
+    }
+
     /// The refusal that stopped it, if one did; of a queue of a record `Status::Stopped`.
     pub fn stopped(&self) -> Option<Status> {
         Some(self.stopped).filter(|&number| number != 0).map(|number| Status::of(number.into()))
+    }
+
+    /// The guest address of what says whether the driver's kicks are wanted: avail_event, or the flags of the used ring (VIRTIO 1.2, 2.7.8 and 2.7.10).
+    pub(crate) const fn kick_address(&self) -> u64 {
+        if self.has_event_index() {
+            self.used + 4 + 8 * self.size as u64
+        } else {
+            self.used
+        }
     }
 }

@@ -54,10 +54,10 @@ numbered! {
         RingEntryUnreachable = 4, "an entry of the available ring is unreachable";
         /// The available ring names a descriptor that the table doesn't have. It stops the queue.
         HeadOutOfTable = 5, "a chain's head is out of the descriptor table";
-        /// The used ring lies in no region. It stops the queue.
+        /// The used ring lies in no region, or avail_event at its end. It stops the queue.
         UsedUnreachable = 6, "the used ring is unreachable";
-        /// The available flags lie in no region. It stops the queue.
-        AvailFlagsUnreachable = 7, "the available flags are unreachable";
+        /// The available flags lie in no region, or used_event of a queue with an event index. It stops the queue.
+        AvailFlagsUnreachable = 7, "the available flags or used_event are unreachable";
         /// A descriptor of the table lies in no region. It stops the queue.
         DescriptorUnreachable = 8, "a descriptor is unreachable";
         /// Memory is wanting; the call may be made again. The driver doesn't notify again of a chain that waits.

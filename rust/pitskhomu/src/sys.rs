@@ -209,6 +209,14 @@ pub struct Stores {
     pub seen_at: usize,
 }
 
+#[repr(C)]
+#[derive(Clone, Copy, Debug, Default)]
+pub struct Store {
+    pub at: usize,
+    pub value: u16,
+    pub len: u8,
+}
+
 #[rustfmt::skip]
 extern "C" {
     pub fn fs_version() -> u32;
@@ -218,6 +226,7 @@ extern "C" {
     pub fn fs_walk(chain: &mut Chain, queue: &mut Queue, loaded: *const u8, loaded_len: usize, step: &mut Step) -> u32;
     pub fn fs_queue_begin(queue: &mut Queue, position: u16) -> u32;
     pub fn fs_abandon(chain: &mut Chain);
+    pub fn fs_ask_kicks(chain: &mut Chain, queue: &Queue, wanted: u32, store: &mut Store) -> u32;
     pub fn fs_drop(chain: &mut Chain, queue: &mut Queue) -> u32;
     pub fn fs_request_windows(chain: &mut Chain, from: u64, len: u64, windows: *mut Window, window_count: usize) -> usize;
     pub fn fs_room_windows(chain: &mut Chain, from: u64, len: u64, windows: *mut Window, window_count: usize) -> usize;

@@ -414,6 +414,25 @@ impl Worker {
         self.chain.end_return(queue, memory.load_u16(stores.seen_at))
     }
 
+    /// Says to the driver whether its kicks are wanted (VIRTIO 1.2, 2.7.10): they are before you sleep, and needn't be while a worker looks for
+    /// chains anyway. Whether something was stored: where they are wanted look once more then, by `take`, since a chain may have come before
+    /// the driver could know. It is no matter whether this worker has a chain. If several workers serve the queue, it is locked from here to
+    /// the end of that `take`. With an event index the next chain alone brings a kick: a worker that took one while another sleeps says it
+    /// anew before the queue is unlocked, and if the available index tells of a chain more, it wakes one that sleeps. Errors: `WrongOrder` (no
+    /// memory was told), `BadArgument` (the queue's numbers are none), `NoPlace` (the flags, or avail_event, aren't in the memory).
+    pub fn ask_kicks(&mut self, queue: &Queue, wanted: bool, memory: &dyn GuestMemory) -> Result<bool, Status> {
+        let store = self.chain.ask_kicks(queue, wanted)?;
+        if store.len == 0 {
+            return Ok(false);
+        }
+        memory.store_u16(store.at, store.value);
+        if memory.is_logging() {
+            memory.mark(GuestRange { guest: queue.kick_address(), len: store.len.into() });
+        }
+        fence(Ordering::SeqCst); // what waits is looked for behind it
+        Ok(true)
+    }
+
     /// Tells what was written: so many bytes of the room, the used element and the used index (VIRTIO 1.2, 2.7.8).
     fn mark_written(&mut self, queue: &Queue, memory: &dyn GuestMemory, written: u64) {
         let mut ranges = [GuestRange::default(); 16];

@@ -8,7 +8,7 @@ use Rattle.fs_device.specs.Step.{Exchanged}
 use Rattle.fs_device.specs.StepBy.{StepBy}
 use Rattle.fs_chain.specs.Walks.{course_of}
 use Rattle.fs_chain.specs.Whole.{ChainBy, GoesBackBy, after_chain, file_calls, step_loads}
-use Rattle.chain_tests.proofs.Served.{if_ok_so, more_taken, returned_stays, taken_so}
+use Rattle.chain_tests.proofs.Served.{if_ok_so, more_taken, queue_stays, taken_so}
 use Rattle.chain_tests.proofs.wholes.serve.Goals as goal
 
 pub reply-requires-clause-taken : goal.reply-requires-clause-taken
@@ -34,7 +34,8 @@ returns g c =
     let calls = file_calls (drop 80 request) replied.0 replied.2 in
     let q = queue_of (course_of before old.limit) in
     let back_queue = c.walk_chain.new.queue in
-    let in_order = returned_stays old walked_bench before back_queue head c.in_ok-request_len.request_len c.in_ok-request_len.field-0-2 c.requires.goes walked ∙ c.requires.none_out in
+    let stays = queue_stays old walked_bench before back_queue head c.in_ok-request_len.request_len c.in_ok-request_len.field-0-2 c.requires.goes c.requires.by_flags walked in
+    let in_order = stays.0 ∙ c.requires.none_out in
     record {
       step = if_ok_so c.give_back.result _ _ _
           (λ notice back session_is i m files first session. (
@@ -56,7 +57,7 @@ returns g c =
                   back = back_queue;
                   returns = subst (λ (d : List ℕ). GoesBackBy back_queue room d new.state goes.0 goes.1 notice) (sym replied.5) goes.2;
                 } in
-                let law = c.law_chains.ensures.served walked.0 request calls goes.0 goes.1 head i notice old new before c.args.session m files run first in_order session files_run in (
+                let law = c.law_chains.ensures.served walked.0 request calls goes.0 goes.1 head i notice old new before c.args.session m files run first stays.1 in_order session files_run in (
                   step_loads law.0 law.2 request,
                   law.4,
                   record { acts = goes.0; last = goes.1 },

@@ -8,7 +8,7 @@ use Rattle.fs_chain_c.proofs.record.check_queues.Goals as goal
 
 pub loop-queue-preserved : goal.loop-queue-preserved
 loop-queue-preserved c =
-    let none : FsQueue = record { desc = 0; avail = 0; used = 0; size = 0; position = 0; returned = 0; most_out = 0; stopped = 0; returning = 0; begun = 0; taken = 0 } in (
+    let none : FsQueue = record { desc = 0; avail = 0; used = 0; size = 0; position = 0; returned = 0; most_out = 0; stopped = 0; returning = 0; event_index = 0; begun = 0; taken = 0 } in (
       All-more IsQueue c.args.queues.now c.loop-queue.queue-index none c.loop-queue-test.true c.loop-queue.invariant.0 (search rules),
       All-more HasNoneOut c.args.queues.now c.loop-queue.queue-index none c.loop-queue-test.true c.loop-queue.invariant.1 (search rules),
     )

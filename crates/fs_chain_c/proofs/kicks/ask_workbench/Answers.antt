@@ -1,0 +1,34 @@
+use Rattle.std.proofs.Common.{Option, refl, subst, inl, inr}
+use Rattle.fs_queue.specs.Returning.{Store}
+use Rattle.fs_chain_c.specs.Kicks.{TellsStore}
+use Rattle.fs_chain_c.proofs.kicks.ask_workbench.Goals as goal
+
+pub returns-in_default-kick_store : goal.returns-in_default-kick_store
+returns-in_default-kick_store c =
+    let told = c.nothing-in_default-kick_store.result in
+    inr (
+      c.in-Some.ensures.is,
+      c.in-Some.kept,
+      c.in-Some.ensures.kept,
+      subst (λ (o : Option Store). TellsStore c.args.workbench.now.regions o told 0) c.in_default-kick_store.ensures (refl, c.nothing-in_default-kick_store.ensures),
+    )
+
+pub returns-in-Some-here : goal.returns-in-Some-here
+returns-in-Some-here c =
+    inr (
+      c.in-Some.ensures.is,
+      c.in-Some.kept,
+      c.in-Some.ensures.kept,
+      subst (λ (o : Option Store). TellsStore c.args.workbench.now.regions o (record { at = c.in-Some-here.at; value = c.in-Some-kick_store.store.value; len = 2 }) 0)
+          c.in-Some-kick_store.ensures (inl (refl, c.in-Some-here.ensures.some, refl, refl)),
+    )
+
+pub returns-in-None : goal.returns-in-None
+returns-in-None c =
+    let told = c.nothing-in-None.result in
+    inr (
+      c.in-Some.ensures.is,
+      c.in-Some.kept,
+      c.in-Some.ensures.kept,
+      subst (λ (o : Option Store). TellsStore c.args.workbench.now.regions o told 77) c.in-Some-kick_store.ensures (inr (refl, c.in-None.ensures.none refl, c.nothing-in-None.ensures)),
+    )
