@@ -49,7 +49,7 @@ go_over() {
     is_gone "$run" || return 0
     say "$run" quit
     sleep 5
-    : > "$share/work/over"
+    echo over > "$share/work/over"
     outcome=moved
     if ! comes_to_end "$there" "$there_qemu" && is_alive "$there_qemu"; then
         say "$there" stop cont
@@ -62,6 +62,11 @@ go_over() {
 check_moved() {
     local name=$1
     grep -q '^== end' "$run/lines" || failure "$name: the guest didn't come to its end"
+    if [ "${SCENARIO:-migrate}" = migrate_full ]; then
+        grep -q '^TAKEN .*oo many open files' "$run/lines" || failure "$name: the guest has descriptors left"
+        all_are "$name" BIG "$(sum "$share/files/m8")"
+        return
+    fi
     grep -q '^HELD before after' "$run/lines" || failure "$name: a file that was held open lost its words"
     ! grep '^FAILED' "$run/lines" || failure "$name: a file isn't made"
     all_are "$name" READER "$(sum "$share/files/m1")"
@@ -91,20 +96,21 @@ conclude() {
     cp -r "$run" "$kept" 2> "$work/none" || true
 }
 
-# One migration: the source's daemon, and the target's.
+# One migration: the source's daemon, and the target's. SCENARIO is the guest's; words of both daemons may follow.
 move() {
     local from=$1 to=$2 status=0 there source target here_qemu there_qemu
+    shift 2
     make_files
     run=$work/run-migrate-$from-$to there=$work/run-migrate-$from-$to/there
     rm -rf "$run"
     mkdir -p "$there"
-    start_server "$from" "$run/socket" "$run/server" || return 0
+    start_server "$from" "$run/socket" "$run/server" "$@" || return 0
     source=$server
-    start_server "$to" "$there/socket" "$there/server" || return 0
+    start_server "$to" "$there/socket" "$there/server" "$@" || return 0
     target=$server
-    qemu "$run" migrate "$run/socket" -m 256M -no-reboot -device "$(device)" &
+    qemu "$run" "${SCENARIO:-migrate}" "$run/socket" -m 256M -no-reboot -device "$(device)" &
     here_qemu=$!
-    qemu "$there" migrate "$there/socket" -m 256M -no-reboot -device "$(device)" -incoming "unix:$there/stream" &
+    qemu "$there" "${SCENARIO:-migrate}" "$there/socket" -m 256M -no-reboot -device "$(device)" -incoming "unix:$there/stream" &
     there_qemu=$!
     go_over "$run" "$there" "$there_qemu"
     [ "$outcome" != failed ] || ! is_alive "$there_qemu" || say "$there" quit
@@ -149,4 +155,6 @@ migrate() {
         done
     done
     sum_up
+    SCENARIO=migrate_full move ours ours --rlimit-nofile 1600
+    echo "all descriptors are the guest's: $outcome"
 }

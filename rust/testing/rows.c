@@ -1,6 +1,7 @@
 /* What a request costs by a daemon, without a guest: rows DAEMON DIR COUNT. Requests as a Linux guest cuts them, header and arguments, data,
  * the reply's header and its data in pieces of their own; one at a time, and several at once. Prints for each kind the least of five runs
- * of COUNT requests, in nanoseconds for a request: with the driver's kicks and sleeps. DIR gets a file `rows`. */
+ * of COUNT requests, in nanoseconds for a request: with the driver's kicks and sleeps. And of all five what the daemon took of the
+ * processor for a request, and how often for a thousand of them one side told the other. DIR gets a file `rows`. */
 #include "front.h"
 #include <fcntl.h>
 #include <linux/fuse.h>
@@ -8,8 +9,9 @@
 #include <stdlib.h>
 #include <string.h>
 #include <time.h>
+#include <unistd.h>
 
-enum { RING = 1, ROOT = 1, RUNS = 5, LARGE = 1 << 19, SLOT = 0x2000, PARTS = 4, TOO_LONG = 60000, UNKNOWN = 0x7777 };
+enum { RING = 1, ROOT = 1, RUNS = 5, LARGE = 1 << 19, MIDDLE = 1 << 16, SLOT = 0x2000, PARTS = 4, TOO_LONG = 60000, UNKNOWN = 0x7777 };
 
 /* A kind of request: how many bytes go one way or the other, and how many are asked at once. */
 struct row {
@@ -20,7 +22,8 @@ struct row {
 
 static const struct row rows[] = {
     {"unknown opcode", UNKNOWN, 0, 32},     {"GETATTR", FUSE_GETATTR, 104, 32},       {"LOOKUP", FUSE_LOOKUP, 128, 32},
-    {"READ 4 KiB", FUSE_READ, 4096, 32},    {"WRITE 4 KiB", FUSE_WRITE, 4096, 32},    {"READ 512 KiB", FUSE_READ, LARGE, 4},
+    {"READ 4 KiB", FUSE_READ, 4096, 32},    {"WRITE 4 KiB", FUSE_WRITE, 4096, 32},    {"READ 64 KiB", FUSE_READ, MIDDLE, 16},
+    {"WRITE 64 KiB", FUSE_WRITE, MIDDLE, 16}, {"READ 512 KiB", FUSE_READ, LARGE, 4},
     {"WRITE 512 KiB", FUSE_WRITE, LARGE, 4},
 };
 
@@ -81,15 +84,31 @@ static double measure(const struct row *row, unsigned turns, unsigned at_once) {
     return ((double)(to.tv_sec - from.tv_sec) * 1e9 + (double)(to.tv_nsec - from.tv_nsec)) / turns / at_once;
 }
 
+/* How often the device was told, and told, with what the driver didn't wait for. */
+static struct front_ring counted(void) {
+    struct front_ring ring = front.rings[RING];
+    uint64_t word;
+    if (read(ring.call, &word, sizeof word) > 0) ring.calls += word;
+    return ring;
+}
+
 static void print_row(const struct row *row, unsigned count, unsigned at_once) {
-    unsigned turns = (row->data == LARGE ? count / 16 : count) / at_once;
-    double least = 0;
+    unsigned turns = (row->data >= MIDDLE ? count / 16 : count) / at_once;
+    double least = 0, processor = front_processor(&front);
+    struct front_ring before = counted();
+    if (turns == 0) turns = 1;
     for (unsigned k = 0; k < at_once; k++) draw(row, k);
     for (int run = 0; run < RUNS; run++) {
-        double next = measure(row, turns ? turns : 1, at_once);
+        double next = measure(row, turns, at_once);
         if (run == 0 || next < least) least = next;
     }
+    struct front_ring after = counted();
+    double requests = (double)RUNS * turns * at_once;
+    processor = front_processor(&front) - processor;
     printf("ROW %.0f ns: %s, %u at once\n", least, row->name, at_once);
+    printf("PROCESSOR %.0f ns: %s, %u at once\n", processor * 1e6 / requests, row->name, at_once);
+    printf("KICKS %.0f of 1000: %s, %u at once\n", (double)(after.kicks - before.kicks) * 1e3 / requests, row->name, at_once);
+    printf("CALLS %.0f of 1000: %s, %u at once\n", (double)(after.calls - before.calls) * 1e3 / requests, row->name, at_once);
 }
 
 /* A file of which READ has enough, and whose pages the host has. */
