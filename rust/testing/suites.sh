@@ -23,13 +23,15 @@ take_suites() {
     [ ! -f "$work/suites.disk" ] || return 0
     make_apt
     theirs apt-get update > "$work/apt" 2>&1
-    packages=$(needed . "${suite_packages[@]}" | grep -vE '^(libllvm|libz3|mesa-|libpython3-|gcc-)') # stress-ng's for displays are large
+    # What stress-ng loads for displays is large, and it does without.
+    packages=$(needed . "${suite_packages[@]}" | grep -vE '^(libllvm|libz3|mesa-|libpython3-|gcc-)')
     rm -rf "$disk"
     # shellcheck disable=SC2086
     unpack suites "$disk" base-files $packages >> "$work/apt" 2>&1
     cp "$disk/usr/share/base-passwd/passwd.master" "$disk/etc/passwd"
     cp "$disk/usr/share/base-passwd/group.master" "$disk/etc/group"
     ln -sf gawk "$disk/usr/bin/awk"
+    ln -sf bash "$disk/usr/bin/sh"
     mkdir -p "$disk"/{proc,sys,dev,tmp,mnt,root}
     take_test_syscalls "$disk/usr/bin/test_syscalls"
     rm -rf "$disk"/usr/share/{doc,man,locale,info}
@@ -45,7 +47,7 @@ suites() {
     for name in ${SUITES:-${suite_names[*]}}; do
         for kind in ours virtiofsd; do
             make_files
-            MEMORY=1536M DISK=$work/suites.disk run_guest "suite suites=$name" "$kind" "suite-$name-$kind"
+            GUEST_SECONDS=${GUEST_SECONDS:-3600} MEMORY=1536M DISK=$work/suites.disk run_guest "suite suites=$name" "$kind" "suite-$name-$kind"
             sed -n 's/^RESULT //p' "$run/lines" | sort > "$work/suite-$name-$kind"
         done
         [ "$(wc -l < "$work/suite-$name-ours")" -gt 3 ] || failure "suite $name: it tells nothing"

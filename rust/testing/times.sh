@@ -85,7 +85,8 @@ rows() {
     mkdir -p "$work/rows-share"
     for kind in $(turns "${ROUNDS:-5}"); do
         [ "$kind" = ours ] && daemon=$DAEMON || daemon=$work/virtiofsd
-        EVENT_INDEX=${EVENT_INDEX:-1} "$work/rows" "$daemon" "$work/rows-share" "${REQUESTS:-20000}" > "$work/rows.lines" 2> "$work/rows.errors" ||
+        EVENT_INDEX=${EVENT_INDEX:-1} "$work/rows" "$daemon" "$work/rows-share" "${REQUESTS:-20000}" \
+            > "$work/rows.lines" 2> "$work/rows.errors" ||
             failure "rows of $kind: $(tail -n 3 "$work/rows.errors")"
         for word in ROW PROCESSOR KICKS CALLS; do
             sed -n "s/^$word \([0-9]*\) [^:]*: \(.*\)/\1\t\2/p" "$work/rows.lines" >> "$work/rows.$word.$kind"

@@ -88,7 +88,8 @@ static bool read_parts(const char *path, long count, long threads, size_t each, 
     static struct part parts[MOST_THREADS];
     bool failed = threads < 1 || threads > MOST_THREADS;
     for (long k = 0; k < threads && !failed; k++) {
-        parts[k] = (struct part){.path = path, .each = each, .count = count / threads, .first = k * (count / threads), .by_chance = by_chance};
+        long part = count / threads;
+        parts[k] = (struct part){.path = path, .each = each, .count = part, .first = k * part, .by_chance = by_chance};
         failed = pthread_create(&parts[k].thread, NULL, read_part, &parts[k]) != 0;
     }
     for (long k = 0; k < threads && !failed; k++) pthread_join(parts[k].thread, NULL);
