@@ -265,8 +265,8 @@ options() {
     local word
     (other /usr/libexec/virtiofsd --help) > "$work/help.virtiofsd"
     "$DAEMON" --help > "$work/help"
-    for word in $(grep -oE '^ +(-[a-zA-Z]|--[a-z0-9-]+)' "$work/help.virtiofsd") $(grep -oE ', --[a-z0-9-]+' "$work/help.virtiofsd" | tr -d ,); do
-        grep -qE -e "(^| )$word([ ,=\]]|\$)" "$work/help" || failure "options: $word isn't known"
+    for word in $(grep -oE '^ +(-[a-zA-Z], )?--?[a-zA-Z0-9-]+' "$work/help.virtiofsd" | tr -d ,); do
+        grep -qE -e "(^| )$word([][,= ]|\$)" "$work/help" || failure "options: $word isn't known"
     done
     echo "options: done, those of $(other /usr/libexec/virtiofsd --version)"
 }

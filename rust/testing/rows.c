@@ -1,5 +1,5 @@
-/* What a request costs by a daemon, without a guest: rows DAEMON DIR COUNT. Requests as a Linux guest cuts them, header and arguments, data,
- * the reply's header and its data in pieces of their own; one at a time, and several at once. Prints for each kind the least of five runs
+/* What a request costs by a daemon, without a guest: rows DAEMON DIR COUNT. Requests as a Linux guest cuts them: header, arguments, data,
+ * the reply's header and its data in pieces of their own, which a table of the request's own names; one at a time, and several at once. Prints for each kind the least of five runs
  * of COUNT requests, in nanoseconds for a request: with the driver's kicks and sleeps. And of all five what the daemon took of the
  * processor for a request, and how often for a thousand of them one side told the other. DIR gets a file `rows`. */
 #include "front.h"
@@ -11,7 +11,7 @@
 #include <time.h>
 #include <unistd.h>
 
-enum { RING = 1, ROOT = 1, RUNS = 5, LARGE = 1 << 19, MIDDLE = 1 << 16, SLOT = 0x2000, PARTS = 4, TOO_LONG = 60000, UNKNOWN = 0x7777 };
+enum { RING = 1, ROOT = 1, RUNS = 5, LARGE = 1 << 19, MIDDLE = 1 << 16, SLOT = 0x2000, TOO_LONG = 60000, UNKNOWN = 0x7777 };
 
 /* A kind of request: how many bytes go one way or the other, and how many are asked at once. */
 struct row {
@@ -43,21 +43,23 @@ static size_t put_arguments(const struct row *row, uint8_t *at) {
     }
 }
 
-/* Draws request `k`, whose head is descriptor PARTS * k. */
+/* Draws request `k`: descriptor `k` of the ring has a table of its own, as Linux has it. */
 static void draw(const struct row *row, unsigned k) {
-    uint64_t at = request_at(RING) + SLOT * k, data = room_at(RING) + row->data * (uint64_t)k, table = desc_at(RING);
+    uint64_t at = request_at(RING) + SLOT * k, data = room_at(RING) + row->data * (uint64_t)k, table = at + SLOT / 4;
     uint8_t *request = front_at(&front, at);
     bool is_write = row->opcode == FUSE_WRITE;
     struct fuse_in_header head = {.opcode = row->opcode, .unique = k + 1, .nodeid = row->opcode == FUSE_LOOKUP ? ROOT : node};
-    size_t len = sizeof head + put_arguments(row, request + sizeof head);
-    unsigned next = PARTS * k;
-    head.len = (uint32_t)len + (is_write ? row->data : 0);
+    size_t len = put_arguments(row, request + sizeof head);
+    unsigned next = 0;
+    head.len = (uint32_t)(sizeof head + len) + (is_write ? row->data : 0);
     memcpy(request, &head, sizeof head);
-    put_descriptor(&front, table, next, at, (uint32_t)len, 1, next + 1), next++;
+    put_descriptor(&front, table, next, at, sizeof head, 1, next + 1), next++;
+    if (len > 0) put_descriptor(&front, table, next, at + sizeof head, (uint32_t)len, 1, next + 1), next++;
     if (is_write) put_descriptor(&front, table, next, data, row->data, 1, next + 1), next++;
     uint32_t behind = is_write ? sizeof(struct fuse_write_out) : row->data;
     put_descriptor(&front, table, next, at + SLOT / 2, sizeof(struct fuse_out_header), behind ? 3 : 2, next + 1), next++;
-    if (behind) put_descriptor(&front, table, next, is_write ? at + SLOT / 2 + 64 : data, behind, 2, 0);
+    if (behind) put_descriptor(&front, table, next, is_write ? at + SLOT / 2 + 64 : data, behind, 2, 0), next++;
+    put_descriptor(&front, desc_at(RING), k, table, 16 * next, 4, 0);
 }
 
 /* Whether request `k` was answered as it should be. */
@@ -74,7 +76,7 @@ static double measure(const struct row *row, unsigned turns, unsigned at_once) {
     struct timespec from, to;
     clock_gettime(CLOCK_MONOTONIC, &from);
     for (unsigned turn = 0; turn < turns; turn++) {
-        for (unsigned k = 0; k < at_once; k++) front_offer(&front, RING, (uint16_t)(PARTS * k));
+        for (unsigned k = 0; k < at_once; k++) front_offer(&front, RING, (uint16_t)k);
         front_kick(&front, RING);
         if (!front_wait(&front, RING, TOO_LONG)) die("%s isn't answered", row->name);
     }

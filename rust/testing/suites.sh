@@ -3,7 +3,7 @@
 
 suite_names=(syscalls python fio dbench sqlite git rsync stress)
 suite_packages=(base-files base-passwd bash coreutils diffutils findutils gawk grep gzip procps sed tar util-linux perl-base
-    python3.13 libpython3.13-testsuite fio dbench sqlite3 git rsync stress-ng)
+    libc-bin python3.13 libpython3.13-testsuite fio dbench sqlite3 git rsync stress-ng)
 
 # libfuse's test_syscalls, which no package has: from fuse3's source.
 take_test_syscalls() {

@@ -102,8 +102,8 @@ pub struct Options {
     /// The directory that the guest is to see
     #[arg(long, required_unless_present = "print_capabilities")]
     pub shared_dir: Option<String>,
-    /// Where the front-end (QEMU) connects to; it is made anew
-    #[arg(long, visible_alias = "socket", required_unless_present_any = ["fd", "print_capabilities"], conflicts_with = "fd")]
+    /// Where the front-end (QEMU) connects to; it is made anew. --socket is the same
+    #[arg(long, alias = "socket", required_unless_present_any = ["fd", "print_capabilities"], conflicts_with = "fd")]
     pub socket_path: Option<PathBuf>,
     /// The group that may connect to the socket, besides its owner
     #[arg(long, requires = "socket_path")]
