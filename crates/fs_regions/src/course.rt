@@ -109,7 +109,7 @@ impl Course {
         }
     }
 
-    // Goes on by the bytes of a stretch of a table.
+    // What a walk comes to once the bytes of a stretch of a table came.
     #[inline(always)]
     fn give_entries(
         &self,
