@@ -27,7 +27,6 @@ pub trait Places {
 }
 
 /// The places of a memory whose bytes stand in a host.
-#[derive(Clone, Copy)]
 pub(crate) struct HostPlaces<'a, M: GuestMemory, H: HostBlocks> {
     pub(crate) alloc: Global,
     pub(crate) host: &'a H,
