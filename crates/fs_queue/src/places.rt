@@ -27,6 +27,7 @@ pub trait Places {
 }
 
 /// The places of a memory whose bytes stand in a host.
+#[derive(Drop)]
 pub(crate) struct HostPlaces<'a, M: GuestMemory, H: HostBlocks> {
     pub(crate) alloc: Global,
     pub(crate) host: &'a H,
