@@ -106,8 +106,9 @@ impl<F: FileSystem> Server<F> {
         &self.fs
     }
 
-    // Serves a request that asks one plain call, or none.
-    #[inline(always)]
+    // Serves a request that asks one plain call, or none. Its code is long: inlined, it would keep that of who serves a chain from
+    // being inlined in turn.
+    #[inline(never)]
     fn serve_single(
         &mut self,
         alloc: Global,
