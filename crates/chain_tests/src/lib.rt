@@ -10,6 +10,8 @@ mod labels;
 #[cfg(test)]
 mod laws;
 #[cfg(test)]
+mod listings;
+#[cfg(test)]
 mod orders;
 #[cfg(test)]
 mod regions;

@@ -12,3 +12,4 @@ pub mod Queues
 pub mod Returns
 pub mod Walks
 pub mod Whole
+pub mod WholeListings
