@@ -1,5 +1,5 @@
 -- A chain that is walked, asked, answered and returned, call by call.
-use Rattle.std.proofs.Common.{◌≡◌, ℕ, List, [], length, Some, None, Result, Ok, Err, IfOk, OnOk, refl, subst, sym, ap, ◌∙◌, arith}
+use Rattle.std.proofs.Common.{◌≡◌, ℕ, List, length, Some, None, Result, Ok, Err, IfOk, OnOk, refl, subst, sym, ap, ◌∙◌, arith}
 use Rattle.std.proofs.lemmas.List.{take_all}
 use Rattle.fs_queue.specs.Chain.{Descriptor}
 use Rattle.fs_regions.specs.declared.course.Course.{Course}
@@ -86,16 +86,16 @@ pub whole_front : (request : List ℕ) → IsFront request request
 whole_front request = take_all (length request) request (omega arith)
 
 -- a chain whose reply is known goes back by what begin_return told
-pub goes_back : (st : state.State) (q : KeptQueue) (len : ℕ) (s : Stores) (flags : List ℕ) (room : List ℕ) → return_error st q len ≡ None → length flags ≡ 2 →
-    IfHasReply st (λ out reply. ReturnsBy q out reply s) → (acts : List Act) × (last : ℕ) × GoesBackBy q room [] st acts last (tells_of q flags)
-goes_back (at.HasReply out reply) q len s flags room can two back =
-    (acts_of room reply [] s flags, front_len reply, record { stores = s; flags = flags; flags_len = two; returns = (back, (refl, refl)); notified = refl })
-goes_back at.Free q len s flags room can two back = absurd (cc)
-goes_back (at.Walking course ticket walk) q len s flags room can two back = absurd (cc)
-goes_back (at.Taken out) q len s flags room can two back = absurd (cc)
-goes_back (at.Waits out w) q len s flags room can two back = absurd (cc)
-goes_back (at.Lists out l) q len s flags room can two back = absurd (cc)
-goes_back (at.Returning out) q len s flags room can two back = absurd (cc)
+pub goes_back : (st : state.State) (q : KeptQueue) (len : ℕ) (s : Stores) (flags room behind : List ℕ) → return_error st q len ≡ None → length flags ≡ 2 →
+    IfHasReply st (λ out reply. ReturnsBy q out reply s) → (acts : List Act) × (last : ℕ) × GoesBackBy q room behind st acts last (tells_of q flags)
+goes_back (at.HasReply out reply) q len s flags room behind can two back =
+    (acts_of room reply behind s flags, front_len reply, record { stores = s; flags = flags; flags_len = two; returns = (back, (refl, refl)); notified = refl })
+goes_back at.Free q len s flags room behind can two back = absurd (cc)
+goes_back (at.Walking course ticket walk) q len s flags room behind can two back = absurd (cc)
+goes_back (at.Taken out) q len s flags room behind can two back = absurd (cc)
+goes_back (at.Waits out w) q len s flags room behind can two back = absurd (cc)
+goes_back (at.Lists out l) q len s flags room behind can two back = absurd (cc)
+goes_back (at.Returning out) q len s flags room behind can two back = absurd (cc)
 
 pub if_ok : {A E : Type 0} (r : Result A E) (P Q : A → Type 0) → ((a : A) → P a → Q a) → IfOk r P → IfOk r Q
 if_ok (Ok a) P Q more p = more a p

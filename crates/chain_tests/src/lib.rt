@@ -10,11 +10,15 @@ mod labels;
 #[cfg(test)]
 mod laws;
 #[cfg(test)]
+mod listings;
+#[cfg(test)]
 mod orders;
 #[cfg(test)]
 mod regions;
 #[cfg(test)]
 mod returns;
+#[cfg(test)]
+mod serials;
 #[cfg(test)]
 mod several;
 #[cfg(test)]

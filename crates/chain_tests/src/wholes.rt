@@ -1,6 +1,6 @@
 //! What calls of a handle come to from a walk's beginning on is a step of the plain machine.
 
-ghost use Rattle.std.specs.Prelude.{◌≡◌, ℕ, List, [], length, Option, None, Ok, IfOk, OnOk, false, true};
+ghost use Rattle.std.specs.Prelude.{◌≡◌, ℕ, List, [], length, None, Ok, IfOk, OnOk, false, true};
 ghost use Rattle.fuse_fs.specs.Calls.{FileRun};
 ghost use Rattle.server_phases.specs.Answering.{TellsBytes};
 ghost use Rattle.fs_device.specs.Step.{Calls, Exchange, Exchanged, State, Idle, Refused, with_queue};
@@ -10,8 +10,7 @@ ghost use Rattle.fs_queue.specs.Taking.{after_refusal};
 ghost use Rattle.fs_queue.specs.declared.fault.QueueError.{QueueError};
 ghost use Rattle.fs_regions.specs.Walks.{queue_of};
 ghost use Rattle.fs_chain.specs.Walks.{course_of};
-ghost use Rattle.fs_chain.specs.Whole.{FromTaken, GoesBackBy, HasReply, IsAskedBy, IsBefore, IsSession, IsWalked, WantsBytes, after_chain, data_behind, no_effects};
-ghost use Rattle.fs_chain.specs.declared.answering.Replied.{Replied};
+ghost use Rattle.fs_chain.specs.Whole.{FromTaken, Given, GoesBackBy, HasReply, IsAskedBy, IsBefore, IsSession, IsWalked, WantsBytes, after_chain, data_behind, no_effects};
 ghost use Rattle.fs_chain.specs.declared.asking.Told as told;
 ghost use Rattle.fs_chain.specs.declared.state.State.TheVariants as at;
 
@@ -68,8 +67,8 @@ fn look<F: FileSystem>(
     walk_by(workbench, queue, given)
 }
 
-// A walk that comes to a chain: its head, how many bytes its request has, and how many its room.
-fn walk_chain(
+/// A walk that comes to a chain: its head, how many bytes its request has, and how many its room.
+pub fn walk_chain(
     workbench: &mut Workbench,
     queue: &mut KeptQueue,
     given: &[&[u8]],
@@ -98,23 +97,26 @@ fn reply(
 ) -> Result<(), ChainError>
     requires taken { FromTaken workbench.old.state (λ out. out.request_len ≡ length request.now) }
     requires data { TellsBytes [] answer }
-    ensures replied { OnOk result ((made : told.Told) × (asked : Workbench) × (given : Option (FileAnswer × List ℕ × Replied))
+    ensures replied { OnOk result ((made : told.Told) × (asked : Workbench) × (given : Given)
         × IsAskedBy workbench.old session request.now request.now made asked × HasReply made asked given workbench.new × (data_behind given ≡ [])) }
 {
     match workbench.ask(session, request)? {
-        Told::Call(_) => match workbench.answer(answer) {
-            Ok(_) => Ok(()),
-            Err(error) => Err(error),
-        },
+        Told::Call(_) => {
+            let serial = workbench.serial();
+            match workbench.answer(serial, answer) {
+                Ok(_) => Ok(()),
+                Err(error) => Err(error),
+            }
+        }
         Told::More(_) => Err(ChainError::BadArgument),
         Told::Nothing => Ok(()),
         Told::Fault(_) => Ok(()),
     }
 }
 
-// A chain whose reply is known goes back to a driver that wants to be told.
-fn give_back(workbench: &mut Workbench, queue: &mut KeptQueue) -> Result<bool, ChainError>
-    ensures back { IfOk result (λ notice. (room : List ℕ) → (acts : List Act) × (last : ℕ) × GoesBackBy queue.old room [] workbench.old.state acts last notice) }
+/// A chain whose reply is known goes back to a driver that wants to be told.
+pub fn give_back(workbench: &mut Workbench, queue: &mut KeptQueue) -> Result<bool, ChainError>
+    ensures back { IfOk result (λ notice. (room behind : List ℕ) → (acts : List Act) × (last : ℕ) × GoesBackBy queue.old room behind workbench.old.state acts last notice) }
     ensures session { OnOk result (workbench.new.session ≡ workbench.old.session) }
 {
     let mut front = [0u8; 160];

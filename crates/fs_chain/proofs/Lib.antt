@@ -5,6 +5,8 @@ pub mod Passing
 pub mod Steps
 pub mod WholeCalls
 pub mod WholeChains
+pub mod WholeEntries
+pub mod WholeListings
 pub mod WholeOffers
 pub mod WholeSteps
 pub mod WholeWalks

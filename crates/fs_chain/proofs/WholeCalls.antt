@@ -29,7 +29,7 @@ use Rattle.fs_chain.specs.Queues.{at_return}
 use Rattle.fs_chain.specs.Returns.{ReturnsBy}
 use Rattle.fs_device.specs.Step.{State, Exchange, Calls, ServesRequest, answers_alone, calls_alone, served_exchange}
 use Rattle.fs_device.specs.StepBy.{AnswersBy, Act}
-use Rattle.fs_chain.specs.Whole.{FromReplied, acts_of, after_chain, file_calls, front_if}
+use Rattle.fs_chain.specs.Whole.{FromReplied, OneAnswer, acts_of, after_chain, file_calls, front_if}
 use Rattle.fs_chain.proofs.WholeSteps.{answers, serves_call, by_calls, by_options, by_reply, data_is, whole_len, isnt_cut}
 
 -- the plain machine's answer to it
@@ -45,8 +45,8 @@ pub by_call : {F : Type 0} (may : May F) (m : State F) (i : ℕ) (kq : KeptQueue
     → KeepsCall (setting m.page_size m.options out.room_len) (meaning m.options request out.room_len) behind made out st
     → IsWaiting st → TellsBytes bytes a → IfWaits st (λ kept w. IsGiven (setting m.page_size m.options w.room) w a kept options told after)
     → FromReplied kq after (λ reply s₁. (last ≡ front_len reply) × (acts ≡ acts_of room reply bytes s₁ flags)) used → length flags ≡ 2 → notice ≡ tells flags
-    → FileRun may m.files (file_calls behind (asks.Call made) (Some (a, bytes, told))) files
-    → AnsweredSo may m i (at_return kq out) out.head request room (file_calls behind (asks.Call made) (Some (a, bytes, told))) notice acts last options files
+    → FileRun may m.files (file_calls behind (asks.Call made) (OneAnswer a bytes told)) files
+    → AnsweredSo may m i (at_return kq out) out.head request room (file_calls behind (asks.Call made) (OneAnswer a bytes told)) notice acts last options files
 by_call {F} may m i kq request room behind files made a bytes told out (at.Waits kept w) after used flags notice acts last options room_is small keeps waits data_told given goes_back two notified run =
     let asked = keeps.1 in
     let command = asked.0 in
@@ -54,7 +54,7 @@ by_call {F} may m i kq request room behind files made a bytes told out (at.Waits
     let s = setting m.page_size m.options r in
     let gives : Gives s command bytes a given.0 options =
     subst (λ (n : ℕ). Gives (setting m.page_size m.options n) command bytes a given.0 options) asked.5 (given.3 command bytes asked.4 data_told) in
-    let mine : Replied → Calls = λ t. file_calls behind (asks.Call made) (Some (a, bytes, t)) in
+    let mine : Replied → Calls = λ t. file_calls behind (asks.Call made) (OneAnswer a bytes t) in
     let cs = calls_alone (mine (replied_of given.0)) in
     let g = served_by cs options given.0.sent bytes in
     let n = data_len a in

@@ -23,13 +23,11 @@ use Rattle.fs_regions.specs.declared.step.Step.TheVariants as step
 use Rattle.fs_regions.specs.Places.{places_in}
 use Rattle.fs_regions.specs.Walks.{Loaded, queue_of, ComesTo, OffersBy, IsLost}
 use Rattle.fuse_fs.specs.Calls.{FileRun}
-use Rattle.fuse_values.specs.declared.answer.FileAnswer.{FileAnswer}
 use Rattle.virtiofsd_fuse.specs.Grammar.{meaning}
 use Rattle.virtiofsd_fuse.specs.Serving.{May, served, setting}
 use Rattle.virtiofsd_fuse.specs.Serving as serving_words
 use Rattle.server_phases.specs.Asking.{IsFront}
 use Rattle.server_phases.specs.declared.session.Session.{Session}
-use Rattle.fs_chain.specs.declared.answering.Replied.{Replied}
 use Rattle.fs_chain.specs.declared.asking.Told as told
 use Rattle.fs_chain.specs.declared.asking.Told.TheVariants as asks
 use Rattle.fs_chain.specs.declared.queue.KeptQueue.{KeptQueue}
@@ -55,6 +53,7 @@ use Rattle.fs_device.specs.StepBy as act
 use Rattle.fs_device.specs.StepBy.{Act, ActsBy, AnswersBy, AreStepLoadsOf, ReturnsFaultyBy, return_acts, return_stores, Effects, FindFlags, IsOfMemory, MayStoreLast, StepBy, StepOfBy, offered_by}
 use Rattle.fs_device.proofs.StepByLemmas.{step_by_is_step}
 use Rattle.fs_chain.specs.Whole.{
+  ByEntries,
   ChainBy,
   ChainIsAnsweredBy,
   ChainIsStep,
@@ -64,6 +63,7 @@ use Rattle.fs_chain.specs.Whole.{
   FaultyIsStepBy,
   FromReplied,
   FromTaken,
+  Given,
   HasReply,
   IdleIsStepBy,
   IsBefore,
@@ -72,6 +72,8 @@ use Rattle.fs_chain.specs.Whole.{
   IsSession,
   LoadsOf,
   LoadsOfChain,
+  NoAnswer,
+  OneAnswer,
   RefusalIsStepBy,
   acts_of,
   after_chain,
@@ -84,6 +86,8 @@ use Rattle.fs_chain.specs.Whole.{
 use Rattle.fs_chain.proofs.WholeOffers.{is_within, fits_limit}
 use Rattle.fs_chain.proofs.WholeWalks.{walk_comes}
 use Rattle.fs_chain.proofs.WholeCalls.{AnsweredSo, by_call, by_fault, by_reply_kept}
+use Rattle.fs_chain.proofs.WholeEntries.{listed_session}
+use Rattle.fs_chain.proofs.WholeListings.{by_listing}
 
 -- ---- what a walk came to that told a chain
 
@@ -120,29 +124,39 @@ flags_tell q flags is = rw is refl
 
 -- ---- what was told of the request, and how it was answered
 
-told_so : {F : Type 0} (may : May F) (m : State F) (i : ℕ) (kq : KeptQueue) (request room : List ℕ) (files : F) (s : Session) (out : Out) (made : told.Told) (asked answered : Workbench)
-    (given : Option (FileAnswer × List ℕ × Replied)) (used : Stores) (flags : List ℕ) (notice : Bool) (acts : List Act) (last : ℕ)
+pub told_so : {F : Type 0} (may : May F) (m : State F) (i : ℕ) (kq : KeptQueue) (request room : List ℕ) (files : F) (s : Session) (out : Out) (made : told.Told) (asked answered : Workbench)
+    (given : Given) (used : Stores) (flags : List ℕ) (notice : Bool) (acts : List Act) (last : ℕ)
     → m.page_size ≡ s.page_size → m.options ≡ s.options.0 → length room ≡ out.room_len → out.room_len ≤ 2 ^ 31
     → TellsMeaning (setting s.page_size s.options.0 out.room_len) (meaning s.options.0 request out.room_len) (drop 80 request) out made asked.state
     → asked.session ≡ s → HasReply made asked given answered
     → FromReplied kq answered.state (λ reply s₁. (last ≡ front_len reply) × (acts ≡ acts_of room reply (data_behind given) s₁ flags)) used → length flags ≡ 2 → notice ≡ tells flags
     → FileRun may m.files (file_calls (drop 80 request) made given) files
     → AnsweredSo may m i (at_return kq out) out.head request room (file_calls (drop 80 request) made given) notice acts last answered.session.options.0 files
-told_so may m i kq request room files s out (asks.Call c) asked answered (Some g) used flags notice acts last page options room_is small meant same has back two notified run =
+told_so may m i kq request room files s out (asks.Call c) asked answered (OneAnswer a bytes replied) used flags notice acts last page options room_is small meant same has back two notified run =
     let r = out.room_len in
     let keeps : KeepsCall (setting m.page_size m.options r) (meaning m.options request r) (drop 80 request) c out asked.state =
     subst (λ (o : ℕ). KeepsCall (setting m.page_size o r) (meaning o request r) (drop 80 request) c out asked.state) (sym options)
     (subst (λ (p : ℕ). KeepsCall (setting p s.options.0 r) (meaning s.options.0 request r) (drop 80 request) c out asked.state) (sym page) meant) in
     let o' = answered.session.options.0 in
-    let in_session : IfWaits asked.state (λ kept w. IsGiven (setting s.page_size s.options.0 w.room) w g.0 kept o' g.2 answered.state) =
-    subst (λ (x : Session). IfWaits asked.state (λ kept w. IsGiven (setting x.page_size x.options.0 w.room) w g.0 kept o' g.2 answered.state)) same has.3 in
-    let given_so : IfWaits asked.state (λ kept w. IsGiven (setting m.page_size m.options w.room) w g.0 kept o' g.2 answered.state) =
-    subst (λ (o : ℕ). IfWaits asked.state (λ kept w. IsGiven (setting m.page_size o w.room) w g.0 kept o' g.2 answered.state)) (sym options)
-    (subst (λ (p : ℕ). IfWaits asked.state (λ kept w. IsGiven (setting p s.options.0 w.room) w g.0 kept o' g.2 answered.state)) (sym page) in_session) in
-    by_call may m i kq request room (drop 80 request) files c g.0 g.1 g.2 out asked.state answered.state used flags notice acts last o' room_is small keeps has.0 has.1 given_so back two notified run
-told_so may m i kq request room files s out (asks.Call c) asked answered None used flags notice acts last page options room_is small meant same has back two notified run = absurd has
+    let in_session : IfWaits asked.state (λ kept w. IsGiven (setting s.page_size s.options.0 w.room) w a kept o' replied answered.state) =
+    subst (λ (x : Session). IfWaits asked.state (λ kept w. IsGiven (setting x.page_size x.options.0 w.room) w a kept o' replied answered.state)) same has.3 in
+    let given_so : IfWaits asked.state (λ kept w. IsGiven (setting m.page_size m.options w.room) w a kept o' replied answered.state) =
+    subst (λ (o : ℕ). IfWaits asked.state (λ kept w. IsGiven (setting m.page_size o w.room) w a kept o' replied answered.state)) (sym options)
+    (subst (λ (p : ℕ). IfWaits asked.state (λ kept w. IsGiven (setting p s.options.0 w.room) w a kept o' replied answered.state)) (sym page) in_session) in
+    by_call may m i kq request room (drop 80 request) files c a bytes replied out asked.state answered.state used flags notice acts last o' room_is small keeps has.0 has.1 given_so back two notified run
+told_so may m i kq request room files s out (asks.Call c) asked answered (ByEntries b es ending bytes) used flags notice acts last page options room_is small meant same has back two notified run =
+    let r = out.room_len in
+    let keeps : KeepsCall (setting m.page_size m.options r) (meaning m.options request r) (drop 80 request) c out asked.state =
+    subst (λ (o : ℕ). KeepsCall (setting m.page_size o r) (meaning o request r) (drop 80 request) c out asked.state) (sym options)
+    (subst (λ (p : ℕ). KeepsCall (setting p s.options.0 r) (meaning s.options.0 request r) (drop 80 request) c out asked.state) (sym page) meant) in
+    let session = listed_session asked answered b es ending bytes has in
+    let calls = file_calls (drop 80 request) (asks.Call c) (ByEntries b es ending bytes) in
+    subst (λ (o : ℕ). AnsweredSo may m i (at_return kq out) out.head request room calls notice acts last o files)
+    (options ∙ sym (ap (λ (x : Session). x.options.0) same) ∙ sym (ap (λ (x : Session). x.options.0) session))
+    (by_listing may m i kq request room (drop 80 request) files c b es ending bytes out asked answered used flags notice acts last room_is small keeps has back two notified run)
+told_so may m i kq request room files s out (asks.Call c) asked answered NoAnswer used flags notice acts last page options room_is small meant same has back two notified run = absurd has
 told_so may m i kq request room files s out (asks.More n) asked answered given used flags notice acts last page options room_is small meant same has back two notified run = absurd has
-told_so may m i kq request room files s out asks.Nothing asked answered None used flags notice acts last page options room_is small meant same has back two notified run =
+told_so may m i kq request room files s out asks.Nothing asked answered NoAnswer used flags notice acts last page options room_is small meant same has back two notified run =
     let r = out.room_len in
     let keeps : KeepsReply (setting m.page_size m.options r) (meaning m.options request r) (drop 80 request) out asked.state =
     subst (λ (o : ℕ). KeepsReply (setting m.page_size o r) (meaning o request r) (drop 80 request) out asked.state) (sym options)
@@ -151,8 +165,9 @@ told_so may m i kq request room files s out asks.Nothing asked answered None use
     subst (λ (w : Workbench). FromReplied kq w.state (λ reply s₁. (last ≡ front_len reply) × (acts ≡ acts_of room reply [] s₁ flags)) used) has back in
     subst (λ (o : ℕ). AnsweredSo may m i (at_return kq out) out.head request room [] notice acts last o files) (options ∙ sym (ap (λ (x : Session). x.options.0) same) ∙ sym (ap (λ (w : Workbench). w.session.options.0) has))
     (by_reply_kept may m i kq request room (drop 80 request) files out asked.state used flags notice acts last room_is small keeps back_so two notified run)
-told_so may m i kq request room files s out asks.Nothing asked answered (Some g) used flags notice acts last page options room_is small meant same has back two notified run = absurd has
-told_so may m i kq request room files s out (asks.Fault e) asked answered None used flags notice acts last page options room_is small meant same has back two notified run =
+told_so may m i kq request room files s out asks.Nothing asked answered (OneAnswer a bytes replied) used flags notice acts last page options room_is small meant same has back two notified run = absurd has
+told_so may m i kq request room files s out asks.Nothing asked answered (ByEntries b es ending bytes) used flags notice acts last page options room_is small meant same has back two notified run = absurd has
+told_so may m i kq request room files s out (asks.Fault e) asked answered NoAnswer used flags notice acts last page options room_is small meant same has back two notified run =
     let r = out.room_len in
     let fault : served (setting m.page_size m.options r) (meaning m.options request r) [] ≡ serving_words.no_reply [] m.options (Some e) =
     subst (λ (o : ℕ). served (setting m.page_size o r) (meaning o request r) [] ≡ serving_words.no_reply [] o (Some e)) (sym options)
@@ -161,7 +176,8 @@ told_so may m i kq request room files s out (asks.Fault e) asked answered None u
     subst (λ (w : Workbench). FromReplied kq w.state (λ reply s₁. (last ≡ front_len reply) × (acts ≡ acts_of room reply [] s₁ flags)) used) has back in
     subst (λ (o : ℕ). AnsweredSo may m i (at_return kq out) out.head request room [] notice acts last o files) (options ∙ sym (ap (λ (x : Session). x.options.0) same) ∙ sym (ap (λ (w : Workbench). w.session.options.0) has))
     (by_fault may m i kq request room files out asked.state e used flags notice acts last room_is small meant.0 fault back_so two notified run)
-told_so may m i kq request room files s out (asks.Fault e) asked answered (Some g) used flags notice acts last page options room_is small meant same has back two notified run = absurd has
+told_so may m i kq request room files s out (asks.Fault e) asked answered (OneAnswer a bytes replied) used flags notice acts last page options room_is small meant same has back two notified run = absurd has
+told_so may m i kq request room files s out (asks.Fault e) asked answered (ByEntries b es ending bytes) used flags notice acts last page options room_is small meant same has back two notified run = absurd has
 
 -- a chain's loads, by which it is offered, and how it is answered
 chain_parts : {F : Type 0} (may : May F) (given : List (List ℕ)) (request : List ℕ) (calls : Calls) (acts : List Act) (last head i : ℕ) (notice : Bool)

@@ -29,7 +29,7 @@ use Rattle.fs_chain.specs.Orders.{front_len, reply_len}
 use Rattle.fs_device.specs.Step.{State, Calls, ServesRequest, calls_alone, answers_alone, served_exchange}
 use Rattle.fs_device.specs.StepBy.{AnswersBy, Act, reply_stores}
 use Rattle.fs_device.specs.StepBy as act
-use Rattle.fs_chain.specs.Whole.{file_calls, front_if, acts_of, after_chain}
+use Rattle.fs_chain.specs.Whole.{OneAnswer, file_calls, front_if, acts_of, after_chain}
 
 -- one answer is enough, unless a directory is listed
 first_is_enough : (s : Setting) (command : FileCommand) (a : file.FileAnswer) (more : List file.FileAnswer) → is_listing command ≡ false
@@ -44,10 +44,10 @@ forgets (Some node) = refl
 
 pub serves_call : (s : Setting) (m : Meaning) (command : FileCommand) (made : made_call.FileCall) (bytes behind : List ℕ) (a : FileAnswer) (given : Answered) (options : ℕ)
     → m ≡ Asks command → call_of behind made ≡ first_call command → is_listing command ≡ false → Gives s command bytes a given options
-    → served s m (answers_alone (file_calls behind (asks.Call made) (Some (a, bytes, replied_of given))))
-    ≡ served_by (calls_alone (file_calls behind (asks.Call made) (Some (a, bytes, replied_of given)))) options given.sent bytes
+    → served s m (answers_alone (file_calls behind (asks.Call made) (OneAnswer a bytes (replied_of given))))
+    ≡ served_by (calls_alone (file_calls behind (asks.Call made) (OneAnswer a bytes (replied_of given)))) options given.sent bytes
 serves_call s m command made bytes behind a given options is call_is not_list gives =
-    let calls = file_calls behind (asks.Call made) (Some (a, bytes, replied_of given)) in
+    let calls = file_calls behind (asks.Call made) (OneAnswer a bytes (replied_of given)) in
     ap (λ (x : Meaning). served s x (answers_alone calls)) is
     ∙ first_is_enough s command (answer_of bytes a) (answers_alone (map (λ c. (c, file.Done)) (forget_call given.forget))) not_list
     ∙ gives

@@ -1,5 +1,5 @@
--- A whole chain by the calls of a handle, from its walk to its return, for a guest that writes meanwhile (VIRTIO 1.2, 2.7.5 to 2.7.8). Listings are left out, and of queues
--- with the event index all but that what a walk wants has a place.
+-- A whole chain by the calls of a handle, from its walk to its return, for a guest that writes meanwhile (VIRTIO 1.2, 2.7.5 to 2.7.8). Of queues with the event index all
+-- is left out but that what a walk wants has a place.
 use Rattle.std.specs.Prelude.{false, All, ◌≡◌, ◌≤◌, ◌^◌, ℕ, Bool, List, [], ◌∷◌, ◌++◌, length, map, drop, Option, Some, None, slice_get}
 use Rattle.vm_memory_core.specs.Host.{Host, changed_at}
 use Rattle.vm_memory.specs.Memory.{memory_of}
@@ -26,6 +26,7 @@ use Rattle.virtiofsd_fuse.specs.Serving.{May, setting}
 use Rattle.server_phases.specs.declared.session.Session.{Session}
 use Rattle.server_phases.specs.Asking.{IsFront}
 use Rattle.server_phases.specs.Answering.{TellsBytes, forget_call}
+use Rattle.server_phases.specs.Gathering.{Brought}
 use Rattle.fs_chain.specs.declared.answering.Replied.{Replied}
 use Rattle.fs_chain.specs.declared.asking.Told as told
 use Rattle.fs_chain.specs.declared.asking.Told.TheVariants as asks
@@ -46,6 +47,7 @@ use Rattle.fs_chain.specs.Orders.{front_len}
 use Rattle.fs_chain.specs.Returns.{ReturnsBy}
 use Rattle.fs_chain.specs.Loads.{GoesSo, HasNoPlace, came, whole}
 use Rattle.fs_chain.specs.Walks.{course_of, told_of}
+use Rattle.fs_chain.specs.WholeListings.{Ending, IsListedBy, listing_calls}
 use Rattle.fs_device.specs.declared.error.DeviceError.TheVariants as device
 use Rattle.fs_device.specs.Step.{State, Exchange, Idle, Refused, Exchanged, Calls, Step, with_queue}
 use Rattle.fs_device.specs.StepBy as act
@@ -110,23 +112,33 @@ IsAnsweredBy w a bytes told w' =
     IsWaiting w.state × TellsBytes bytes a × (w'.descriptors ≡ w.descriptors)
     × IfWaits w.state (λ out waiting. IsGiven (setting w.session.page_size w.session.options.0 waiting.room) waiting a out w'.session.options.0 told w'.state)
 
--- the file calls of a chain: none, or the one that was told, with its answer, and the one that gives an entry back
-abbrev pub file_calls : (behind : List ℕ) → told.Told → Option (FileAnswer × List ℕ × Replied) → Calls
-file_calls behind (asks.Call made) (Some given) =
-    (call_of behind made, answer_of given.1 given.0) ∷ map (λ c. (c, file.Done)) (forget_call given.2.forget)
+-- how a chain's call is answered: there is none; by one answer, with the bytes of its data and what is told of it; or, if it lists a directory, by its entries, with the
+-- bytes of the list that are its data
+pub data Given : Type 0 where
+  NoAnswer : Given
+  OneAnswer : FileAnswer → (bytes : List ℕ) → Replied → Given
+  ByEntries : (with_nodes : Bool) → List Brought → Ending → (bytes : List ℕ) → Given
+
+-- the file calls of a chain: none; the one that was told, with its answer, and the one that gives an entry back; or a listing and its look-ups
+abbrev pub file_calls : (behind : List ℕ) → told.Told → Given → Calls
+file_calls behind (asks.Call made) (OneAnswer answer bytes replied) =
+    (call_of behind made, answer_of bytes answer) ∷ map (λ c. (c, file.Done)) (forget_call replied.forget)
+file_calls behind (asks.Call made) (ByEntries with_nodes es ending bytes) = listing_calls (call_of behind made) with_nodes es ending
 file_calls behind made given = []
 
 -- a chain whose request was asked has its reply: by no call, or by one that is answered
-abbrev pub HasReply : told.Told → Workbench → Option (FileAnswer × List ℕ × Replied) → Workbench → Type 0
-HasReply (asks.Call made) w (Some given) w' = IsAnsweredBy w given.0 given.1 given.2 w'
-HasReply asks.Nothing w None w' = w' ≡ w
-HasReply (asks.Fault e) w None w' = w' ≡ w
+abbrev pub HasReply : told.Told → Workbench → Given → Workbench → Type 0
+HasReply (asks.Call made) w (OneAnswer answer bytes replied) w' = IsAnsweredBy w answer bytes replied w'
+HasReply (asks.Call made) w (ByEntries with_nodes es ending bytes) w' = IsListedBy w with_nodes es ending bytes w'
+HasReply asks.Nothing w NoAnswer w' = w' ≡ w
+HasReply (asks.Fault e) w NoAnswer w' = w' ≡ w
 HasReply _ w given w' = ⊥
 
 -- the data behind a front
-abbrev pub data_behind : Option (FileAnswer × List ℕ × Replied) → List ℕ
-data_behind None = []
-data_behind (Some given) = given.1
+abbrev pub data_behind : Given → List ℕ
+data_behind NoAnswer = []
+data_behind (OneAnswer answer bytes replied) = bytes
+data_behind (ByEntries with_nodes es ending bytes) = bytes
 
 -- ---- the return
 
@@ -173,7 +185,7 @@ pub record ChainBy (given_bytes : List (List ℕ)) (request : List ℕ) (calls :
   pub made : told.Told
   pub asked_bench : Workbench
   pub is_asked : IsAskedBy walked_bench s request front made asked_bench
-  pub given : Option (FileAnswer × List ℕ × Replied)
+  pub given : Given
   pub replies : HasReply made asked_bench given new
   pub calls_are : calls ≡ file_calls (drop 80 request) made given
   pub back : KeptQueue

@@ -18,7 +18,8 @@ pub fn law_walks()
 /// Whatever the guest writes meanwhile, what the calls of a handle come to from a walk's beginning to a chain's return is the plain machine's step by
 /// what was loaded: the file calls, the stores, and the answer to whether the driver wants to be told. Over a memory that has what was loaded it is
 /// the machine's step. So it is of a chain that goes back at the position where it was taken; of any other its answer is that of a machine whose
-/// queue stands where it goes back. What a walk wants has a place. Listings are left out, and so are queues with the event index, but for the places.
+/// queue stands where it goes back. A listing is answered entry by entry. What a walk wants has a place. Queues with the event index are left out, but
+/// for the places.
 pub fn law_chains<F: FileSystem>()
     ensures places { WantedHasAPlace }
     ensures idle { IdleIsStepBy F.may }

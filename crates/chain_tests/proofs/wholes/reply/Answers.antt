@@ -1,6 +1,6 @@
-use Rattle.std.proofs.Common.{[], Some, None, refl, sym, subst}
+use Rattle.std.proofs.Common.{[], refl, sym, subst}
 use Rattle.fs_chain.specs.declared.asking.Told as told
-use Rattle.fs_chain.specs.Whole.{HasReply}
+use Rattle.fs_chain.specs.Whole.{HasReply, NoAnswer, OneAnswer}
 use Rattle.chain_tests.proofs.Served.{both_taken, more_taken, whole_front}
 use Rattle.chain_tests.proofs.wholes.reply.Goals as goal
 
@@ -11,7 +11,7 @@ returns-in-Ok c =
     let front = whole_front request in
     let mid = c.ask.new.self in
     let new = c.answer.new.self in
-    let given = Some (c.args.answer, [], c.in-Ok.field-0) in
+    let given = OneAnswer c.args.answer [] c.in-Ok.field-0 in
     record {
       replied = (
         c.in_ok-ask.field-0,
@@ -35,10 +35,10 @@ returns-in-Nothing c =
       replied = (
         c.in_ok-ask.field-0,
         mid,
-        None,
+        NoAnswer,
         more_taken st _ _ (λ out both. (both.0, front, both.1 request both.0 front, c.in_ok-ask.ensures.same.1, c.in_ok-ask.ensures.session))
             (both_taken st _ _ c.requires.taken c.in_ok-ask.ensures.tells),
-        subst (λ (t : told.Told). HasReply t mid None mid) (sym c.in-Nothing.is) refl,
+        subst (λ (t : told.Told). HasReply t mid NoAnswer mid) (sym c.in-Nothing.is) refl,
         refl,
       );
     }
@@ -53,10 +53,10 @@ returns-in-Fault c =
       replied = (
         c.in_ok-ask.field-0,
         mid,
-        None,
+        NoAnswer,
         more_taken st _ _ (λ out both. (both.0, front, both.1 request both.0 front, c.in_ok-ask.ensures.same.1, c.in_ok-ask.ensures.session))
             (both_taken st _ _ c.requires.taken c.in_ok-ask.ensures.tells),
-        subst (λ (t : told.Told). HasReply t mid None mid) (sym c.in-Fault.is) refl,
+        subst (λ (t : told.Told). HasReply t mid NoAnswer mid) (sym c.in-Fault.is) refl,
         refl,
       );
     }

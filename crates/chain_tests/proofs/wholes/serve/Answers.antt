@@ -1,4 +1,4 @@
-use Rattle.std.proofs.Common.{◌≡◌, ℕ, List, length, refl, sym, subst, ◌∙◌, arith}
+use Rattle.std.proofs.Common.{◌≡◌, length, refl, sym, subst, ◌∙◌, arith}
 use Rattle.std.specs.Prelude.{drop}
 use Rattle.std.proofs.lemmas.Bool.Decides.{nat_tests}
 use Rattle.fs_queue.specs.Taking.{addresses_of, writable}
@@ -7,7 +7,7 @@ use Rattle.server_phases.specs.declared.session.Session.{Session}
 use Rattle.fs_device.specs.Step.{Exchanged}
 use Rattle.fs_device.specs.StepBy.{StepBy}
 use Rattle.fs_chain.specs.Walks.{course_of}
-use Rattle.fs_chain.specs.Whole.{ChainBy, GoesBackBy, after_chain, file_calls, step_loads}
+use Rattle.fs_chain.specs.Whole.{ChainBy, after_chain, data_behind, file_calls, step_loads}
 use Rattle.chain_tests.proofs.Served.{if_ok_so, more_taken, queue_stays, taken_so}
 use Rattle.chain_tests.proofs.wholes.serve.Goals as goal
 
@@ -41,7 +41,7 @@ returns g c =
           (λ notice back session_is i m files first session. (
             calls,
             λ files_run.
-                let goes = back room in
+                let goes = back room (data_behind replied.2) in
                 let run : ChainBy walked.0 request calls goes.0 goes.1 head notice old new before c.args.session = record {
                   walked_bench = walked_bench;
                   taken = c.walk_chain.new.queue;
@@ -55,7 +55,7 @@ returns g c =
                   replies = replied.4;
                   calls_are = refl;
                   back = back_queue;
-                  returns = subst (λ (d : List ℕ). GoesBackBy back_queue room d new.state goes.0 goes.1 notice) (sym replied.5) goes.2;
+                  returns = goes.2;
                 } in
                 let law = c.law_chains.ensures.served walked.0 request calls goes.0 goes.1 head i notice old new before c.args.session m files run first stays.1 in_order session files_run in (
                   step_loads law.0 law.2 request,

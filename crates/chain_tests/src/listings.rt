@@ -1,0 +1,179 @@
+//! A directory that is listed entry by entry, from a chain's walk to its return, is a step of the plain machine.
+
+ghost use Rattle.std.specs.Prelude.{◌≡◌, ℕ, List, [], ◌∷◌, length, take, drop, None, Ok, IfOk, OnOk, false, true};
+ghost use Rattle.fuse_fs.specs.Answers.{listed};
+ghost use Rattle.fuse_fs.specs.Calls.{FileRun};
+ghost use Rattle.fuse_values.specs.Values.{call_of};
+ghost use Rattle.fuse_values.specs.declared.call.FileCall as value;
+ghost use Rattle.fs_device.specs.Step.{Exchange, Exchanged, State};
+ghost use Rattle.fs_device.specs.StepBy.{Effects, StepBy, StepLoads};
+ghost use Rattle.fs_regions.specs.Walks.{queue_of};
+ghost use Rattle.fs_chain.specs.Walks.{course_of};
+ghost use Rattle.fs_chain.specs.Whole.{FromTaken, IsAskedBy, IsBefore, IsSession, after_chain};
+ghost use Rattle.fs_chain.specs.WholeListings.{Brings, EndsThere, FromLists, IsListedBy, listing_calls};
+ghost use Rattle.fs_chain.specs.declared.asking.Told.TheVariants as asks;
+ghost use Rattle.fs_chain.specs.declared.state.State.TheVariants as at;
+
+use crate::given::{expect_same, queue, session, workbench};
+use crate::wholes::{give_back, walk_chain};
+use call_log::CallLog;
+use fs_chain::laws::law_chains;
+use fs_chain::{Added, ChainError, KeptQueue, Told, Workbench};
+use fuse_fs::{DirEntry, Entry, FileSystem, Timeout};
+use fuse_wire::{Attr, GuestGid, GuestUid};
+use server_phases::Session;
+
+// Two entries of a directory.
+#[derive(Drop)]
+struct Pair<'a> {
+    first: DirEntry<'a>,
+    second: DirEntry<'a>,
+}
+
+// A chain is asked by its whole request, and makes a call.
+fn ask_call(workbench: &mut Workbench, session: Session, request: &[u8]) -> Result<(), ChainError>
+    requires taken { FromTaken workbench.old.state (λ out. out.request_len ≡ length request.now) }
+    ensures asked { OnOk result ((made : value.FileCall) × IsAskedBy workbench.old session request.now request.now (asks.Call made) workbench.new) }
+{
+    match workbench.ask(session, request)? {
+        Told::Call(_) => Ok(()),
+        _ => Err(ChainError::WrongOrder),
+    }
+}
+
+// An entry is brought with its node, and is in.
+fn bring(
+    workbench: &mut Workbench,
+    list: &mut [u8],
+    entry: &DirEntry<'_>,
+    node: Entry<u64>,
+) -> Result<(), ChainError>
+    ensures brought { OnOk result (Brings workbench.old list.old (listed entry.now, node) (Ok Added.In) workbench.new list.new) }
+    ensures kind { OnOk result (FromLists workbench.old.state (λ l. l.with_nodes ≡ true)) }
+{
+    match workbench.add_with_node(list, entry, node)? {
+        Added::In => Ok(()),
+        _ => Err(ChainError::LongReply),
+    }
+}
+
+// Two entries are brought with their nodes, and the directory has ended: how many bytes of the list are the data.
+fn list_two(
+    workbench: &mut Workbench,
+    list: &mut [u8],
+    entries: &Pair<'_>,
+    nodes: (Entry<u64>, Entry<u64>),
+) -> Result<usize, ChainError>
+    ensures { IfOk result (λ n. IsListedBy workbench.old true
+        ((listed entries.now.first, nodes.0) ∷ (listed entries.now.second, nodes.1) ∷ []) EndsThere (take n list.new) workbench.new) }
+{
+    let (first, second) = nodes;
+    bring(workbench, list, &entries.first, first)?;
+    bring(workbench, list, &entries.second, second)?;
+    workbench.end()
+}
+
+// A chain that is out alone and lists two entries with their nodes is a step by the listing and its look-ups.
+fn serve_two<F: FileSystem>(
+    workbench: &mut Workbench,
+    queue: &mut KeptQueue,
+    given: &[&[u8]],
+    session: Session,
+    request: &[u8],
+    list: &mut [u8],
+    entries: &Pair<'_>,
+    nodes: (Entry<u64>, Entry<u64>),
+) -> Result<bool, ChainError>
+    requires free { workbench.old.state ≡ at.Free }
+    requires goes { queue.old.stopped ≡ None }
+    requires none_out { queue.old.returned ≡ queue.old.position }
+    requires by_flags { queue.old.event_index ≡ false }
+    ensures step { IfOk result (λ notice. (i : ℕ) (m : State F) (files : F) → IsBefore workbench.old queue.old i m → IsSession session m
+        → (made : value.FileCall) × (let calls = listing_calls (call_of (drop 80 request.now) made) true
+        ((listed entries.now.first, nodes.0) ∷ (listed entries.now.second, nodes.1) ∷ []) EndsThere in
+        FileRun F.may m.files calls files → (l : StepLoads) × (x : Exchange) × (e : Effects) × (x.request ≡ request.now)
+        × StepBy F.may m i l calls (Exchanged x notice) e (after_chain m i (queue_of (course_of queue.old workbench.old.limit)) workbench.new.session.options.0 files))) }
+{
+    law_chains::<F>();
+    let (_, request_len, _) = walk_chain(workbench, queue, given)?;
+    if request_len != request.len() {
+        return Err(ChainError::BadArgument);
+    }
+    ask_call(workbench, session, request)?;
+    let _len = list_two(workbench, list, entries, nodes)?;
+    give_back(workbench, queue)
+}
+
+// The loads of a chain of head 1: 80 bytes at 0x100, and a room of 400 bytes at 0x200.
+const LOADS_OF_LIST: &[&[u8]] = &[
+    &[0, 0],
+    &[1, 0],
+    &[0, 1, 0, 0, 0, 0, 0, 0, 80, 0, 0, 0, 1, 0, 2, 0],
+    &[0, 2, 0, 0, 0, 0, 0, 0, 144, 1, 0, 0, 2, 0, 0, 0],
+];
+
+// READDIRPLUS of at most 400 bytes from the beginning of the directory that is open as 3: node 1, unique number 7.
+const READDIRPLUS: &[u8] = &[
+    80, 0, 0, 0, 44, 0, 0, 0, 7, 0, 0, 0, 0, 0, 0, 0, 1, 0, 0, 0, 0, 0, 0, 0, 10, 0, 0, 0, 11, 0,
+    0, 0, 12, 0, 0, 0, 0, 0, 0, 0, 3, 0, 0, 0, 0, 0, 0, 0, 0, 0, 0, 0, 0, 0, 0, 0, 144, 1, 0, 0, 0,
+    0, 0, 0, 0, 0, 0, 0, 0, 0, 0, 0, 0, 0, 0, 0, 0, 0, 0, 0,
+];
+
+// A node of this number, an empty file.
+fn node(inode: u64) -> Entry<u64> {
+    Entry {
+        inode,
+        generation: 0,
+        attr: Attr {
+            ino: inode,
+            size: 0,
+            blocks: 0,
+            atime: 0,
+            mtime: 0,
+            ctime: 0,
+            atimensec: 0,
+            mtimensec: 0,
+            ctimensec: 0,
+            mode: 0o100_644,
+            nlink: 1,
+            uid: GuestUid(10),
+            gid: GuestGid(11),
+            rdev: 0,
+            blksize: 4096,
+            flags: 0,
+        },
+        attr_timeout: Timeout::new(1, 0).unwrap(),
+        entry_timeout: Timeout::new(1, 0).unwrap(),
+    }
+}
+
+// An entry of this number and name.
+fn named(ino: u64, type_: u32, name: &[u8]) -> DirEntry<'_> {
+    DirEntry {
+        ino,
+        offset: ino,
+        type_,
+        name,
+    }
+}
+
+#[test]
+fn a_directory_of_itself_and_one_file_is_a_step(rt: HostRuntime) {
+    let mut workbench = workbench(&rt, rt.alloc());
+    let mut queue = queue(&rt);
+    let mut list = [0u8; 400];
+    let told = serve_two::<CallLog>(
+        &mut workbench,
+        &mut queue,
+        LOADS_OF_LIST,
+        session(),
+        READDIRPLUS,
+        &mut list,
+        &Pair {
+            first: named(1, 4, b"."),
+            second: named(2, 8, b"a"),
+        },
+        (node(1), node(2)),
+    );
+    expect_same(&rt, told, Ok(true));
+}

@@ -1,0 +1,386 @@
+-- What a listing whose entries are brought one by one has gathered, and what the plain machine's server says of it.
+use Rattle.std.proofs.Common.{◌≡◌, ℕ, ◌-◌, ◌≤◌, ◌<◌, Bool, true, false, List, [], ◌∷◌, ◌++◌, length, take, Option, Some, None, Result, Ok, Err, inl, inr, refl, subst, sym, ap, ◌∙◌}
+use Rattle.std.proofs.Common.{arith, append_assoc, append-nil, length-append}
+use Rattle.std.specs.Prelude.{◌⊎◌, ◌&&◌, IfOk, not, nat_lt, if◌then◌else◌}
+use Rattle.std.proofs.lemmas.Bool.{le-ltb, lt-ltb}
+use Rattle.std.proofs.lemmas.List.{map-append}
+use Rattle.fuse_fs.specs.Calls.{FileCall, FileAnswer, Listed, Lookup, Forget, HasEntry, Entries, Failed, Done}
+use Rattle.server_replies.specs.Entries.{is_dot}
+use Rattle.server_replies.specs.WholeReplies.{reply_bytes, listing_bytes}
+use Rattle.server_replies.proofs.ReplyLemmas.{length_reply}
+use Rattle.virtiofsd_fuse.specs.Grammar.{FileCommand, Lists}
+use Rattle.virtiofsd_fuse.specs.Listings as asked
+use Rattle.virtiofsd_fuse.specs.Listings.{Went, list_entries, readdir_call}
+use Rattle.virtiofsd_fuse.specs.Serving.{Setting, Served, commanded, list_ended, replied}
+use Rattle.server_phases.specs.declared.listing.Listing.{Listing}
+use Rattle.server_phases.specs.declared.listing.ListingReply.{ListingReply}
+use Rattle.server_phases.specs.declared.listing.NotAdded as reason
+use Rattle.server_phases.specs.declared.listing.NotAdded.TheVariants as not_added
+use Rattle.server_phases.specs.Gathering.{Brought, EndsList, FailsList, Holds, IsListingFor, StaysBut, added_found, added_plain, all_bytes, all_found, bytes_of}
+use Rattle.server_phases.specs.Gathering.{entries_of, found_of, is_looked_up, look_up, look_ups, node_given_back, node_of, placed}
+use Rattle.server_phases.proofs.Gathered.{length_entry, listed_all}
+use Rattle.fs_chain.specs.declared.error.ChainError.{ChainError}
+use Rattle.fs_chain.specs.declared.listing.Added.{Added}
+use Rattle.fs_chain.specs.declared.listing.Added.TheVariants as added
+use Rattle.fs_chain.specs.declared.state.Out.{Out}
+use Rattle.fs_chain.specs.declared.state.State as state
+use Rattle.fs_chain.specs.declared.state.State.TheVariants as at
+use Rattle.fs_chain.specs.declared.workbench.Workbench.{Workbench}
+use Rattle.fs_chain.specs.Walks.{IsAllButPlace}
+use Rattle.fs_chain.specs.Listings.{Adds, AddsTo, Ends, IsFailedReply, IsListReply, told_added}
+use Rattle.fs_device.specs.Step.{Calls, answers_alone, calls_alone}
+use Rattle.fs_chain.specs.WholeListings.{Brings, Ending, EndsBy, EndsThere, FailsAt, FromLists, FullAt, Gathers, IsEnded, IsListedBy, NotFound, Unreadable, all_looked_up, listing_calls, looked_up, node_back, unreadable_calls}
+
+-- ---- what was told of an entry
+
+abbrev pub Outcome : Type 0
+Outcome = Result (Unit {0}) reason.NotAdded
+
+-- why it isn't in, if it isn't
+abbrev pub outcome_of : Added → Outcome
+outcome_of added.In = Ok tt
+outcome_of added.Full = Err not_added.Full
+outcome_of added.NoRoom = Err not_added.NoRoom
+outcome_of added.TooLong = Err not_added.TooLong
+
+abbrev outcome_in : Result Added ChainError → Outcome
+outcome_in (Ok a) = outcome_of a
+outcome_in (Err e) = Err not_added.OtherKind
+
+outcome_is : (r : Outcome) (a : Added) → Ok a ≡ told_added r → r ≡ outcome_of a
+outcome_is (Ok done) a told = sym (ap outcome_in told)
+outcome_is (Err not_added.OtherKind) a told = absurd (cc)
+outcome_is (Err not_added.Full) a told = sym (ap outcome_in told)
+outcome_is (Err not_added.NoRoom) a told = sym (ap outcome_in told)
+outcome_is (Err not_added.TooLong) a told = sym (ap outcome_in told)
+outcome_is (Err not_added.ShortList) a told = absurd (cc)
+
+-- an entry was brought to a listing, of which this was told
+abbrev pub IsBrought : Out → Listing → (new : state.State) → (list list' : List ℕ) → Brought → Added → Type 0
+IsBrought out l new list list' e a = (now : Listing) × (new ≡ at.Lists out now) × Adds l now list list' e (outcome_of a)
+
+brought_by : (st new : state.State) (list list' : List ℕ) (e : Brought) (a : Added) (out : Out) (l : Listing) (outcome : Listing → Outcome) → st ≡ at.Lists out l
+    → AddsTo st new list list' e outcome (Ok a) → IsBrought out l new list list' e a
+brought_by st new list list' e a out l outcome is adds =
+    let there : AddsTo (at.Lists out l) new list list' e outcome (Ok a) = subst (λ (s : state.State). AddsTo s new list list' e outcome (Ok a)) is adds in
+    (there.1.0, there.1.1, subst (λ (r : Outcome). Adds l there.1.0 list list' e r) (outcome_is (outcome l) a there.0) there.1.2)
+
+brought_either : (st new : state.State) (list list' : List ℕ) (e : Brought) (a : Added) (out : Out) (l : Listing) → st ≡ at.Lists out l
+    → (AddsTo st new list list' e (λ l. added_plain l (length list) (length e.0.name)) (Ok a)
+    ⊎ AddsTo st new list list' e (λ l. added_found l (length list) (length e.0.name)) (Ok a)) → IsBrought out l new list list' e a
+brought_either st new list list' e a out l is (inl plain) = brought_by st new list list' e a out l (λ l. added_plain l (length list) (length e.0.name)) is plain
+brought_either st new list list' e a out l is (inr found) = brought_by st new list list' e a out l (λ l. added_found l (length list) (length e.0.name)) is found
+
+pub brought : (w w' : Workbench) (list list' : List ℕ) (e : Brought) (a : Added) (out : Out) (l : Listing) → w.state ≡ at.Lists out l → Brings w list e (Ok a) w' list'
+    → IsBrought out l w'.state list list' e a
+brought w w' list list' e a out l is brings = brought_either w.state w'.state list list' e a out l is brings.0
+
+-- one that isn't in leaves the listing as it was
+pub stays_so : (w w' : Workbench) (list list' : List ℕ) (e : Brought) (a : Added) (out : Out) (l : Listing) (why : reason.NotAdded) → outcome_of a ≡ Err why
+    → IsBrought out l w'.state list list' e a → (w'.state ≡ at.Lists out l)
+stays_so w w' list list' e a out l why isnt one = one.1 ∙ ap (λ (k : Listing). at.Lists out k) (one.2.same why isnt).0
+
+-- ---- the entries that are in
+
+-- what a listing has gathered
+pub record HasGathered (w' : Workbench) (list : List ℕ) (out : Out) (l : Listing) (es : List Brought) : Type 0 where
+  pub now : Listing
+  pub state : w'.state ≡ at.Lists out now
+  pub holds : Holds now list es
+  pub stays : StaysBut l now
+
+pub gathered : (es before : List Brought) (w w' : Workbench) (list list' : List ℕ) (out : Out) (l : Listing) → w.state ≡ at.Lists out l → Holds l list before → Gathers es w list w' list'
+    → HasGathered w' list' out l (before ++ es)
+gathered [] before w w' list list' out l is holds run = record {
+  now = l;
+  state = ap (λ (k : Workbench). k.state) run.0 ∙ is;
+  holds = subst (λ (es : List Brought). Holds l list' es) (sym (append-nil before)) (subst (λ (x : List ℕ). Holds l x before) (sym run.1) holds);
+  stays = (refl, refl, refl, refl);
+}
+gathered (e ∷ es) before w w' list list' out l is holds run =
+    let v = run.0 in
+    let between = run.1 in
+    let one = brought w v list between e added.In out l is run.2 in
+    let more : Holds one.0 between (before ++ e ∷ []) = one.2.holds refl before holds in
+    let rest = gathered es (before ++ e ∷ []) v w' between list' out one.0 one.1 more run.3 in
+    record {
+      now = rest.now;
+      state = rest.state;
+      holds = subst (λ (x : List Brought). Holds rest.now list' x) (append_assoc before (e ∷ []) es) rest.holds;
+      stays = (rest.stays.0 ∙ one.2.stays.0, rest.stays.1 ∙ one.2.stays.1, rest.stays.2 ∙ one.2.stays.2, rest.stays.3 ∙ one.2.stays.3);
+    }
+
+-- the session stays
+gathers_session : (es : List Brought) (w w' : Workbench) (list list' : List ℕ) → Gathers es w list w' list' → w'.session ≡ w.session
+gathers_session [] w w' list list' run = ap (λ (k : Workbench). k.session) run.0
+gathers_session (e ∷ es) w w' list list' run = gathers_session es run.0 w' run.1 list' run.3 ∙ run.2.1.2
+
+ends_session : (ending : Ending) (w w' : Workbench) (list : List ℕ) (len : ℕ) → EndsBy ending w list len w' → w'.session ≡ w.session
+ends_session EndsThere w w' list len ends = ends.1.2
+ends_session (FullAt e behind) w w' list len ends = ends.3.1.2 ∙ ends.2.1.2
+ends_session (FailsAt e behind errno) w w' list len ends = ends.5.1.2 ∙ ends.4.1.2
+ends_session (NotFound d behind errno) w w' list len ends = ends.2.1.2
+ends_session (Unreadable errno) w w' list len ends = ends.1.2
+
+pub listed_session : (w w' : Workbench) (b : Bool) (es : List Brought) (ending : Ending) (bytes : List ℕ) → IsListedBy w b es ending bytes w' → w'.session ≡ w.session
+listed_session w w' b es ending bytes is =
+    ends_session ending is.gathered w' is.list is.len is.ends ∙ gathers_session es w is.gathered is.first is.list is.gathers
+
+-- ---- the calls and their answers
+
+one_call : (x : Bool) (call : FileCall) (answer : FileAnswer) → calls_alone (if x then (call, answer) ∷ [] else []) ≡ (if x then call ∷ [] else [])
+one_call true call answer = refl
+one_call false call answer = refl
+
+one_answer : (x : Bool) (call : FileCall) (answer : FileAnswer) → answers_alone (if x then (call, answer) ∷ [] else []) ≡ (if x then answer ∷ [] else [])
+one_answer true call answer = refl
+one_answer false call answer = refl
+
+calls_both : (a b : Calls) → calls_alone (a ++ b) ≡ calls_alone a ++ calls_alone b
+calls_both a b = map-append (λ (step : FileCall × FileAnswer). step.0) a b
+
+answers_both : (a b : Calls) → answers_alone (a ++ b) ≡ answers_alone a ++ answers_alone b
+answers_both a b = map-append (λ (step : FileCall × FileAnswer). step.1) a b
+
+-- of the directory that a command lists
+module _ (unique : ℕ) (a : asked.Listing) where
+  abbrev call : FileCall
+  call = readdir_call a
+
+  found_call : (d : Listed) (answer : FileAnswer) → calls_alone (looked_up call a.with_nodes d answer) ≡ look_up (Lists unique a) d
+  found_call d answer = one_call (is_looked_up a.with_nodes d) (Lookup a.context a.node d.name) answer
+
+  found_answer : (d : Listed) (answer : FileAnswer) → answers_alone (looked_up call a.with_nodes d answer) ≡ (if is_looked_up a.with_nodes d then answer ∷ [] else [])
+  found_answer d answer = one_answer (is_looked_up a.with_nodes d) (Lookup a.context a.node d.name) answer
+
+  found_calls : (es : List Brought) → calls_alone (all_looked_up call a.with_nodes es) ≡ look_ups (Lists unique a) es
+  found_calls [] = refl
+  found_calls (e ∷ es) =
+      calls_both (looked_up call a.with_nodes e.0 (HasEntry e.1)) (all_looked_up call a.with_nodes es)
+      ∙ ap (λ (x : List FileCall). x ++ calls_alone (all_looked_up call a.with_nodes es)) (found_call e.0 (HasEntry e.1))
+      ∙ ap (λ (x : List FileCall). look_up (Lists unique a) e.0 ++ x) (found_calls es)
+
+  found_answers : (es : List Brought) → answers_alone (all_looked_up call a.with_nodes es) ≡ all_found a.with_nodes es
+  found_answers [] = refl
+  found_answers (e ∷ es) =
+      answers_both (looked_up call a.with_nodes e.0 (HasEntry e.1)) (all_looked_up call a.with_nodes es)
+      ∙ ap (λ (x : List FileAnswer). x ++ answers_alone (all_looked_up call a.with_nodes es)) (found_answer e.0 (HasEntry e.1))
+      ∙ ap (λ (x : List FileAnswer). found_of a.with_nodes e ++ x) (found_answers es)
+
+  -- the calls behind the entries that are in
+  behind_calls : (es : List Brought) (more : Calls) (calls : List FileCall) → calls_alone more ≡ calls
+      → calls_alone (all_looked_up call a.with_nodes es ++ more) ≡ look_ups (Lists unique a) es ++ calls
+  behind_calls es more calls is =
+      calls_both (all_looked_up call a.with_nodes es) more ∙ ap (λ (x : List FileCall). x ++ calls_alone more) (found_calls es)
+      ∙ ap (λ (x : List FileCall). look_ups (Lists unique a) es ++ x) is
+
+  behind_answers : (es : List Brought) (more : Calls) (answers : List FileAnswer) → answers_alone more ≡ answers
+      → answers_alone (all_looked_up call a.with_nodes es ++ more) ≡ all_found a.with_nodes es ++ answers
+  behind_answers es more answers is =
+      answers_both (all_looked_up call a.with_nodes es) more ∙ ap (λ (x : List FileAnswer). x ++ answers_alone more) (found_answers es)
+      ∙ ap (λ (x : List FileAnswer). all_found a.with_nodes es ++ x) is
+
+  -- of one that isn't in: its look-up, and its node is given back
+  abbrev out_steps : Brought → Calls
+  out_steps e = looked_up call a.with_nodes e.0 (HasEntry e.1) ++ node_back call a.with_nodes e
+
+  out_calls : (e : Brought) → calls_alone (looked_up call a.with_nodes e.0 (HasEntry e.1) ++ node_back call a.with_nodes e)
+      ≡ look_up (Lists unique a) e.0 ++ node_given_back (Lists unique a) e
+  out_calls e =
+      calls_both (looked_up call a.with_nodes e.0 (HasEntry e.1)) (node_back call a.with_nodes e)
+      ∙ ap (λ (x : List FileCall). x ++ calls_alone (node_back call a.with_nodes e)) (found_call e.0 (HasEntry e.1))
+      ∙ ap (λ (x : List FileCall). look_up (Lists unique a) e.0 ++ x) (one_call a.with_nodes (Forget a.context (node_of e).inode 1) Done)
+
+  out_answers : (e : Brought) → answers_alone (looked_up call a.with_nodes e.0 (HasEntry e.1) ++ node_back call a.with_nodes e)
+      ≡ found_of a.with_nodes e ++ answers_alone (node_back call a.with_nodes e)
+  out_answers e =
+      answers_both (looked_up call a.with_nodes e.0 (HasEntry e.1)) (node_back call a.with_nodes e)
+      ∙ ap (λ (x : List FileAnswer). x ++ answers_alone (node_back call a.with_nodes e)) (found_answer e.0 (HasEntry e.1))
+
+-- ---- what is served
+
+abbrev by_reply : List FileCall → ℕ → List ℕ → Served
+by_reply calls options reply = record { calls = calls; options = options; reply = reply; fault = None }
+
+-- a command is served by these calls and their answers, with this reply
+abbrev pub ServedBy : Setting → FileCommand → Calls → (reply : List ℕ) → Type 0
+ServedBy s command steps reply = commanded s command (answers_alone steps) ≡ record { calls = calls_alone steps; options = s.options; reply = reply; fault = None }
+
+served_so : (s : Setting) (command : FileCommand) (steps : Calls) (answers : List FileAnswer) (calls : List FileCall) (reply : List ℕ) → answers_alone steps ≡ answers → calls_alone steps ≡ calls
+    → commanded s command answers ≡ by_reply calls s.options reply → ServedBy s command steps reply
+served_so s command steps answers calls reply answers_are calls_are is =
+    ap (λ (x : List FileAnswer). commanded s command x) answers_are ∙ is ∙ ap (λ (x : List FileCall). by_reply x s.options reply) (sym calls_are)
+
+abbrev went : List FileCall → List ℕ → Option ℕ → Went
+went calls bytes error = record { calls = calls; bytes = bytes; error = error }
+
+-- an entry that isn't found ends a listing, whatever is behind it
+first_missing : (unique errno : ℕ) (a : asked.Listing) (d : Listed) (behind : List Listed) (left room : ℕ) → a.with_nodes ≡ true → is_dot d.name ≡ false
+    → list_entries a (d ∷ behind) left room (Failed errno ∷ []) ≡ went (look_up (Lists unique a) d) [] (Some errno)
+unfolding list_entries
+first_missing unique errno a d behind left room nodes dot = rw (nodes, dot) refl
+
+none_left : (a : asked.Listing) (left room : ℕ) → list_entries a [] left room [] ≡ went [] [] None
+unfolding list_entries
+none_left a left room = refl
+
+-- entries with nodes are the reply, also where an error followed
+held_bytes : (b : Bool) (unique errno : ℕ) (bytes : List ℕ) → (b && nat_lt 0 (length bytes)) ≡ true → listing_bytes unique b bytes (Some errno) ≡ reply_bytes unique bytes
+held_bytes b unique errno bytes some = rw some refl
+
+whole_reply : (room options : ℕ) (calls : List FileCall) (reply : List ℕ) → length reply ≤ room → replied room calls options reply ≡ by_reply calls options reply
+whole_reply room options calls reply fits = rw (le-ltb room (length reply) fits) refl
+
+some_bytes : (e : Brought) (es : List Brought) → nat_lt 0 (length (all_bytes true (e ∷ es))) ≡ true
+some_bytes e es =
+    let one = length_entry true (node_of e) e.0 in
+    let both = length-append (bytes_of true e) (all_bytes true es) in
+    let some : 0 < length (all_bytes true (e ∷ es)) = omega (arith, one, both) in
+    lt-ltb 0 (length (all_bytes true (e ∷ es))) some
+
+-- of a listing that gathered these entries
+module _ (s : Setting) (l : Listing) (unique : ℕ) (a : asked.Listing) (list : List ℕ) (es : List Brought) (is : IsListingFor l s.room (Lists unique a)) (holds : Holds l list es) where
+  abbrev command : FileCommand
+  command = Lists unique a
+
+  abbrev bytes : List ℕ
+  bytes = all_bytes a.with_nodes es
+
+  long : l.len ≡ length bytes
+  long = holds.long ∙ ap (λ (b : Bool). length (all_bytes b es)) is.1
+
+  -- entries behind them, by what comes of these
+  listed_behind : (ds : List Listed) (answers : List FileAnswer) (calls : List FileCall) (error : Option ℕ)
+      → ((left room : ℕ) → list_entries a ds left room answers ≡ went calls [] error)
+      → list_entries a (entries_of es ++ ds) a.size (s.room - 16) (all_found a.with_nodes es ++ answers) ≡ went (look_ups command es ++ calls) (bytes ++ []) error
+  listed_behind ds answers calls error comes =
+      let small = l.small in
+      let asked = l.asked in
+      let fits = l.fits in
+      let size : l.size ≡ a.size = is.2 in
+      let room : l.room ≡ s.room - 16 = is.3 in
+      let len = long in
+      listed_all unique a es ds a.size (s.room - 16) answers (went calls [] error) (omega (arith, len, size, asked)) (omega (arith, len, room, fits)) (omega (arith, len, small, asked))
+      (comes (a.size - length bytes) (s.room - 16 - length bytes))
+
+  -- with the directory
+  pub ends_there : (reply : ListingReply) → IsListReply l reply → ServedBy s command (listing_calls (readdir_call a) a.with_nodes es EndsThere) (reply.front ++ take reply.len list)
+  ends_there reply replies =
+      served_so s command (listing_calls (readdir_call a) a.with_nodes es EndsThere) (Entries (entries_of es) ∷ all_found a.with_nodes es) (readdir_call a ∷ look_ups command es)
+      (reply.front ++ take reply.len list)
+      (ap (λ (x : List FileAnswer). Entries (entries_of es) ∷ x) (found_answers unique a es))
+      (ap (λ (x : List FileCall). readdir_call a ∷ x) (found_calls unique a es))
+      (ap (λ (b : Bool). commanded s command (Entries (entries_of es) ∷ all_found b es)) (sym is.1) ∙ replies s command list es is holds)
+
+  -- at an entry that isn't in, by what comes of it
+  out_at : (e : Brought) (behind : List Listed) (reply : List ℕ)
+      → (let answers = answers_alone (node_back (readdir_call a) a.with_nodes e) in
+      commanded s command (Entries (entries_of es ++ e.0 ∷ behind) ∷ (all_found l.with_nodes es ++ (found_of l.with_nodes e ++ answers)))
+      ≡ by_reply (readdir_call a ∷ (look_ups command es ++ (look_up command e.0 ++ node_given_back command e))) s.options reply)
+      → ServedBy s command (listing_calls (readdir_call a) a.with_nodes es (FullAt e behind)) reply
+  out_at e behind reply comes =
+      let steps = out_steps unique a e in
+      let answers = answers_alone (node_back (readdir_call a) a.with_nodes e) in
+      served_so s command (listing_calls (readdir_call a) a.with_nodes es (FullAt e behind))
+      (Entries (entries_of es ++ e.0 ∷ behind) ∷ (all_found a.with_nodes es ++ (found_of a.with_nodes e ++ answers)))
+      (readdir_call a ∷ (look_ups command es ++ (look_up command e.0 ++ node_given_back command e))) reply
+      (ap (λ (x : List FileAnswer). Entries (entries_of es ++ e.0 ∷ behind) ∷ x) (behind_answers unique a es steps (found_of a.with_nodes e ++ answers) (out_answers unique a e)))
+      (ap (λ (x : List FileCall). readdir_call a ∷ x) (behind_calls unique a es steps (look_up command e.0 ++ node_given_back command e) (out_calls unique a e)))
+      (ap (λ (b : Bool). commanded s command (Entries (entries_of es ++ e.0 ∷ behind) ∷ (all_found b es ++ (found_of b e ++ answers)))) (sym is.1) ∙ comes)
+
+  pub full_at : (e : Brought) (behind : List Listed) (reply : ListingReply) → IsListReply l reply → EndsList l list e
+      → ServedBy s command (listing_calls (readdir_call a) a.with_nodes es (FullAt e behind)) (reply.front ++ take reply.len list)
+  full_at e behind reply replies full =
+      out_at e behind (reply.front ++ take reply.len list)
+      (full s command es behind (answers_alone (node_back (readdir_call a) a.with_nodes e)) is holds
+      ∙ ap (λ (x : Served). record x { calls = x.calls ++ (look_up command e.0 ++ node_given_back command e) }) (replies s command list es is holds))
+
+  pub fails_at : (e : Brought) (behind : List Listed) (errno : ℕ) (reply : ListingReply) → IsFailedReply l errno reply → FailsList l list e errno
+      → ServedBy s command (listing_calls (readdir_call a) a.with_nodes es (FailsAt e behind errno)) (reply.front ++ take reply.len list)
+  fails_at e behind errno reply failed fails =
+      let calls = readdir_call a ∷ (look_ups command es ++ (look_up command e.0 ++ node_given_back command e)) in
+      out_at e behind (reply.front ++ take reply.len list)
+      (fails s command es behind (answers_alone (node_back (readdir_call a) a.with_nodes e)) is holds
+      ∙ ap (λ (x : List ℕ). by_reply calls s.options x) (sym (failed.bytes list es holds)))
+
+  -- at one that isn't found
+  pub not_found : (d : Listed) (behind : List Listed) (errno : ℕ) (reply : ListingReply) → IsFailedReply l errno reply → l.with_nodes ≡ true → is_dot d.name ≡ false
+      → ServedBy s command (listing_calls (readdir_call a) a.with_nodes es (NotFound d behind errno)) (reply.front ++ take reply.len list)
+  not_found d behind errno reply failed held dot =
+      let nodes : a.with_nodes ≡ true = sym is.1 ∙ held in
+      let looked : is_looked_up a.with_nodes d ≡ true = ap (λ (b : Bool). b && not (is_dot d.name)) nodes ∙ ap (λ (t : Bool). true && not t) dot in
+      let one : answers_alone (looked_up (readdir_call a) a.with_nodes d (Failed errno)) ≡ Failed errno ∷ [] =
+      found_answer unique a d (Failed errno) ∙ ap (λ (x : Bool). if x then Failed errno ∷ [] else []) looked in
+      let here = listed_behind (d ∷ behind) (Failed errno ∷ []) (look_up command d) (Some errno) (λ left room. first_missing unique errno a d behind left room nodes dot) in
+      let alone = listed_behind (d ∷ []) (Failed errno ∷ []) (look_up command d) (Some errno) (λ left room. first_missing unique errno a d [] left room nodes dot) in
+      served_so s command (listing_calls (readdir_call a) a.with_nodes es (NotFound d behind errno))
+      (Entries (entries_of es ++ d ∷ behind) ∷ (all_found a.with_nodes es ++ Failed errno ∷ [])) (readdir_call a ∷ (look_ups command es ++ look_up command d))
+      (reply.front ++ take reply.len list)
+      (ap (λ (x : List FileAnswer). Entries (entries_of es ++ d ∷ behind) ∷ x) (behind_answers unique a es (looked_up (readdir_call a) a.with_nodes d (Failed errno)) (Failed errno ∷ []) one))
+      (ap (λ (x : List FileCall). readdir_call a ∷ x) (behind_calls unique a es (looked_up (readdir_call a) a.with_nodes d (Failed errno)) (look_up command d) (found_call unique a d (Failed errno))))
+      (ap (λ (x : Went). list_ended s unique a x) (here ∙ sym alone)
+      ∙ ap (λ (b : Bool). commanded s command (Entries (entries_of es ++ d ∷ []) ∷ (all_found b es ++ Failed errno ∷ []))) nodes
+      ∙ failed.looked_up held s command list es d is holds dot)
+
+  -- where no more can be read: the error alone
+  fails_alone : (errno : ℕ) (reply : ListingReply) → IsFailedReply l errno reply → (l.with_nodes && nat_lt 0 l.len) ≡ false
+      → ServedBy s command ((readdir_call a, Failed errno) ∷ []) (reply.front ++ take reply.len list)
+  fails_alone errno reply failed none = failed.alone none s command list is
+
+  -- or the entries with nodes that are in
+  ends_held : (errno : ℕ) (reply : ListingReply) → IsFailedReply l errno reply → (a.with_nodes && nat_lt 0 (length bytes)) ≡ true
+      → ServedBy s command (listing_calls (readdir_call a) a.with_nodes es EndsThere) (reply.front ++ take reply.len list)
+  ends_held errno reply failed some =
+      let fits = l.fits in
+      let len = long in
+      let room : l.room ≡ s.room - 16 = is.3 in
+      let place : 16 ≤ s.room = is.4 in
+      let head = length_reply unique bytes in
+      let calls = readdir_call a ∷ look_ups command es in
+      let all = listed_behind [] [] [] None (λ left room. none_left a left room) in
+      let entries : list_entries a (entries_of es) a.size (s.room - 16) (all_found a.with_nodes es) ≡ went (look_ups command es) bytes None = simp append-nil at all in
+      let told : listing_bytes l.unique l.with_nodes (all_bytes l.with_nodes es) (Some errno) ≡ reply_bytes unique bytes =
+      ap (λ (u : ℕ). listing_bytes u l.with_nodes (all_bytes l.with_nodes es) (Some errno)) is.0
+      ∙ ap (λ (b : Bool). listing_bytes unique b (all_bytes b es) (Some errno)) is.1 ∙ held_bytes a.with_nodes unique errno bytes some in
+      served_so s command (listing_calls (readdir_call a) a.with_nodes es EndsThere) (Entries (entries_of es) ∷ all_found a.with_nodes es) calls
+      (reply.front ++ take reply.len list)
+      (ap (λ (x : List FileAnswer). Entries (entries_of es) ∷ x) (found_answers unique a es))
+      (ap (λ (x : List FileCall). readdir_call a ∷ x) (found_calls unique a es))
+      (ap (λ (x : Went). list_ended s unique a x) entries ∙ whole_reply s.room s.options calls (reply_bytes unique bytes) (omega (arith, head, len, room, fits, place))
+      ∙ ap (λ (x : List ℕ). by_reply calls s.options x) (sym (failed.bytes list es holds ∙ told)))
+
+pub unreadable : (s : Setting) (l : Listing) (unique : ℕ) (a : asked.Listing) (list : List ℕ) (es : List Brought) (b : Bool) (errno : ℕ) (reply : ListingReply)
+    → IsListingFor l s.room (Lists unique a) → Holds l list es → IsFailedReply l errno reply → a.with_nodes ≡ b
+    → ServedBy s (Lists unique a) (unreadable_calls (readdir_call a) b es errno) (reply.front ++ take reply.len list)
+unreadable s l unique a list es false errno reply is holds failed nodes =
+    fails_alone s l unique a list es is holds errno reply failed (ap (λ (b : Bool). b && nat_lt 0 l.len) (is.1 ∙ nodes))
+unreadable s l unique a list [] true errno reply is holds failed nodes =
+    fails_alone s l unique a list [] is holds errno reply failed (ap (λ (n : ℕ). l.with_nodes && nat_lt 0 n) holds.long ∙ ap (λ (b : Bool). b && nat_lt 0 0) (is.1 ∙ nodes))
+unreadable s l unique a list (e ∷ es) true errno reply is holds failed nodes =
+    let some : (a.with_nodes && nat_lt 0 (length (all_bytes a.with_nodes (e ∷ es)))) ≡ true =
+    ap (λ (b : Bool). b && nat_lt 0 (length (all_bytes b (e ∷ es)))) nodes ∙ some_bytes e es in
+    subst (λ (b : Bool). ServedBy s (Lists unique a) (listing_calls (readdir_call a) b (e ∷ es) EndsThere) (reply.front ++ take reply.len list)) nodes
+    (ends_held s l unique a list (e ∷ es) is holds errno reply failed some)
+
+-- ---- by the contracts of the calls
+
+with_nodes_by : (b : Bool) (r : Outcome) → (if b then r else Err not_added.OtherKind) ≡ Ok tt → b ≡ true
+with_nodes_by true r is = refl
+with_nodes_by false r is = absurd (cc)
+
+-- only a listing with nodes takes an entry with its node
+pub found_kind : (st new : state.State) (list list' : List ℕ) (e : Brought) → AddsTo st new list list' e (λ l. added_found l (length list) (length e.0.name)) (Ok added.In)
+    → FromLists st (λ l. l.with_nodes ≡ true)
+found_kind (at.Lists out l) new list list' e adds =
+    with_nodes_by l.with_nodes (placed l (length list) (length e.0.name)) (outcome_is (added_found l (length list) (length e.0.name)) added.In adds.0)
+found_kind (at.Waits out w) new list list' e adds = absurd (let told = adds.0 in cc)
+found_kind at.Free new list list' e adds = absurd (let told = adds.0 in cc)
+found_kind (at.Walking course ticket walk) new list list' e adds = absurd (let told = adds.0 in cc)
+found_kind (at.Taken out) new list list' e adds = absurd (let told = adds.0 in cc)
+found_kind (at.HasReply out reply) new list list' e adds = absurd (let told = adds.0 in cc)
+found_kind (at.Returning out) new list list' e adds = absurd (let told = adds.0 in cc)
+
+-- what ended it was told how many bytes are its data
+pub ended_by : (r : Result ℕ ChainError) (w w' : Workbench) → Ends w.state w'.state r → IsAllButPlace w w' → IfOk r (λ len. IsEnded w len w')
+ended_by (Ok len) w w' ends stays = (ends, stays)
+ended_by (Err e) w w' ends stays = tt

@@ -1,0 +1,192 @@
+-- Each chain by itself.
+use Rattle.std.proofs.Common.{◌≡◌, ℕ, Bool, List, [], ◌∷◌, ◌++◌, length, filter, Option, Some, None, refl, subst, sym, ap}
+use Rattle.std.specs.Prelude.{All, not, ◌==◌, true, false}
+use Rattle.std.specs.List.{AllByRecursion}
+use Rattle.vm_memory.specs.Memory.{Memory}
+use Rattle.fs_queue.specs.Chain.{Descriptor}
+use Rattle.fs_queue.specs.Loads.{Load}
+use Rattle.fs_queue.specs.Queue.{Queue}
+use Rattle.fs_queue.specs.Returning.{Store, tells}
+use Rattle.fs_queue.specs.Taking.{Offer, Offers, CannotFetch, IsRequest, readable, total_len}
+use Rattle.fs_queue.specs.declared.fault.ChainFault.{ChainFault}
+use Rattle.fs_regions.specs.declared.step.Step as comes
+use Rattle.fs_regions.specs.declared.step.Step.TheVariants as step
+use Rattle.fs_regions.specs.Walks.{Loaded, FetchesBy, OffersBy, RingIsAsked, IsLost}
+use Rattle.fuse_fs.specs.Calls.{FileRun}
+use Rattle.virtiofsd_fuse.specs.Serving.{May}
+use Rattle.fs_device.specs.Step.{State, Exchange, Exchanged, Calls}
+use Rattle.fs_device.specs.StepBy.{StepOfBy, ExchangesBy, Effects, AnswersBy, ReturnsFaultyBy, return_acts, return_stores, reply_stores, offered_by}
+use Rattle.fs_live.specs.Several.{LiveQueue}
+use Rattle.fs_live.specs.Live.{Phase, Faulty, Fetched, Asked, OutChain, LiveState, LiveEvent, Walks, Asks, Answers, Returns, Sleeps, Begins, Happens, LiveRun, WalksIn, GoesBackWith, new_chain, fault_of, room_of, calls_in, serving}
+use Rattle.fs_live.specs.Runs.{ReturnedIsStepBy, IsAskedIn, after_alone, chain_loads}
+
+-- ---- lists of chains
+
+module _ {A : Type 0} (P : A → Type 0) where
+  pub all_left : (xs ys : List A) → AllByRecursion P (xs ++ ys) → AllByRecursion P xs
+  all_left [] ys h = tt
+  all_left (x ∷ xs) ys h = (h.0, all_left xs ys h.1)
+
+  pub all_right : (xs ys : List A) → AllByRecursion P (xs ++ ys) → AllByRecursion P ys
+  all_right [] ys h = h
+  all_right (x ∷ xs) ys h = all_right xs ys h.1
+
+  pub all_both : (xs ys : List A) → AllByRecursion P xs → AllByRecursion P ys → AllByRecursion P (xs ++ ys)
+  all_both [] ys h g = g
+  all_both (x ∷ xs) ys h g = (h.0, all_both xs ys h.1 g)
+
+  all_kept : (f : A → Bool) (x : A) (xs : List A) (b : Bool) → f x ≡ b → P x → AllByRecursion P (filter f xs) → AllByRecursion P (filter f (x ∷ xs))
+  all_kept f x xs true is one h = rw is (one, h)
+  all_kept f x xs false is one h = rw is h
+
+  pub all_filter : (f : A → Bool) (xs : List A) → AllByRecursion P xs → AllByRecursion P (filter f xs)
+  all_filter f [] h = tt
+  all_filter f (x ∷ xs) h = all_kept f x xs (f x) refl h.0 (all_filter f xs h.1)
+
+-- ---- what holds of each chain that is out
+
+abbrev pub IsWhole : Phase → List Descriptor → Type 0
+IsWhole (Asked request options calls) ds = length request ≡ total_len (readable ds)
+IsWhole _ ds = Unit {0}
+
+-- its walk came to it by its loads, and its request is as long as it says
+abbrev pub Walked : Memory → ℕ → OutChain → Type 0
+Walked places limit c = FetchesBy places limit c.taken c.loaded c.descriptors c.head (fault_of c.phase) × IsWhole c.phase c.descriptors
+
+abbrev pub AllWalked : {F : Type 0} → LiveState F → Type 0
+AllWalked s = AllByRecursion (Walked s.places s.limit) s.outs
+
+pub new_walked : {F : Type 0} (s : LiveState F) (i : ℕ) (w : LiveQueue) (loaded : Loaded) (ds : List Descriptor) (head : ℕ) (fault : Option ChainFault)
+    → FetchesBy s.places s.limit w.queue loaded ds head fault → Walked s.places s.limit (new_chain s i w loaded ds head fault)
+new_walked s i w loaded ds head None h = (h, tt)
+new_walked s i w loaded ds head (Some why) h = (h, tt)
+
+walk_keeps : {F : Type 0} (s after : LiveState F) (i : ℕ) (w : LiveQueue) (loaded : Loaded) (ds : List Descriptor) (came : comes.Step) → WalksIn s i w loaded ds came after
+    → AllWalked s → AllWalked after
+walk_keeps s after i w loaded ds (step.Load walk) h all = absurd h
+walk_keeps {F} s after i w loaded ds step.Idle h all = subst (λ (k : LiveState F). AllWalked k) (sym h.1) all
+walk_keeps {F} s after i w loaded ds (step.Refused e) h all = subst (λ (k : LiveState F). AllWalked k) (sym h.1) all
+walk_keeps {F} s after i w loaded ds (step.Chain head fault) h all =
+    subst (λ (k : LiveState F). AllWalked k) (sym h.2)
+    (all_both (Walked s.places s.limit) s.outs (new_chain s i w loaded ds head fault ∷ []) all (new_walked s i w loaded ds head fault h.0, tt))
+
+-- a chain that is out, and the others
+pub one_walked : {F : Type 0} (s : LiveState F) (before behind : List OutChain) (c : OutChain) → s.outs ≡ before ++ c ∷ behind → AllWalked s
+    → AllByRecursion (Walked s.places s.limit) before × Walked s.places s.limit c × AllByRecursion (Walked s.places s.limit) behind
+one_walked s before behind c out all =
+    let split = subst (AllByRecursion (Walked s.places s.limit)) out all in
+    let right = all_right (Walked s.places s.limit) before (c ∷ behind) split in
+    (all_left (Walked s.places s.limit) before (c ∷ behind) split, right.0, right.1)
+
+pub asked_walked : (places : Memory) (limit : ℕ) (c : OutChain) (request : List ℕ) (options : ℕ) (calls : Calls) → fault_of c.phase ≡ None → length request ≡ total_len (readable c.descriptors)
+    → Walked places limit c → Walked places limit (record c { phase = Asked request options calls })
+asked_walked places limit c request options calls good whole h =
+    (subst (λ (f : Option ChainFault). FetchesBy places limit c.taken c.loaded c.descriptors c.head f) good h.0, whole)
+
+keeps : {F : Type 0} (may : May F) (s after : LiveState F) (e : LiveEvent) → Happens may s e after → AllWalked s → AllWalked after
+keeps may s after (Walks i loaded ds came) h all = walk_keeps s after i h.w loaded ds came h.walks all
+keeps {F} may s after (Asks c request told) h all =
+    let P = Walked s.places s.limit in
+    let parts = one_walked s h.before h.behind c h.out all in
+    subst (λ (k : LiveState F). AllWalked k) (sym h.state)
+    (all_both P h.before (record c { phase = Asked request s.options [] } ∷ h.behind) parts.0
+    (asked_walked s.places s.limit c request s.options [] (ap fault_of h.fresh) h.whole parts.1, parts.2))
+keeps {F} may s after (Answers c call answer) h all =
+    let P = Walked s.places s.limit in
+    let parts = one_walked s h.before h.behind c h.out all in
+    let whole : length h.request ≡ total_len (readable c.descriptors) = subst (λ (p : Phase). IsWhole p c.descriptors) h.asked parts.1.1 in
+    subst (λ (k : LiveState F). AllWalked k) (sym h.state)
+    (all_both P h.before (record c { phase = Asked h.request h.options (h.calls ++ (call, answer) ∷ []) } ∷ h.behind) parts.0
+    (asked_walked s.places s.limit c h.request h.options (h.calls ++ (call, answer) ∷ []) (ap fault_of h.asked) whole parts.1, parts.2))
+keeps {F} may s after (Returns c x notice last used seen) h all =
+    let parts = one_walked s h.before h.behind c h.out all in
+    subst (λ (k : LiveState F). AllWalked k) (sym h.state) (all_both (Walked s.places s.limit) h.before h.behind parts.0 parts.2)
+keeps {F} may s after (Sleeps i store) h all = subst (λ (k : LiveState F). AllWalked k) (sym h.state) all
+keeps {F} may s after (Begins i w) h all =
+    subst (λ (k : LiveState F). AllWalked k) (sym h.state) (all_filter (Walked s.places s.limit) (λ c. not (c.queue == i)) s.outs all)
+
+pub run_keeps : {F : Type 0} (may : May F) (s after : LiveState F) (es : List LiveEvent) → LiveRun may s es after → AllWalked s → AllWalked after
+run_keeps {F} may s after [] run all = subst (λ (k : LiveState F). AllWalked k) (sym run) all
+run_keeps may s after (e ∷ es) run all = run_keeps may run.0 after es run.2 (keeps may s run.0 e run.1 all)
+
+-- ---- a chain that goes back
+
+abbrev pub room_offered : Offer → List ℕ
+room_offered (Offers head (IsRequest request room)) = room
+room_offered _ = []
+
+abbrev pub effects_of : OutChain → Exchange → (last : ℕ) → (seen : List ℕ) → Effects
+effects_of c x last seen = record { acts = return_acts (return_stores c.taken c.head (room_of c) x.reply last) seen; last = last }
+
+-- its loads tell its offer, and by it the chain is exchanged
+pub record Exchanging {G : Type 0} (other : May G) (m : State G) (files : G) (c : OutChain) (x : Exchange) (last : ℕ) (seen : List ℕ) : Type 0 where
+  pub lost : List Load
+  pub ring : RingIsAsked m.memory c.taken c.loaded
+  pub all_lost : All (IsLost m.memory) lost
+  pub offer : Offer
+  pub offered : offered_by m.memory m.limit c.taken (chain_loads c lost) ≡ Some offer
+  pub room : room_offered offer ≡ room_of c
+  pub exchanges : ExchangesBy other m c.queue c.taken offer (calls_in c.phase) x (tells seen) (effects_of c x last seen) (after_alone m c files)
+
+pub exchange_of : {G : Type 0} (other : May G) (m : State G) (files : G) (i : ℕ) (q : Queue) (loaded : Loaded) (ds : List Descriptor) (head : ℕ) (p : Phase) (x : Exchange) (last : ℕ) (seen : List ℕ)
+    → Walked m.memory m.limit (record { queue = i; taken = q; loaded = loaded; descriptors = ds; head = head; phase = p })
+    → IsAskedIn p m.options
+    → GoesBackWith m.page_size (record { queue = i; taken = q; loaded = loaded; descriptors = ds; head = head; phase = p }) p x
+    → length seen ≡ 2 → FileRun other m.files (calls_in p) files
+    → Exchanging other m files (record { queue = i; taken = q; loaded = loaded; descriptors = ds; head = head; phase = p }) x last seen
+exchange_of {G} other m files i q loaded ds head (Faulty why) x last seen walked options goes two run =
+    let c : OutChain = record { queue = i; taken = q; loaded = loaded; descriptors = ds; head = head; phase = Faulty why } in
+    let by : OffersBy m.memory m.limit q loaded [] (Offers head (CannotFetch why)) = walked.0 in
+    let made : ReturnsFaultyBy m i q head why [] x (tells seen) (effects_of c x last seen) (after_alone m c files) = record {
+      no_call = refl;
+      files = run;
+      returns = record {
+        exchange = goes;
+        flags = seen;
+        flags_len = two;
+        acts = ap (λ (k : Exchange). return_acts (return_stores q head [] k.reply last) seen) goes;
+        state = refl;
+        told = refl;
+      };
+    } in
+    record { lost = by.1; ring = by.0; all_lost = by.2; offer = Offers head (CannotFetch why); offered = by.3; room = refl; exchanges = made }
+exchange_of other m files i q loaded ds head Fetched x last seen walked options goes two run = absurd goes
+exchange_of {G} other m files i q loaded ds head (Asked request asked calls) x last seen walked options goes two run =
+    let c : OutChain = record { queue = i; taken = q; loaded = loaded; descriptors = ds; head = head; phase = Asked request asked calls } in
+    let room = room_of c in
+    let by : OffersBy m.memory m.limit q loaded request (Offers head (IsRequest request room)) = walked.0.1 request walked.1 in
+    let made : AnswersBy other m i q head request room calls x (tells seen) (effects_of c x last seen) (after_alone m c files) = record {
+      given = serving m.page_size asked asked request room calls;
+      serves = record {
+        gives = ap (λ (o : ℕ). serving m.page_size o o request room calls) (sym options);
+        asks = goes.0;
+        run = run;
+      };
+      returns = record {
+        exchange = goes.1;
+        flags = seen;
+        flags_len = two;
+        acts = ap (λ (k : Exchange). return_acts (return_stores q head room k.reply last) seen) goes.1;
+        state = refl;
+        told = refl;
+      };
+    } in
+    record { lost = by.1; ring = by.0; all_lost = by.2; offer = Offers head (IsRequest request room); offered = by.3; room = refl; exchanges = made }
+
+pub returned_is_step_by : {F G : Type 0} (may : May F) (other : May G) → ReturnedIsStepBy may other
+returned_is_step_by {F} {G} may other s now after es c x notice last used seen m files none run h first calls =
+    let start : AllWalked s = subst (AllByRecursion (Walked s.places s.limit)) (sym none) tt in
+    let all : AllWalked now = run_keeps may s now es run start in
+    let walked : Walked now.places now.limit c = (one_walked now h.before h.behind c h.out all).1 in
+    let so : Walked m.memory m.limit c = subst (λ (k : Memory). Walked k m.limit c) (sym first.places) (subst (λ (k : ℕ). Walked now.places k c) (sym first.limit) walked) in
+    let goes : GoesBackWith m.page_size c c.phase x = subst (λ (k : ℕ). GoesBackWith k c c.phase x) (sym first.page_size) h.goes in
+    let made = exchange_of other m files c.queue c.taken c.loaded c.descriptors c.head c.phase x last seen so first.options goes h.two calls in (
+      h.w,
+      h.there,
+      record {
+        lost = made.lost;
+        step = subst (λ (k : Option Queue). StepOfBy other m c.queue k (chain_loads c made.lost) (calls_in c.phase) (Exchanged x (tells seen)) (effects_of c x last seen) (after_alone m c files)) (sym first.queue)
+            (made.offer, made.offered, made.exchanges);
+        acts = ap (λ (u : List Store). return_acts (reply_stores (room_of c) x.reply last ++ u) seen) h.used_is;
+      },
+    )

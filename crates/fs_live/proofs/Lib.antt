@@ -1,0 +1,11 @@
+pub mod Alone
+pub mod Calls
+pub mod Handles
+pub mod InitBesideRun
+pub mod Options
+pub mod OverlapRun
+pub mod Queues
+pub mod RewrittenRun
+pub mod Serial
+pub mod SeveralRuns
+pub mod Stored

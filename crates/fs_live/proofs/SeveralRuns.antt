@@ -1,0 +1,99 @@
+-- Runs of takes and returns.
+use Rattle.std.proofs.Common.{arith, ◌≡◌, ℕ, ◌+◌, ◌-◌, ◌%◌, ◌^◌, ◌<◌, true, List, [], ◌∷◌, ◌++◌, IsPermutation, map, refl, subst, sym, ap, ◌∙◌, append_assoc, append-nil}
+use Rattle.std.proofs.lemmas.List.{map-append}
+use Rattle.std.proofs.lemmas.List.Sorted.{IsPermutation-refl, IsPermutation-sym, IsPermutation-cons, IsPermutation-trans, IsPermutation-middle}
+use Rattle.std.specs.Int.{w16, from_le_bytes}
+use Rattle.std.specs.Prelude.{◌==◌, nat_lt}
+use Rattle.std.proofs.lemmas.Bool.Decides.{nat_tests}
+use Rattle.fs_queue.specs.Returning.{Store, stores_after_reply}
+use Rattle.fs_live.specs.Several.{ByEvent, LiveQueue, Ticket, Event, Takes, Returns, RunsOver, UsedFrom, returns_among, took, gave, wants, IsSerial, StoresAsTaken, heads_taken, heads_returned, IsOldestFirst, AtTheirPlaces}
+
+-- a take moves no return
+past_take : (w : LiveQueue) (rs : List (Ticket × ℕ × List Store)) → UsedFrom (took w) rs → UsedFrom w rs
+past_take w [] h = tt
+past_take w (r ∷ rs) h = (h.0, past_take (gave w) rs h.1)
+
+pub used_in_order : (w w' : LiveQueue) (outs outs' : List Ticket) (es : List Event) → RunsOver w outs es w' outs' → UsedFrom w (returns_among es)
+used_in_order w w' outs outs' [] run = tt
+used_in_order w w' outs outs' (Takes head ∷ es) run =
+    past_take w (returns_among es) (used_in_order (took w) w' (outs ++ (w.queue.position, head) ∷ []) outs' es run.1)
+used_in_order w w' outs outs' (Returns t len stores ∷ es) run = (run.3, used_in_order (gave w) w' (run.0 ++ run.1) outs' es run.4)
+
+-- in a serial run the two positions are one
+pub one_at_a_time : (w w' : LiveQueue) (outs outs' : List Ticket) (es : List Event) → w.returned ≡ w.queue.position → IsSerial es → RunsOver w outs es w' outs' → StoresAsTaken (w.queue) es
+one_at_a_time w w' outs outs' [] same serial run = tt
+one_at_a_time w w' outs outs' (Takes head ∷ []) same serial run = absurd serial
+one_at_a_time w w' outs outs' (Takes head ∷ Takes other ∷ es) same serial run = absurd serial
+one_at_a_time w w' outs outs' (Takes head ∷ Returns t len stores ∷ es) same serial run =
+    let inner = run.1 in (
+      inner.3 ∙ ap (λ (p : ℕ). stores_after_reply (record (w.queue) { position = p }) t.1 len) same ∙ ap (λ (h : ℕ). stores_after_reply (w.queue) h len) serial.0,
+      one_at_a_time (gave (took w)) w' (inner.0 ++ inner.1) outs' es (ap (λ (p : ℕ). (p + 1) % 2 ^ 16) same) serial.1 inner.4,
+    )
+one_at_a_time w w' outs outs' (Returns t len stores ∷ es) same serial run = absurd serial
+
+-- ---- each chain once
+
+abbrev heads : List Ticket → List ℕ
+heads ts = map (λ t. t.1) ts
+
+pub once : (w w' : LiveQueue) (outs outs' : List Ticket) (es : List Event) → RunsOver w outs es w' outs' → IsPermutation (heads_returned es ++ heads outs') (heads outs ++ heads_taken es)
+once w w' outs outs' [] run =
+    subst (λ (xs : List ℕ). IsPermutation (heads outs') xs) (ap heads run.1 ∙ sym (append-nil (heads outs))) (IsPermutation-refl (heads outs'))
+once w w' outs outs' (Takes head ∷ es) run =
+    subst (λ (xs : List ℕ). IsPermutation (heads_returned es ++ heads outs') xs)
+    (ap (λ (xs : List ℕ). xs ++ heads_taken es) (map-append (λ (t : Ticket). t.1) outs ((w.queue.position, head) ∷ [])) ∙ append_assoc (heads outs) (head ∷ []) (heads_taken es))
+    (once (took w) w' (outs ++ (w.queue.position, head) ∷ []) outs' es run.1)
+once w w' outs outs' (Returns t len stores ∷ es) run =
+    let before = run.0 in let behind = run.1 in
+    let inner : IsPermutation (heads_returned es ++ heads outs') ((heads before ++ heads behind) ++ heads_taken es) =
+    subst (λ (xs : List ℕ). IsPermutation (heads_returned es ++ heads outs') (xs ++ heads_taken es)) (map-append (λ (u : Ticket). u.1) before behind)
+    (once (gave w) w' (before ++ behind) outs' es run.4) in
+    let more : IsPermutation (t.1 ∷ (heads_returned es ++ heads outs')) (t.1 ∷ (heads before ++ (heads behind ++ heads_taken es))) =
+    IsPermutation-cons t.1 _ _ (subst (IsPermutation (heads_returned es ++ heads outs')) (append_assoc (heads before) (heads behind) (heads_taken es)) inner) in
+    let there : IsPermutation (t.1 ∷ (heads_returned es ++ heads outs')) (heads before ++ (t.1 ∷ (heads behind ++ heads_taken es))) =
+    IsPermutation-trans _ _ _ more (IsPermutation-sym _ _ (IsPermutation-middle (heads before) t.1 (heads behind ++ heads_taken es))) in
+    subst (IsPermutation (t.1 ∷ (heads_returned es ++ heads outs')))
+    (sym (append_assoc (heads before) (t.1 ∷ heads behind) (heads_taken es)) ∙ ap (λ (xs : List ℕ). xs ++ heads_taken es) (sym (ap heads run.2 ∙ map-append (λ (u : Ticket). u.1) before (t ∷ behind))))
+    there
+
+-- ---- the oldest first
+
+-- tickets are of one position after another
+Follow : (from : ℕ) → List Ticket → (to : ℕ) → Type 0
+Follow from [] to = to ≡ from
+Follow from (t ∷ ts) to = (t.0 ≡ from) × Follow ((from + 1) % 2 ^ 16) ts to
+
+follow_more : (from to head : ℕ) (ts : List Ticket) → Follow from ts to → Follow from (ts ++ (to, head) ∷ []) ((to + 1) % 2 ^ 16)
+unfolding Follow
+follow_more from to head [] h = (h, ap (λ (p : ℕ). (p + 1) % 2 ^ 16) h)
+follow_more from to head (t ∷ ts) h = (h.0, follow_more ((from + 1) % 2 ^ 16) to head ts h.1)
+
+places_past : (w : LiveQueue) (rs : List (Ticket × ℕ × List Store)) → AtTheirPlaces (took w) rs → AtTheirPlaces w rs
+places_past w [] h = tt
+places_past w (r ∷ rs) h = (h.0, places_past (gave w) rs h.1)
+
+in_order : (w : LiveQueue) (outs : List Ticket) (es : List Event) → Follow w.returned outs w.queue.position → IsOldestFirst w outs es → AtTheirPlaces w (returns_among es)
+unfolding Follow
+in_order w outs [] follow oldest = tt
+in_order w outs (Takes head ∷ es) follow oldest =
+    places_past w (returns_among es) (in_order (took w) (outs ++ (w.queue.position, head) ∷ []) es (follow_more w.returned w.queue.position head outs follow) oldest)
+in_order w [] (Returns t len stores ∷ es) follow oldest = absurd oldest
+in_order w (first ∷ outs) (Returns t len stores ∷ es) follow oldest =
+    (ap (λ (u : Ticket). u.0) oldest.0 ∙ follow.0, in_order (gave w) outs es follow.1 oldest.1)
+
+pub keeps_order : (w : LiveQueue) (es : List Event) → w.returned ≡ w.queue.position → IsOldestFirst w [] es → AtTheirPlaces w (returns_among es)
+unfolding Follow
+keeps_order w es same oldest = in_order w [] es (sym same) oldest
+
+-- ---- the event index
+
+-- used_event is passed by one return just if it is the position of it
+passed : (event old : ℕ) → old < 2 ^ 16 → event < 2 ^ 16
+    → nat_lt (((old + 1) % 2 ^ 16 + (2 ^ 16 - 1 - event)) % 2 ^ 16) (((old + 1) % 2 ^ 16 + (2 ^ 16 - old)) % 2 ^ 16) ≡ (event == old)
+passed event old low small = grind (arith, nat_tests)
+
+by_flag : (w : LiveQueue) (seen : List ℕ) → w.event_index ≡ true → wants w seen ≡ (from_le_bytes w16 seen == w.returned)
+by_flag w seen is = rw is refl
+
+pub by_event : ByEvent
+by_event w seen is low small = by_flag w seen is ∙ sym (passed (from_le_bytes w16 seen) w.returned low small)

@@ -1,0 +1,23 @@
+use Rattle.fs_live.proofs.Calls.{calls_are_a_run}
+use Rattle.fs_live.proofs.Alone.{returned_is_step_by}
+use Rattle.fs_live.proofs.Stored.{stores_stay_there}
+use Rattle.fs_live.proofs.Queues.{runs_on_queue, once_per_live_chain, live_used_in_order}
+use Rattle.fs_live.proofs.law_runs.Goals as goal
+
+pub returns-clause-calls : goal.returns-clause-calls
+returns-clause-calls g c = calls_are_a_run _
+
+pub returns-clause-step : goal.returns-clause-step
+returns-clause-step g c = returned_is_step_by _ _
+
+pub returns-clause-stores : goal.returns-clause-stores
+returns-clause-stores g c = stores_stay_there _
+
+pub returns-clause-queue : goal.returns-clause-queue
+returns-clause-queue g c = runs_on_queue _
+
+pub returns-clause-once : goal.returns-clause-once
+returns-clause-once g c = once_per_live_chain _
+
+pub returns-clause-used : goal.returns-clause-used
+returns-clause-used g c = live_used_in_order _

@@ -1,0 +1,220 @@
+-- A run of chains that are out of several queues at once, in the order in which things happen, for a guest that writes meanwhile (VIRTIO 1.2, 2.7).
+use Rattle.std.specs.Prelude.{◌≡◌, ℕ, Bool, not, ◌==◌, IsTrue, List, [], ◌∷◌, ◌++◌, length, filter, Option, Some, None, slice_get}
+use Rattle.std.specs.List.{AllByRecursion}
+use Rattle.vm_memory_core.specs.Host.{changed_at}
+use Rattle.vm_memory.specs.Memory.{Memory}
+use Rattle.fs_queue.specs.declared.fault.ChainFault.{ChainFault}
+use Rattle.fs_queue.specs.Chain.{Descriptor}
+use Rattle.fs_queue.specs.Queue.{Queue}
+use Rattle.fs_queue.specs.Taking.{Idle, Refuses, addresses_of, readable, writable, total_len, after_refusal}
+use Rattle.fs_queue.specs.Returning.{Store, stores_after_reply}
+use Rattle.fs_regions.specs.declared.step.Step as comes
+use Rattle.fs_regions.specs.declared.step.Step.TheVariants as step
+use Rattle.fs_regions.specs.Walks.{Loaded, FetchesBy, OffersBy}
+use Rattle.fuse_fs.specs.Calls.{FileCall, FileAnswer, suits}
+use Rattle.virtiofsd_fuse.specs.Grammar.{meaning}
+use Rattle.virtiofsd_fuse.specs.Serving.{May, Served, served, setting}
+use Rattle.fs_device.specs.Step.{Exchange, Calls, answers_alone, calls_alone, faulty, served_exchange}
+use Rattle.fs_device.specs.StepBy.{Act, Stores, reply_stores, return_acts}
+use Rattle.fs_live.specs.Several.{LiveQueue, gave, may_take, returning, sleep_store, took, wants}
+
+-- ---- states
+
+-- how far a chain is that is out: at fault, so it goes back with nothing; not asked yet; or asked by a request as it was loaded, in the options of that moment, with the calls that were answered
+pub data Phase : Type 0 where
+  Faulty : ChainFault → Phase
+  Fetched : Phase
+  Asked : (request : List ℕ) → (options : ℕ) → Calls → Phase
+
+-- a chain that is out: of which queue, as it was before the chain was taken; the loads of its walk, its descriptors and its head; and how far it is
+pub record OutChain : Type 0 where
+  pub queue : ℕ
+  pub taken : Queue
+  pub loaded : Loaded
+  pub descriptors : List Descriptor
+  pub head : ℕ
+  pub phase : Phase
+
+-- what is wrong with it
+abbrev pub fault_of : Phase → Option ChainFault
+fault_of (Faulty why) = Some why
+fault_of _ = None
+
+-- the addresses of its room: a faulty chain has none
+abbrev pub room_in : Phase → List Descriptor → List ℕ
+room_in (Faulty why) ds = []
+room_in _ ds = addresses_of (writable ds)
+
+-- of a chain's room
+abbrev pub room_of : OutChain → List ℕ
+room_of c = room_in c.phase c.descriptors
+
+-- the calls that were answered for it
+abbrev pub calls_in : Phase → Calls
+calls_in (Asked request options calls) = calls
+calls_in _ = []
+
+-- the device beside a guest that runs: of memory the places alone, which no store changes; the queues; the options of the session; the chains that are out, the first one taken first;
+-- and the file system
+pub record LiveState (F : Type 0) : Type 0 where
+  pub places : Memory
+  pub limit : ℕ
+  pub page_size : ℕ
+  pub queues : List LiveQueue
+  pub options : ℕ
+  pub outs : List OutChain
+  pub files : F
+
+-- ---- events
+
+-- what happens
+pub data LiveEvent : Type 0 where
+  -- a walk through what waits in queue i came to this by these loads, with these descriptors
+  Walks : (i : ℕ) → Loaded → List Descriptor → comes.Step → LiveEvent
+  -- a chain that is out was asked by this request: the call that is told first, or none
+  Asks : OutChain → (request : List ℕ) → (told : List FileCall) → LiveEvent
+  -- its call was answered
+  Answers : OutChain → FileCall → FileAnswer → LiveEvent
+  -- it went back: how many bytes of the reply were stored last, the stores behind the reply, and the two bytes that tell whether the driver wants to be told
+  Returns : OutChain → Exchange → (notice : Bool) → (last : ℕ) → (used : List Store) → (seen : List ℕ) → LiveEvent
+  -- before it sleeps, and where it wakes, the device asks to be told of queue i, or not to be
+  Sleeps : (i : ℕ) → Store → LiveEvent
+  -- queue i is begun anew
+  Begins : (i : ℕ) → LiveQueue → LiveEvent
+
+-- what the server does for a chain by its answers so far, in the options at its asking; `now`: those that stand by the answer
+abbrev pub serving : (page_size options now : ℕ) → (request : List ℕ) → (room : List ℕ) → Calls → Served
+serving page_size options now request room calls = served (setting page_size now (length room)) (meaning options request (length room)) (answers_alone calls)
+
+-- another queue in the place of queue i
+abbrev pub with_live : {F : Type 0} → LiveState F → ℕ → LiveQueue → LiveState F
+with_live s i w = record s { queues = changed_at s.queues i (λ _. w) }
+
+-- ---- what happens
+
+-- a chain that is taken isn't asked yet, or it is at fault
+abbrev pub phase_by : Option ChainFault → Phase
+phase_by None = Fetched
+phase_by (Some why) = Faulty why
+
+-- a chain as a walk comes to it
+abbrev pub new_chain : {F : Type 0} → LiveState F → ℕ → LiveQueue → Loaded → List Descriptor → (head : ℕ) → Option ChainFault → OutChain
+new_chain s i w loaded ds head fault =
+    record { queue = i; taken = w.queue; loaded = loaded; descriptors = ds; head = head; phase = phase_by fault }
+
+-- it is out, and the queue's next chain stands at the next position
+abbrev pub after_take : {F : Type 0} → LiveState F → ℕ → LiveQueue → OutChain → LiveState F
+after_take s i w c = record s { queues = changed_at s.queues i (λ _. took w); outs = s.outs ++ c ∷ [] }
+
+-- what a walk comes to in a queue; a queue of which as many are out as may be hands out none
+abbrev pub WalksIn : {F : Type 0} → LiveState F → ℕ → LiveQueue → Loaded → List Descriptor → comes.Step → LiveState F → Type 0
+WalksIn s i w loaded ds (step.Load walk) after = ⊥
+WalksIn s i w loaded ds step.Idle after = OffersBy s.places s.limit w.queue loaded [] Idle × (after ≡ s)
+WalksIn s i w loaded ds (step.Refused e) after =
+    OffersBy s.places s.limit w.queue loaded [] (Refuses e) × (after ≡ with_live s i (record w { queue = after_refusal w.queue e }))
+WalksIn s i w loaded ds (step.Chain head fault) after =
+    FetchesBy s.places s.limit w.queue loaded ds head fault × IsTrue (may_take w) × (after ≡ after_take s i w (new_chain s i w loaded ds head fault))
+
+-- on a queue that there is
+pub record WalksSo {F : Type 0} (s : LiveState F) (i : ℕ) (loaded : Loaded) (ds : List Descriptor) (came : comes.Step) (after : LiveState F) : Type 0 where
+  pub w : LiveQueue
+  pub there : slice_get s.queues i ≡ Some w
+  pub walks : WalksIn s i w loaded ds came after
+
+-- a chain that is out is asked, in the options of this moment
+pub record AsksSo {F : Type 0} (s : LiveState F) (c : OutChain) (request : List ℕ) (told : List FileCall) (after : LiveState F) : Type 0 where
+  pub before : List OutChain
+  pub behind : List OutChain
+  pub out : s.outs ≡ before ++ c ∷ behind
+  pub fresh : c.phase ≡ Fetched
+  pub whole : length request ≡ total_len (readable c.descriptors)
+  pub tells : told ≡ (serving s.page_size s.options s.options request (room_of c) []).calls
+  pub state : after ≡ record s { outs = before ++ record c { phase = Asked request s.options [] } ∷ behind }
+
+-- its call is answered, as the file system may by now: the call is the one that waits behind those that were answered; an answer of INIT or DESTROY changes the session's options
+pub record AnswersSo {F : Type 0} (may : May F) (s : LiveState F) (c : OutChain) (call : FileCall) (answer : FileAnswer) (after : LiveState F) : Type 0 where
+  pub before : List OutChain
+  pub behind : List OutChain
+  pub out : s.outs ≡ before ++ c ∷ behind
+  pub request : List ℕ
+  pub options : ℕ
+  pub calls : Calls
+  pub asked : c.phase ≡ Asked request options calls
+  pub waits : (serving s.page_size options options request (room_of c) calls).calls ≡ calls_alone calls ++ call ∷ []
+  pub is_one : IsTrue (suits call answer)
+  pub files : F
+  pub may_so : may s.files call answer files
+  pub state : after ≡ record s {
+    outs = before ++ record c { phase = Asked request options (calls ++ (call, answer) ∷ []) } ∷ behind;
+    options = (serving s.page_size options s.options request (room_of c) (calls ++ (call, answer) ∷ [])).options;
+    files = files;
+  }
+
+-- with what a chain goes back: nothing, if it is at fault; the reply, once no call waits
+abbrev pub GoesBackWith : (page_size : ℕ) → OutChain → Phase → Exchange → Type 0
+GoesBackWith page_size c (Faulty why) x = x ≡ faulty c.head why
+GoesBackWith page_size c Fetched x = ⊥
+GoesBackWith page_size c (Asked request options calls) x =
+    let given = serving page_size options options request (room_of c) calls in (given.calls ≡ calls_alone calls) × (x ≡ served_exchange c.head request given)
+
+-- a chain goes back, at the queue's next used position, whichever was taken first
+pub record ReturnsSo {F : Type 0} (s : LiveState F) (c : OutChain) (x : Exchange) (notice : Bool) (last : ℕ) (used : List Store) (seen : List ℕ) (after : LiveState F) : Type 0 where
+  pub before : List OutChain
+  pub behind : List OutChain
+  pub out : s.outs ≡ before ++ c ∷ behind
+  pub w : LiveQueue
+  pub there : slice_get s.queues c.queue ≡ Some w
+  pub goes : GoesBackWith s.page_size c c.phase x
+  pub used_is : used ≡ stores_after_reply (returning w) c.head (length x.reply)
+  pub two : length seen ≡ 2
+  pub told : notice ≡ wants w seen
+  pub state : after ≡ record s { queues = changed_at s.queues c.queue (λ _. gave w); outs = before ++ behind }
+
+-- the device asks to be told of the next chain, or of none
+pub record SleepsSo {F : Type 0} (s : LiveState F) (i : ℕ) (store : Store) (after : LiveState F) : Type 0 where
+  pub w : LiveQueue
+  pub there : slice_get s.queues i ≡ Some w
+  pub wanted : Bool
+  pub stores : sleep_store w wanted ≡ Some store
+  pub state : after ≡ s
+
+-- no call of a queue's chains waits for its answer
+abbrev pub NoneWaits : (page_size i : ℕ) → OutChain → Phase → Type 0
+NoneWaits page_size i c (Asked request options calls) = c.queue ≡ i → (serving page_size options options request (room_of c) calls).calls ≡ calls_alone calls
+NoneWaits page_size i c _ = Unit {0}
+
+-- a queue is begun anew once each call of its chains was answered: they are out no more
+pub record BeginsSo {F : Type 0} (s : LiveState F) (i : ℕ) (w : LiveQueue) (after : LiveState F) : Type 0 where
+  pub old : LiveQueue
+  pub there : slice_get s.queues i ≡ Some old
+  pub both : w.returned ≡ w.queue.position
+  pub none_waits : AllByRecursion (λ c. NoneWaits s.page_size i c c.phase) s.outs
+  pub state : after ≡ record s { queues = changed_at s.queues i (λ _. w); outs = filter (λ c. not (c.queue == i)) s.outs }
+
+-- an event leads from a state to a state
+abbrev pub Happens : {F : Type 0} → May F → LiveState F → LiveEvent → LiveState F → Type 0
+Happens may s (Walks i loaded ds came) after = WalksSo s i loaded ds came after
+Happens may s (Asks c request told) after = AsksSo s c request told after
+Happens may s (Answers c call answer) after = AnswersSo may s c call answer after
+Happens may s (Returns c x notice last used seen) after = ReturnsSo s c x notice last used seen after
+Happens may s (Sleeps i store) after = SleepsSo s i store after
+Happens may s (Begins i w) after = BeginsSo s i w after
+
+-- a run: events from a state to a state
+abbrev pub LiveRun : {F : Type 0} → May F → LiveState F → List LiveEvent → LiveState F → Type 0
+LiveRun may s [] after = after ≡ s
+LiveRun {F} may s (e ∷ es) after = (mid : LiveState F) × Happens may s e mid × LiveRun may mid es after
+
+-- ---- what is stored, and what is called
+
+-- the acts of an event; the calls' data is stored with the reply, at the return
+abbrev pub acts_of : LiveEvent → List Act
+acts_of (Returns c x notice last used seen) = return_acts (reply_stores (room_of c) x.reply last ++ used) seen
+acts_of (Sleeps i store) = Stores store ∷ []
+acts_of _ = []
+
+-- the calls of a run, in the order of their answers
+abbrev pub calls_among : List LiveEvent → Calls
+calls_among [] = []
+calls_among (Answers c call answer ∷ es) = (call, answer) ∷ calls_among es
+calls_among (_ ∷ es) = calls_among es

@@ -1,0 +1,101 @@
+-- Two chains that are out at once, and go back in the other order.
+use Rattle.std.specs.Prelude.{ℕ, true, false, List, [], ◌∷◌, Some, None}
+use Rattle.fs_queue.specs.Chain.{Descriptor}
+use Rattle.fs_queue.specs.Loads.{Load}
+use Rattle.fs_queue.specs.Returning.{Store}
+use Rattle.fs_regions.specs.declared.step.Step.TheVariants as step
+use Rattle.fs_regions.specs.Walks.{Loaded}
+use Rattle.fuse_fs.specs.Calls.{Destroy, Done}
+use Rattle.virtiofsd_fuse.specs.Examples.{le16, le32, in_header_bytes, zeros}
+use Rattle.virtiofsd_fuse.specs.Serving.{May}
+use Rattle.fs_device.specs.Examples.{blank, descriptor_bytes, queue}
+use Rattle.fs_device.specs.Step.{Exchange}
+use Rattle.fs_live.specs.Several.{LiveQueue}
+use Rattle.fs_live.specs.Live.{Fetched, Asked, OutChain, LiveState, Walks, Asks, Answers, Returns, LiveRun}
+
+-- DESTROY, from which a call comes
+abbrev pub destroy : List ℕ
+destroy = in_header_bytes 40 38 9 0
+
+-- a request of an opcode that no request has
+abbrev pub unknown : List ℕ
+unknown = in_header_bytes 40 7 2 0
+
+-- a load of a table's entry
+abbrev pub entry : (address : ℕ) → List ℕ → Load
+entry address bytes = record { address = address; came = Some bytes }
+
+-- what the first walk loads: an index of 2, head 0, and the table's first two entries
+abbrev pub first_loads : Loaded
+first_loads = record { index = Some (le16 2); entry = Some (le16 0); entries = entry 0 (descriptor_bytes 0x1000 40 1 1) ∷ entry 16 (descriptor_bytes 0x2000 16 2 0) ∷ [] }
+
+-- what the second one loads: head 2, and the other two
+abbrev pub second_loads : Loaded
+second_loads = record { index = Some (le16 2); entry = Some (le16 2); entries = entry 32 (descriptor_bytes 0x3000 40 1 3) ∷ entry 48 (descriptor_bytes 0x4000 16 2 0) ∷ [] }
+
+-- the first chain's descriptors
+abbrev pub first_table : List Descriptor
+first_table = record { addr = 0x1000; len = 40; flags = 1; next = 1 } ∷ record { addr = 0x2000; len = 16; flags = 2; next = 0 } ∷ []
+
+-- the second chain's
+abbrev pub second_table : List Descriptor
+second_table = record { addr = 0x3000; len = 40; flags = 1; next = 3 } ∷ record { addr = 0x4000; len = 16; flags = 2; next = 0 } ∷ []
+
+-- the queue with its two positions
+abbrev pub at_positions : (taken returned : ℕ) → LiveQueue
+at_positions taken returned = record { queue = record queue { position = taken }; returned = returned; most_out = 4; event_index = false }
+
+-- one queue over 64 KiB from address 0 on
+abbrev pub state : {F : Type 0} → F → LiveQueue → (options : ℕ) → List OutChain → LiveState F
+state files w options outs = record { places = blank; limit = 0x101000; page_size = 4096; queues = w ∷ []; options = options; outs = outs; files = files }
+
+-- the first chain, as it is taken
+abbrev pub first : OutChain
+first = record { queue = 0; taken = queue; loaded = first_loads; descriptors = first_table; head = 0; phase = Fetched }
+
+-- the second one
+abbrev pub second : OutChain
+second = record { queue = 0; taken = record queue { position = 1 }; loaded = second_loads; descriptors = second_table; head = 2; phase = Fetched }
+
+-- it was asked in the options 1
+abbrev pub first_asked : OutChain
+first_asked = record first { phase = Asked destroy 1 [] }
+
+-- the first one, once DESTROY was answered
+abbrev pub first_answered : OutChain
+first_answered = record first { phase = Asked destroy 1 ((Destroy, Done) ∷ []) }
+
+-- the second one, which makes no call
+abbrev pub second_asked : OutChain
+second_asked = record second { phase = Asked unknown 1 [] }
+
+-- no reply to DESTROY
+abbrev pub first_exchange : Exchange
+first_exchange = record { head = 0; request = destroy; reply = []; fault = None }
+
+-- ENOSYS
+abbrev pub second_exchange : Exchange
+second_exchange = record { head = 2; request = unknown; reply = 0x10 ∷ 0 ∷ 0 ∷ 0 ∷ 0xda ∷ 0xff ∷ 0xff ∷ 0xff ∷ 2 ∷ zeros 7; fault = None }
+
+-- head, length and index: the second chain goes to the used ring's first element
+abbrev pub second_used : List Store
+second_used = record { address = 0x204; bytes = le32 2 } ∷ record { address = 0x208; bytes = le32 16 } ∷ record { address = 0x202; bytes = le16 1 } ∷ []
+
+-- the first one goes to the second element
+abbrev pub first_used : List Store
+first_used = record { address = 0x20c; bytes = le32 0 } ∷ record { address = 0x210; bytes = le32 0 } ∷ record { address = 0x202; bytes = le16 2 } ∷ []
+
+-- the second chain is taken, asked and returned while the call of the first one waits; DESTROY's answer leaves no options
+abbrev pub Overlap : {F : Type 0} → May F → Type 0
+Overlap {F} may =
+    (before after : F) → may before Destroy Done after → LiveRun may (state before (at_positions 0 0) 1 [])
+    (
+    Walks 0 first_loads first_table (step.Chain 0 None)
+    ∷ Asks first destroy (Destroy ∷ [])
+    ∷ Walks 0 second_loads second_table (step.Chain 2 None)
+    ∷ Asks second unknown []
+    ∷ Returns second_asked second_exchange true 0 second_used (le16 0)
+    ∷ Answers first_asked Destroy Done
+    ∷ Returns first_answered first_exchange true 0 first_used (le16 0) ∷ []
+    )
+    (state after (at_positions 2 2) 0 [])

@@ -1,0 +1,81 @@
+-- The driver rewrites the available ring's one entry after it was loaded, while its chain is out.
+use Rattle.std.specs.Prelude.{ℕ, true, false, List, [], ◌∷◌, ◌++◌, Some, None}
+use Rattle.fs_queue.specs.declared.fault.QueueError.TheVariants.{HeadOutOfTable}
+use Rattle.fs_queue.specs.Chain.{Descriptor}
+use Rattle.fs_queue.specs.Queue.{Queue, with_stop}
+use Rattle.fs_queue.specs.Returning.{Store}
+use Rattle.fs_regions.specs.declared.step.Step.TheVariants as step
+use Rattle.fs_regions.specs.Walks.{Loaded}
+use Rattle.fuse_fs.specs.Calls.{FileCall, Forget, Done}
+use Rattle.virtiofsd_fuse.specs.Examples.{le16, le32, le64, in_header_bytes, nobody}
+use Rattle.virtiofsd_fuse.specs.Serving.{May}
+use Rattle.fs_device.specs.Examples.{descriptor_bytes}
+use Rattle.fs_device.specs.Step.{Exchange}
+use Rattle.fs_live.specs.Several.{LiveQueue}
+use Rattle.fs_live.specs.Live.{Fetched, Asked, OutChain, Walks, Asks, Answers, Returns, LiveRun}
+use Rattle.fs_live.specs.Overlap.{entry, state}
+
+-- FORGET of node 5, held three times less: it has no reply
+abbrev pub forget : List ℕ
+forget = in_header_bytes 48 2 2 5 ++ le64 3
+
+-- its call
+abbrev pub told : FileCall
+told = Forget nobody 5 3
+
+-- a queue of one descriptor: each chain stands in the ring's one entry
+abbrev pub queue : Queue
+queue = record { size = 1; desc = 0; avail = 0x100; used = 0x200; position = 0; stopped = false }
+
+-- the queue with its two positions
+abbrev pub at_positions : (taken returned : ℕ) → LiveQueue
+at_positions taken returned = record { queue = record queue { position = taken }; returned = returned; most_out = 2; event_index = false }
+
+-- the same once it is stopped
+abbrev pub stopped_at : (taken returned : ℕ) → LiveQueue
+stopped_at taken returned = record { queue = with_stop (record queue { position = taken }); returned = returned; most_out = 2; event_index = false }
+
+-- what the first walk loads: an index of 1, head 0, and the table's one entry
+abbrev pub first_loads : Loaded
+first_loads = record { index = Some (le16 1); entry = Some (le16 0); entries = entry 0 (descriptor_bytes 0x1000 48 0 0) ∷ [] }
+
+-- what the second one loads: an index of 2, and head 1 where head 0 was, which the table hasn't
+abbrev pub second_loads : Loaded
+second_loads = record { index = Some (le16 2); entry = Some (le16 1); entries = [] }
+
+-- the chain's descriptor
+abbrev pub table : List Descriptor
+table = record { addr = 0x1000; len = 48; flags = 0; next = 0 } ∷ []
+
+-- the chain, as it is taken
+abbrev pub first : OutChain
+first = record { queue = 0; taken = queue; loaded = first_loads; descriptors = table; head = 0; phase = Fetched }
+
+-- it was asked without options
+abbrev pub first_asked : OutChain
+first_asked = record first { phase = Asked forget 0 [] }
+
+-- it was answered
+abbrev pub first_answered : OutChain
+first_answered = record first { phase = Asked forget 0 ((told, Done) ∷ []) }
+
+-- it goes back without a reply
+abbrev pub exchange : Exchange
+exchange = record { head = 0; request = forget; reply = []; fault = None }
+
+-- head 0 and no length in the used ring's one element, and an index of 1
+abbrev pub used : List Store
+used = record { address = 0x204; bytes = le32 0 } ∷ record { address = 0x208; bytes = le32 0 } ∷ record { address = 0x202; bytes = le16 1 } ∷ []
+
+-- the rewritten entry stops the queue; the chain that is out is served as it was loaded, and goes back
+abbrev pub Rewritten : {F : Type 0} → May F → Type 0
+Rewritten {F} may =
+    (before after : F) → may before told Done after → LiveRun may (state before (at_positions 0 0) 0 [])
+    (
+    Walks 0 first_loads table (step.Chain 0 None)
+    ∷ Walks 0 second_loads [] (step.Refused HeadOutOfTable)
+    ∷ Asks first forget (told ∷ [])
+    ∷ Answers first_asked told Done
+    ∷ Returns first_answered exchange true 0 used (le16 0) ∷ []
+    )
+    (state after (stopped_at 1 1) 0 [])

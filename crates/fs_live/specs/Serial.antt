@@ -1,0 +1,87 @@
+-- One chain at a time: a kick of the plain machine.
+use Rattle.std.specs.Prelude.{◌≡◌, ℕ, Bool, false, List, [], ◌∷◌, ◌++◌, length, map, Option, Some, None, slice_get}
+use Rattle.std.specs.List.{AllByRecursion}
+use Rattle.vm_memory.specs.Memory.{Memory, location}
+use Rattle.fs_queue.specs.declared.fault.ChainFault.{ChainFault}
+use Rattle.fs_queue.specs.Chain.{Descriptor}
+use Rattle.fs_queue.specs.Returning.{Store}
+use Rattle.fs_regions.specs.declared.step.Step.TheVariants as step
+use Rattle.fs_regions.specs.Laws.{HasLoaded}
+use Rattle.fs_regions.specs.Walks.{Loaded}
+use Rattle.virtiofsd_fuse.specs.Serving.{May}
+use Rattle.fs_device.specs.Run.{KickRun, Turn}
+use Rattle.fs_device.specs.Step.{State, Exchange, Exchanged, Step}
+use Rattle.fs_device.specs.StepBy.{FindFlags, MayStoreLast, after_stores, stores_among}
+use Rattle.fs_live.specs.Several.{LiveQueue}
+use Rattle.fs_live.specs.Live.{OutChain, LiveState, LiveEvent, Walks, Asks, Answers, Returns, LiveRun, acts_of, calls_in, room_of}
+use Rattle.fs_live.specs.Runs.{request_in}
+
+-- a chain from its walk to its return, with what happens between
+pub record Round : Type 0 where
+  pub queue : ℕ
+  pub loaded : Loaded
+  pub descriptors : List Descriptor
+  pub head : ℕ
+  pub fault : Option ChainFault
+  pub between : List LiveEvent
+  pub chain : OutChain
+  pub exchange : Exchange
+  pub notice : Bool
+  pub last : ℕ
+  pub used : List Store
+  pub seen : List ℕ
+
+-- its return
+abbrev pub return_in : Round → LiveEvent
+return_in r = Returns r.chain r.exchange r.notice r.last r.used r.seen
+
+-- all its events
+abbrev pub events_in : Round → List LiveEvent
+events_in r = Walks r.queue r.loaded r.descriptors (step.Chain r.head r.fault) ∷ (r.between ++ return_in r ∷ [])
+
+-- between them the chain is asked and answered, and nothing else happens
+abbrev pub IsOfChain : LiveEvent → Type 0
+IsOfChain (Asks c request told) = Unit {0}
+IsOfChain (Answers c call answer) = Unit {0}
+IsOfChain _ = ⊥
+
+-- the plain machine over a memory
+abbrev pub plain : {F : Type 0} → LiveState F → Memory → State F
+plain s m =
+    record { memory = m; queues = map (λ w. w.queue) s.queues; options = s.options; files = s.files; limit = s.limit; page_size = s.page_size }
+
+-- a queue without the event index of which no chain is out: its two positions are one
+abbrev pub IsAtRest : LiveQueue → Type 0
+IsAtRest w = (w.event_index ≡ false) × (w.returned ≡ w.queue.position)
+
+-- one memory has what was loaded, the flags too, at the moment of each load; its places are the run's; what is stored last of the reply lies apart from the rest
+pub record FoundIn {F : Type 0} (m : Memory) (s : LiveState F) (r : Round) : Type 0 where
+  pub places : location m ≡ location s.places
+  pub loads : (w : LiveQueue) → slice_get s.queues r.queue ≡ Some w → HasLoaded m w.queue r.loaded (request_in r.chain.phase)
+  pub flags : (w : LiveQueue) → slice_get s.queues r.queue ≡ Some w → FindFlags m w.queue (acts_of (return_in r))
+  pub apart : MayStoreLast m (room_of r.chain) r.last
+
+-- such a round is a step of the plain machine, which leaves the memory with the stores in it
+abbrev pub RoundIsStep : {F : Type 0} → May F → Type 0
+RoundIsStep {F} may =
+    (s after : LiveState F) (r : Round) (m : Memory) (w : LiveQueue) → s.outs ≡ [] → slice_get s.queues r.queue ≡ Some w → IsAtRest w → AllByRecursion IsOfChain r.between →
+    LiveRun may s (events_in r) after → FoundIn m s r →
+    Step may (plain s m) r.queue (calls_in r.chain.phase) (Exchanged r.exchange r.notice) (plain after (after_stores m (stores_among (acts_of (return_in r)))))
+    × (after.outs ≡ []) × (w' : LiveQueue) × (slice_get after.queues r.queue ≡ Some w') × IsAtRest w'
+
+-- rounds of queue i, one after the other
+abbrev pub SerialRun : {F : Type 0} → May F → ℕ → Memory → LiveState F → List Round → Memory → LiveState F → Type 0
+SerialRun may i m s [] m' after = (m' ≡ m) × (after ≡ s)
+SerialRun {F} may i m s (r ∷ rs) m' after =
+    (mid : LiveState F) × (r.queue ≡ i) × AllByRecursion IsOfChain r.between × LiveRun may s (events_in r) mid × FoundIn m s r
+    × SerialRun may i (after_stores m (stores_among (acts_of (return_in r)))) mid rs m' after
+
+-- what the plain machine is told of it
+abbrev pub turn_of : Round → Turn
+turn_of r = record { exchange = r.exchange; notice = r.notice; calls = calls_in r.chain.phase }
+
+-- a serial run by loads that one memory has is a kick of the plain machine over it
+abbrev pub SerialIsKick : {F : Type 0} → May F → Type 0
+SerialIsKick {F} may =
+    (s after : LiveState F) (rs : List Round) (m m' : Memory) (i : ℕ) (w : LiveQueue) → s.outs ≡ [] → slice_get s.queues i ≡ Some w → IsAtRest w → SerialRun may i m s rs m' after →
+    KickRun may (plain s m) i (length rs) (map turn_of rs) None (plain after m')

@@ -1,0 +1,55 @@
+//! Runs of several chains on several queues, beside a guest that writes meanwhile: laws of the definitions, contracts of functions that do nothing.
+#![tactic(auto)]
+
+ghost use Rattle.fs_live.specs.Handles.{HandleAnswers, HandleAsks, HandleReturns, HandleWalks, OptionsStay};
+ghost use Rattle.fs_live.specs.InitBeside.{InitBeside};
+ghost use Rattle.fs_live.specs.Overlap.{Overlap};
+ghost use Rattle.fs_live.specs.Rewritten.{Rewritten};
+ghost use Rattle.fs_live.specs.Runs.{CallsAreARun, LiveUsedInOrder, OncePerLiveChain, ReturnedIsStepBy, RunsOnQueue, StoresStayThere};
+ghost use Rattle.fs_live.specs.Serial.{RoundIsStep, SerialIsKick};
+ghost use Rattle.fs_live.specs.Several.{ByEvent, KeepsOrder, OncePerChain, OneAtATime, UsedInOrder};
+
+use fuse_fs::FileSystem;
+
+/// What holds of the takes and returns of one queue: each chain once, used positions in order; one at a time, or the oldest first, each where it was
+/// taken; and used_event tells of one return what its position does.
+pub fn law_queues()
+    ensures once { OncePerChain }
+    ensures used { UsedInOrder }
+    ensures one { OneAtATime }
+    ensures order { KeepsOrder }
+    ensures event { ByEvent }
+{}
+
+/// What holds of a run of several chains, whatever the guest writes meanwhile: the calls are a run of the file system; each chain that goes back is by
+/// itself the plain machine's step by its loads; stores stay where they may be; and each queue's chains are taken and go back as on one queue alone.
+pub fn law_runs<F: FileSystem, G: FileSystem>()
+    ensures calls { CallsAreARun F.may }
+    ensures step { ReturnedIsStepBy F.may G.may }
+    ensures stores { StoresStayThere F.may }
+    ensures queue { RunsOnQueue F.may }
+    ensures once { OncePerLiveChain F.may }
+    ensures used { LiveUsedInOrder F.may }
+{}
+
+/// One chain after another on one queue, over a memory that has what was loaded: the plain machine's steps, and its kick.
+pub fn law_serial<F: FileSystem>()
+    ensures round { RoundIsStep F.may }
+    ensures kick { SerialIsKick F.may }
+{}
+
+/// Worked examples: two chains that overlap and go back in the other order; a ring's entry that is rewritten after its load; INIT beside a chain that waits.
+pub fn law_examples<F: FileSystem>()
+    ensures overlap { Overlap F.may }
+    ensures rewritten { Rewritten F.may }
+    ensures init { InitBeside F.may }
+{}
+
+/// What calls of handles give a run, by their contracts, whatever other chains are out: a walk, an asking, an answer and a return are its events.
+pub fn law_handles<F: FileSystem>()
+    ensures walks { HandleWalks F.may }
+    ensures asks { HandleAsks F.may }
+    ensures answers { HandleAnswers F.may }
+    ensures returns { HandleReturns F.may }
+    ensures options { OptionsStay }
+{}
