@@ -5,8 +5,8 @@ ghost use Rattle.fs_queue.specs.WalkingView.{AllEndIn64Bits};
 
 use crate::stand::{Act, ENOSYS_REPLY, LIMIT, RING, Stand, UNKNOWN, expect_same, layout, play};
 use fs_queue::{
-    Chain, Descriptor, Descriptors, EntryLoad, Progress, Queue, Return, ReturnWindows, Taken, Walk,
-    Walked, add_return_windows, hold_chain, walk_loads,
+    Chain, Descriptor, Descriptors, Progress, Queue, Return, ReturnWindows, Taken, Walk, Walked,
+    add_return_windows, hold_chain,
 };
 use std::alloc::Global;
 use std::process::Abort;
@@ -192,35 +192,4 @@ fn chain_is_served_by_loads_and_stores(rt: HostRuntime) {
     host.read_windows(&back.flags, &mut flags);
     queue.advance();
     expect_same(&rt, (Return::tells(flags), queue.position()), (true, 1));
-}
-
-// Entries of a table: four bytes to be read, which entry 1 follows, and four to be written.
-const READ: [u8; 16] = [0x40, 0, 0, 0, 0, 0, 0, 0, 4, 0, 0, 0, 1, 0, 1, 0];
-
-const WRITTEN: [u8; 16] = [0x50, 0, 0, 0, 0, 0, 0, 0, 4, 0, 0, 0, 2, 0, 0, 0];
-
-// What a walk comes to by the load of entry 0, and then this one: of entry 1, of another, of one without a place.
-const BY_LOADS: &[(u64, Option<[u8; 16]>, Option<Walked>)] = &[
-    (16, Some(WRITTEN), Some(Walked::Chain)),
-    (32, Some(WRITTEN), None),
-    (16, None, Some(Walked::Stopped)),
-];
-
-#[test]
-fn chain_is_walked_by_loads_at_hand(rt: HostRuntime) {
-    for (address, came, want) in BY_LOADS {
-        let loads = [
-            EntryLoad {
-                address: RING.desc,
-                came: Some(READ),
-            },
-            EntryLoad {
-                address: *address,
-                came: *came,
-            },
-        ];
-        let mut descriptors = Descriptors::new(rt.alloc());
-        let found = walk_loads(layout(&rt, RING), 0, &loads, &mut descriptors);
-        expect_same(&rt, found.expect(&rt, "memory"), *want);
-    }
 }

@@ -10,6 +10,7 @@ pub mod OwnReplies
 pub mod Passing
 pub mod Queues
 pub mod Returns
+pub mod Serials
 pub mod Walks
 pub mod Whole
 pub mod WholeListings

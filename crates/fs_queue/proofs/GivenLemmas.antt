@@ -1,10 +1,10 @@
 -- one load after another
 use Rattle.std.proofs.Common.{◌≡◌, ℕ, Bool, true, false, ◌+◌, ◌<◌, ◌≤◌, ◌⊎◌, inl, inr, arith, length, length-append, leb-true, leb-false, nat_le, subst, Result, Ok}
 use Rattle.std.proofs.Common.{Err, List, [], ◌∷◌, ◌++◌, Option, Some, None, refl, ap, sym, ◌∙◌, append_assoc, append-nil}
-use Rattle.std.specs.Prelude.{if◌then◌else◌, option_map, IfOk, IsSomeAnd, OnErr}
+use Rattle.std.specs.Prelude.{if◌then◌else◌, option_map, IfOk, OnErr}
 use Rattle.std.specs.declared.alloc.AllocError.{AllocError}
 use Rattle.fs_queue.specs.Windows.{IsLongChain}
-use Rattle.std.proofs.lemmas.Bool.{eq-eqb, ne_eqb}
+use Rattle.std.proofs.lemmas.Bool.{eq-eqb}
 use Rattle.vm_iotlb.specs.declared.permissions.Permissions.TheVariants.{Read}
 use Rattle.vm_memory.specs.Memory.{Memory, bytes, reach}
 use Rattle.fs_queue.specs.declared.chain_walk.ChainWalk.{ChainWalk}
@@ -42,7 +42,7 @@ by_step size v (Faulty f) ls ds = rw (ended size ls (HasFault f)) refl
 by_step size v Stops ls ds = rw (ended size ls StopsQueue) refl
 
 -- what is found by a load and those after it, by what came of the load
-pub given : (size : ℕ) (v : Visit) (l : Load) (ls : List Load) (ds : List Descriptor) (joins : Option Descriptor) (a : Ahead) → l.address ≡ entry_address v →
+given : (size : ℕ) (v : Visit) (l : Load) (ls : List Load) (ds : List Descriptor) (joins : Option Descriptor) (a : Ahead) → l.address ≡ entry_address v →
     joins ≡ joining (step_by size v l) → a ≡ ahead_after size v (step_by size v l) →
     option_map (prepend (with_joining ds joins)) (found_by size ls a) ≡ option_map (prepend ds) (found_by size (l ∷ ls) (Reads v))
 unfolding found_by
@@ -83,7 +83,7 @@ prepended comes_to.Chain ds = prepend-chain ds [] ∙ ap IsChain (append-nil ds)
 prepended (comes_to.Faulty fault) ds = prepend-fault ds fault
 prepended comes_to.Stopped ds = prepend-stop ds
 
-pub ended_by : (size : ℕ) (ls : List Load) (w : walked.Walked) (ds : List Descriptor) → Some (found_of w ds) ≡ option_map (prepend ds) (found_by size ls (Ends (found_of w [])))
+ended_by : (size : ℕ) (ls : List Load) (w : walked.Walked) (ds : List Descriptor) → Some (found_of w ds) ≡ option_map (prepend ds) (found_by size ls (Ends (found_of w [])))
 ended_by size ls w ds = ap Some (sym (prepended w ds)) ∙ sym (ap (option_map (prepend ds)) (ended size ls (found_of w [])))
 
 -- a walk that ended found what the memory has
@@ -131,7 +131,7 @@ by_room items d capacity room full there =
     ] refl
 
 -- one more descriptor, if one joins
-pub kept_joining : (room : ℕ) (kept kept' : Bool) (items items' joined : List Descriptor) (joins : Option Descriptor) → (kept' ≡ true → (kept ≡ true) × (items' ≡ with_joining items joins)) →
+kept_joining : (room : ℕ) (kept kept' : Bool) (items items' joined : List Descriptor) (joins : Option Descriptor) → (kept' ≡ true → (kept ≡ true) × (items' ≡ with_joining items joins)) →
     (kept' ≡ false → (kept ≡ false) ⊎ (room < length (with_joining items joins))) → KeptOf room kept items joined → KeptOf room kept' items' (with_joining joined joins)
 kept_joining room kept kept' items items' joined joins keeps loses k = record {
   same = λ t. let s = keeps t in ap (λ (ds : List Descriptor). with_joining ds joins) (k.same s.0) ∙ sym s.1;
@@ -183,42 +183,6 @@ pub failed_end : (m : Memory) (q : Queue) (head room : ℕ) (kept : Bool) (items
     CameKept m q.size (ahead_at q.size (first_visit q head)) room kept items (Ends (found_of w [])) → OnErr r (IsLongChain room (chain m q head))
 failed_end m q head room kept items w (Ok x) lost c = tt
 failed_end m q head room kept items w (Err e) lost c = subst (IsLongChain room) (came_end m q head c.0 w c.2) (lost_found room kept items c.0 w lost.0 lost.1 c.1)
-
--- what a walk by loads at hand answers that ended so
-pub listed_end : (room : ℕ) (kept : Bool) (items joined : List Descriptor) (w : walked.Walked) (f : Option Found) (r : Result (Option walked.Walked) AllocError) →
-    IfOk r (λ o. (o ≡ Some w) × (w ≡ comes_to.Chain → kept ≡ true)) → KeptOf room kept items joined → Some (found_of w joined) ≡ f → IfOk r (λ o. option_map (λ x. found_of x items) o ≡ f)
-listed_end room kept items joined w f (Ok o) told k is =
-    ap (λ (y : Option walked.Walked). option_map (λ x. found_of x items) y) told.0 ∙ ap Some (kept_found room kept items joined w told.1 k) ∙ is
-listed_end room kept items joined w f (Err e) told k is = tt
-
-pub listed_lost : (room : ℕ) (kept : Bool) (items joined : List Descriptor) (w : walked.Walked) (f : Option Found) (r : Result (Option walked.Walked) AllocError) →
-    OnErr r ((w ≡ comes_to.Chain) × (kept ≡ false)) → KeptOf room kept items joined → Some (found_of w joined) ≡ f → OnErr r (IsSomeAnd f (IsLongChain room))
-listed_lost room kept items joined w f (Ok o) lost k is = tt
-listed_lost room kept items joined w f (Err e) lost k is = subst (λ (o : Option Found). IsSomeAnd o (IsLongChain room)) is (lost_found room kept items joined w lost.0 lost.1 k)
-
--- a load of another address
-pub other_load : (size : ℕ) (v : Visit) (l : Load) (ls : List Load) → (l.address ≡ entry_address v → ⊥) → found_by size (l ∷ ls) (Reads v) ≡ None
-unfolding found_by
-other_load size v l ls other = rw (ne_eqb l.address (entry_address v) other) refl
-
-pub no_load : (size : ℕ) (v : Visit) (ls : List Load) → ls ≡ [] → found_by size ls (Reads v) ≡ None
-unfolding found_by
-no_load size v ls none = rw none refl
-
-abbrev load_at : ℕ → Option (List ℕ) → Load
-load_at a came = record { address = a; came = came }
-
--- a list of loads, by what the code answers
-pub listed : (size : ℕ) (w : ChainWalk) (l : Load) (ls rest : List Load) (ds : List Descriptor) (joins : Option Descriptor) (a : Ahead) (f : Option Found) → w.size ≡ size →
-    l.address ≡ entry_address (visit_of w) → ls ≡ l ∷ rest → joins ≡ joining (step_by w.size (visit_of w) (load_of w l.came)) →
-    a ≡ ahead_after w.size (visit_of w) (step_by w.size (visit_of w) (load_of w l.came)) → option_map (prepend ds) (found_by size ls (Reads (visit_of w))) ≡ f →
-    option_map (prepend (with_joining ds joins)) (found_by size rest a) ≡ f
-listed size w l ls rest ds joins a f own at is joins-is a-is e =
-    let same : load_of w l.came ≡ l = ap (λ n. load_at n l.came) (sym at) in
-    given size (visit_of w) l rest ds joins a at
-    ((rw own at joins-is) ∙ ap (λ (x : Load). joining (step_by size (visit_of w) x)) same)
-    ((rw own at a-is) ∙ ap (λ (x : Load). ahead_after size (visit_of w) (step_by size (visit_of w) x)) same)
-    ∙ sym (ap (λ (x : List Load). option_map (prepend ds) (found_by size x (Reads (visit_of w)))) is) ∙ e
 
 -- how many loads a walk may still ask for
 abbrev pub loads_left : code.Progress → ℕ

@@ -12,7 +12,7 @@ use Rattle.fs_queue.specs.NextAvail as avail
 use Rattle.fs_queue.specs.declared.walk.Walk.{Walk}
 use Rattle.fs_queue.specs.declared.walk.Walk.TheVariants as walk
 use Rattle.fs_queue.specs.RingingView.{Stage, Told, stage_of}
-use Rattle.fs_queue.specs.Taking.{Offer, Refuses, is_idle, offer, offer_of, on_found, on_next_avail}
+use Rattle.fs_queue.specs.Taking.{Offer, Refuses, is_idle, offer, offer_of, on_next_avail}
 use Rattle.fs_queue.proofs.OfferLemmas.{offer_next_avail}
 
 -- what a walk through the ring ended with is that nothing waits

@@ -1,6 +1,6 @@
 -- How the code says the way back of a chain: its stores as a value, and what a place's windows make of a return. Nothing here is
 -- needed to say what a device does.
-use Rattle.std.specs.Prelude.{ℕ, ◌+◌, Bool, List, [], ◌∷◌, zip, map}
+use Rattle.std.specs.Prelude.{ℕ, Bool, List, [], ◌∷◌, zip, map}
 use Rattle.std.specs.Int.{w16, w32, to_le_bytes}
 use Rattle.vm_memory_core.specs.Host.{Host}
 use Rattle.vm_memory_core.specs.Window.{byte_in, places, put_all}

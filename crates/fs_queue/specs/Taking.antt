@@ -1,5 +1,5 @@
 -- What a queue offers: a chain's request and room, or why there is none.
-use Rattle.std.specs.Prelude.{ℕ, Bool, true, false, not, ◌&&◌, ◌||◌, nat_lt, List, [], if◌then◌else◌, sum_by, filter, flat_map}
+use Rattle.std.specs.Prelude.{ℕ, Bool, true, false, not, ◌&&◌, ◌||◌, nat_lt, List, [], Option, Some, None, if◌then◌else◌, sum_by, filter, flat_map}
 use Rattle.std.specs.List.{list_all}
 use Rattle.vm_iotlb.specs.declared.permissions.Permissions.{Permissions}
 use Rattle.vm_iotlb.specs.declared.permissions.Permissions.TheVariants.{Read, Write}
@@ -77,6 +77,13 @@ on_found m limit q head f =
 
 abbrev pub on_head : Memory → ℕ → Queue → (head : ℕ) → Offer
 on_head m limit q head = on_found m limit q head (chain m q head)
+
+-- why a chain can't go back, if it can't: the used element or the used index can't be written, the available flags can't be read (2.7.8 and 2.7.7)
+abbrev pub return_fault : Memory → Queue → Option QueueError
+return_fault m q =
+    if not (reach m Write (element_at q) 8 && reach m Write (index_at q) 2) then Some stop.UsedUnreachable
+    else if not (reach m Read q.avail 2) then Some stop.AvailFlagsUnreachable
+    else None
 
 -- what is offered by what the available ring holds
 abbrev pub on_next_avail : Memory → ℕ → Queue → NextAvail → Offer

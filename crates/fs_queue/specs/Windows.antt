@@ -1,6 +1,5 @@
 -- What is kept of a chain that was taken: the windows of its descriptors and of its return, each address translated by itself.
 use Rattle.std.specs.Prelude.{◌≡◌, ◌<◌, ◌≤◌, ◌⊎◌, ℕ, Bool, true, false, IsTrue, List, [], ◌++◌, length, map, Option, Some, None, Result, Ok, Err}
-use Rattle.vm_iotlb.specs.declared.permissions.Permissions.{Permissions}
 use Rattle.vm_iotlb.specs.declared.permissions.Permissions.TheVariants.{Read, Write}
 use Rattle.vm_memory_core.specs.Host.{Place}
 use Rattle.vm_memory_core.specs.Window.{places, AllLieIn, byte_in}

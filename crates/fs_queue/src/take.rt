@@ -1,14 +1,13 @@
 //! What is taken of a chain: windows with its request and its room, and those of its return (VIRTIO 1.2, 2.7.5 to
 //! 2.7.8).
 
-ghost use Rattle.std.specs.Prelude.{ℕ, ◌≡◌, ◌+◌, ◌-◌, ◌<◌, ◌≤◌, ◌^◌, ◌++◌, ◌&&◌, List, []};
+ghost use Rattle.std.specs.Prelude.{ℕ, ◌≡◌, ◌+◌, ◌-◌, ◌<◌, ◌≤◌, ◌^◌, ◌++◌, List, []};
 ghost use Rattle.std.specs.Prelude.{min, false, true, None, Some, Ok, if◌then◌else◌};
 ghost use Rattle.std.specs.Prelude.{IfErr, IfNone, IfOk, IfSome, IsTrue, OnErr};
 ghost use Rattle.vm_iotlb.specs.declared.permissions.Permissions.TheVariants.{Read, Write};
 ghost use Rattle.vm_memory_core.specs.Host.{lengths};
 ghost use Rattle.vm_memory_core.specs.Window.{places, AllLieIn};
-ghost use Rattle.vm_memory.specs.Memory.{addresses, after, located, location, reach};
-ghost use Rattle.fs_queue.specs.Queue.{element_at, index_at};
+ghost use Rattle.vm_memory.specs.Memory.{addresses, after, located, location};
 ghost use Rattle.fs_queue.specs.WalkingView.{AllEndIn64Bits, at_position};
 ghost use Rattle.fs_queue.specs.Taking.{total_len, request_and_room, stops_queue, of_direction, access_of, addresses_of};
 ghost use Rattle.fs_queue.specs.Windows.{used_addresses, return_places_of};
@@ -19,13 +18,14 @@ ghost use Rattle.fs_queue.specs.Chain.{IsChain, chain, first_visit};
 ghost use Rattle.fs_queue.specs.Loads.{ahead_at};
 ghost use Rattle.fs_queue.specs.SteppingView.{ahead_of, IfWants};
 
-use crate::access::{add_windows, reaches};
+use crate::access::add_windows;
 use crate::by_loads::{walk_chain, walk_ring};
 use crate::chain::{Chain, ReturnWindows, Taken};
 use crate::chain_walk::{Progress, Walked};
 use crate::descriptor::{Descriptor, Descriptors};
 use crate::fault::{ChainFault, QueueError};
 use crate::layout::QueueLayout;
+use crate::places::{HostPlaces, return_fault};
 use crate::walk::Walk;
 use std::alloc::{AllocError, Global};
 use vm_memory::GuestMemory;
@@ -93,23 +93,6 @@ fn add_used_and_flags<M: GuestMemory, H: HostBlocks>(
     Ok(None)
 }
 
-// Whether each address of the used element and of the used index has a place to be written.
-fn reaches_used<M: GuestMemory, H: HostBlocks>(
-    alloc: Global,
-    layout: QueueLayout,
-    host: &H,
-    mem: &M,
-    position: u16,
-) -> bool
-    ensures { let m = M.memory mem.now (H.host host.now) in let q = at_position layout position in
-        result ≡ (reach m Write (element_at q) 8 && reach m Write (index_at q) 2) }
-{
-    let element = layout.used() + 4 + 8 * u64::from(position % layout.size());
-    let index = layout.used() + 2;
-    reaches(alloc, host, mem, element, 8, Permissions::Write)
-        && reaches(alloc, host, mem, index, 2, Permissions::Write)
-}
-
 // Which part of a return at this position has an address that can't be reached, if one has: looked at by itself, without a list.
 #[tactic(auto, using(crate::proofs::OfferLemmas::missing_reached))]
 fn missing_in_return<M: GuestMemory, H: HostBlocks>(
@@ -122,13 +105,7 @@ fn missing_in_return<M: GuestMemory, H: HostBlocks>(
     ensures missing { result ≡ missing_of (return_places_at (M.memory mem.now (H.host host.now)) (at_position layout position)) }
     ensures stops { IfSome result (λ e. IsTrue (stops_queue e)) }
 {
-    if !reaches_used(alloc, layout, host, mem, position) {
-        Some(QueueError::UsedUnreachable)
-    } else if !reaches(alloc, host, mem, layout.avail(), 2, Permissions::Read) {
-        Some(QueueError::AvailFlagsUnreachable)
-    } else {
-        None
-    }
+    return_fault(&HostPlaces { alloc, host, mem }, layout, position)
 }
 
 /// Adds to empty lists the windows that a return at this position writes and reads besides the room, or answers which of

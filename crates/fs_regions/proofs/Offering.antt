@@ -12,8 +12,7 @@ use Rattle.fs_queue.specs.NextAvail as avail
 use Rattle.fs_queue.specs.Chain.{Found}
 use Rattle.fs_queue.specs.Loads.{Load}
 use Rattle.fs_queue.specs.OfferLoads.{waits_by, on_waits, with_loaded, offer_by}
-use Rattle.fs_queue.specs.Taking.{Offer, Idle, Refuses, offer_of}
-use Rattle.fs_regions.specs.Windows.{return_fault}
+use Rattle.fs_queue.specs.Taking.{Offer, Idle, Refuses, offer_of, return_fault}
 use Rattle.fs_regions.specs.Walks.{Loaded, RingIsAsked, IsLost, HeadWaits, Waits, FindsBy, OffersBy}
 
 -- by what waits

@@ -12,11 +12,10 @@ use Rattle.fs_queue.specs.NextAvail.{NextAvail, Head}
 use Rattle.fs_queue.specs.Chain.{Descriptor, Visit, with_front, entry_address, Found, IsChain, first_visit}
 use Rattle.fs_queue.specs.Loads.{Load, Ahead, Reads, found_exactly, chain_exactly, asks_entry, ahead_at, is_whole}
 use Rattle.fs_queue.specs.OfferLoads.{waits_by, offer_by}
-use Rattle.fs_queue.specs.Taking.{readable, writable, total_len, IsRequest, CannotFetch, Offer, Idle, Refuses, Offers, addresses_of}
+use Rattle.fs_queue.specs.Taking.{readable, writable, total_len, IsRequest, CannotFetch, Offer, Idle, Refuses, Offers, addresses_of, return_fault}
 use Rattle.fs_queue.specs.RingingView.{Told, by_index, stage_of, stage_at, IfRingEntry}
 use Rattle.fs_queue.specs.SteppingView.{ahead_of, visit_of, IfWants}
 use Rattle.fs_queue.specs.WalkingView.{at_position}
-use Rattle.fs_regions.specs.Windows.{return_fault}
 use Rattle.fs_regions.specs.declared.walk.QueueWalk.{QueueWalk}
 use Rattle.fs_regions.specs.declared.walk.QueueWalk.TheVariants as at
 use Rattle.fs_regions.specs.declared.course.Course.{Course}

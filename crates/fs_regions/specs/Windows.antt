@@ -1,23 +1,13 @@
 -- Where the bytes of a chain's request and room stand.
-use Rattle.std.specs.Prelude.{◌≡◌, ℕ, ◌<◌, ◌≤◌, ◌&&◌, ◌||◌, ◌+◌, ◌-◌, ◌%◌, ◌^◌, min, not, Bool, List, ◌∷◌, ◌++◌, nat_lt, take, drop, Option, Some, None, if◌then◌else◌}
+use Rattle.std.specs.Prelude.{◌≡◌, ℕ, ◌<◌, ◌≤◌, ◌||◌, ◌+◌, ◌-◌, ◌%◌, ◌^◌, min, not, Bool, List, ◌∷◌, ◌++◌, nat_lt, take, drop, Option, Some, None, if◌then◌else◌}
 use Rattle.vm_iotlb.specs.declared.permissions.Permissions.TheVariants.{Read, Write}
 use Rattle.vm_memory_core.specs.Window.{Window, places_of}
 use Rattle.vm_memory.specs.Layout.{Region, left_at, place}
 use Rattle.vm_memory.specs.Memory.{Memory, addresses, located, reach}
 use Rattle.fs_queue.specs.declared.fault.ChainFault.{ChainFault}
 use Rattle.fs_queue.specs.declared.fault.ChainFault.TheVariants.{OverLimit, RequestUnreachable, RoomUnreachable}
-use Rattle.fs_queue.specs.declared.fault.QueueError.{QueueError}
-use Rattle.fs_queue.specs.declared.fault.QueueError.TheVariants.{UsedUnreachable, AvailFlagsUnreachable}
-use Rattle.fs_queue.specs.Queue.{Queue, element_at, index_at}
 use Rattle.fs_queue.specs.Chain.{Descriptor}
 use Rattle.fs_queue.specs.Taking.{readable, writable, total_len, all_reach, of_direction, addresses_of}
-
--- why a chain can't go back, if it can't: the used element or the used index can't be written, the available flags can't be read (2.7.8 and 2.7.7)
-abbrev pub return_fault : Memory → Queue → Option QueueError
-return_fault m q =
-    if not (reach m Write (element_at q) 8 && reach m Write (index_at q) 2) then Some UsedUnreachable
-    else if not (reach m Read q.avail 2) then Some AvailFlagsUnreachable
-    else None
 
 -- why the bytes of a chain can't be fetched, if they can't: too many, what can't be read, what can't be written, in this order
 abbrev pub why_not : Memory → (limit : ℕ) → List Descriptor → Option ChainFault

@@ -1,33 +1,13 @@
-//! Where the bytes of a chain and of its return stand.
+//! Where the bytes of a chain stand.
 
 ghost use Rattle.std.specs.Prelude.{◌≡◌, ◌≤◌, [], ◌∷◌, true, IfSome, None};
 ghost use Rattle.fs_queue.specs.Taking.{all_reach, total_len, access_of, of_direction};
-ghost use Rattle.fs_queue.specs.WalkingView.{at_position};
 ghost use Rattle.fs_regions.specs.Places.{places_in};
-ghost use Rattle.fs_regions.specs.Windows.{return_fault, why_not, IsRangeFrom, IsWindowFrom};
+ghost use Rattle.fs_regions.specs.Windows.{why_not, IsRangeFrom, IsWindowFrom};
 
 use crate::regions::GuestRegions;
-use fs_queue::{ChainFault, Descriptor, QueueError, QueueLayout, count_bytes};
+use fs_queue::{ChainFault, Descriptor, count_bytes};
 use vm_memory_core::VolatileSlice;
-
-/// Why a chain at a position of a queue can't go back: `UsedUnreachable` or `AvailFlagsUnreachable`; none if it can.
-pub(crate) fn return_fault(
-    regions: &GuestRegions,
-    layout: QueueLayout,
-    position: u16,
-) -> Option<QueueError>
-    ensures { result ≡ return_fault (places_in regions.now) (at_position layout position) }
-{
-    let slot = position % layout.size();
-    let element = layout.used() + 4 + 8 * u64::from(slot);
-    if !regions.reaches(element, 8) || !regions.reaches(layout.used() + 2, 2) {
-        return Some(QueueError::UsedUnreachable);
-    }
-    if !regions.reaches(layout.avail(), 2) {
-        return Some(QueueError::AvailFlagsUnreachable);
-    }
-    None
-}
 
 // Whether all bytes of a descriptor have places, if it is of this direction.
 fn has_descriptor(regions: &GuestRegions, descriptor: &Descriptor, write_only: bool) -> bool

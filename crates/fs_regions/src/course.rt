@@ -12,7 +12,7 @@ ghost use Rattle.fs_regions.specs.Places.{places_in};
 ghost use Rattle.fs_regions.specs.Stretches.{AsksFor};
 ghost use Rattle.fs_regions.specs.Walks.{Loaded, nothing, asked_len, asked_entries, queue_of, IsCourseOf, TellsBy, StandsAfterIndex, HeadWaits, StandsAt, ComesBy, ComesTo, Waits, Brings, FindsBy};
 
-use crate::chain::{chain_fault, return_fault};
+use crate::chain::chain_fault;
 use crate::entries::{ENTRY_LEN, EntriesWalk};
 use crate::regions::GuestRegions;
 use crate::step::Step;
@@ -20,7 +20,7 @@ use crate::stretch::{read_stretch, stretch_len};
 use crate::walk::QueueWalk;
 use fs_queue::{
     ChainFault, ChainWalk, Descriptor, Descriptors, Progress, Queue, QueueError, QueueLayout, Walk,
-    Walked,
+    Walked, return_fault,
 };
 
 /// Where a walk goes: through what waits at a position of a queue. A request or a room of more than `limit` bytes makes a chain faulty.
@@ -109,7 +109,7 @@ impl Course {
         }
     }
 
-    // Goes on by the bytes of a stretch of a table.
+    // What a walk comes to once the bytes of a stretch of a table came.
     #[inline(always)]
     fn give_entries(
         &self,

@@ -9,12 +9,13 @@ ghost use Rattle.fs_regions.specs.Places.{places_in};
 ghost use Rattle.fs_regions.specs.Making.{Makes};
 
 use crate::region::MemoryRegion;
+use fs_queue::Places;
 use std::alloc::Global;
 use std::marker::Model;
 use vm_memory::{
     GuestMemoryBackend, GuestMemoryRegion, GuestRegionCollection, GuestRegionCollectionError,
 };
-use vm_memory_core::{GuestAddress, MemoryRegionAddress, VolatileSlice};
+use vm_memory_core::{GuestAddress, MemoryRegionAddress, Permissions, VolatileSlice};
 
 /// Why some regions are no memory of a guest.
 #[derive(Clone, Copy, Debug, PartialEq, Eq)]
@@ -97,5 +98,13 @@ impl GuestRegions {
             }
             None => None,
         }
+    }
+}
+
+impl Places for GuestRegions {
+    ghost places = { λ r. places_in r };
+
+    fn has_places(&self, addr: u64, len: usize, _access: Permissions) -> bool {
+        self.reaches(addr, len)
     }
 }

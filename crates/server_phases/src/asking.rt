@@ -1,6 +1,6 @@
 //! What a request asks.
 
-ghost use Rattle.std.specs.Prelude.{◌≡◌, ℕ, ◌≤◌, ◌*◌, [], List, true, drop, length, bit_and};
+ghost use Rattle.std.specs.Prelude.{◌≡◌, ℕ, ◌≤◌, ◌-◌, ◌*◌, ◌^◌, [], List, true, drop, length, bit_and};
 ghost use Rattle.fuse_fs.specs.Answers.{context_of};
 ghost use Rattle.fuse_fs.specs.Calls as call;
 ghost use Rattle.fuse_values.specs.Values.{call_of, pairs_in};
@@ -9,7 +9,8 @@ ghost use Rattle.server_calls.specs.Callers.{CallSays};
 ghost use Rattle.server_calls.specs.Requests.{batch_forget_call, read_call, write_call};
 ghost use Rattle.server_replies.specs.WholeReplies.{error_bytes};
 ghost use Rattle.virtiofsd_fuse.specs.DataApart.{begins_a_write, is_write};
-ghost use Rattle.virtiofsd_fuse.specs.Grammar.{Meaning, Replies, Asks, One, Starts, given, ended, known_options, meant, meaning, read_asked, listing_asked, write_row};
+ghost use Rattle.virtiofsd_fuse.specs.Grammar.{Meaning, Replies, Asks, One, Starts, Lists, given, ended, known_options, meant, meaning, write_row};
+ghost use Rattle.virtiofsd_fuse.specs.Listings.{listing_of};
 ghost use Rattle.virtiofsd_fuse.specs.Serving.{Setting, setting};
 ghost use Rattle.server_phases.specs.Asking.{IsTold, IsAskedBy, HasAsker, TellsData, IsFront, BeginsRecord, told_reply};
 
@@ -22,7 +23,6 @@ use fuse_values::FileCall;
 use fuse_wire::constants::{READ_LOCKOWNER, WRITE_CACHE, WRITE_KILL_PRIV, WRITE_LOCKOWNER};
 use fuse_wire::{Errno, FsOptions, Opcode};
 use server_calls::values::number_if;
-use server_replies::init::MAX_BUFFER_SIZE;
 use server_replies::replies::OUT_HEADER_LEN;
 use server_requests::source::{Flat, Source};
 use server_segments::Error;
@@ -72,15 +72,13 @@ pub(crate) fn refused<'a>(head: &InHeader, error: Errno, room: usize) -> Asked<'
     replied(room, Front::error(head.unique, error))
 }
 
-/// READ, by its record.
+/// A READ that has room for the header of its reply.
 pub(crate) fn read_asked<'a>(head: &InHeader, request: &ReadIn, room: usize) -> Asked<'a>
-    ensures told { (page_size options : ℕ) (more bytes : List ℕ)
-        → IsTold (setting page_size options room) (ended head.now.unique (read_asked (given head.now options room) request.now more)) bytes result }
+    requires { 16 ≤ room }
+    ensures told { (page_size options : ℕ) (bytes : List ℕ)
+        → IsTold (setting page_size options room) (Asks (One head.now.unique (read_call head.now (room - 16) request.now))) bytes result }
     ensures asker { IsAskedBy (context_of head.now) result }
 {
-    if room < OUT_HEADER_LEN {
-        return Asked::Fault(Error::EncodeMessage);
-    }
     let most = room - OUT_HEADER_LEN;
     let waiting = Waiting {
         unique: head.unique,
@@ -109,25 +107,18 @@ fn read_value<'a>(head: &InHeader, request: &ReadIn, most: usize) -> FileCall<'a
 }
 
 /// READDIR and READDIRPLUS, by their record.
-pub(crate) fn listing_asked<'a>(
+pub(crate) fn entries_asked<'a>(
     head: &InHeader,
     request: &ReadIn,
     with_nodes: bool,
     room: usize,
 ) -> Asked<'a>
-    ensures told { (page_size options : ℕ) (more bytes : List ℕ)
-        → IsTold (setting page_size options room) (ended head.now.unique (listing_asked with_nodes request.now (given head.now options room) more)) bytes result }
+    requires size { request.now.size ≤ 2 ^ 20 }
+    requires enough { 16 ≤ room }
+    ensures told { (page_size options : ℕ) (bytes : List ℕ)
+        → IsTold (setting page_size options room) (Asks (Lists head.now.unique (listing_of with_nodes head.now request.now))) bytes result }
     ensures asker { IsAskedBy (context_of head.now) result }
 {
-    if request.size > MAX_BUFFER_SIZE {
-        return refused(head, Errno::ENOMEM, room);
-    }
-    if room < request.size as usize {
-        return refused(head, Errno::ENOMEM, room);
-    }
-    if room < OUT_HEADER_LEN {
-        return Asked::Fault(Error::EncodeMessage);
-    }
     let context = Context::from(*head);
     let call = FileCall::Readdir {
         context,
@@ -205,8 +196,8 @@ pub(crate) fn called<'a>(head: &InHeader, made: FileCall<'a>, room: usize) -> As
     Asked::Call(made, waiting)
 }
 
-/// The call of a BATCH_FORGET, by the bytes of its pairs.
-pub(crate) fn forgets_asked<'a>(head: &InHeader, counts: &'a [u8], room: usize) -> Asked<'a>
+/// BATCH_FORGET: a call whose pairs are these bytes.
+pub(crate) fn pairs_asked<'a>(head: &InHeader, counts: &'a [u8], room: usize) -> Asked<'a>
     ensures told { (page_size options : ℕ) (m : Meaning) (bytes : List ℕ) → length counts.now ≡ 16 * length (pairs_in counts.now)
         → m ≡ Asks (One head.now.unique (batch_forget_call head.now (pairs_in counts.now))) → IsTold (setting page_size options room) m bytes result }
     ensures asker { IsAskedBy (context_of head.now) result }

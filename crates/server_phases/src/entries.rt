@@ -1,26 +1,12 @@
 //! Entries of a directory, put over the bytes of a list.
 
-ghost use Rattle.std.specs.Prelude.{◌≡◌, ◌+◌, ◌<◌, ◌≤◌, ◌^◌, ◌++◌, length, true};
+ghost use Rattle.std.specs.Prelude.{◌≡◌, ◌+◌, ◌<◌, ◌^◌, ◌++◌, length, true};
 ghost use Rattle.fuse_fs.specs.Answers.{listed};
 ghost use Rattle.server_replies.specs.Entries.{dirent_len, dirent_bytes};
 ghost use Rattle.server_phases.specs.Gathering.{bytes_of};
 
-use fuse_fs::replies::dirent;
 use fuse_fs::{DirEntry, Entry};
-use server_replies::entries::{is_dot, no_node, node_bytes};
-use vm_values::ByteValued;
-
-/// The length of `struct fuse_dirent` without its name.
-const DIRENT_LEN: usize = 24;
-
-/// The length of `struct fuse_dirent` with a name, and what fills it up to a multiple of 8.
-pub(crate) fn dirent_len(name: &[u8]) -> usize
-    ensures len { result ≡ dirent_len (length name.now) }
-    ensures behind { 24 + length name.now ≤ result }
-    ensures filled { result < 32 + length name.now }
-{
-    (DIRENT_LEN + name.len() + 7) / 8 * 8
-}
+use server_replies::entries::{DIRENT_LEN, dirent_head, is_dot, no_node, node_bytes};
 
 // Puts `struct fuse_dirent` of an entry over these bytes.
 fn put_dirent(out: &mut [u8], entry: &DirEntry<'_>)
@@ -29,7 +15,7 @@ fn put_dirent(out: &mut [u8], entry: &DirEntry<'_>)
     ensures { out.new ≡ dirent_bytes (listed entry.now) }
 {
     let (head, behind) = out.split_at_mut(DIRENT_LEN);
-    dirent(entry).put_bytes(head);
+    head.copy_from_slice(&dirent_head(entry));
     let (name, zeros) = behind.split_at_mut(entry.name.len());
     name.copy_from_slice(entry.name);
     zeros.copy_from_slice(&[0; 8][..zeros.len()]);

@@ -13,12 +13,13 @@ ghost use Rattle.server_phases.specs.Gathering.{is_listing, bytes_of, all_bytes,
 ghost use Rattle.server_phases.specs.Waiting.{WaitsFor, first_call};
 
 use crate::answering::{Refused, RefusedAnswer};
-use crate::entries::{dirent_len, node_front, put_entry};
+use crate::entries::{node_front, put_entry};
 use crate::front::Front;
 use crate::listing::{Listing, ListingReply, NotAdded};
 use crate::waiting::{Awaits, Waiting};
 use fuse_fs::{DirEntry, Entry};
 use fuse_wire::Errno;
+use server_replies::entries::dirent_len;
 use server_replies::init::MAX_BUFFER_SIZE;
 use server_replies::replies::{OUT_HEADER_LEN, data_header};
 
@@ -98,7 +99,7 @@ impl Listing {
         if entry.name.len() > u32::MAX as usize {
             return Err(NotAdded::TooLong);
         }
-        let len = node.len() + dirent_len(entry.name);
+        let len = node.len() + dirent_len(entry.name.len());
         if self.size - self.len < len {
             return Err(NotAdded::Full);
         }

@@ -11,7 +11,6 @@ mod gathering;
 mod listing;
 mod rows;
 mod session;
-mod starting;
 mod waiting;
 
 pub use answering::{Answered, Refused, RefusedAnswer, Sent};

@@ -1,20 +1,26 @@
 //! What requests ask, by their opcode's row.
 
-ghost use Rattle.std.specs.Prelude.{◌≡◌, ℕ, List, true};
+ghost use Rattle.std.specs.Prelude.{◌≡◌, ◌≤◌, ℕ, List, true};
 ghost use Rattle.fuse_fs.specs.Answers.{context_of};
-ghost use Rattle.virtiofsd_fuse.specs.Grammar.{row, forgets_asked, batch_forget_row, listing_row, read_row, write_row, ended, given};
-ghost use Rattle.virtiofsd_fuse.specs.Rows.{is_single};
+ghost use Rattle.virtiofsd_fuse.specs.Grammar.{row, forgets_asked, batch_forget_row, init_row, listing_row, read_row, write_row, ended, given};
+ghost use Rattle.virtiofsd_fuse.specs.RowMeanings.{is_single};
 ghost use Rattle.virtiofsd_fuse.specs.Serving.{setting};
 ghost use Rattle.server_phases.specs.Asking.{IsAskedBy, IsRowTold, IsTold};
 
 use crate::asking::{
-    Asked, WRITE_IN_LEN, ask_write_row, called, forgets_asked, listing_asked, read_asked, refused,
+    Asked, WRITE_IN_LEN, ask_write_row, called, entries_asked, pairs_asked, read_asked, refused,
+    replied, started,
 };
+use crate::front::Front;
 use crate::session::Session;
-use fuse_in::{BatchForgetIn, InHeader};
-use fuse_wire::{Errno, Opcode};
-use server_requests::source::{Flat, Source};
-use virtiofsd_fuse::{MAX_FORGETS, RequestMeaning, row_meaning};
+use fuse_in::InHeader;
+use fuse_wire::Opcode;
+use server_replies::init::versions;
+use server_requests::source::Flat;
+use virtiofsd_fuse::{
+    ForgetsMeaning, InitMeaning, ListingMeaning, RequestMeaning, forgets_meaning, init_meaning,
+    listing_meaning, read_meaning, row_meaning,
+};
 
 impl Session {
     /// A request that asks one plain call, or none.
@@ -39,15 +45,13 @@ impl Session {
 
     // BATCH_FORGET, by how many pairs it says.
     fn ask_pairs<'a>(&self, head: &InHeader, count: u32, room: usize, source: Flat<'a>) -> Asked<'a>
+        requires { count ≤ 65536 }
         ensures told { (bytes : List ℕ) → IsTold (setting self.now.page_size self.now.options.0 room)
             (ended head.now.unique (forgets_asked count (given head.now self.now.options.0 room) source.entry.bytes.now)) bytes result }
         ensures asker { IsAskedBy (context_of head.now) result }
     {
-        if count > MAX_FORGETS {
-            return refused(head, Errno::ENOMEM, room);
-        }
         match source.pairs(count) {
-            Ok(counts) => forgets_asked(head, counts, room),
+            Ok(counts) => pairs_asked(head, counts, room),
             Err(error) => Asked::Fault(error),
         }
     }
@@ -63,9 +67,10 @@ impl Session {
         ensures asker { IsAskedBy (context_of head.now) result }
     {
         let mut source = source;
-        match source.record::<BatchForgetIn>() {
-            Ok(request) => self.ask_pairs(head, request.count, room, source),
-            Err(error) => Asked::Fault(error),
+        match forgets_meaning(&mut source) {
+            ForgetsMeaning::Pairs(count) => self.ask_pairs(head, count, room, source),
+            ForgetsMeaning::Error(error) => refused(head, error, room),
+            ForgetsMeaning::Fault(error) => Asked::Fault(error),
         }
     }
 
@@ -74,8 +79,7 @@ impl Session {
         ensures told { IsRowTold self.now.page_size self.now.options.0 head.now room read_row source.entry.bytes.now result }
         ensures asker { IsAskedBy (context_of head.now) result }
     {
-        let mut source = source;
-        match source.record() {
+        match read_meaning(room, source) {
             Ok(request) => read_asked(head, &request, room),
             Err(error) => Asked::Fault(error),
         }
@@ -92,10 +96,23 @@ impl Session {
         ensures told { IsRowTold self.now.page_size self.now.options.0 head.now room (listing_row with_nodes) source.entry.bytes.now result }
         ensures asker { IsAskedBy (context_of head.now) result }
     {
-        let mut source = source;
-        match source.record() {
-            Ok(request) => listing_asked(head, &request, with_nodes, room),
-            Err(error) => Asked::Fault(error),
+        match listing_meaning(room, source) {
+            ListingMeaning::List(request) => entries_asked(head, &request, with_nodes, room),
+            ListingMeaning::Error(error) => refused(head, error, room),
+            ListingMeaning::Fault(error) => Asked::Fault(error),
+        }
+    }
+
+    /// INIT.
+    pub(crate) fn ask_init<'a>(&self, head: &InHeader, room: usize, source: Flat<'a>) -> Asked<'a>
+        ensures told { IsRowTold self.now.page_size self.now.options.0 head.now room init_row source.entry.bytes.now result }
+        ensures asker { IsAskedBy (context_of head.now) result }
+    {
+        match init_meaning(source) {
+            InitMeaning::Start { capable, readahead } => started(head, capable, readahead, room),
+            InitMeaning::Versions => replied(room, Front::reply(head.unique, &versions())),
+            InitMeaning::Error(error) => refused(head, error, room),
+            InitMeaning::Fault(error) => Asked::Fault(error),
         }
     }
 

@@ -16,10 +16,10 @@ use server_segments::Writer;
 use vm_values::ByteValued;
 
 /// The length of `struct fuse_dirent` without its name.
-const DIRENT_LEN: usize = 24;
+pub const DIRENT_LEN: usize = 24;
 
-// The length of `struct fuse_dirent` with a name of this length, and what fills it up to a multiple of 8.
-fn dirent_len(name_len: usize) -> usize
+/// The length of `struct fuse_dirent` with a name of this length, and what fills it up to a multiple of 8.
+pub fn dirent_len(name_len: usize) -> usize
     requires { name_len < 2 ^ 32 }
     ensures len { result ≡ dirent_len name_len }
     ensures behind { 24 + name_len ≤ result }
@@ -28,8 +28,8 @@ fn dirent_len(name_len: usize) -> usize
     (DIRENT_LEN + name_len + 7) / 8 * 8
 }
 
-// `struct fuse_dirent` of an entry, without its name.
-fn dirent_head(entry: &DirEntry<'_>) -> [u8; DIRENT_LEN]
+/// `struct fuse_dirent` of an entry, without its name.
+pub fn dirent_head(entry: &DirEntry<'_>) -> [u8; DIRENT_LEN]
     requires { length entry.now.name.now < 2 ^ 32 }
     ensures { result ≡ spelled (dirent (dirent_of (listed entry.now))) }
 {

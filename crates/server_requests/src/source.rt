@@ -9,13 +9,16 @@ ghost use Rattle.server_segments.specs.Errors.{is_memory};
 
 use crate::forgets::FORGET_ONE_LEN;
 use crate::names::read_counted;
-use crate::records::{INIT_EXT, read_record};
+use crate::records::read_record;
 use crate::xattrs::{has_setxattr_ext, with_no_flags};
 use fuse_in::{InRecord, InitInCompat, InitInExt, SetxattrIn, SetxattrInCompat};
 use fuse_wire::FsOptions;
 use server_segments::{Error, Reader};
 use std::alloc::Global;
 use std::borrow::CowSlice;
+
+// In `InitInCompat::flags`: the record goes on.
+const INIT_EXT: u32 = 1 << 30;
 
 /// From where a request is read, front to back. Bytes that are lent stay for `'a`.
 pub trait Source<'a> {
@@ -42,7 +45,7 @@ pub trait Source<'a> {
         ensures bytes { IfOk result (λ bytes. Ok bytes.now ≡ value_of (counted len fixed (left self))) }
         ensures fault { IfErr result (λ e. is_memory e ≡ false → Err (Faults e) ≡ value_of (counted len fixed (left self))) }
         ensures in_place { (splits && is_split (len - 40 - fixed) (segments self)) ≡ false → IfErr result (λ e. is_memory e ≡ false) }
-        ensures whole { past 0 (segments self) ≡ segments self };
+        ensures segments { past 0 (segments self) ≡ segments self };
 }
 
 /// The bytes that are left of a request that stands in one piece.
@@ -143,7 +146,8 @@ impl<'a, 'r: 'a> Source<'a> for Segments<'a, 'r> {
 /// The high 32 bits of the options that the client has, where INIT's record goes on with them (FUSE_INIT_EXT in `flags`
 /// of `struct fuse_init_in`); else 0, and no byte is read. `DecodeMessage` if the 48 bytes more aren't all there.
 pub fn flags2<'a, S: Source<'a>>(request: &InitInCompat, source: &mut S) -> Result<u32, Error>
-    ensures { read_result result (S.left source.new) ≡ flags2_of request.now (S.left source.old) }
+    ensures reads { read_result result (S.left source.new) ≡ flags2_of request.now (S.left source.old) }
+    ensures fault { IfErr result (λ e. e ≡ Error.DecodeMessage) }
 {
     if request.flags & INIT_EXT == 0 {
         return Ok(0);

@@ -8,7 +8,7 @@ use Rattle.fuse_values.specs.Values.{call_of}
 use Rattle.server_calls.specs.Callers.{CallSays, Shape, Made, shape_of, is_plain, is_record}
 use Rattle.server_calls.specs.Requests.{owns_memory}
 use Rattle.virtiofsd_fuse.specs.Grammar.{Meaning, Asks, One}
-use Rattle.virtiofsd_fuse.specs.Rows.{Reads}
+use Rattle.virtiofsd_fuse.specs.RowMeanings.{Reads}
 use Rattle.virtiofsd_fuse.specs.WantOfMemory.{meaning_owns}
 use Rattle.virtiofsd_fuse.specs.declared.meanings.RequestMeaning.TheVariants as value
 use Rattle.virtiofsd_fuse.proofs.Left.{owned_none}

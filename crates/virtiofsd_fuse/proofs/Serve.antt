@@ -111,6 +111,11 @@ module _ {F : Type 0} (may : F → FileCall → FileAnswer → F → Type 0) whe
       → m ≡ Asks (One unique call) → made ≡ call → Handles may s (Asks (One unique made)) before result written options after → Handles may s m before result written options after
   handles_asked s m unique made call before after result written options e f h = rw (e, ← f) h
 
+  -- the same of any meaning
+  pub handles_same : (s : Setting) (m n : Meaning) (before : F) (result : Result ℕ Error) (written : List ℕ) (options : ℕ) (after : F) → m ≡ n
+      → Handles may s n before result written options after → Handles may s m before result written options after
+  handles_same s m n before result written options after e h = rw e h
+
   -- INIT
   pub handles_start : (s : Setting) (m : Meaning) (unique capable readahead : ℕ) (answer : FileAnswer) (before after : F) (result : Result ℕ Error)
       (written : List ℕ) (options : ℕ) → m ≡ Asks (Starts unique capable readahead) → IsTrue (suits (Init capable) answer)

@@ -4,7 +4,7 @@ pub mod ExamplesOfMemory
 pub mod Grammar
 pub mod ListingRuns
 pub mod Listings
-pub mod Rows
+pub mod RowMeanings
 pub mod WantOfMemory
 pub mod Serving
 pub mod ReadApart

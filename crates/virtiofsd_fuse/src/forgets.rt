@@ -1,18 +1,18 @@
 //! BATCH_FORGET: many nodes are held less.
 
-ghost use Rattle.std.specs.Prelude.{◌≡◌, ◌<◌, ◌^◌, []};
+ghost use Rattle.std.specs.Prelude.{◌≡◌, ◌<◌, ◌≤◌, ◌^◌, []};
 ghost use Rattle.virtiofsd_fuse.specs.Grammar.{given, batch_forget_row, forgets_asked};
 ghost use Rattle.virtiofsd_fuse.specs.WantOfMemory.{row_owns};
 ghost use Rattle.virtiofsd_fuse.specs.Serving.{RowHandles, Leaves};
 
+use crate::meanings_apart::{ForgetsMeaning, forgets_meaning};
 use crate::server::Server;
 use crate::session::silence;
 use fuse_fs::{Context, FileSystem};
-use fuse_in::{BatchForgetIn, InHeader};
-use fuse_wire::Errno;
+use fuse_in::InHeader;
 use server_replies::replies::reply_error;
 use server_requests::forgets::read_pairs;
-use server_requests::records::read_record;
+use server_requests::source::Segments;
 use server_segments::{Error, Reader, Writer};
 use std::alloc::Global;
 
@@ -31,12 +31,10 @@ impl<F: FileSystem> Server<F> {
     ) -> Result<usize, Error>
         requires fresh { w.old.written ≡ [] }
         requires room { w.old.free < 2 ^ 32 }
+        requires few { count ≤ 65536 }
         ensures handles { RowHandles F.may self.old w.old.free head.now (forgets_asked count) r.old.left result w.new.written self.new }
         ensures rest { Leaves (row_owns (given head.now self.old.options.0 w.old.free) (forgets_asked count) r.old.left) result w.old w.new self.old self.new }
     {
-        if count > MAX_FORGETS {
-            return reply_error(w, head.unique, Errno::ENOMEM);
-        }
         match read_pairs(alloc, r, count) {
             Ok(pairs) => {
                 self.fs.batch_forget(Context::from(*head), pairs);
@@ -51,17 +49,26 @@ impl<F: FileSystem> Server<F> {
         &mut self,
         alloc: Global,
         head: &InHeader,
-        r: &mut Reader<'_>,
+        r: Reader<'_>,
         w: &mut Writer,
     ) -> Result<usize, Error>
         requires fresh { w.old.written ≡ [] }
         requires room { w.old.free < 2 ^ 32 }
-        ensures handles { RowHandles F.may self.old w.old.free head.now batch_forget_row r.old.left result w.new.written self.new }
-        ensures rest { Leaves (row_owns (given head.now self.old.options.0 w.old.free) batch_forget_row r.old.left) result w.old w.new self.old self.new }
+        ensures handles { RowHandles F.may self.old w.old.free head.now batch_forget_row r.entry.left result w.new.written self.new }
+        ensures rest { Leaves (row_owns (given head.now self.old.options.0 w.old.free) batch_forget_row r.entry.left) result w.old w.new self.old self.new }
     {
-        match read_record::<BatchForgetIn>(r) {
-            Ok(request) => self.forget_pairs(alloc, head, request.count, r, w),
-            Err(error) => Err(error),
+        let mut held = Vec::new(alloc);
+        let mut source = Segments {
+            alloc,
+            reader: r,
+            held: &mut held,
+        };
+        match forgets_meaning(&mut source) {
+            ForgetsMeaning::Pairs(count) => {
+                self.forget_pairs(alloc, head, count, &mut source.reader, w)
+            }
+            ForgetsMeaning::Error(error) => reply_error(w, head.unique, error),
+            ForgetsMeaning::Fault(error) => Err(error),
         }
     }
 }

@@ -6,6 +6,7 @@ mod data_apart;
 mod forgets;
 mod listings;
 mod meanings;
+mod meanings_apart;
 mod performing;
 mod performing_names;
 mod reads;
@@ -23,6 +24,10 @@ pub use fuse_fs::{
     ZeroCopyReader, ZeroCopyWriter, defaults,
 };
 pub use meanings::{RequestMeaning, row_meaning};
+pub use meanings_apart::{
+    ForgetsMeaning, InitMeaning, ListingMeaning, forgets_meaning, init_meaning, listing_meaning,
+    read_meaning,
+};
 pub use reads::{ReadReply, ReadRequest};
 pub use server::{MAX_REQUEST_LEN, Server, opcode_of};
 pub use server_segments::{DescriptorType, Error, Reader, Writer, ZcReader, ZcWriter};

@@ -1,15 +1,16 @@
 //! READDIR and READDIRPLUS: entries of a directory go straight into the reply.
 
-ghost use Rattle.std.specs.Prelude.{◌≡◌, ◌+◌, ◌<◌, ◌^◌, Bool, true, false, List, ℕ, [], ◌++◌, length, OnOk, OnErr};
+ghost use Rattle.std.specs.Prelude.{◌≡◌, ◌+◌, ◌<◌, ◌≤◌, ◌^◌, Bool, true, false, List, ℕ, [], ◌++◌, length, OnOk, OnErr};
 ghost use Rattle.fuse_in.specs.declared.files.ReadIn.{ReadIn};
 ghost use Rattle.fuse_fs.specs.Answers.{listed, numbered, context_of};
 ghost use Rattle.fuse_fs.specs.Calls.{Done};
 ghost use Rattle.server_replies.specs.Entries.{dirent_bytes, node_bytes, entry_len, fit_of, is_dot, after_entry};
 ghost use Rattle.virtiofsd_fuse.specs.Listings.{listing_of, undo_call};
 ghost use Rattle.virtiofsd_fuse.specs.ListingRuns.{ListRun, EntryRun};
-ghost use Rattle.virtiofsd_fuse.specs.Grammar.{listing_row, listing_asked};
-ghost use Rattle.virtiofsd_fuse.specs.Serving.{RowHandles, Leaves};
+ghost use Rattle.virtiofsd_fuse.specs.Grammar.{Asks, Lists, listing_row};
+ghost use Rattle.virtiofsd_fuse.specs.Serving.{RowHandles, ServerHandles, Leaves};
 
+use crate::meanings_apart::{ListingMeaning, listing_meaning};
 use crate::server::Server;
 use fuse_fs::{Context, DirEntry, DirectoryIterator, Entry, FileNumber, FileSystem};
 use fuse_in::{InHeader, ReadIn};
@@ -17,10 +18,10 @@ use fuse_wire::Errno;
 use server_calls::directories::make_readdir_call;
 use server_calls::received::received_entry;
 use server_replies::entries::{is_dot, no_node, node_bytes, put_entry, reply_listing};
-use server_replies::init::MAX_BUFFER_SIZE;
 use server_replies::replies::{OUT_HEADER_LEN, append, reply_error};
-use server_requests::records::read_record;
+use server_requests::source::Segments;
 use server_segments::{Error, Reader, Writer};
+use std::alloc::Global;
 
 impl<F: FileSystem> Server<F> {
     // Puts an entry with its node in; where it doesn't go in, the node is taken back.
@@ -135,20 +136,11 @@ impl<F: FileSystem> Server<F> {
     ) -> Result<usize, Error>
         requires fresh { w.old.written ≡ [] }
         requires room { w.old.free < 2 ^ 32 }
-        ensures handles { (more : List ℕ) → RowHandles F.may self.old w.old.free head.now
-            (listing_asked with_nodes request.now) more result w.new.written self.new }
+        requires enough { 16 ≤ w.old.free }
+        ensures handles { ServerHandles F.may self.old w.old.free (Asks (Lists head.now.unique (listing_of with_nodes head.now request.now)))
+            result w.new.written self.new }
         ensures rest { Leaves false result w.old w.new self.old self.new }
     {
-        let room = w.available_bytes();
-        if request.size > MAX_BUFFER_SIZE {
-            return reply_error(w, head.unique, Errno::ENOMEM);
-        }
-        if room < request.size as usize {
-            return reply_error(w, head.unique, Errno::ENOMEM);
-        }
-        if room < OUT_HEADER_LEN {
-            return Err(Error::EncodeMessage);
-        }
         match make_readdir_call(&mut self.fs, head, request) {
             Ok(entries) => {
                 append(w, &[0; OUT_HEADER_LEN]);
@@ -162,19 +154,28 @@ impl<F: FileSystem> Server<F> {
     /// READDIR: the entries of a directory; READDIRPLUS: each with its node.
     pub(crate) fn read_directory(
         &mut self,
+        alloc: Global,
         head: &InHeader,
         with_nodes: bool,
-        r: &mut Reader<'_>,
+        r: Reader<'_>,
         w: &mut Writer,
     ) -> Result<usize, Error>
         requires fresh { w.old.written ≡ [] }
         requires room { w.old.free < 2 ^ 32 }
-        ensures handles { RowHandles F.may self.old w.old.free head.now (listing_row with_nodes) r.old.left result w.new.written self.new }
+        ensures handles { RowHandles F.may self.old w.old.free head.now (listing_row with_nodes) r.entry.left result w.new.written self.new }
         ensures rest { Leaves false result w.old w.new self.old self.new }
     {
-        match read_record(r) {
-            Ok(request) => self.list(head, &request, with_nodes, w),
-            Err(error) => Err(error),
+        let room = w.available_bytes();
+        let mut held = Vec::new(alloc);
+        let source = Segments {
+            alloc,
+            reader: r,
+            held: &mut held,
+        };
+        match listing_meaning(room, source) {
+            ListingMeaning::List(request) => self.list(head, &request, with_nodes, w),
+            ListingMeaning::Error(error) => reply_error(w, head.unique, error),
+            ListingMeaning::Fault(error) => Err(error),
         }
     }
 }

@@ -1,10 +1,10 @@
-//! What requests mean, read once for both uses: by `Server`, which performs it, and by who is told it as a value.
+//! What requests mean, read once for both uses: `Server` performs the call, and who serves in two phases is told it.
 
 ghost use Rattle.std.specs.Prelude.{◌≡◌, ◌||◌, true, false};
 ghost use Rattle.server_requests.specs.Fronts.{counted_split, setxattr_len};
 ghost use Rattle.virtiofsd_fuse.specs.Grammar.{given, row, plain_row, record_row, name_row, record_name_row, two_names_row, new_name_row};
 ghost use Rattle.virtiofsd_fuse.specs.Grammar.{symlink_row, getxattr_row, listxattr_row, setxattr_row};
-ghost use Rattle.virtiofsd_fuse.specs.Rows.{RowReads, is_single};
+ghost use Rattle.virtiofsd_fuse.specs.RowMeanings.{RowReads, is_single};
 ghost use Rattle.virtiofsd_fuse.specs.WantOfMemory.{row_owns, takes_memory};
 
 use fuse_in::{GetxattrIn, InHeader};
@@ -239,8 +239,8 @@ fn setxattr_row<'a, S: Source<'a> + Drop>(
     }
 }
 
-/// What a request means, by its opcode and what stands behind its header. `OutOfMemory` only where names stand in several
-/// segments.
+/// What a request means, by its opcode and what stands behind its header. The fault is `OutOfMemory` only if names, or a name and
+/// a value, stand in several segments, and memory for them is refused.
 #[tactic(auto, unfolding(crate::specs::Grammar::row))]
 #[inline(always)]
 pub fn row_meaning<'a, S: Source<'a> + Drop>(

@@ -1,12 +1,14 @@
 //! READ: bytes of a file go straight into the reply.
 
-ghost use Rattle.std.specs.Prelude.{◌≡◌, ℕ, ◌+◌, ◌<◌, ◌≤◌, ◌^◌, List, [], ◌++◌, length, false, is_ok, is_some, IfSome, IsTrue, Ok, Some};
+ghost use Rattle.std.specs.Prelude.{◌≡◌, ℕ, ◌+◌, ◌-◌, ◌<◌, ◌≤◌, ◌^◌, List, [], ◌++◌, length, false, is_ok, is_some, IfSome, IsTrue, Ok, Some};
 ghost use Rattle.fuse_wire.specs.Opcodes.{opcode_of};
 ghost use Rattle.fuse_fs.specs.Transfers.{moved};
-ghost use Rattle.virtiofsd_fuse.specs.Grammar.{meaning, read_row, read_asked};
+ghost use Rattle.server_calls.specs.Requests.{read_call};
+ghost use Rattle.virtiofsd_fuse.specs.Grammar.{Asks, One, meaning, read_row};
 ghost use Rattle.virtiofsd_fuse.specs.ReadApart.{is_read, read_meaning, read_request};
 ghost use Rattle.virtiofsd_fuse.specs.Serving.{RowHandles, Leaves, ServerHandles};
 
+use crate::meanings_apart::read_meaning;
 use crate::server::{MAX_REQUEST_LEN, Server, opcode_of};
 use fuse_fs::{FileSystem, ZeroCopyWriter};
 use fuse_in::{InHeader, ReadIn};
@@ -14,6 +16,7 @@ use fuse_wire::{Errno, Opcode};
 use server_calls::reads::make_read_call;
 use server_replies::replies::{OUT_HEADER_LEN, append, data_header, reply_data};
 use server_requests::records::read_record;
+use server_requests::source::Segments;
 use server_segments::{Error, Reader, Writer, ZcWriter};
 use std::alloc::Global;
 use std::mem;
@@ -106,14 +109,11 @@ impl<F: FileSystem> Server<F> {
     ) -> Result<usize, Error>
         requires fresh { w.old.written ≡ [] }
         requires room { w.old.free < 2 ^ 32 }
-        ensures handles { (more : List ℕ) → RowHandles F.may self.old w.old.free head.now
-            (λ g. read_asked g request.now) more result w.new.written self.new }
+        requires enough { 16 ≤ w.old.free }
+        ensures handles { ServerHandles F.may self.old w.old.free (Asks (One head.now.unique (read_call head.now (w.old.free - 16) request.now)))
+            result w.new.written self.new }
         ensures rest { Leaves false result w.old w.new self.old self.new }
     {
-        let room = w.available_bytes();
-        if room < OUT_HEADER_LEN {
-            return Err(Error::EncodeMessage);
-        }
         append(w, &[0; OUT_HEADER_LEN]);
         let writer = mem::replace(w, Writer::empty(alloc));
         let mut data = ZcWriter { writer };
@@ -129,15 +129,22 @@ impl<F: FileSystem> Server<F> {
         &mut self,
         alloc: Global,
         head: &InHeader,
-        r: &mut Reader<'_>,
+        r: Reader<'_>,
         w: &mut Writer,
     ) -> Result<usize, Error>
         requires fresh { w.old.written ≡ [] }
         requires room { w.old.free < 2 ^ 32 }
-        ensures handles { RowHandles F.may self.old w.old.free head.now read_row r.old.left result w.new.written self.new }
+        ensures handles { RowHandles F.may self.old w.old.free head.now read_row r.entry.left result w.new.written self.new }
         ensures rest { Leaves false result w.old w.new self.old self.new }
     {
-        match read_record(r) {
+        let room = w.available_bytes();
+        let mut held = Vec::new(alloc);
+        let source = Segments {
+            alloc,
+            reader: r,
+            held: &mut held,
+        };
+        match read_meaning(room, source) {
             Ok(request) => self.read_data(alloc, head, &request, w),
             Err(error) => Err(error),
         }

@@ -5,7 +5,7 @@ ghost use Rattle.fuse_wire.specs.Opcodes.{opcode_of};
 ghost use Rattle.server_replies.specs.PageSizes.{is_page_size};
 ghost use Rattle.server_segments.specs.Errors.{lacks_memory};
 ghost use Rattle.virtiofsd_fuse.specs.Grammar.{given, meant, meaning, known_options};
-ghost use Rattle.virtiofsd_fuse.specs.Rows.{is_single};
+ghost use Rattle.virtiofsd_fuse.specs.RowMeanings.{is_single};
 ghost use Rattle.virtiofsd_fuse.specs.WantOfMemory.{takes_memory, body_takes_memory, may_take_memory};
 
 use crate::meanings::{RequestMeaning, row_meaning};
@@ -106,8 +106,9 @@ impl<F: FileSystem> Server<F> {
         &self.fs
     }
 
-    // Serves a request that asks one plain call, or none.
-    #[inline(always)]
+    // Serves a request that asks one plain call, or none. Its code is long: inlined, it would keep that of who serves a chain from
+    // being inlined in turn.
+    #[inline(never)]
     fn serve_single(
         &mut self,
         alloc: Global,
@@ -145,7 +146,7 @@ impl<F: FileSystem> Server<F> {
         alloc: Global,
         opcode: Opcode,
         head: &InHeader,
-        mut r: Reader<'_>,
+        r: Reader<'_>,
         w: &mut Writer,
     ) -> Result<usize, Error>
         requires fresh { w.old.written ≡ [] }
@@ -155,12 +156,12 @@ impl<F: FileSystem> Server<F> {
             result w.old w.new self.old self.new }
     {
         match opcode {
-            Opcode::Read => self.read(alloc, head, &mut r, w),
-            Opcode::Write => self.write(alloc, head, &mut r, w),
-            Opcode::Readdir => self.read_directory(head, false, &mut r, w),
-            Opcode::Readdirplus => self.read_directory(head, true, &mut r, w),
-            Opcode::BatchForget => self.batch_forget(alloc, head, &mut r, w),
-            Opcode::Init => self.init(head, &mut r, w),
+            Opcode::Read => self.read(alloc, head, r, w),
+            Opcode::Write => self.write(alloc, head, r, w),
+            Opcode::Readdir => self.read_directory(alloc, head, false, r, w),
+            Opcode::Readdirplus => self.read_directory(alloc, head, true, r, w),
+            Opcode::BatchForget => self.batch_forget(alloc, head, r, w),
+            Opcode::Init => self.init(alloc, head, r, w),
             _ => self.serve_single(alloc, opcode, head, r, w),
         }
     }

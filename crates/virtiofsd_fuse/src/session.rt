@@ -1,21 +1,22 @@
 //! The start of a conversation.
 
-ghost use Rattle.std.specs.Prelude.{◌≡◌, ℕ, ◌<◌, ◌^◌, List, [], bit_and, Ok, false};
+ghost use Rattle.std.specs.Prelude.{◌≡◌, ◌<◌, ◌^◌, [], bit_and, Ok, false};
 ghost use Rattle.fuse_fs.specs.Calls.{Destroy, Done};
-ghost use Rattle.virtiofsd_fuse.specs.Grammar.{init_row, started, known_options};
-ghost use Rattle.virtiofsd_fuse.specs.Serving.{RowHandles, Leaves, agreed};
+ghost use Rattle.virtiofsd_fuse.specs.Grammar.{Asks, Starts, init_row, known_options};
+ghost use Rattle.virtiofsd_fuse.specs.Serving.{RowHandles, ServerHandles, Leaves, agreed};
 
+use crate::meanings_apart::{InitMeaning, init_meaning};
 use crate::server::Server;
 use bitflags::Flags;
 use fuse_fs::FileSystem;
-use fuse_in::{InHeader, InitInCompat};
-use fuse_wire::constants::{KERNEL_VERSION, MIN_KERNEL_MINOR_VERSION};
-use fuse_wire::{Errno, FsOptions};
+use fuse_in::InHeader;
+use fuse_wire::FsOptions;
 use server_calls::session::make_init_call;
 use server_replies::init::{start_bytes, versions};
 use server_replies::replies::{reply, reply_error};
-use server_requests::records::{read_flags2, read_record};
+use server_requests::source::Segments;
 use server_segments::{Error, Reader, Writer};
+use std::alloc::Global;
 
 /// The options that are known, of these bits.
 #[tactic(auto, using(crate::proofs::Options::known_bits_are, crate::proofs::Options::known_twice))]
@@ -37,35 +38,25 @@ pub fn agree(capable: FsOptions, wanted: FsOptions) -> FsOptions
 }
 
 impl<F: FileSystem> Server<F> {
-    // INIT, by its records: the versions first, and then what both sides can.
+    // INIT: what both sides can is agreed from then on.
     fn start(
         &mut self,
         head: &InHeader,
-        request: &InitInCompat,
-        flags2: u32,
+        capable: FsOptions,
+        readahead: u32,
         w: &mut Writer,
     ) -> Result<usize, Error>
         requires fresh { w.old.written ≡ [] }
         requires room { w.old.free < 2 ^ 32 }
-        ensures handles { (more : List ℕ)
-            → RowHandles F.may self.old w.old.free head.now (λ g. started g request.now flags2) more result w.new.written self.new }
+        requires known { bit_and capable.0 known_options ≡ capable.0 }
+        ensures handles { ServerHandles F.may self.old w.old.free (Asks (Starts head.now.unique capable.0 readahead)) result w.new.written self.new }
         ensures rest { Leaves false result w.old w.new self.old self.new }
     {
-        if request.major < KERNEL_VERSION {
-            return reply_error(w, head.unique, Errno::EPROTO);
-        }
-        if request.major > KERNEL_VERSION {
-            return reply(w, head.unique, &versions());
-        }
-        if request.minor < MIN_KERNEL_MINOR_VERSION {
-            return reply_error(w, head.unique, Errno::EPROTO);
-        }
-        let capable = known(flags2 as u64 * 0x1_0000_0000 + request.flags as u64);
         match make_init_call(&mut self.fs, capable) {
             Ok(wanted) => {
                 let options = agree(capable, wanted);
                 self.options = options;
-                let bytes = start_bytes(self.page_size, request.max_readahead, options);
+                let bytes = start_bytes(self.page_size, readahead, options);
                 reply(w, head.unique, &bytes)
             }
             Err(error) => reply_error(w, head.unique, error),
@@ -75,21 +66,27 @@ impl<F: FileSystem> Server<F> {
     /// INIT: the versions, and the options that are agreed from then on.
     pub(crate) fn init(
         &mut self,
+        alloc: Global,
         head: &InHeader,
-        r: &mut Reader<'_>,
+        r: Reader<'_>,
         w: &mut Writer,
     ) -> Result<usize, Error>
         requires fresh { w.old.written ≡ [] }
         requires room { w.old.free < 2 ^ 32 }
-        ensures handles { RowHandles F.may self.old w.old.free head.now init_row r.old.left result w.new.written self.new }
+        ensures handles { RowHandles F.may self.old w.old.free head.now init_row r.entry.left result w.new.written self.new }
         ensures rest { Leaves false result w.old w.new self.old self.new }
     {
-        match read_record(r) {
-            Ok(request) => match read_flags2(&request, r) {
-                Ok(flags2) => self.start(head, &request, flags2, w),
-                Err(error) => Err(error),
-            },
-            Err(error) => Err(error),
+        let mut held = Vec::new(alloc);
+        let source = Segments {
+            alloc,
+            reader: r,
+            held: &mut held,
+        };
+        match init_meaning(source) {
+            InitMeaning::Start { capable, readahead } => self.start(head, capable, readahead, w),
+            InitMeaning::Versions => reply(w, head.unique, &versions()),
+            InitMeaning::Error(error) => reply_error(w, head.unique, error),
+            InitMeaning::Fault(error) => Err(error),
         }
     }
 

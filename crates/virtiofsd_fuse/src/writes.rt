@@ -12,7 +12,6 @@ use server_replies::answers::reply_answer;
 use server_requests::records::read_record;
 use server_segments::{Error, Reader, Writer, ZcReader};
 use std::alloc::Global;
-use std::mem;
 
 impl<F: FileSystem> Server<F> {
     /// WRITE: the data is all that is left of the request.
@@ -20,18 +19,17 @@ impl<F: FileSystem> Server<F> {
         &mut self,
         alloc: Global,
         head: &InHeader,
-        r: &mut Reader<'_>,
+        mut r: Reader<'_>,
         w: &mut Writer,
     ) -> Result<usize, Error>
         requires fresh { w.old.written ≡ [] }
         requires room { w.old.free < 2 ^ 32 }
-        ensures handles { RowHandles F.may self.old w.old.free head.now write_row r.old.left result w.new.written self.new }
+        ensures handles { RowHandles F.may self.old w.old.free head.now write_row r.entry.left result w.new.written self.new }
         ensures rest { Leaves false result w.old w.new self.old self.new }
     {
-        match read_record(r) {
+        match read_record(&mut r) {
             Ok(request) => {
-                let reader = mem::replace(r, Reader::of_slice(alloc, &[]));
-                let mut data = ZcReader { reader };
+                let mut data = ZcReader { reader: r };
                 let answer = make_write_call(&mut self.fs, head, &request, &mut data);
                 reply_answer(w, head.unique, answer)
             }

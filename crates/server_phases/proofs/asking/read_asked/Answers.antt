@@ -1,13 +1,12 @@
 use Rattle.std.proofs.Common.{refl, ◌-◌}
 use Rattle.server_calls.specs.Requests.{read_call}
-use Rattle.virtiofsd_fuse.specs.Grammar.{One, given}
-use Rattle.virtiofsd_fuse.proofs.Rows.{read_asks}
+use Rattle.virtiofsd_fuse.specs.Grammar.{One}
 use Rattle.server_phases.proofs.asking.read_asked.Goals as goal
 
 pub returns-clause-told : goal.returns-clause-told
-returns-clause-told c = λ page_size options more bytes. (
+returns-clause-told c = λ page_size options bytes. (
   One c.args.head.now.unique (read_call c.args.head.now (c.args.room - 16) c.args.request.now),
-  read_asks (given c.args.head.now options c.args.room) c.args.request.now more c.if-room-lt-OUT_HEADER_LEN.false,
+  refl,
   c.read_value.ensures.call bytes,
   c.read_value.ensures.data_apart bytes,
   (refl, refl, tt, refl),

@@ -23,5 +23,5 @@ returns-in-Err-last_name g c = λ room. (
 pub returns-in-Err : goal.returns-in-Err
 returns-in-Err g c = λ room. (
   λ other. name_fault (given c.args.head.now c.args.options.0 room) g.R.NameValue.call _ _ (c.in-Err.ensures.fault other),
-  λ none. c.in-Err.ensures.in_place (rw c.in-Err.ensures.whole at none),
+  λ none. c.in-Err.ensures.in_place (rw c.in-Err.ensures.segments at none),
 )

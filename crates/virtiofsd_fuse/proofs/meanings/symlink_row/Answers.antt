@@ -30,5 +30,5 @@ returns-in-Err g c = λ room. (
   λ other. symlink_fault (given c.args.head.now c.args.options.0 room) _ _ (c.in-Err.ensures.fault other),
   λ none.
       let split = split_none g.S.Source.splits _ (counted_split c.args.head.now.len 0 (g.S.Source.segments c.args.source)) none in
-      c.in-Err.ensures.in_place (rw c.in-Err.ensures.whole at split),
+      c.in-Err.ensures.in_place (rw c.in-Err.ensures.segments at split),
 )

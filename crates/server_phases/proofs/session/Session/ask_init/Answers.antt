@@ -1,28 +1,21 @@
-use Rattle.std.proofs.Common.{ap, subst, drop, ◌∙◌}
-use Rattle.virtiofsd_fuse.specs.Grammar.{Meaning, ended, given, started}
-use Rattle.server_requests.specs.Fronts.{flags2_of}
-use Rattle.server_requests.specs.Reading.{and_then}
+use Rattle.std.proofs.Common.{refl}
 use Rattle.virtiofsd_fuse.specs.Serving.{setting}
-use Rattle.virtiofsd_fuse.proofs.Rows.{init_short, init_short_later}
-use Rattle.server_phases.specs.Asking.{IsTold}
-use Rattle.server_phases.proofs.Telling.{fault_told}
+use Rattle.server_phases.proofs.Telling.{fault_told, versions_told}
 use Rattle.server_phases.proofs.session.Session.ask_init.Goals as goal
 
-pub returns-in-Ok-flags2-clause-told : goal.returns-in-Ok-flags2-clause-told
-returns-in-Ok-flags2-clause-told c =
-    let h = (given c.args.head.now c.args.self.now.options.0 c.args.room) in
-    let rest = drop 40 c.args.source.bytes.now in
-    subst (λ (m : Meaning). IsTold (setting c.args.self.now.page_size c.args.self.now.options.0 c.args.room) m rest c.ask_start.result)
-    (ap (λ r. ended c.args.head.now.unique (and_then r (λ y. started h c.in-Ok.request y.0 y.1))) c.in-Ok-flags2.ensures
-    ∙ ap (λ r. ended c.args.head.now.unique (and_then r (λ x. and_then (flags2_of x.0 x.1) (λ y. started h x.0 y.0 y.1)))) c.in-Ok.ensures.reads)
-    (c.ask_start.ensures.told c.flags2.new.source.bytes.now rest)
+pub started-requires : goal.started-requires
+started-requires c = (c.in-Start.ensures c.args.head.now c.args.self.now.options.0 c.args.room).1
 
-pub returns-in-Err-flags2-clause-told : goal.returns-in-Err-flags2-clause-told
-returns-in-Err-flags2-clause-told c =
-    fault_told (setting c.args.self.now.page_size c.args.self.now.options.0 c.args.room) _ _
-    (init_short_later (given c.args.head.now c.args.self.now.options.0 c.args.room) _ _ _ _ c.in-Ok.ensures.reads c.in-Err-flags2.ensures)
+pub returns-in-Start-clause-told : goal.returns-in-Start-clause-told
+returns-in-Start-clause-told c = c.started.ensures.told (setting c.args.self.now.page_size c.args.self.now.options.0 c.args.room) _ _ refl (c.in-Start.ensures c.args.head.now c.args.self.now.options.0 c.args.room).0
 
-pub returns-in-Err-clause-told : goal.returns-in-Err-clause-told
-returns-in-Err-clause-told c =
-    fault_told (setting c.args.self.now.page_size c.args.self.now.options.0 c.args.room) _ _
-    (init_short (given c.args.head.now c.args.self.now.options.0 c.args.room) _ _ c.in-Err.ensures.reads)
+pub returns-in-Versions-clause-told : goal.returns-in-Versions-clause-told
+returns-in-Versions-clause-told c =
+    rw (c.in-Versions.ensures c.args.head.now c.args.self.now.options.0 c.args.room, c.replied.ensures, c.reply.ensures, c.versions.ensures)
+    (versions_told c.args.self.now.page_size c.args.self.now.options.0 c.args.room c.args.head.now.unique _)
+
+pub returns-in-Error-clause-told : goal.returns-in-Error-clause-told
+returns-in-Error-clause-told c = c.refused.ensures.told c.args.self.now.page_size c.args.self.now.options.0 _ _ (c.in-Error.ensures c.args.head.now c.args.self.now.options.0 c.args.room)
+
+pub returns-in-Fault-clause-told : goal.returns-in-Fault-clause-told
+returns-in-Fault-clause-told c = fault_told (setting c.args.self.now.page_size c.args.self.now.options.0 c.args.room) _ _ (c.in-Fault.ensures c.args.head.now c.args.self.now.options.0 c.args.room).0

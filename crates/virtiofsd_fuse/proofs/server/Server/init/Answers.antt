@@ -1,15 +1,29 @@
-use Rattle.virtiofsd_fuse.specs.Grammar.{given}
+use Rattle.std.proofs.Common.{refl}
 use Rattle.virtiofsd_fuse.specs.Serving.{setting}
-use Rattle.virtiofsd_fuse.proofs.Serve.{handles_refusal}
-use Rattle.virtiofsd_fuse.proofs.Rows.{init_short, init_short_later}
+use Rattle.virtiofsd_fuse.proofs.Serve.{handles_same, handles_refusal, handles_reply}
 use Rattle.virtiofsd_fuse.proofs.server.Server.init.Goals as goal
 
-pub returns-in-Err-read_flags2-clause-handles : goal.returns-in-Err-read_flags2-clause-handles
-returns-in-Err-read_flags2-clause-handles g c =
-    handles_refusal g.F.FileSystemBase.may (setting c.args.self.now.page_size c.args.self.now.options.0 c.args.w.now.free) _ _ _ _
-    (λ other. init_short_later (given c.args.head.now c.args.self.now.options.0 c.args.w.now.free) _ _ _ _ c.in-Ok.ensures.reads c.in-Err-read_flags2.ensures.reads)
+pub start-requires-clause-known : goal.start-requires-clause-known
+start-requires-clause-known g c = (c.in-Start.ensures c.args.head.now c.args.self.now.options.0 c.args.w.now.free).1
 
-pub returns-in-Err-clause-handles : goal.returns-in-Err-clause-handles
-returns-in-Err-clause-handles g c =
+pub returns-in-Start-clause-handles : goal.returns-in-Start-clause-handles
+returns-in-Start-clause-handles g c =
+    handles_same g.F.FileSystemBase.may _ _ _ _ _ _ _ _ (c.in-Start.ensures c.args.head.now c.args.self.now.options.0 c.args.w.now.free).0 c.start.ensures.handles
+
+pub returns-in-Versions-clause-handles : goal.returns-in-Versions-clause-handles
+returns-in-Versions-clause-handles g c =
+    handles_reply g.F.FileSystemBase.may (setting c.args.self.now.page_size c.args.self.now.options.0 c.args.w.now.free) _ _ _ _ _
+    (c.in-Versions.ensures c.args.head.now c.args.self.now.options.0 c.args.w.now.free) (rw c.versions.ensures at c.reply.ensures.sent)
+
+pub returns-in-Error-clause-handles : goal.returns-in-Error-clause-handles
+returns-in-Error-clause-handles g c =
+    handles_reply g.F.FileSystemBase.may (setting c.args.self.now.page_size c.args.self.now.options.0 c.args.w.now.free) _ _ _ _ _
+    (c.in-Error.ensures c.args.head.now c.args.self.now.options.0 c.args.w.now.free) c.reply_error.ensures.sent
+
+pub returns-clause-handles : goal.returns-clause-handles
+returns-clause-handles g c =
     handles_refusal g.F.FileSystemBase.may (setting c.args.self.now.page_size c.args.self.now.options.0 c.args.w.now.free) _ _ _ _
-    (λ other. init_short (given c.args.head.now c.args.self.now.options.0 c.args.w.now.free) _ _ c.in-Err.ensures.reads)
+    (λ other. (c.in-Fault.ensures c.args.head.now c.args.self.now.options.0 c.args.w.now.free).0)
+
+pub returns-clause-rest : goal.returns-clause-rest
+returns-clause-rest g c = (refl, λ none. (c.in-Fault.ensures c.args.head.now c.args.self.now.options.0 c.args.w.now.free).1, refl)

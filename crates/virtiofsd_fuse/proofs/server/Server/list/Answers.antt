@@ -1,31 +1,12 @@
 use Rattle.std.proofs.Common.{◌≡◌, ℕ, ◌-◌, Ok, length, refl, ap, arith, subst}
 use Rattle.fuse_base.specs.Options.{FsOptions}
-use Rattle.virtiofsd_fuse.specs.Grammar.{given}
 use Rattle.virtiofsd_fuse.specs.Listings.{listing_of}
 use Rattle.virtiofsd_fuse.specs.ListingRuns.{ListRun}
 use Rattle.virtiofsd_fuse.specs.Serving.{setting}
-use Rattle.virtiofsd_fuse.proofs.Serve.{handles_reply, handles_refusal, handles_list, handles_unlisted}
+use Rattle.virtiofsd_fuse.proofs.Serve.{handles_list, handles_unlisted}
 use Rattle.virtiofsd_fuse.proofs.ListingLemmas.{entries_fit, place_stays}
-use Rattle.virtiofsd_fuse.proofs.Rows.{listing_long, listing_wide, listing_without_room, listing_asks, listing_told, listing_suits}
+use Rattle.virtiofsd_fuse.proofs.Rows.{listing_told, listing_suits}
 use Rattle.virtiofsd_fuse.proofs.server.Server.list.Goals as goal
-
-pub returns-then-request-gt-MAX_BUFFER_SIZE-clause-handles :
-    goal.returns-then-request-gt-MAX_BUFFER_SIZE-clause-handles
-returns-then-request-gt-MAX_BUFFER_SIZE-clause-handles g c = λ more.
-    handles_reply g.F.FileSystemBase.may (setting c.args.self.now.page_size c.args.self.now.options.0 c.args.w.now.free) _ _ _ _ _
-    (listing_long c.args.with_nodes (given c.args.head.now c.args.self.now.options.0 c.args.w.now.free) c.args.request.now more c.if-request-gt-MAX_BUFFER_SIZE.true) c.reply_error.ensures.sent
-
-pub returns-then-room-request-clause-handles : goal.returns-then-room-request-clause-handles
-returns-then-room-request-clause-handles g c = λ more.
-    handles_reply g.F.FileSystemBase.may (setting c.args.self.now.page_size c.args.self.now.options.0 c.args.w.now.free) _ _ _ _ _
-    (listing_wide c.args.with_nodes (given c.args.head.now c.args.self.now.options.0 c.args.w.now.free) c.args.request.now more c.if-request-gt-MAX_BUFFER_SIZE.false
-    (omega (arith, c.available_bytes-room.ensures.free, c.if-room-request.true))) c.reply_error-then-room-request.ensures.sent
-
-pub returns-then-room-lt-OUT_HEADER_LEN-clause-handles : goal.returns-then-room-lt-OUT_HEADER_LEN-clause-handles
-returns-then-room-lt-OUT_HEADER_LEN-clause-handles g c = λ more.
-    handles_refusal g.F.FileSystemBase.may (setting c.args.self.now.page_size c.args.self.now.options.0 c.args.w.now.free) _ _ _ _
-    (λ other. listing_without_room c.args.with_nodes (given c.args.head.now c.args.self.now.options.0 c.args.w.now.free) c.args.request.now more c.if-request-gt-MAX_BUFFER_SIZE.false
-    (omega (arith, c.available_bytes-room.ensures.free, c.if-room-request.false)) (omega (arith, c.available_bytes-room.ensures.free, c.if-room-lt-OUT_HEADER_LEN.true)))
 
 pub reply_listing-requires-clause-behind : goal.reply_listing-requires-clause-behind
 reply_listing-requires-clause-behind g c =
@@ -34,9 +15,8 @@ reply_listing-requires-clause-behind g c =
     place_stays c.append.new.w.written c.list_entries-error.new.w.written went.bytes front went.all
 
 pub returns-in-Ok-clause-handles : goal.returns-in-Ok-clause-handles
-returns-in-Ok-clause-handles g c = λ more.
+returns-in-Ok-clause-handles g c =
     let l = listing_of c.args.with_nodes c.args.head.now c.args.request.now in
-    let room = c.available_bytes-room.ensures.free in
     let place = c.append.ensures.free in
     let front : length c.append.new.w.written ≡ 16 = rw (c.append.ensures.written, c.requires.fresh) refl in
     let left : c.append.new.w.free ≡ c.args.w.now.free - 16 = omega (arith, place) in
@@ -44,8 +24,7 @@ returns-in-Ok-clause-handles g c = λ more.
     c.append.new.w.written c.list_entries-error.new.w.written c.list_entries-error.result c.list_entries-error.new.self.fs) left (c.list_entries-error.ensures.run c.args.request.now) in
     handles_list g.F.FileSystemBase.may (setting c.args.self.now.page_size c.args.self.now.options.0 c.args.w.now.free) _ c.args.head.now.unique l
     (g.F.DirIter.DirectoryIterator.rest c.in-Ok.entries) c.args.self.now.fs c.make_readdir_call.new.fs _ _ _ c.list_entries-error.result (Ok c.reply_listing.result) _ _
-    (listing_asks c.args.with_nodes (given c.args.head.now c.args.self.now.options.0 c.args.w.now.free) c.args.request.now more c.if-request-gt-MAX_BUFFER_SIZE.false
-    (omega (arith, room, c.if-room-request.false)) (omega (arith, room, c.if-room-lt-OUT_HEADER_LEN.false)))
+    refl
     c.in-Ok.ensures.may went
     (ap (λ (o : FsOptions). o.0) c.list_entries-error.ensures.options)
     (listing_told c.args.w.now.free c.args.head.now.unique c.reply_listing.result c.args.with_nodes c.append.new.w.written c.list_entries-error.new.w.written _ went.bytes
@@ -55,12 +34,10 @@ returns-in-Ok-clause-handles g c = λ more.
     c.reply_listing.ensures.reply)
 
 pub returns-in-Err-clause-handles : goal.returns-in-Err-clause-handles
-returns-in-Err-clause-handles g c = λ more.
+returns-in-Err-clause-handles g c =
     let l = listing_of c.args.with_nodes c.args.head.now c.args.request.now in
-    let room = c.available_bytes-room.ensures.free in
     handles_unlisted g.F.FileSystemBase.may (setting c.args.self.now.page_size c.args.self.now.options.0 c.args.w.now.free) _ c.args.head.now.unique l
     c.in-Err.error _ _ _ _ _
-    (listing_asks c.args.with_nodes (given c.args.head.now c.args.self.now.options.0 c.args.w.now.free) c.args.request.now more c.if-request-gt-MAX_BUFFER_SIZE.false
-    (omega (arith, room, c.if-room-request.false)) (omega (arith, room, c.if-room-lt-OUT_HEADER_LEN.false)))
+    refl
     (listing_suits l c.in-Err.error c.in-Err.ensures.errno) c.in-Err.ensures.may
-    refl c.reply_error-in-Err.ensures.sent
+    refl c.reply_error.ensures.sent

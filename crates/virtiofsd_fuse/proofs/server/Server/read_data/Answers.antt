@@ -1,16 +1,15 @@
 use Rattle.std.proofs.Common.{◌≡◌, Ok, ◌+◌, ◌-◌, ◌≤◌, length, refl, sym, ◌∙◌, arith}
 use Rattle.fuse_fs.specs.Answers.{data_answer}
-use Rattle.virtiofsd_fuse.specs.Grammar.{given}
 use Rattle.server_calls.specs.Requests.{read_call}
 use Rattle.virtiofsd_fuse.specs.Serving.{setting}
-use Rattle.virtiofsd_fuse.proofs.Serve.{handles_one, handles_refusal}
-use Rattle.virtiofsd_fuse.proofs.Rows.{read_asks, read_without_room, read_suits, read_told}
+use Rattle.virtiofsd_fuse.proofs.Serve.{handles_one}
+use Rattle.virtiofsd_fuse.proofs.Rows.{read_suits, read_told}
 use Rattle.virtiofsd_fuse.proofs.server.Server.read_data.Goals as goal
 
 pub returns-clause-handles : goal.returns-clause-handles
-returns-clause-handles g c = λ more.
+returns-clause-handles g c =
     let h = c.make_read_call-answer.ensures.read in
-    let enough : 16 ≤ c.args.w.now.free = omega (arith, c.available_bytes-room.ensures, c.if-room-lt-OUT_HEADER_LEN.false) in
+    let enough : 16 ≤ c.args.w.now.free = c.requires.enough in
     let front : length c.replace-writer.result.written ≡ 16 = rw (c.replace-writer.ensures.value, c.append.ensures.written, c.requires.fresh) refl in
     let place = c.append.ensures.free in
     let left : c.replace-writer.result.free ≡ c.args.w.now.free - 16 = rw c.replace-writer.ensures.value (omega (arith, place)) in
@@ -18,16 +17,10 @@ returns-clause-handles g c = λ more.
     let fits : 16 + length h.0 ≤ c.args.w.now.free = omega (arith, behind, left, enough) in
     handles_one g.F.FileSystemBase.may (setting c.args.self.now.page_size c.args.self.now.options.0 c.args.w.now.free) _ c.args.head.now.unique
     (read_call c.args.head.now (c.args.w.now.free - 16) c.args.request.now) (data_answer c.make_read_call-answer.result h.0) _ _ (Ok c.reply_data.result) _ _
-    (read_asks (given c.args.head.now c.args.self.now.options.0 c.args.w.now.free) c.args.request.now more enough)
+    refl
     (read_suits c.args.head.now _ _ c.args.request.now c.make_read_call-answer.result h.0 (sym left ∙ behind) c.make_read_call-answer.ensures.errno)
     (rw left at h.4)
     refl
     refl
     (read_told c.args.w.now.free c.args.head.now.unique c.args.head.now
     (c.args.w.now.free - 16) c.args.request.now c.make_read_call-answer.result _ _ _ h.0 c.reply_data.result front h.1 fits c.reply_data.ensures.reply)
-
-pub returns-then-room-lt-OUT_HEADER_LEN-clause-handles : goal.returns-then-room-lt-OUT_HEADER_LEN-clause-handles
-returns-then-room-lt-OUT_HEADER_LEN-clause-handles g c = λ more.
-    handles_refusal g.F.FileSystemBase.may (setting c.args.self.now.page_size c.args.self.now.options.0 c.args.w.now.free) _ _ _ _
-    (λ other. read_without_room (given c.args.head.now c.args.self.now.options.0 c.args.w.now.free) c.args.request.now more
-    (omega (arith, c.available_bytes-room.ensures, c.if-room-lt-OUT_HEADER_LEN.true)))

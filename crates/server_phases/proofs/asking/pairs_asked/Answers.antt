@@ -4,7 +4,7 @@ use Rattle.fuse_fs.specs.Calls.{BatchForget}
 use Rattle.fuse_values.specs.Values.{pairs_in}
 use Rattle.server_calls.specs.Requests.{batch_forget_call}
 use Rattle.virtiofsd_fuse.specs.Grammar.{One}
-use Rattle.server_phases.proofs.asking.forgets_asked.Goals as goal
+use Rattle.server_phases.proofs.asking.pairs_asked.Goals as goal
 
 pub returns-clause-told : goal.returns-clause-told
 returns-clause-told c = λ page_size options m bytes whole asks. (
