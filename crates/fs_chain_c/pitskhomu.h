@@ -2,18 +2,71 @@
  * pitskhomu.h: the device's side of virtio-fs (VIRTIO 1.2, 2.7 and 5.11; FUSE 7.38), as a core that touches no memory.
  *
  * The core never sees the guest's memory, a file or a socket. It says which bytes it wants, is given them, tells the one file
- * call that they ask for, is told the answer, and says what is to be stored. You load, store, and call the file system:
+ * call that they ask for, is told the answer, and says what is to be stored. You load, store, and call the file system. So a queue is served until no
+ * chain waits; `load`, `gather` and `scatter` copy bytes in the guest's memory and are yours, as in examples/c/sketch.c, of which this is a part:
  *
- *     struct fs_step step = {0};                                       // a walk begins without bytes
- *     while ((s = fs_walk(&chain, &queue, bytes, step.len, &step)) == FS_LOAD)
- *         load(bytes, step.at, step.len);                              // acquire, once
- *     if (s != FS_DONE) ..;                                            // FS_IDLE, or why the queue stops
- *     gather(request, fs_request_windows(&chain, 0, FS_FIRST, w, 8));  // request bytes, once
- *     fs_ask(&chain, &device, request, len, &call);                    // what the file system is asked
- *     switch (call.kind) { case FS_CALL_LOOKUP: .. fs_reply_entry(&chain, &entry); .. }
- *     fs_return(&chain, &queue, front, sizeof front, &out);            // the reply's front, element, index
- *     scatter(front); store(element); store_release(index); full_barrier(); seen = load(out.seen_at);
- *     fs_returned(&chain, &queue, seen, &notify);
+ * <!-- examples/c/sketch.c: static uint32_t ask, static uint32_t answer, static uint32_t serve_request, static uint32_t give_back, static uint32_t serve -->
+ * ```
+ * static uint32_t ask(const struct fs_step *step, struct fs_call *call) {
+ *     size_t have = 0, want = step->request_len < FS_FIRST ? (size_t)step->request_len : FS_FIRST;
+ *     for (;;) {
+ *         gather(request, have, want);
+ *         uint32_t s = fs_ask(&chain, &device, request, have = want, call);
+ *         if (s != FS_MORE) return s;
+ *         want = call->needed;
+ *     }
+ * }
+ *
+ * static uint32_t answer(const struct fs_call *call) {
+ *     const uint8_t *name = request + call->name.at;
+ *     struct fs_entry entry = {.node = 2, .attr = {.ino = 2, .mode = 0100644, .nlink = 1}};
+ *     if (call->answer == FS_ANSWER_NONE) return FS_DONE; // nobody waits; FORGET and BATCH_FORGET are made still
+ *     switch (call->kind) {
+ *     case FS_CALL_LOOKUP: return fs_is_name(name, call->name.len) ? fs_reply_entry(&chain, call->ticket, &entry)
+ *                                                                  : fs_reply_err(&chain, call->ticket, EINVAL);
+ *     case FS_CALL_INIT: return fs_reply_init(&chain, call->ticket, &device, 0);
+ *     case FS_CALL_DESTROY: device.options = 0; return fs_reply_err(&chain, call->ticket, 0);
+ *     default: return fs_reply_err(&chain, call->ticket, ENOSYS);
+ *     }
+ * }
+ *
+ * static uint32_t serve_request(const struct fs_step *step) {
+ *     struct fs_call call;
+ *     uint32_t s = ask(step, &call);
+ *     if (s != FS_DONE) return s;
+ *     s = answer(&call);
+ *     return s == FS_DONE || s == FS_NO_ROOM ? FS_DONE : fs_reply_err(&chain, call.ticket, EIO);
+ * }
+ *
+ * static uint32_t give_back(bool *notify) {
+ *     uint8_t front[FS_FRONT_MAX], wanted;
+ *     struct fs_stores out;
+ *     uint16_t seen;
+ *     uint32_t s = fs_return(&chain, &queue, front, sizeof front, &out);
+ *     if (s != FS_DONE) return s;
+ *     scatter(front, out.front_len);
+ *     memcpy((void *)out.id_at, &out.id, 4);
+ *     memcpy((void *)out.len_at, &out.len, 4);
+ *     atomic_store_explicit((_Atomic uint16_t *)out.index_at, out.index, memory_order_release);
+ *     atomic_thread_fence(memory_order_seq_cst);
+ *     load(&seen, out.seen_at, 2);
+ *     s = fs_returned(&chain, &queue, seen, &wanted);
+ *     *notify = *notify || wanted;
+ *     return s;
+ * }
+ *
+ * static uint32_t serve(bool *notify) {
+ *     uint8_t bytes[FS_LOAD_MAX];
+ *     uint32_t s;
+ *     for (;;) {
+ *         struct fs_step step = {0}; // a walk begins without bytes
+ *         while ((s = fs_walk(&chain, &queue, bytes, step.len, &step)) == FS_LOAD) load(bytes, step.at, step.len);
+ *         if (s != FS_DONE) return s;
+ *         if (step.fault == 0 && (s = serve_request(&step)) != FS_DONE) return s; // a faulty chain goes back without a reply
+ *         if ((s = give_back(notify)) != FS_DONE) return s;
+ *     }
+ * }
+ * ```
  *
  * A request that it doesn't serve, or each one, by a FUSE server of yours, is replied with bytes of your own: fs_reply_bytes.
  *
@@ -24,26 +77,30 @@
  *
  * WHAT IS PROVED. Each function, whenever its arguments are what their types say, returns, doesn't panic, reads and writes only what it is
  * lent, and does what its contract in the crate fs_chain_c says, in the terms of the crate fs_chain: the load that is asked for, the
- * call that a request means, the reply that an answer gives, the stores of a return. What isn't proved stands at its place below.
+ * call that a request means, the reply that an answer gives, the stores of a return. Of a chain from its walk to its return fs_chain's law_chains says more.
+ * TRIED ALONE is this: that fs_chain_free frees all; that the stores of fs_return have a place (FS_NO_PLACE); that the calls of a walk are no more loads than
+ * the walk behind them makes (fs_queue's law_any_loads: 2 * size + 6); that the bytes of a span are the name's (proved is where it stands, and its length); which
+ * of two errors comes first, of fs_chain_set_memory and fs_save; a chain whose calls several threads make; and what is written out here in C.
  *
  * THREADS. What a call takes as const may be read by several calls at a time; what it takes otherwise is that call's alone. So a
- * thread with a chain and a queue of its own needs no lock but round `device`: many fs_ask, or one fs_reply_init. What is proved is proved of
- * a chain all of whose calls one thread makes. The library keeps nothing of a thread's, so a chain that goes from thread to thread
- * between calls, with the order that a lock or a join gives, does the same; but no proof says so.
+ * thread with a chain and a queue of its own needs no lock but round `device`: many fs_ask, or one fs_reply_init. The library keeps nothing of a thread's: a chain
+ * may go from thread to thread between calls, with the order that a lock or a join gives.
  *
  * WHAT THE MONITOR OWES, since nobody checks C. A call in a wrong order, of another kind, or for another queue is refused by a number
  * with a name, and so is a number that names nothing.
- *  1. Pointers are good for their lengths, and no argument that is written overlaps another. None is NULL; with length 0 any other will do.
+ *  1. Pointers are good for their lengths, and no argument that is written overlaps another. None is NULL, with length 0 neither: any other will do then.
  *  2. Load once: copy the bytes that were asked for, hand the copy over, and don't look at the guest's bytes for them again.
  *  3. A load of 2 bytes is one atomic load that acquires (the available index: what it covers is read after it).
  *  4. Order of a return: data over the room, the front over its begin, the element's two halves, then the index by one atomic store
  *     of 2 bytes that releases; a full barrier (atomic_thread_fence(memory_order_seq_cst)); then the load of 2 bytes at `seen_at`.
  *  5. Windows are used until fs_returned, fs_drop or fs_abandon, and only those that were told: stores go to the room's alone.
  *  6. Memory stays mapped while a chain is out over it, and all chains of a queue go over the same regions: change these while none is walked or out. A page
- *     is marked in a migration's log after the store and before fs_returned; that of fs_ask_kicks's store after it, under the same lock.
+ *     is marked in a migration's log after the store and before fs_returned; that of fs_ask_kicks's store after it, under the same lock. Mark what you wrote, and
+ *     not what the reply counts: data that you put into the room before fs_reply_err, or more than you told fs_reply_data, stands there too.
  *  7. One call at a time on a chain, on a queue, on a device that isn't const; each with the thread's order in between.
  *  8. A queue begins anew by fs_queue_begin (or fs_restore), on the struct that it has: its walks and its chains are refused from then on by each call that takes
- *     the queue. fs_ask and the replies don't take it: let fs_abandon free each chain before. No load, store or file call of yours for them goes on by then.
+ *     the queue. fs_ask and the replies don't take it: let fs_abandon free each chain before. No load, store or file call of yours for them goes on by then; an
+ *     answer that comes later is refused by its ticket (FS_OTHER_CALL).
  *  9. A chain that was asked is answered: with nothing else to say, by fs_reply_err(EIO), or with silence by fs_reply_bytes(0). It can't be dropped.
  * 10. malloc, realloc and free are of one allocator, aligned as C says. No call from a signal handler, nor after fork in the child
  *     of a process with threads.
@@ -62,7 +119,7 @@
  *
  * ERRORS. A call answers an enum fs_status. Below 32 it is a refusal of the queue's that stops it (but 1 and 9); 32 to 63 say how
  * to go on; from 64 on nothing was done, and what was there before is there still, unless the function says otherwise (FS_NO_PLACE). "Errors" below are in the order in
- * which they are looked for; of fs_chain_set_memory and fs_save that order isn't proved. Link with libfs_chain_c.a and the toolchain's file for the heap.
+ * which they are looked for. Link with libfs_chain_c.a and the toolchain's file for the heap.
  */
 #ifndef PITSKHOMU_CHAIN_H
 #define PITSKHOMU_CHAIN_H
@@ -71,7 +128,7 @@
 
 #if defined(__has_attribute)
 #if __has_attribute(nonnull)
-#define FS_NONNULL(...) __attribute__((nonnull(__VA_ARGS__)))
+#define FS_NONNULL __attribute__((nonnull)) /* each pointer */
 #endif
 #if __has_attribute(warn_unused_result)
 #define FS_CHECK __attribute__((warn_unused_result))
@@ -83,7 +140,7 @@
 #endif
 #endif
 #ifndef FS_NONNULL
-#define FS_NONNULL(...)
+#define FS_NONNULL
 #endif
 #ifndef FS_CHECK
 #define FS_CHECK
@@ -100,7 +157,7 @@ extern "C" {
 
 /* ---------------------------------------------------------------- numbers */
 
-#define FS_VERSION 6u          /* of this header; fs_version() is the archive's */
+#define FS_VERSION 7u          /* of this header; fs_version() is the archive's */
 #define FS_REGIONS_MAX 64u     /* regions of the guest's memory */
 #define FS_QUEUES_MAX 64u      /* queues in a record */
 #define FS_LOAD_MAX 4096u      /* no load of a walk is longer: 2 bytes of a ring, or 16 for each of some entries of a table, or parts of these */
@@ -143,9 +200,10 @@ enum fs_status {
     FS_OTHER_KIND = 75,             /* the call wants an answer of another kind (`answer` of the call) */
     FS_CHAIN_OUT = 76,              /* the queue has as many chains out as it may (most_out), or the chain is walked or out; of fs_save: one is out */
     FS_NO_PLACE = 77,               /* what is to be loaded or stored has no place. The walk found that it has, and regions don't change while a
-                                       chain is walked or out: so fs_walk and fs_return don't tell this. Of loads that is proved (law_chains of
-                                       fs_chain), of stores not. fs_ask_kicks tells it of a ring that no walk has found to have its place */
+                                       chain is walked or out: so fs_walk (proved: law_chains of fs_chain) and fs_return don't tell this. fs_ask_kicks
+                                       tells it of a ring that no walk has found to have its place */
     FS_RETURNING = 78,              /* another chain of the queue is between fs_return and fs_returned */
+    FS_OTHER_CALL = 79,             /* the answer has another ticket than the chain: it comes late, to a call that is gone */
     FS_RECORD_TRUNCATED = 81,       /* 81 to 90: nothing goes on from the record */
     FS_RECORD_BAD_MAGIC = 82,
     FS_RECORD_BAD_VERSION = 83,
@@ -249,7 +307,7 @@ enum fs_answer_kind {
     FS_ANSWER_INIT = 12,    /* fs_reply_init */
 };
 
-/* The name of a number, and "" of others. These are C, and unproved. */
+/* The name of a number, and "" of others. */
 static inline const char *fs_status_name(uint32_t status) {
 #define FS_NAME(name) case name: return #name
     switch (status) {
@@ -261,7 +319,7 @@ static inline const char *fs_status_name(uint32_t status) {
     FS_NAME(FS_RECORD_BAD_VERSION); FS_NAME(FS_RECORD_BAD_COUNT); FS_NAME(FS_RECORD_BAD_RESERVED);
     FS_NAME(FS_RECORD_BAD_QUEUE); FS_NAME(FS_RECORD_BAD_OPTIONS); FS_NAME(FS_RECORD_OUT_OF_MEMORY); FS_NAME(FS_RECORD_MISMATCH);
     FS_NAME(FS_SHORT_BUFFER); FS_NAME(FS_LONG_REPLY); FS_NAME(FS_WRONG_ORDER); FS_NAME(FS_OTHER_QUEUE);
-    FS_NAME(FS_OTHER_KIND); FS_NAME(FS_CHAIN_OUT); FS_NAME(FS_RETURNING);
+    FS_NAME(FS_OTHER_KIND); FS_NAME(FS_CHAIN_OUT); FS_NAME(FS_RETURNING); FS_NAME(FS_OTHER_CALL);
     default: return "";
     }
 }
@@ -305,7 +363,7 @@ uint32_t fs_version(void);
 
 /* Whether a name is one component of a path: 1, or 0 if it is empty, "." or "..", or has a slash or a zero byte (POSIX.1-2017, 3.170 and 4.13).
  * A guest's names may be any of these: who serves a directory of the host asks at each. A link that a name names leads elsewhere still: O_NOFOLLOW. */
-uint8_t fs_is_name(const uint8_t *name, size_t name_len) FS_CHECK FS_NONNULL(1);
+uint8_t fs_is_name(const uint8_t *name, size_t name_len) FS_CHECK FS_NONNULL;
 
 /* ---------------------------------------------------------------- device and queues: numbers that you keep */
 
@@ -335,9 +393,10 @@ struct fs_queue {
 };
 
 /* Begins a queue at a position (SET_VRING_BASE, 0 after a reset), by the parts that you set: no chain is out of it, and it isn't stopped. Walks and chains that
- * it had are refused from then on by the calls that take the queue (FS_OTHER_QUEUE), unless it is begun anew 2^32 times.
+ * it had are refused from then on by the calls that take the queue (FS_OTHER_QUEUE), unless it is begun anew 2^32 times. Make the store of fs_ask_kicks(.., 1)
+ * then, and its barrier: a device of before may have left the used flag by which the driver doesn't kick.
  * Errors: FS_BAD_ARGUMENT (the numbers that you set are no queue's); then nothing is done. */
-uint32_t fs_queue_begin(struct fs_queue *queue, uint16_t position) FS_CHECK FS_NONNULL(1);
+uint32_t fs_queue_begin(struct fs_queue *queue, uint16_t position) FS_CHECK FS_NONNULL;
 
 /* Where a stretch of the guest's memory stands: `host` is the number of its first byte here, mostly (uintptr_t) of what mmap gave.
  * The core only adds to it: who keeps memory behind other numbers (offsets, the guest's own) hands in those. All three are
@@ -359,11 +418,11 @@ struct fs_chain {
  * order; and the device's limit. They are copied. Call it first, and after each change of the memory table, for each chain.
  * Errors: FS_BAD_ARGUMENT, FS_OUT_OF_MEMORY, FS_CHAIN_OUT (also if a walk has begun); then the regions stay as they were. */
 uint32_t fs_chain_set_memory(struct fs_chain *chain, const struct fs_device *device, const struct fs_region *regions,
-                         size_t region_count) FS_CHECK FS_NONNULL(1, 2) FS_READS(3, 4);
+                         size_t region_count) FS_CHECK FS_NONNULL FS_READS(3, 4);
 
-/* Frees what the chain holds (that is tried, not proved); then it is zeros. Of zeros it does nothing. A chain that is out is
+/* Frees what the chain holds; then it is zeros, and counts its tickets anew. Of zeros it does nothing. A chain that is out is
  * lost to its queue, which counts it as out until it is begun anew, and lets no other go back if fs_return told its stores: return it before. */
-void fs_chain_free(struct fs_chain *chain) FS_NONNULL(1);
+void fs_chain_free(struct fs_chain *chain) FS_NONNULL;
 
 /* What a walk says: with FS_LOAD, `len` bytes at `at`, 1 to FS_LOAD_MAX; with FS_DONE, the chain. Where nothing was done, the load that a walk still wants,
  * but zeros if the queue's numbers are none. Else zeros. */
@@ -373,11 +432,11 @@ struct fs_step {
     uint64_t request_len, room_len; /* 0 with a fault */
     uint32_t fault;                 /* enum fs_fault. Else 0: go on with fs_ask. A faulty chain goes on with fs_return */
     uint16_t head;                  /* the number that the guest knows it by */
+    uint32_t ticket;                /* that each answer brings: also in its call */
 };
 
 /* Takes the next chain of a queue. At first `loaded` has length 0; as long as it answers FS_LOAD, load and call again with these
- * bytes. A walk ends after at most 2 * size + 6 loads, whatever the guest writes; proved is that of the walk behind this call (fs_queue's
- * law_any_loads), not of the handle's calls together. A queue that another chain's walk stopped meanwhile refuses: FS_STOPPED.
+ * bytes. A walk ends after at most 2 * size + 6 loads, whatever the guest writes. A queue that another chain's walk stopped meanwhile refuses: FS_STOPPED.
  * FS_DONE: the chain is out of the queue, its windows stay as they are until it is returned, dropped or abandoned. FS_IDLE, a refusal
  * from 1 to 8: the chain is free. A chain whose walk has begun isn't out yet: fs_drop ends it, and so does a refusal. An entry that goes over the
  * end of a region (the next one begins there) is loaded in two parts, by two calls; a caller who has it whole may give it whole, unless a part of it was given.
@@ -385,17 +444,17 @@ struct fs_step {
  * it was told: that is still wanted, and told again), FS_WRONG_ORDER (it is out), FS_OTHER_QUEUE (it walks another, or a chain was taken
  * or dropped since, or it was begun anew: drop or abandon the walk), FS_CHAIN_OUT; then in no order FS_OUT_OF_MEMORY, 1 to 8, FS_NO_PLACE. */
 uint32_t fs_walk(struct fs_chain *chain, struct fs_queue *queue, const uint8_t *loaded, size_t loaded_len, struct fs_step *step)
-    FS_CHECK FS_NONNULL(1, 2, 5) FS_READS(3, 4) FS_FILLS(5);
+    FS_CHECK FS_NONNULL FS_READS(3, 4) FS_FILLS(5);
 
 /* Gives a chain up that wasn't asked: free for another walk, nothing stored. The queue is told, and hands the same chain out at its next walk,
  * read anew. A walk ends, whatever the queue is; of zeros it does nothing.
  * Errors: FS_BAD_ARGUMENT (the queue's numbers are none), FS_WRONG_ORDER (it was asked, or has a fault: it goes back), FS_OTHER_QUEUE, FS_WRONG_ORDER (it isn't the last of
  * those that were taken: drop these first, ask it, or reply with silence). */
-uint32_t fs_drop(struct fs_chain *chain, struct fs_queue *queue) FS_NONNULL(1, 2);
+uint32_t fs_drop(struct fs_chain *chain, struct fs_queue *queue) FS_NONNULL;
 
 /* Frees a chain whose queue was begun anew, or will be before its next call, wherever it is: for another walk, nothing stored, no queue told. Of zeros it
  * does nothing. To the queue it is what fs_chain_free is. */
-void fs_abandon(struct fs_chain *chain) FS_NONNULL(1);
+void fs_abandon(struct fs_chain *chain) FS_NONNULL;
 
 /* A stretch of memory here, laid out as struct iovec is: a `struct fs_window[]` may be handed to preadv and its kin by a cast. */
 struct fs_window {
@@ -414,28 +473,33 @@ struct fs_range {
  * of the chain: many windows in one call take less time than in many. fs_room_ranges tells the same of the room by the
  * guest's addresses, for a log: each range as long as its descriptor goes on. */
 size_t fs_request_windows(struct fs_chain *chain, uint64_t from, uint64_t len, struct fs_window *windows, size_t window_count)
-    FS_NONNULL(1) FS_WRITES(4, 5);
+    FS_NONNULL FS_WRITES(4, 5);
 size_t fs_room_windows(struct fs_chain *chain, uint64_t from, uint64_t len, struct fs_window *windows, size_t window_count)
-    FS_NONNULL(1) FS_WRITES(4, 5);
+    FS_NONNULL FS_WRITES(4, 5);
 size_t fs_room_ranges(struct fs_chain *chain, uint64_t from, uint64_t len, struct fs_range *ranges, size_t range_count)
-    FS_NONNULL(1) FS_WRITES(4, 5);
+    FS_NONNULL FS_WRITES(4, 5);
 
 /* ---------------------------------------------------------------- ask */
 
-/* A place in the request's bytes, as they were handed to fs_ask. A name has no zero byte, but one stands behind it. Proved is that `len` is the length
- * of the name that the request tells, and `at` where its kind has it; that these bytes are the name's isn't proved, and is tried. */
+/* A place in the request's bytes, as they were handed to fs_ask. A name has no zero byte, but one stands behind it. */
 struct fs_span {
     uint32_t at, len;
 };
 
 /* struct fuse_attr; with SETATTR, what is to be set. */
 struct fs_attr {
-    uint64_t ino, size, blocks, atime, mtime, ctime; /* times: seconds */
-    uint32_t atime_nanos, mtime_nanos, ctime_nanos;
-    uint32_t mode, nlink, uid, gid, rdev, block_size, flags;
+    uint64_t ino, size, blocks, atime, mtime, ctime; /* size: bytes; blocks: of 512 bytes, as st_blocks; times: seconds since 1970 */
+    uint32_t atime_nanos, mtime_nanos, ctime_nanos;  /* below 10^9 */
+    uint32_t mode;             /* kind (S_IFMT) and permissions, as st_mode; so SETATTR brings it too: take & 07777 of it */
+    uint32_t nlink, uid, gid;
+    uint32_t rdev;             /* as Linux packs it: minor & 0xff | major << 8 | (minor & ~0xff) << 12. These are the low 32 bits of glibc's st_rdev, if major < 4096 */
+    uint32_t block_size;       /* bytes, as st_blksize */
+    uint32_t flags;            /* FUSE_ATTR_ bits */
 };
 
-/* A request: what the file system is asked. Which fields count stands at each kind; the others are 0. */
+/* A request: what the file system is asked. Which fields count stands at each kind; the others are 0. Nodes, handles, offsets and sizes are as the guest
+ * wrote them, and any may come: of what isn't held, isn't open, or before INIT too (the library knows of a session only device->options). Numbers and bits
+ * are linux/fuse.h's: `options` are its flags, and flags2 << 32. */
 struct fs_call {
     uint32_t kind;   /* enum fs_call_kind */
     uint32_t answer; /* enum fs_answer_kind: what it waits for */
@@ -449,10 +513,11 @@ struct fs_call {
     uint64_t node2, handle2, offset2;
     struct fs_span name, name2, value;
     uint64_t data_at, data_len; /* WRITE: of the request. READ and others whose answer is data: of the room, from FS_HEADER on */
-    uint32_t flags, mode, umask, rdev, valid;
+    uint32_t flags, mode, umask, rdev, valid; /* mode of MKNOD and CREATE has its kind, as st_mode; umask was applied to it, unless FUSE_DONT_MASK was agreed on */
     uint8_t has_handle, has_owner, delayed, kill_priv, flush, unlock, data_only, has_group; /* 0 or 1 */
     struct fs_attr attr;
     uint32_t group;
+    uint32_t ticket; /* that each answer brings: the step's */
 };
 
 /* Tells what the request asks. `request` are its first bytes: request_len or FS_FIRST of them, the lesser, and where it answers
@@ -462,7 +527,7 @@ struct fs_call {
  * It takes no memory. Errors: FS_WRONG_ORDER (no memory was told), FS_BAD_ARGUMENT (page size or limit are none), FS_WRONG_ORDER (no chain, a faulty one,
  * or it was asked), FS_BAD_ARGUMENT (more bytes than the request has); then `call` is zeros. */
 uint32_t fs_ask(struct fs_chain *chain, const struct fs_device *device, const uint8_t *request, size_t request_len, struct fs_call *call)
-    FS_CHECK FS_NONNULL(1, 2, 5) FS_READS(3, 4) FS_FILLS(5);
+    FS_CHECK FS_NONNULL FS_READS(3, 4) FS_FILLS(5);
 
 /* Pair `k`, below count, of BATCH_FORGET: node, and how many times less it is held. */
 static inline void fs_pair(const uint8_t *request, const struct fs_call *call, uint64_t k, uint64_t *node, uint64_t *count) {
@@ -486,69 +551,74 @@ struct fs_entry {
 
 /* struct fuse_kstatfs. */
 struct fs_statfs {
-    uint64_t blocks, bfree, bavail, files, ffree;
-    uint32_t bsize, namelen, frsize;
+    uint64_t blocks, bfree, bavail; /* of frsize bytes */
+    uint64_t files, ffree;          /* nodes */
+    uint32_t bsize, namelen, frsize; /* bytes */
 };
 
-/* All of these answer the call that fs_ask told, once, and touch no memory; the reply is handed out by fs_return. Errors, the same
- * for all: what stands beside each, then FS_WRONG_ORDER (nothing is asked, or it was answered), FS_OTHER_KIND; after these the call
+/* All of these answer the call that fs_ask told, by its ticket, once, and touch no memory; the reply is handed out by fs_return. From chain to chain of a
+ * handle the ticket grows by 1, modulo 2^32: an answer that comes late, to a chain that was abandoned, is taken for no other. Errors, the same
+ * for all: what stands beside each, then FS_WRONG_ORDER (nothing is asked, or it was answered), FS_OTHER_CALL, FS_OTHER_KIND; after these the call
  * waits still. FS_NO_ROOM isn't one: see there. No memory is wanted. */
 
 /* errno.h of Linux, 1 to 4095; or 0, which says done where that is the answer's kind (else FS_OTHER_KIND). Others: FS_BAD_ARGUMENT. FS_ENTRIES: see there. */
-uint32_t fs_reply_err(struct fs_chain *chain, uint32_t error) FS_CHECK FS_NONNULL(1);
+uint32_t fs_reply_err(struct fs_chain *chain, uint32_t ticket, uint32_t error) FS_CHECK FS_NONNULL;
 
 /* LOOKUP, SYMLINK, MKNOD, MKDIR, LINK: the guest holds the node once more. FS_BAD_ARGUMENT: nanoseconds of a second or more. */
-uint32_t fs_reply_entry(struct fs_chain *chain, const struct fs_entry *entry) FS_CHECK FS_NONNULL(1, 2);
+uint32_t fs_reply_entry(struct fs_chain *chain, uint32_t ticket, const struct fs_entry *entry) FS_CHECK FS_NONNULL;
 
 /* CREATE: as entry and open. With FS_NO_ROOM, forget the node and close the file. */
-uint32_t fs_reply_create(struct fs_chain *chain, const struct fs_entry *entry, uint64_t handle, uint32_t open_flags) FS_CHECK FS_NONNULL(1, 2);
+uint32_t fs_reply_create(struct fs_chain *chain, uint32_t ticket, const struct fs_entry *entry, uint64_t handle, uint32_t open_flags) FS_CHECK FS_NONNULL;
 
 /* GETATTR, SETATTR. FS_BAD_ARGUMENT: nanoseconds of a second or more. */
-uint32_t fs_reply_attr(struct fs_chain *chain, const struct fs_attr *attr, uint64_t secs, uint32_t nanos) FS_CHECK FS_NONNULL(1, 2);
+uint32_t fs_reply_attr(struct fs_chain *chain, uint32_t ticket, const struct fs_attr *attr, uint64_t secs, uint32_t nanos) FS_CHECK FS_NONNULL;
 
 /* OPEN, OPENDIR. handle: a number of yours, which READ and its kin bring back; open_flags: FOPEN_ bits. */
-uint32_t fs_reply_open(struct fs_chain *chain, uint64_t handle, uint32_t open_flags) FS_CHECK FS_NONNULL(1);
+uint32_t fs_reply_open(struct fs_chain *chain, uint32_t ticket, uint64_t handle, uint32_t open_flags) FS_CHECK FS_NONNULL;
 
 /* READ, READLINK, GETXATTR, LISTXATTR: `len` bytes of data stand in the room from FS_HEADER on, where you put them (preadv on
  * fs_room_windows, or a copy) or will have put them before the index is stored. Of READ no more than data_len (else FS_OTHER_KIND); of the others what has
  * no room is FS_NO_ROOM. Errors after the common ones: FS_LONG_REPLY. */
-uint32_t fs_reply_data(struct fs_chain *chain, uint64_t len) FS_CHECK FS_NONNULL(1);
+uint32_t fs_reply_data(struct fs_chain *chain, uint32_t ticket, uint64_t len) FS_CHECK FS_NONNULL;
 
 /* GETXATTR and LISTXATTR with size 0: how many bytes there are. */
-uint32_t fs_reply_xattr(struct fs_chain *chain, uint32_t len) FS_CHECK FS_NONNULL(1);
+uint32_t fs_reply_xattr(struct fs_chain *chain, uint32_t ticket, uint32_t len) FS_CHECK FS_NONNULL;
 
 /* WRITE, COPY_FILE_RANGE: how many bytes were written. */
-uint32_t fs_reply_write(struct fs_chain *chain, uint32_t count) FS_CHECK FS_NONNULL(1);
+uint32_t fs_reply_write(struct fs_chain *chain, uint32_t ticket, uint32_t count) FS_CHECK FS_NONNULL;
 
-uint32_t fs_reply_statfs(struct fs_chain *chain, const struct fs_statfs *statfs) FS_CHECK FS_NONNULL(1, 2);
+uint32_t fs_reply_statfs(struct fs_chain *chain, uint32_t ticket, const struct fs_statfs *statfs) FS_CHECK FS_NONNULL;
 
 /* LSEEK. */
-uint32_t fs_reply_lseek(struct fs_chain *chain, uint64_t offset) FS_CHECK FS_NONNULL(1);
+uint32_t fs_reply_lseek(struct fs_chain *chain, uint32_t ticket, uint64_t offset) FS_CHECK FS_NONNULL;
 
 /* INIT: of the options that the guest can (`options` of the call) those that are wanted besides what the device agrees on anyway. The page size is that
- * of fs_ask's device. device->options becomes what was agreed; so this call has the device alone. */
-uint32_t fs_reply_init(struct fs_chain *chain, struct fs_device *device, uint64_t wanted) FS_CHECK FS_NONNULL(1, 2);
+ * of fs_ask's device. device->options becomes what was agreed; so this call has the device alone. The rest of struct fuse_init_out is virtiofsd's, by which
+ * the replies are proved, and not yours to choose: 7.38, max_readahead as the guest wrote it, max_background 65535, congestion_threshold 49149,
+ * max_write 0x100000, time_gran 1, max_pages 0xfffff / page_size + 1. You may answer a READ or WRITE by fewer bytes. */
+uint32_t fs_reply_init(struct fs_chain *chain, uint32_t ticket, struct fs_device *device, uint64_t wanted) FS_CHECK FS_NONNULL;
 
 /* READDIR: puts an entry behind those before it. They gather in `list`, a buffer of yours that stays the same until the reply, of
- * data_len bytes at most; begin nothing, clear nothing. next_offset is what READDIR brings as its offset to go on behind this entry; type
- * is DT_ of dirent.h. FS_FULL: it didn't fit, the list is as before; reply now. FS_LIST_FAILS: the same, but fail.
- * Errors: FS_BAD_ARGUMENT (a name that is empty or longer than 255), the common ones, FS_SHORT_BUFFER (list ends before it). */
-uint32_t fs_add_direntry(struct fs_chain *chain, uint8_t *list, size_t list_len, const uint8_t *name, size_t name_len, uint64_t ino,
-                         uint64_t next_offset, uint32_t type) FS_CHECK FS_NONNULL(1) FS_READS(4, 5);
+ * data_len bytes at most; begin nothing, clear nothing. Another one of the same length isn't noticed. next_offset is what READDIR brings as its offset to go
+ * on behind this entry; type is DT_ of dirent.h. FS_FULL: it didn't fit, the list is as before; reply now. FS_LIST_FAILS: the same, but fail.
+ * Errors: FS_BAD_ARGUMENT (a name that is empty or longer than 255), FS_WRONG_ORDER, FS_OTHER_CALL, FS_BAD_ARGUMENT (list_len isn't that of the list that has
+ * entries), FS_OTHER_KIND, FS_SHORT_BUFFER (list ends before it). */
+uint32_t fs_add_direntry(struct fs_chain *chain, uint32_t ticket, uint8_t *list, size_t list_len, const uint8_t *name, size_t name_len, uint64_t ino,
+                         uint64_t next_offset, uint32_t type) FS_CHECK FS_NONNULL FS_READS(5, 6);
 
 /* READDIRPLUS: an entry with its node, which the guest holds once more, as after LOOKUP. For "." and ".." entry->node is 0, and
  * nothing is held. FS_FULL, FS_LIST_FAILS, and any error: the look-up isn't told, so undo it. Type and ino are the attributes'. */
-uint32_t fs_add_direntry_plus(struct fs_chain *chain, uint8_t *list, size_t list_len, const uint8_t *name, size_t name_len,
-                              const struct fs_entry *entry, uint64_t next_offset) FS_CHECK FS_NONNULL(1, 6) FS_READS(4, 5);
+uint32_t fs_add_direntry_plus(struct fs_chain *chain, uint32_t ticket, uint8_t *list, size_t list_len, const uint8_t *name, size_t name_len,
+                              const struct fs_entry *entry, uint64_t next_offset) FS_CHECK FS_NONNULL FS_READS(5, 6);
 
-/* How much of data_len an entry takes: so a look-up that wouldn't fit needn't be made. C, and unproved. */
+/* How much of data_len an entry takes: so a look-up that wouldn't fit needn't be made. */
 static inline uint64_t fs_direntry_len(size_t name_len, int plus) {
     return ((plus ? 152u : 24u) + (uint64_t)name_len + 7) & ~(uint64_t)7;
 }
 
 /* READDIR and READDIRPLUS: the entries so far are the answer; none ends the directory. `len` is how many bytes of `list` you put in the
  * room from FS_HEADER on. */
-uint32_t fs_reply_entries(struct fs_chain *chain, uint64_t *len) FS_CHECK FS_NONNULL(1, 2) FS_FILLS(2);
+uint32_t fs_reply_entries(struct fs_chain *chain, uint32_t ticket, uint64_t *len) FS_CHECK FS_NONNULL FS_FILLS(3);
 
 /* ---------------------------------------------------------------- a reply of your own bytes */
 
@@ -559,9 +629,9 @@ uint32_t fs_reply_entries(struct fs_chain *chain, uint64_t *len) FS_CHECK FS_NON
  * kin the node is held once more, after INIT device->options are yours to set; of a listing that was begun nothing is kept, and each node that
  * fs_add_direntry_plus told and your bytes don't have is yours to forget. That the header's len is `len` isn't looked at.
  * fs_return tells no front then (front_len 0), and `len` in the used element (VIRTIO 1.2, 2.7.8). No memory is wanted.
- * Errors: FS_WRONG_ORDER (no chain is out, a faulty one, or it has a reply: it was answered, or fs_ask told FS_ANSWER_NONE), FS_LONG_REPLY (more than room_len
- * bytes of the step, or 2^32 and more); the chain waits still. */
-uint32_t fs_reply_bytes(struct fs_chain *chain, uint64_t len) FS_CHECK FS_NONNULL(1);
+ * Errors: FS_WRONG_ORDER (no chain is out, a faulty one, or it has a reply: it was answered, or fs_ask told FS_ANSWER_NONE), FS_OTHER_CALL (`ticket` isn't the
+ * step's), FS_LONG_REPLY (more than room_len bytes of the step, or 2^32 and more); the chain waits still. */
+uint32_t fs_reply_bytes(struct fs_chain *chain, uint32_t ticket, uint64_t len) FS_CHECK FS_NONNULL;
 
 /* ---------------------------------------------------------------- return */
 
@@ -573,20 +643,22 @@ struct fs_stores {
     uintptr_t index_at;         /* 3. the used index: 2 bytes, one store that releases */
     uint16_t index;
     uintptr_t seen_at;          /* 4. after a full barrier, 2 bytes: the available flags, or used_event */
+    uint64_t element_guest;     /* for a log, the guest address of the element's 8 bytes: used + 4 + 8 * (returned % size) */
+    uint64_t index_guest;       /* and of the index's 2: used + 2. fs_room_ranges tells the room's */
 };
 
 /* Says how the chain goes back: at `returned` of its queue, whichever was taken first. Until fs_returned no other chain of the queue goes back.
  * Errors: FS_WRONG_ORDER (no memory was told), FS_BAD_ARGUMENT (the queue's numbers are none), FS_WRONG_ORDER (a call waits for its answer, or it was told),
  * FS_OTHER_QUEUE, FS_RETURNING, FS_SHORT_BUFFER (front isn't as long as what stands in it; FS_FRONT_MAX always is), FS_NO_PLACE (rule 6 was broken: begin the queue anew). */
 uint32_t fs_return(struct fs_chain *chain, struct fs_queue *queue, uint8_t *front, size_t front_len, struct fs_stores *stores)
-    FS_CHECK FS_NONNULL(1, 2, 5) FS_WRITES(3, 4) FS_FILLS(5);
+    FS_CHECK FS_NONNULL FS_WRITES(3, 4) FS_FILLS(5);
 
 /* The stores are made: the queue's next chain goes back at the next place, the chain is free. `seen` are the 2 bytes at seen_at, as a number; `notify` says
  * whether the driver wants to be told: 1 or 0.
  * Errors: FS_WRONG_ORDER (no memory was told), FS_BAD_ARGUMENT (the queue's numbers are none), FS_WRONG_ORDER (fs_return told no stores), FS_OTHER_QUEUE (hand over
  * its own; if that was begun anew, abandon the chain); then `notify` is 0. */
 uint32_t fs_returned(struct fs_chain *chain, struct fs_queue *queue, uint16_t seen, uint8_t *notify)
-    FS_CHECK FS_NONNULL(1, 2, 4) FS_FILLS(4);
+    FS_CHECK FS_NONNULL FS_FILLS(4);
 
 /* ---------------------------------------------------------------- kicks */
 
@@ -604,7 +676,7 @@ struct fs_store {
  * Errors: FS_WRONG_ORDER (no memory was told), FS_BAD_ARGUMENT (the queue's numbers are none), FS_NO_PLACE (these two bytes are in no region: a walk looks for
  * those of event_index as it begins, and for the flags' as it takes a chain); then `store` is zeros. */
 uint32_t fs_ask_kicks(struct fs_chain *chain, const struct fs_queue *queue, uint32_t wanted, struct fs_store *store)
-    FS_CHECK FS_NONNULL(1, 2, 4) FS_FILLS(4);
+    FS_CHECK FS_NONNULL FS_FILLS(4);
 
 /* ---------------------------------------------------------------- moving to another host */
 
@@ -613,7 +685,7 @@ uint32_t fs_ask_kicks(struct fs_chain *chain, const struct fs_queue *queue, uint
  * Errors: FS_BAD_ARGUMENT (page size or limit are none; options that aren't known; not 1 to FS_QUEUES_MAX queues), then of the first queue that has
  * one FS_BAD_ARGUMENT (its numbers are none) or FS_CHAIN_OUT, FS_OUT_OF_MEMORY, FS_SHORT_BUFFER. */
 uint32_t fs_save(const struct fs_device *device, const struct fs_queue *queues, size_t queue_count, uint8_t *buffer, size_t buffer_len,
-                 size_t *len) FS_CHECK FS_NONNULL(1, 6) FS_READS(2, 3) FS_WRITES(4, 5) FS_FILLS(6);
+                 size_t *len) FS_CHECK FS_NONNULL FS_READS(2, 3) FS_WRITES(4, 5) FS_FILLS(6);
 
 /* Reads a record: into device->options, whose page size and limit have to be the record's, and the queues, of which `count` are told. The record
  * tells whether a queue was stopped, and not by what: `stopped` is 1 then. Each queue is begun anew by it, and keeps its event_index and its most_out, which
@@ -622,7 +694,7 @@ uint32_t fs_save(const struct fs_device *device, const struct fs_queue *queues, 
  * Errors: FS_BAD_ARGUMENT (of the device), 81 to 90 by what is read first, FS_SHORT_BUFFER (of queues; count tells how many there are, and is 0
  * after the others). */
 uint32_t fs_restore(struct fs_device *device, struct fs_queue *queues, size_t queue_count, const uint8_t *saved, size_t saved_len,
-                    size_t *count) FS_CHECK FS_NONNULL(1, 6) FS_WRITES(2, 3) FS_READS(4, 5) FS_FILLS(6);
+                    size_t *count) FS_CHECK FS_NONNULL FS_WRITES(2, 3) FS_READS(4, 5) FS_FILLS(6);
 
 #ifdef __cplusplus
 }

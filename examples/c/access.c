@@ -108,10 +108,10 @@ bool ask_kicks(struct fs_chain *chain, const struct fs_queue *queue, bool wanted
     return true;
 }
 
-void give_up(struct fs_chain *chain, struct fs_queue *queue, const struct marker *marker, bool *notify) {
+void give_up(struct fs_chain *chain, struct fs_queue *queue, uint32_t ticket, const struct marker *marker, bool *notify) {
     uint8_t wanted;
     if (fs_drop(chain, queue) == FS_DONE) return;
-    uint32_t status = fs_reply_bytes(chain, 0); /* silence, unless it has a reply */
+    uint32_t status = fs_reply_bytes(chain, ticket, 0); /* silence, unless it has a reply */
     status = give_back(chain, queue, marker, notify);
     if (status != FS_DONE) status = fs_returned(chain, queue, 0, &wanted); /* its stores were told: it ends without them */
     if (status != FS_DONE) fs_abandon(chain);                              /* the queue was begun anew */

@@ -39,7 +39,7 @@ uint32_t ask(struct fs_chain *chain, const struct fs_device *device, uint8_t *re
 uint32_t give_back(struct fs_chain *chain, struct fs_queue *queue, const struct marker *marker, bool *notify);
 
 /* Has this chain out of the queue no more, whatever it came to: one that wasn't asked waits as before if it is the last that was taken, and
- * any other goes back, with silence if it has no reply. `notify` as with give_back. */
-void give_up(struct fs_chain *chain, struct fs_queue *queue, const struct marker *marker, bool *notify);
+ * any other goes back, with silence if it has no reply. `ticket` is the step's, `notify` as with give_back. */
+void give_up(struct fs_chain *chain, struct fs_queue *queue, uint32_t ticket, const struct marker *marker, bool *notify);
 
 #endif

@@ -30,7 +30,7 @@ static uint32_t serve_request(struct worker *worker, const struct fs_step *step)
     if (status != FS_DONE) return status;
     status = live->answer(live->files, &worker->chain, &device, &call, worker->request);
     if (device.options != options) atomic_store(live->options, device.options);
-    return status == FS_DONE || status == FS_NO_ROOM ? FS_DONE : fs_reply_err(&worker->chain, EIO);
+    return status == FS_DONE || status == FS_NO_ROOM ? FS_DONE : fs_reply_err(&worker->chain, call.ticket, EIO);
 }
 
 /* Takes the next chain. FS_CHAIN_OUT: as many are out as the queue holds, and whoever gives one back looks again. */
@@ -78,7 +78,7 @@ static enum found serve_one(struct worker *worker) {
         live->faulty++;
     }
     if (status == FS_DONE) status = give_back(&worker->chain, &live->queue, live->marker, &notify);
-    if (status != FS_DONE) give_up(&worker->chain, &live->queue, live->marker, &notify);
+    if (status != FS_DONE) give_up(&worker->chain, &live->queue, step.ticket, live->marker, &notify);
     if (notify) signal_event(live->call);
     if (status == FS_OUT_OF_MEMORY) return LATER;
     if (status == FS_DONE) live->served++;
@@ -135,6 +135,7 @@ int live_start(struct live *live, const struct fs_region *regions, size_t region
     live->workers = calloc(thread_count, sizeof *live->workers);
     live->queue.most_out = thread_count < live->queue.size ? (uint16_t)thread_count : live->queue.size;
     live->sleeping = (unsigned)thread_count;
+    live->kicks = UNTOLD; /* the first thread that finds no chain tells the driver, whatever flags a device of before left */
     if (live->quit < 0 || !live->workers || pthread_mutex_init(&live->lock, NULL)) return ENOMEM;
     if (fs_queue_begin(&live->queue, live->queue.position) != FS_DONE) return EINVAL;
     for (size_t k = 0; k < thread_count; k++) {

@@ -77,69 +77,69 @@ static uint32_t told(struct file *f, uint32_t status) {
 
 static uint32_t do_lookup(const struct fs_call *call) {
     struct file *f = named(call);
-    if (!f) return fs_reply_err(&chain, ENOENT);
+    if (!f) return fs_reply_err(&chain, call->ticket, ENOENT);
     struct fs_entry entry = entry_of(f);
-    return told(f, fs_reply_entry(&chain, &entry));
+    return told(f, fs_reply_entry(&chain, call->ticket, &entry));
 }
 
 /* GETATTR, and SETATTR, whose `valid` says what is to be set. */
 static uint32_t do_attr(const struct fs_call *call) {
     struct fs_attr root = {.ino = ROOT, .mode = S_IFDIR | 0755, .nlink = 2, .block_size = PAGE};
     struct file *f = file_of(call->node);
-    if (!f && (call->node != ROOT || call->valid)) return fs_reply_err(&chain, call->node == ROOT ? EPERM : ENOENT);
-    if (call->valid & FATTR_SIZE && call->attr.size > CONTENTS) return fs_reply_err(&chain, EFBIG);
+    if (!f && (call->node != ROOT || call->valid)) return fs_reply_err(&chain, call->ticket, call->node == ROOT ? EPERM : ENOENT);
+    if (call->valid & FATTR_SIZE && call->attr.size > CONTENTS) return fs_reply_err(&chain, call->ticket, EFBIG);
     if (call->valid & FATTR_SIZE) set_size(f, call->attr.size);
     if (call->valid & FATTR_MODE) f->attr.mode = S_IFREG | (call->attr.mode & 07777); /* kind and permissions, as st_mode */
-    return fs_reply_attr(&chain, f ? &f->attr : &root, 1, 0); /* good for 1 second and 0 nanoseconds */
+    return fs_reply_attr(&chain, call->ticket, f ? &f->attr : &root, 1, 0); /* good for 1 second and 0 nanoseconds */
 }
 
 static uint32_t do_create(const struct fs_call *call) {
     struct file *f = files;
-    if (call->node != ROOT) return fs_reply_err(&chain, ENOTDIR);
-    if (call->name.len > NAME_MOST) return fs_reply_err(&chain, ENAMETOOLONG);
-    if (named(call)) return fs_reply_err(&chain, EEXIST);
+    if (call->node != ROOT) return fs_reply_err(&chain, call->ticket, ENOTDIR);
+    if (call->name.len > NAME_MOST) return fs_reply_err(&chain, call->ticket, ENAMETOOLONG);
+    if (named(call)) return fs_reply_err(&chain, call->ticket, EEXIST);
     while (f < files + FILES && (f->name_len || f->held)) f++;
-    if (f == files + FILES) return fs_reply_err(&chain, ENOSPC);
+    if (f == files + FILES) return fs_reply_err(&chain, call->ticket, ENOSPC);
     memcpy(f->name, request + call->name.at, call->name.len);
     f->name_len = call->name.len;
     f->generation++;
     f->attr = (struct fs_attr){.ino = (uint64_t)(f - files) + 2, .mode = S_IFREG | (call->mode & ~call->umask & 07777), .nlink = 1,
                                .uid = call->uid, .gid = call->gid, .block_size = PAGE};
     struct fs_entry entry = entry_of(f);
-    return told(f, fs_reply_create(&chain, &entry, 0, 0)); /* handle and FOPEN_ bits; files that are open need no number here */
+    return told(f, fs_reply_create(&chain, call->ticket, &entry, 0, 0)); /* handle and FOPEN_ bits; files that are open need no number here */
 }
 
 static uint32_t do_unlink(const struct fs_call *call) {
     struct file *f = named(call);
-    if (!f) return fs_reply_err(&chain, ENOENT);
+    if (!f) return fs_reply_err(&chain, call->ticket, ENOENT);
     f->name_len = f->attr.nlink = 0;
-    return fs_reply_err(&chain, 0);
+    return fs_reply_err(&chain, call->ticket, 0);
 }
 
 static uint32_t do_open(const struct fs_call *call) {
     struct file *f = file_of(call->node);
-    if (!f) return fs_reply_err(&chain, ENOENT);
+    if (!f) return fs_reply_err(&chain, call->ticket, ENOENT);
     if (call->flags & O_TRUNC) set_size(f, 0);
-    return fs_reply_open(&chain, 0, 0);
+    return fs_reply_open(&chain, call->ticket, 0, 0);
 }
 
 /* Data goes from the file into the room, behind the header: no more than was asked for, nor than there is room for. */
 static uint32_t do_read(const struct fs_call *call) {
     const struct file *f = file_of(call->node);
-    if (!f) return fs_reply_err(&chain, ENOENT);
+    if (!f) return fs_reply_err(&chain, call->ticket, ENOENT);
     uint64_t from = least(call->offset, f->attr.size);
     uint64_t len = least(f->attr.size - from, least(call->size, call->data_len));
     scatter(&chain, call->data_at, f->contents + from, len);
-    return fs_reply_data(&chain, len);
+    return fs_reply_data(&chain, call->ticket, len);
 }
 
 static uint32_t do_write(const struct fs_call *call) {
     struct file *f = file_of(call->node);
-    if (!f) return fs_reply_err(&chain, ENOENT);
-    if (call->offset > CONTENTS || call->data_len > CONTENTS - call->offset) return fs_reply_err(&chain, EFBIG);
+    if (!f) return fs_reply_err(&chain, call->ticket, ENOENT);
+    if (call->offset > CONTENTS || call->data_len > CONTENTS - call->offset) return fs_reply_err(&chain, call->ticket, EFBIG);
     if (call->offset + call->data_len > f->attr.size) set_size(f, call->offset + call->data_len);
     gather(&chain, call->data_at, f->contents + call->offset, call->data_len);
-    return fs_reply_write(&chain, (uint32_t)call->data_len);
+    return fs_reply_write(&chain, call->ticket, (uint32_t)call->data_len);
 }
 
 /* From the offset on, which is that of the last entry that the guest has: here the place of the next file. */
@@ -152,13 +152,14 @@ static uint32_t do_readdir(const struct fs_call *call) {
         if (f->name_len == 0) continue;
         used += fs_direntry_len(f->name_len, plus);
         if (used > most) break;
-        uint32_t status = plus ? told(f, fs_add_direntry_plus(&chain, list, sizeof list, f->name, f->name_len, &entry, k + 1))
-                               : fs_add_direntry(&chain, list, sizeof list, f->name, f->name_len, k + 2, k + 1, DT_REG);
+        uint32_t status =
+            plus ? told(f, fs_add_direntry_plus(&chain, call->ticket, list, sizeof list, f->name, f->name_len, &entry, k + 1))
+                 : fs_add_direntry(&chain, call->ticket, list, sizeof list, f->name, f->name_len, k + 2, k + 1, DT_REG);
         if (status != FS_DONE) break;
         len = used;
     }
-    if (len == 0 && used > 0) return fs_reply_err(&chain, EINVAL); /* an empty list would end the directory */
-    uint32_t status = fs_reply_entries(&chain, &len);
+    if (len == 0 && used > 0) return fs_reply_err(&chain, call->ticket, EINVAL); /* an empty list would end the directory */
+    uint32_t status = fs_reply_entries(&chain, call->ticket, &len);
     scatter(&chain, call->data_at, list, len);
     return status;
 }
@@ -190,8 +191,8 @@ static uint32_t answer(const struct fs_call *call) {
     case FS_CALL_NONE: return FS_DONE; /* the library has the reply already, or there is none */
     case FS_CALL_INIT:
         for (size_t k = 0; k < FILES; k++) files[k].held = 0;
-        return fs_reply_init(&chain, &device, call->options & FUSE_DO_READDIRPLUS);
-    case FS_CALL_DESTROY: device.options = 0; return fs_reply_err(&chain, 0);
+        return fs_reply_init(&chain, call->ticket, &device, call->options & FUSE_DO_READDIRPLUS);
+    case FS_CALL_DESTROY: device.options = 0; return fs_reply_err(&chain, call->ticket, 0);
     case FS_CALL_FORGET: forget(call->node, call->count); return FS_DONE; /* there is no reply to it, nor to the next */
     case FS_CALL_BATCH_FORGET:
         for (uint64_t k = 0; k < call->count; k++) fs_pair(request, call, k, &node, &count), forget(node, count);
@@ -202,14 +203,14 @@ static uint32_t answer(const struct fs_call *call) {
     case FS_CALL_CREATE: return do_create(call);
     case FS_CALL_UNLINK: return do_unlink(call);
     case FS_CALL_OPEN: return do_open(call);
-    case FS_CALL_OPENDIR: return fs_reply_open(&chain, 0, 0);
+    case FS_CALL_OPENDIR: return fs_reply_open(&chain, call->ticket, 0, 0);
     case FS_CALL_READ: return do_read(call);
     case FS_CALL_WRITE: return do_write(call);
     case FS_CALL_READDIR:
     case FS_CALL_READDIRPLUS: return do_readdir(call);
     case FS_CALL_RELEASE:
-    case FS_CALL_RELEASEDIR: return fs_reply_err(&chain, 0);
-    default: return fs_reply_err(&chain, ENOSYS);
+    case FS_CALL_RELEASEDIR: return fs_reply_err(&chain, call->ticket, 0);
+    default: return fs_reply_err(&chain, call->ticket, ENOSYS);
     }
 }
 
@@ -218,12 +219,12 @@ static uint32_t answer(const struct fs_call *call) {
 static uint32_t reply_capitals(const struct fs_step *step, const struct fuse_in_header *in, uint64_t have) {
     uint64_t len = step->request_len - sizeof *in;
     struct fuse_out_header out = {.len = (uint32_t)(sizeof out + len), .unique = in->unique};
-    if (out.len > step->room_len) return fs_reply_bytes(&chain, 0); /* silence */
+    if (out.len > step->room_len) return fs_reply_bytes(&chain, step->ticket, 0); /* silence */
     gather(&chain, have, request + have, step->request_len - have);
     for (uint64_t k = sizeof *in; k < step->request_len; k++) request[k] = (uint8_t)toupper(request[k]);
     scatter(&chain, 0, &out, sizeof out);
     scatter(&chain, sizeof out, request + sizeof *in, len);
-    return fs_reply_bytes(&chain, out.len);
+    return fs_reply_bytes(&chain, step->ticket, out.len);
 }
 
 /* FS_DONE: the chain may go back. Each byte of the request is loaded once. */
@@ -236,7 +237,7 @@ static uint32_t serve_request(const struct fs_step *step) {
     uint32_t status = ask(&chain, &device, request, have, &call);
     if (status != FS_DONE) return status;
     status = answer(&call);
-    return status == FS_DONE || status == FS_NO_ROOM ? FS_DONE : fs_reply_err(&chain, EIO);
+    return status == FS_DONE || status == FS_NO_ROOM ? FS_DONE : fs_reply_err(&chain, call.ticket, EIO);
 }
 
 /* Serves the chains that wait. FS_IDLE: none waits any more. FS_OUT_OF_MEMORY: one waits, call again later. 1 to 8: the queue is
@@ -251,7 +252,7 @@ static uint32_t serve(bool *notify) {
         if (status == FS_DONE) status = give_back(&chain, &queue, &marker, notify);
         if (status != FS_DONE) break;
     }
-    if (status != FS_IDLE) give_up(&chain, &queue, &marker, notify); /* what was taken and isn't given back */
+    if (status != FS_IDLE) give_up(&chain, &queue, step.ticket, &marker, notify); /* what was taken and isn't given back */
     return status;
 }
 
@@ -286,6 +287,7 @@ int main(void) {
     queue = (struct fs_queue){.desc = DESC, .avail = AVAIL, .used = USED, .size = SIZE};
     expect(fs_queue_begin(&queue, 0), FS_DONE);
     expect(fs_chain_set_memory(&chain, &device, &region, 1), FS_DONE);
+    if (!ask_kicks(&chain, &queue, true, &marker)) return 1; /* whatever flags a device of before left */
     guest_uses_a_file();
     guest_errs();
     print_written();

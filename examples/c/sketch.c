@@ -3,6 +3,7 @@
 #include <errno.h>
 #include <pitskhomu.h>
 #include <stdatomic.h>
+#include <stdbool.h>
 #include <stdio.h>
 #include <string.h>
 
@@ -12,6 +13,7 @@ static _Alignas(4096) uint8_t memory[MEMORY]; /* the guest's, from its address 0
 static struct fs_device device = FS_DEVICE;
 static struct fs_queue queue = {.desc = DESC, .avail = AVAIL, .used = USED, .size = SIZE};
 static struct fs_chain chain;
+static uint8_t request[FS_REQUEST_MAX];
 
 /* ------------------------------------------------------------- loads and stores */
 
@@ -21,11 +23,11 @@ static void load(void *to, uintptr_t at, size_t len) {
     memcpy(to, len == 2 ? (const void *)&two : (const void *)at, len);
 }
 
-static void gather(uint8_t *request, size_t from, size_t to) {
+static void gather(uint8_t *bytes, size_t from, size_t to) {
     struct fs_window w[WINDOWS];
     size_t count;
     while (from < to && (count = fs_request_windows(&chain, from, to - from, w, WINDOWS)) > 0)
-        for (size_t k = 0; k < count; from += w[k++].len) memcpy(request + from, (const void *)w[k].at, w[k].len);
+        for (size_t k = 0; k < count; from += w[k++].len) memcpy(bytes + from, (const void *)w[k].at, w[k].len);
 }
 
 static void scatter(const uint8_t *front, size_t len) {
@@ -39,7 +41,6 @@ static void scatter(const uint8_t *front, size_t len) {
 
 /* Each byte of the request is loaded once: its first, and then as many as the library needs. */
 static uint32_t ask(const struct fs_step *step, struct fs_call *call) {
-    static uint8_t request[FS_REQUEST_MAX];
     size_t have = 0, want = step->request_len < FS_FIRST ? (size_t)step->request_len : FS_FIRST;
     for (;;) {
         gather(request, have, want);
@@ -51,18 +52,29 @@ static uint32_t ask(const struct fs_step *step, struct fs_call *call) {
 
 /* The file system: each name is there. */
 static uint32_t answer(const struct fs_call *call) {
+    const uint8_t *name = request + call->name.at;
     struct fs_entry entry = {.node = 2, .attr = {.ino = 2, .mode = 0100644, .nlink = 1}};
-    if (call->answer == FS_ANSWER_NONE) return FS_DONE; /* the reply is known, or there is none */
+    if (call->answer == FS_ANSWER_NONE) return FS_DONE; // nobody waits; FORGET and BATCH_FORGET are made still
     switch (call->kind) {
-    case FS_CALL_LOOKUP: return fs_reply_entry(&chain, &entry);
-    case FS_CALL_DESTROY: return fs_reply_err(&chain, 0);
-    default: return fs_reply_err(&chain, ENOSYS);
+    case FS_CALL_LOOKUP: return fs_is_name(name, call->name.len) ? fs_reply_entry(&chain, call->ticket, &entry)
+                                                                 : fs_reply_err(&chain, call->ticket, EINVAL);
+    case FS_CALL_INIT: return fs_reply_init(&chain, call->ticket, &device, 0);
+    case FS_CALL_DESTROY: device.options = 0; return fs_reply_err(&chain, call->ticket, 0);
+    default: return fs_reply_err(&chain, call->ticket, ENOSYS);
     }
 }
 
+static uint32_t serve_request(const struct fs_step *step) {
+    struct fs_call call;
+    uint32_t s = ask(step, &call);
+    if (s != FS_DONE) return s;
+    s = answer(&call);
+    return s == FS_DONE || s == FS_NO_ROOM ? FS_DONE : fs_reply_err(&chain, call.ticket, EIO);
+}
+
 /* The reply's front, the used element, and then the index, which the guest may see when all else is there. */
-static uint32_t give_back(uint8_t *notify) {
-    uint8_t front[FS_FRONT_MAX];
+static uint32_t give_back(bool *notify) {
+    uint8_t front[FS_FRONT_MAX], wanted;
     struct fs_stores out;
     uint16_t seen;
     uint32_t s = fs_return(&chain, &queue, front, sizeof front, &out);
@@ -73,21 +85,31 @@ static uint32_t give_back(uint8_t *notify) {
     atomic_store_explicit((_Atomic uint16_t *)out.index_at, out.index, memory_order_release);
     atomic_thread_fence(memory_order_seq_cst);
     load(&seen, out.seen_at, 2);
-    return fs_returned(&chain, &queue, seen, notify);
+    s = fs_returned(&chain, &queue, seen, &wanted);
+    *notify = *notify || wanted;
+    return s;
 }
 
 /* FS_IDLE: no chain waits. Else why the queue isn't served any more, or not now. */
-static uint32_t serve(uint8_t *notify) {
+static uint32_t serve(bool *notify) {
     uint8_t bytes[FS_LOAD_MAX];
     uint32_t s;
     for (;;) {
-        struct fs_step step = {0};
-        struct fs_call call;
+        struct fs_step step = {0}; // a walk begins without bytes
         while ((s = fs_walk(&chain, &queue, bytes, step.len, &step)) == FS_LOAD) load(bytes, step.at, step.len);
         if (s != FS_DONE) return s;
-        if (step.fault == 0 && ((s = ask(&step, &call)) != FS_DONE || ((s = answer(&call)) != FS_DONE && s != FS_NO_ROOM))) return s;
+        if (step.fault == 0 && (s = serve_request(&step)) != FS_DONE) return s; // a faulty chain goes back without a reply
         if ((s = give_back(notify)) != FS_DONE) return s;
     }
+}
+
+/* The driver is to kick: once at the beginning, since a device of before may have left a flag by which it doesn't, and before each sleep. Walk once more then. */
+static uint32_t want_kicks(void) {
+    struct fs_store store;
+    uint32_t s = fs_ask_kicks(&chain, &queue, 1, &store);
+    if (s == FS_DONE && store.len) atomic_store_explicit((_Atomic uint16_t *)store.at, store.value, memory_order_relaxed);
+    atomic_thread_fence(memory_order_seq_cst);
+    return s;
 }
 
 /* ------------------------------------------------------------- a guest that stands still */
@@ -104,13 +126,15 @@ static void offer_lookup(void) {
 
 int main(void) {
     struct fs_region region = {.guest = 0, .len = MEMORY, .host = (uintptr_t)memory};
-    uint8_t notify = 0;
+    bool notify = false;
     uint64_t node;
     if (fs_version() != FS_VERSION || fs_queue_begin(&queue, 0) || fs_chain_set_memory(&chain, &device, &region, 1)) return 1;
+    put(USED, 1, 2); /* a device of before wanted no kicks */
+    if (want_kicks() || memory[USED]) return 1;
     offer_lookup();
     uint32_t s = serve(&notify);
     memcpy(&node, memory + ROOM + FS_HEADER, sizeof node);
     printf("%s; the name is node %llu; notify: %u\n", fs_status_name(s), (unsigned long long)node, notify);
     fs_chain_free(&chain);
-    return s != FS_IDLE || node != 2 || notify != 1;
+    return s != FS_IDLE || node != 2 || !notify;
 }

@@ -28,7 +28,8 @@ fn serve(
     seen: [u8; 2],
 ) -> (u64, bool) {
     take(rt, workbench, queue, LOADS);
-    workbench.reply(0).expect(rt, "a reply");
+    let serial = workbench.serial();
+    workbench.reply(serial, 0).expect(rt, "a reply");
     let stores = workbench
         .begin_return(queue, &mut [])
         .expect(rt, "a return");

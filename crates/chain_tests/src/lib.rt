@@ -16,6 +16,8 @@ mod regions;
 #[cfg(test)]
 mod returns;
 #[cfg(test)]
+mod serials;
+#[cfg(test)]
 mod several;
 #[cfg(test)]
 mod tables;

@@ -22,12 +22,15 @@ enum Call {
 
 // What a call answers: its error, if it did nothing.
 fn called(call: Call, workbench: &mut Workbench, queue: &mut KeptQueue) -> Option<ChainError> {
+    let serial = workbench.serial();
     match call {
         Call::Walk => workbench.walk(queue, &[]).err(),
         Call::Ask => workbench.ask(session(), LOOKUP).err(),
-        Call::Done => workbench.answer(FileAnswer::Done).err(),
-        Call::Failed => workbench.answer(FileAnswer::Failed(Errno::EIO)).err(),
-        Call::End => workbench.end().err(),
+        Call::Done => workbench.answer(serial, FileAnswer::Done).err(),
+        Call::Failed => workbench
+            .answer(serial, FileAnswer::Failed(Errno::EIO))
+            .err(),
+        Call::End => workbench.end(serial).err(),
         Call::Return => workbench.begin_return(queue, &mut [0u8; 160]).err(),
         Call::EndReturn => workbench.end_return(queue, [0, 0]).err(),
         Call::GiveUp => workbench.give_up(queue).err(),

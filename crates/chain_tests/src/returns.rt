@@ -34,8 +34,9 @@ fn a_name_that_is_not_there_goes_back(rt: HostRuntime) {
     expect_same(&rt, walked, chain);
     let told = workbench.ask(session(), LOOKUP).expect(&rt, "a call");
     expect_same(&rt, is_hello(&told), true);
+    let serial = workbench.serial();
     workbench
-        .answer(FileAnswer::Failed(Errno::ENOENT))
+        .answer(serial, FileAnswer::Failed(Errno::ENOENT))
         .expect(&rt, "an answer");
     let mut front = [0u8; 160];
     let stores = workbench
@@ -123,8 +124,9 @@ fn an_entry_without_room_is_to_be_forgotten(rt: HostRuntime) {
         attr_timeout: second,
         entry_timeout: second,
     };
+    let serial = workbench.serial();
     let replied = workbench
-        .answer(FileAnswer::HasEntry(entry))
+        .answer(serial, FileAnswer::HasEntry(entry))
         .expect(&rt, "an answer");
     let node = match replied.forget {
         Some((_, node)) => Some(node),
@@ -143,6 +145,7 @@ fn a_directory_goes_back_entry_by_entry(rt: HostRuntime) {
     take(&rt, &mut workbench, &mut queue, LOADS_OF_80);
     workbench.ask(session(), READDIR).expect(&rt, "a call");
     let mut list = [0u8; 64];
+    let serial = workbench.serial();
     for row in NAMES {
         let entry = DirEntry {
             ino: 5,
@@ -150,10 +153,12 @@ fn a_directory_goes_back_entry_by_entry(rt: HostRuntime) {
             type_: 8,
             name: row.0,
         };
-        let added = workbench.add(&mut list, &entry).expect(&rt, "a place");
+        let added = workbench
+            .add(serial, &mut list, &entry)
+            .expect(&rt, "a place");
         expect_same(&rt, added, row.1);
     }
-    let len = workbench.end().expect(&rt, "a reply");
+    let len = workbench.end(serial).expect(&rt, "a reply");
     expect_same(
         &rt,
         (len, list[24], list[56], list[57]),
@@ -196,8 +201,9 @@ fn own_bytes_go_back_with_their_number(rt: HostRuntime) {
     let mut workbench = workbench(&rt, rt.alloc());
     let mut queue = queue(&rt);
     take(&rt, &mut workbench, &mut queue, LOADS);
+    let serial = workbench.serial();
     for row in OWN_REPLIES {
-        expect_same(&rt, workbench.reply(row.0), row.1);
+        expect_same(&rt, workbench.reply(serial, row.0), row.1);
     }
     let mut front = [7u8; 160];
     let stores = workbench
@@ -214,8 +220,9 @@ fn a_call_that_waits_is_replied_by_a_header_alone(rt: HostRuntime) {
     take(&rt, &mut workbench, &mut queue, LOADS_OF_80);
     workbench.ask(session(), READDIR).expect(&rt, "a call");
     // struct fuse_out_header of linux/fuse.h has 16 bytes.
-    expect_same(&rt, workbench.reply(16), Ok(()));
-    expect_same(&rt, workbench.end(), Err(ChainError::WrongOrder));
+    let serial = workbench.serial();
+    expect_same(&rt, workbench.reply(serial, 16), Ok(()));
+    expect_same(&rt, workbench.end(serial), Err(ChainError::WrongOrder));
     let stores = workbench
         .begin_return(&mut queue, &mut [])
         .expect(&rt, "a return");

@@ -36,7 +36,8 @@ fn take_head(rt: &impl Abort, alloc: Global, queue: &mut KeptQueue, head: u8) ->
 
 // A chain goes back in silence: where its element is stored, its head there, and the used index.
 fn go_back(rt: &impl Abort, workbench: &mut Workbench, queue: &mut KeptQueue) -> (u64, u32, u16) {
-    workbench.reply(0).expect(rt, "a reply");
+    let serial = workbench.serial();
+    workbench.reply(serial, 0).expect(rt, "a reply");
     let stores = workbench
         .begin_return(queue, &mut [])
         .expect(rt, "a return");
@@ -92,8 +93,9 @@ fn one_return_at_a_time(rt: HostRuntime) {
     let mut queue = queue_of(&rt, 2);
     let mut first = take_head(&rt, rt.alloc(), &mut queue, 0);
     let mut second = take_head(&rt, rt.alloc(), &mut queue, 1);
-    expect_same(&rt, first.reply(0), Ok(()));
-    expect_same(&rt, second.reply(0), Ok(()));
+    let (of_first, of_second) = (first.serial(), second.serial());
+    expect_same(&rt, first.reply(of_first, 0), Ok(()));
+    expect_same(&rt, second.reply(of_second, 0), Ok(()));
     first
         .begin_return(&mut queue, &mut [])
         .expect(&rt, "a return");
@@ -158,8 +160,9 @@ fn expect_other(rt: &impl Abort, workbench: &mut Workbench, queue: &mut KeptQueu
     let begun = (queue.out(), queue.begun, queue.taken);
     expect_same(rt, workbench.give_up(queue), Err(ChainError::OtherQueue));
     workbench.ask(session(), LOOKUP).expect(rt, "a call");
+    let serial = workbench.serial();
     workbench
-        .answer(FileAnswer::Failed(Errno::ENOENT))
+        .answer(serial, FileAnswer::Failed(Errno::ENOENT))
         .expect(rt, "an answer");
     let back = workbench.begin_return(queue, &mut [0u8; 160]).err();
     expect_same(rt, back, Some(ChainError::OtherQueue));
@@ -186,7 +189,8 @@ fn a_queue_that_is_begun_anew_has_no_chain_of_before(rt: HostRuntime) {
 fn a_return_of_before_does_not_end(rt: HostRuntime) {
     let mut queue = queue_of(&rt, 1);
     let mut workbench = take_head(&rt, rt.alloc(), &mut queue, 2);
-    workbench.reply(0).expect(&rt, "a reply");
+    let serial = workbench.serial();
+    workbench.reply(serial, 0).expect(&rt, "a reply");
     workbench
         .begin_return(&mut queue, &mut [])
         .expect(&rt, "a return");

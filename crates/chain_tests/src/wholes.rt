@@ -102,10 +102,13 @@ fn reply(
         × IsAskedBy workbench.old session request.now request.now made asked × HasReply made asked given workbench.new × (data_behind given ≡ [])) }
 {
     match workbench.ask(session, request)? {
-        Told::Call(_) => match workbench.answer(answer) {
-            Ok(_) => Ok(()),
-            Err(error) => Err(error),
-        },
+        Told::Call(_) => {
+            let serial = workbench.serial();
+            match workbench.answer(serial, answer) {
+                Ok(_) => Ok(()),
+                Err(error) => Err(error),
+            }
+        }
         Told::More(_) => Err(ChainError::BadArgument),
         Told::Nothing => Ok(()),
         Told::Fault(_) => Ok(()),

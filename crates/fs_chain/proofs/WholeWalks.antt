@@ -44,6 +44,8 @@ record Wants (loaded : Loaded) (old w : Workbench) (before q : KeptQueue) : Type
   pub queue : q ≡ before
   pub regions : w.regions ≡ old.regions
   pub limit : w.limit ≡ old.limit
+  pub serial : w.serial ≡ old.serial
+  pub list_len : w.list_len ≡ old.list_len
   pub few : came w < asked_len walk
   pub there : IsThere (places_in old.regions) walk
   pub stands : StandsAt (places_in old.regions) (queue_of (course_of before old.limit)) loaded w.descriptors.items walk
@@ -124,6 +126,8 @@ on_load bs l old w new before q after wents.Part goes wants call =
       queue = call.5 ∙ wants.queue;
       regions = call.3.0.0 ∙ wants.regions;
       limit = call.3.0.1 ∙ wants.limit;
+      serial = call.3.0.2 ∙ wants.serial;
+      list_len = call.3.0.3 ∙ wants.list_len;
       few = few_still w new bs wants.walk (course_of before old.limit) (ticket_of before) wants.state call.4 call.1;
       there = wants.there;
       stands = subst (λ (ds : List Descriptor). StandsAt (places_in old.regions) (queue_of (course_of before old.limit)) l ds wants.walk) (kept_items w new call.3.2) wants.stands;
@@ -146,7 +150,7 @@ on_load bs l old w new before q after (wents.On told) goes wants call =
     subst (λ (s : state.State). AddsSo s (wents.On told) new.descriptors.items l all by.after) (sym wants.state) (on.0, on.1.0, by.adds) in
     let so : ComesSo by.after old new before after told = (
       on.0,
-      (on.1.0, on.1.1, on.1.2 ∙ ap (λ (k : KeptQueue). queue_after k on.0) wants.queue, on.1.3, (on.1.4.0 ∙ wants.regions, on.1.4.1 ∙ wants.limit)),
+      (on.1.0, on.1.1, on.1.2 ∙ ap (λ (k : KeptQueue). queue_after k on.0) wants.queue, on.1.3, (on.1.4.0 ∙ wants.regions, on.1.4.1 ∙ wants.limit, on.1.4.2 ∙ wants.serial, on.1.4.3 ∙ wants.list_len)),
       came,
     ) in
     (by.after, adds, (so, call.1))
@@ -162,6 +166,8 @@ wants_so l old w before q n (step.Load walk) none keeps comes =
       queue = keeps.2;
       regions = keeps.4.0;
       limit = keeps.4.1;
+      serial = keeps.4.2;
+      list_len = keeps.4.3;
       few = subst (λ (part : List ℕ). length part < asked_len walk) (sym none) (some_asked walk);
       there = comes.1;
       stands = comes.0;

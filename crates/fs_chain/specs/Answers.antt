@@ -1,5 +1,5 @@
 -- What an answer gives, and what is kept of it.
-use Rattle.std.specs.Prelude.{◌≡◌, ℕ, Bool, true, false, List, Some}
+use Rattle.std.specs.Prelude.{◌≡◌, ◌⊎◌, ℕ, Bool, true, false, List, Some, None}
 use Rattle.fuse_values.specs.declared.answer.FileAnswer.{FileAnswer}
 use Rattle.fuse_values.specs.declared.answer.FileAnswer.TheVariants as value
 use Rattle.virtiofsd_fuse.specs.Grammar.{FileCommand}
@@ -21,6 +21,8 @@ use Rattle.fs_chain.specs.declared.state.Out.{Out}
 use Rattle.fs_chain.specs.declared.state.Reply.{Reply}
 use Rattle.fs_chain.specs.declared.state.State as state
 use Rattle.fs_chain.specs.declared.state.State.TheVariants as at
+use Rattle.fs_chain.specs.declared.workbench.Workbench.{Workbench}
+use Rattle.fs_chain.specs.Serials.{serial_error}
 use Rattle.fs_chain.specs.Walks.{no_reply}
 
 -- how many bytes of data an answer has
@@ -75,6 +77,11 @@ abbrev pub AnswerFails : state.State → FileAnswer → ChainError → Type 0
 AnswerFails (at.Waits out w) answer e = IsRefused w answer e
 AnswerFails (at.Lists out l) answer e = e ≡ error.OtherKind
 AnswerFails _ answer e = e ≡ error.WrongOrder
+
+-- an answer with this number does nothing: no call waits for it, another one does, or it is refused
+abbrev pub IsNotTaken : Workbench → (serial : ℕ) → FileAnswer → ChainError → Type 0
+IsNotTaken w serial answer e =
+    (serial_error w.state w.serial serial ≡ Some e) ⊎ ((serial_error w.state w.serial serial ≡ None) × AnswerFails w.state answer e)
 
 -- a call waits
 abbrev pub IsWaiting : state.State → Type 0

@@ -10,5 +10,6 @@ pub mod OwnReplies
 pub mod Passing
 pub mod Queues
 pub mod Returns
+pub mod Serials
 pub mod Walks
 pub mod Whole

@@ -1,5 +1,6 @@
 -- Listings that are answered entry by entry: what is told of an entry, and what is kept of a reply.
-use Rattle.std.specs.Prelude.{◌≡◌, ℕ, ◌++◌, ◌&&◌, [], ◌∷◌, List, true, false, nat_lt, take, Some, Result, Ok, Err}
+use Rattle.std.specs.Prelude.{◌≡◌, ℕ, ◌++◌, ◌&&◌, not, ◌==◌, [], ◌∷◌, List, true, false, nat_lt, take, Option, Some, None, Result, Ok, Err, if◌then◌else◌}
+use Rattle.std.specs.Option.{option_or}
 use Rattle.fuse_fs.specs.Calls.{Entries, Failed, Listed}
 use Rattle.server_replies.specs.Entries.{is_dot}
 use Rattle.server_replies.specs.WholeReplies.{listing_bytes}
@@ -18,6 +19,8 @@ use Rattle.fs_chain.specs.declared.listing.Added.TheVariants as added
 use Rattle.fs_chain.specs.declared.state.Out.{Out}
 use Rattle.fs_chain.specs.declared.state.State as state
 use Rattle.fs_chain.specs.declared.state.State.TheVariants as at
+use Rattle.fs_chain.specs.declared.workbench.Workbench.{Workbench}
+use Rattle.fs_chain.specs.Serials.{serial_error}
 
 -- what is told of an entry
 abbrev pub told_added : Result (Unit {0}) reason.NotAdded → Result Added ChainError
@@ -42,6 +45,20 @@ AddsTo (at.Lists out l) new list list' e outcome told =
     (told ≡ told_added (outcome l)) × ((now : Listing) × (new ≡ at.Lists out now) × Adds l now list list' e (outcome l))
 AddsTo (at.Waits out w) new list list' e outcome told = (told ≡ Err error.OtherKind) × (new ≡ at.Waits out w) × (list' ≡ list)
 AddsTo old new list list' e outcome told = (told ≡ Err error.WrongOrder) × (new ≡ old) × (list' ≡ list)
+
+-- how long the list is then into which the last entry was put
+abbrev pub list_after : (before len : ℕ) → Result Added ChainError → ℕ
+list_after before len (Ok added.In) = len
+list_after before len _ = before
+
+-- why no entry is brought by a list of this length: the entries so far stand in one of another length, which is 0 if there are none
+abbrev pub list_error : state.State → (before len : ℕ) → Option ChainError
+list_error (at.Lists out l) before len = if not (before == 0) && not (before == len) then Some error.BadArgument else None
+list_error _ before len = None
+
+-- why none is brought with this number by it: no call waits, another one does, or the list is another one
+abbrev pub adding_error : Workbench → (serial len : ℕ) → Option ChainError
+adding_error w serial len = option_or (serial_error w.state w.serial serial) (list_error w.state w.list_len len)
 
 -- a listing's reply is kept: its front, and how many bytes of the list are its data
 abbrev pub answered_by : Out → ListingReply → state.State

@@ -11,6 +11,7 @@ chain_error_number error.ShortBuffer = 69
 chain_error_number error.LongReply = 71
 chain_error_number error.WrongOrder = 73
 chain_error_number error.OtherQueue = 74
+chain_error_number error.OtherCall = 79
 chain_error_number error.OtherKind = 75
 chain_error_number error.ChainOut = 76
 chain_error_number error.Returning = 78

@@ -1,7 +1,7 @@
 -- A reply of its maker's own bytes: they stand in the room from its first place on, and only how many they are is told.
-use Rattle.std.specs.Prelude.{ℕ, ◌-◌, ◌^◌, ◌||◌, nat_lt, Option, Some, None, if◌then◌else◌}
+use Rattle.std.specs.Prelude.{ℕ, ◌-◌, ◌^◌, not, ◌==◌, ◌||◌, nat_lt, Option, Some, None, if◌then◌else◌}
 use Rattle.fs_chain.specs.declared.error.ChainError.{ChainError}
-use Rattle.fs_chain.specs.declared.error.ChainError.TheVariants.{LongReply, WrongOrder}
+use Rattle.fs_chain.specs.declared.error.ChainError.TheVariants.{LongReply, OtherCall, WrongOrder}
 use Rattle.fs_chain.specs.declared.state.Out.{Out}
 use Rattle.fs_chain.specs.declared.state.Reply.{Reply}
 use Rattle.fs_chain.specs.declared.state.State as state
@@ -22,9 +22,12 @@ IfUnanswered _ P = Unit {0}
 abbrev pub own_len_error : (room len : ℕ) → Option ChainError
 own_len_error room len = if nat_lt room len || nat_lt (2 ^ 32 - 1) len then Some LongReply else None
 
--- why such a reply isn't taken
-abbrev pub own_error : state.State → (len : ℕ) → Option ChainError
-own_error (at.Taken out) len = own_len_error out.room_len len
-own_error (at.Waits out waiting) len = own_len_error out.room_len len
-own_error (at.Lists out listing) len = own_len_error out.room_len len
-own_error _ len = Some WrongOrder
+-- why such a reply isn't taken: its chain has a reply, it is another chain's, or it is too long
+abbrev pub own_chain_error : (mine serial room len : ℕ) → Option ChainError
+own_chain_error mine serial room len = if not (mine == serial) then Some OtherCall else own_len_error room len
+
+abbrev pub own_error : state.State → (mine serial len : ℕ) → Option ChainError
+own_error (at.Taken out) mine serial len = own_chain_error mine serial out.room_len len
+own_error (at.Waits out waiting) mine serial len = own_chain_error mine serial out.room_len len
+own_error (at.Lists out listing) mine serial len = own_chain_error mine serial out.room_len len
+own_error _ mine serial len = Some WrongOrder

@@ -12,6 +12,7 @@ use Rattle.fs_chain.specs.declared.workbench.Workbench.{Workbench}
 use Rattle.fs_chain.specs.Events.{seen_at}
 use Rattle.fs_chain.specs.Orders.{front_len, front_of, reply_len}
 use Rattle.fs_chain.specs.Queues.{at_return}
+use Rattle.fs_chain.specs.Serials.{freed}
 use Rattle.fs_chain.specs.Walks.{IsAllButPart}
 
 -- a reply's front over the first bytes of a buffer
@@ -31,4 +32,4 @@ IfHasReply _ P = Unit {0}
 
 -- the handle is free, and nothing came of a load
 abbrev pub IsFreed : (old new : Workbench) → Type 0
-IsFreed old new = IsAllButPart (record old { state = at.Free }) new × (new.part.items ≡ [])
+IsFreed old new = IsAllButPart (freed old) new × (new.part.items ≡ [])

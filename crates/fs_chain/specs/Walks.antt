@@ -77,13 +77,15 @@ abbrev pub LeavesNone : comes.Step → List Descriptor → Type 0
 LeavesNone (step.Chain head (Some fault)) ds = ds ≡ []
 LeavesNone _ ds = Unit {0}
 
--- the handle goes over the same regions, by the same limit
+-- the handle goes over the same regions, by the same limit, and the number of its chain stays, and how long the list of a listing is
 abbrev pub IsAllBut : (old new : Workbench) → Type 0
-IsAllBut old new = (new.regions ≡ old.regions) × (new.limit ≡ old.limit)
+IsAllBut old new = (new.regions ≡ old.regions) × (new.limit ≡ old.limit) × (new.serial ≡ old.serial) × (new.list_len ≡ old.list_len)
 
--- all but where its chain is stays
+-- all but where its chain is stays, and how long the list of a listing is
 abbrev pub IsAllButPlace : (old new : Workbench) → Type 0
-IsAllButPlace old new = IsAllBut old new × (new.descriptors ≡ old.descriptors) × (new.session ≡ old.session) × (new.part ≡ old.part)
+IsAllButPlace old new =
+    ((new.regions ≡ old.regions) × (new.limit ≡ old.limit) × (new.serial ≡ old.serial)) × (new.descriptors ≡ old.descriptors) × (new.session ≡ old.session)
+    × (new.part ≡ old.part)
 
 -- all stays but what came of a load
 abbrev pub IsAllButPart : (old new : Workbench) → Type 0

@@ -2,7 +2,7 @@
 
 ghost use Rattle.std.specs.Prelude.{◌≡◌, IfOk, IfErr, OnOk, OnErr};
 ghost use Rattle.virtiofsd_fuse.specs.Serving.{setting};
-ghost use Rattle.fs_chain.specs.Answers.{AnswerFails, CanBeGiven, IfWaits, IsGiven, IsRefused, IsWaiting, data_len, error_of, fits, replied_of, reply_of};
+ghost use Rattle.fs_chain.specs.Answers.{AnswerFails, CanBeGiven, IfWaits, IsGiven, IsNotTaken, IsRefused, IsWaiting, data_len, error_of, fits, replied_of, reply_of};
 ghost use Rattle.fs_chain.specs.Walks.{IsAllBut};
 ghost use Rattle.fs_chain.specs.declared.state.State.TheVariants as at;
 
@@ -98,8 +98,8 @@ impl Workbench {
         }
     }
 
-    /// Answers a chain's call, in the session in which it was asked. A listing is answered entry by entry, or by `fail`: else `OtherKind`.
-    pub fn answer(&mut self, answer: FileAnswer) -> Result<Replied, ChainError>
+    // Answers the call that waits, whichever it is.
+    fn answer_asked(&mut self, answer: FileAnswer) -> Result<Replied, ChainError>
         ensures given { IfOk result (λ told. IfWaits self.old.state (λ out w.
             IsGiven (setting self.old.session.page_size self.old.session.options.0 w.room) w answer out self.new.session.options.0 told self.new.state)) }
         ensures taken { OnOk result (IsWaiting self.old.state × IfWaits self.old.state (λ out w. CanBeGiven w answer)) }
@@ -118,6 +118,24 @@ impl Workbench {
                 self.state = other;
                 Err(ChainError::WrongOrder)
             }
+        }
+    }
+
+    /// Answers a chain's call, in the session in which it was asked, by the number of the chain (`serial`). `WrongOrder` if no call waits, `OtherCall` if
+    /// another one does. A listing is answered entry by entry, or by `fail`: else `OtherKind`.
+    pub fn answer(&mut self, serial: u32, answer: FileAnswer) -> Result<Replied, ChainError>
+        ensures given { IfOk result (λ told. IfWaits self.old.state (λ out w.
+            IsGiven (setting self.old.session.page_size self.old.session.options.0 w.room) w answer out self.new.session.options.0 told self.new.state)) }
+        ensures mine { OnOk result (self.old.serial ≡ serial) }
+        ensures taken { OnOk result (IsWaiting self.old.state × IfWaits self.old.state (λ out w. CanBeGiven w answer)) }
+        ensures refused { IfErr result (λ e. IsNotTaken self.old serial answer e) }
+        ensures same { OnErr result (self.new ≡ self.old) }
+        ensures page_size { self.new.session.page_size ≡ self.old.session.page_size }
+        ensures stays { IsAllBut self.old self.new × (self.new.descriptors ≡ self.old.descriptors) × (self.new.part ≡ self.old.part) }
+    {
+        match self.serial_error(serial) {
+            Some(error) => Err(error),
+            None => self.answer_asked(answer),
         }
     }
 }

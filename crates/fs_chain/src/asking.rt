@@ -72,6 +72,7 @@ impl Workbench {
         ensures asker { (who : Context) → IsAskedBy who asked.entry → IsKeptFor who self.new.state }
         ensures told { wanted_by result ≡ None }
         ensures same { IsAllButPlace self.old self.new }
+        ensures list { self.new.list_len ≡ self.old.list_len }
     {
         match asked {
             Asked::Call(call, waiting) => {
@@ -99,6 +100,7 @@ impl Workbench {
         ensures asker { (request : List ℕ) → HasAskerByFront request asked.entry → (h : InHeader) (more : List ℕ) → reading_of in_header request ≡ Ok (h, more) → IsKeptFor (context_of h) self.new.state }
         ensures wanted { wanted_by result ≡ (if is_told asked.entry then None else Some (wanted len out.request_len)) }
         ensures same { IsAllButPlace self.old self.new }
+        ensures list { self.new.list_len ≡ self.old.list_len }
     {
         match asked {
             AskedFront::Told(asked) => self.keep_asked(out, asked),

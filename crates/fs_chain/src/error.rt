@@ -18,6 +18,8 @@ pub enum ChainError {
     WrongOrder,
     /// The queue is another one than that of the chain or of its walk, or was begun anew since; or a chain was taken or given up since the walk began.
     OtherQueue,
+    /// The answer is another call's than that which waits: its ticket is another one.
+    OtherCall,
     /// The call wants an answer of another kind.
     OtherKind,
     /// The queue has as many chains out as it may, or the handle has one.
@@ -38,6 +40,7 @@ impl ChainError {
             ChainError::LongReply => 71,
             ChainError::WrongOrder => 73,
             ChainError::OtherQueue => 74,
+            ChainError::OtherCall => 79,
             ChainError::OtherKind => 75,
             ChainError::ChainOut => 76,
             ChainError::Returning => 78,

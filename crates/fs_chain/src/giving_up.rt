@@ -4,6 +4,7 @@ ghost use Rattle.std.specs.Prelude.{◌≡◌, Some, None, IfErr, OnOk, OnErr, i
 ghost use Rattle.fs_chain.specs.Orders.{give_up_error, is_out};
 ghost use Rattle.fs_chain.specs.Queues.{untook};
 ghost use Rattle.fs_chain.specs.Returns.{IsFreed};
+ghost use Rattle.fs_chain.specs.Serials.{freed};
 ghost use Rattle.fs_chain.specs.declared.state.State.TheVariants as at;
 
 use crate::error::ChainError;
@@ -18,7 +19,7 @@ impl Workbench {
         ensures error { IfErr result (λ e. give_up_error (at.Taken out) queue.old ≡ Some e) }
         ensures ok { OnOk result (give_up_error (at.Taken out) queue.old ≡ None) }
         ensures same { OnErr result ((self.new ≡ self.old) × (queue.new ≡ queue.old)) }
-        ensures free { OnOk result ((self.new ≡ record self.old { state = at.Free }) × (queue.new ≡ untook queue.old)) }
+        ensures free { OnOk result ((self.new ≡ freed self.old) × (queue.new ≡ untook queue.old)) }
     {
         if !queue.has_out(&out) {
             return Err(ChainError::OtherQueue);
@@ -27,7 +28,7 @@ impl Workbench {
             return Err(ChainError::WrongOrder);
         }
         queue.untake();
-        self.state = State::Free;
+        self.free();
         Ok(())
     }
 
@@ -38,12 +39,12 @@ impl Workbench {
         ensures error { IfErr result (λ e. give_up_error self.old.state queue.old ≡ Some e) }
         ensures ok { OnOk result (give_up_error self.old.state queue.old ≡ None) }
         ensures same { OnErr result ((self.new ≡ self.old) × (queue.new ≡ queue.old)) }
-        ensures free { OnOk result (self.new ≡ record self.old { state = at.Free }) }
+        ensures free { OnOk result (self.new ≡ freed self.old) }
         ensures queue { OnOk result (queue.new ≡ (if is_out self.old.state then untook queue.old else queue.old)) }
     {
         match &self.state {
             State::Free | State::Walking(_, _, _) => {
-                self.state = State::Free;
+                self.free();
                 Ok(())
             }
             State::Taken(out) => {
@@ -58,7 +59,7 @@ impl Workbench {
     pub fn abandon(&mut self)
         ensures { IsFreed self.old self.new }
     {
-        self.state = State::Free;
+        self.free();
         self.part.clear();
     }
 }

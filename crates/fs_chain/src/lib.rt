@@ -15,6 +15,7 @@ mod own_reply;
 mod passed;
 mod queue;
 mod returning;
+mod serial;
 mod state;
 mod walking;
 mod workbench;

@@ -1,10 +1,11 @@
 //! A listing that is answered entry by entry.
 
-ghost use Rattle.std.specs.Prelude.{◌≡◌, length};
+ghost use Rattle.std.specs.Prelude.{◌≡◌, OnOk, OnErr, length};
 ghost use Rattle.fuse_fs.specs.Answers.{listed};
 ghost use Rattle.server_replies.specs.Entries.{no_node};
 ghost use Rattle.server_phases.specs.Gathering.{added_found, added_plain};
-ghost use Rattle.fs_chain.specs.Listings.{AddsTo, Ends, Fails, answered_by, told_added};
+ghost use Rattle.fs_chain.specs.Listings.{AddsTo, Ends, Fails, adding_error, answered_by, list_after, list_error, told_added};
+ghost use Rattle.fs_chain.specs.Serials.{UnlessRefused, serial_error};
 ghost use Rattle.fs_chain.specs.Walks.{IsAllButPlace};
 ghost use Rattle.fs_chain.specs.declared.state.State.TheVariants as at;
 
@@ -43,7 +44,42 @@ fn told_added(outcome: Result<(), NotAdded>) -> Result<Added, ChainError>
     }
 }
 
+// How long the list of a listing is after an entry was brought by one of this length.
+fn list_after(before: usize, len: usize, told: Result<Added, ChainError>) -> usize
+    ensures { result ≡ list_after before len told }
+{
+    match told {
+        Ok(Added::In) => len,
+        _ => before,
+    }
+}
+
 impl Workbench {
+    // Why no entry is brought with this number by a list of this length.
+    fn adding_error(&self, serial: u32, len: usize) -> Option<ChainError>
+        ensures { result ≡ adding_error self.now serial len }
+    {
+        match self.serial_error(serial) {
+            Some(error) => Some(error),
+            None => self.list_error(len),
+        }
+    }
+
+    // Why none is brought by a list of this length.
+    fn list_error(&self, len: usize) -> Option<ChainError>
+        ensures { result ≡ list_error self.now.state self.now.list_len len }
+    {
+        match &self.state {
+            State::Lists(_, _) => {
+                if self.list_len != 0 && self.list_len != len {
+                    return Some(ChainError::BadArgument);
+                }
+                None
+            }
+            _ => None,
+        }
+    }
+
     // Brings an entry of READDIR to a listing.
     fn add_to(
         &mut self,
@@ -54,11 +90,15 @@ impl Workbench {
     ) -> Result<Added, ChainError>
         ensures adds { AddsTo (at.Lists out listing) self.new.state list.old list.new (listed entry.now, no_node (listed entry.now))
             (λ l. added_plain l (length list.old) (length entry.now.name.now)) result }
+        ensures list { self.new.list_len ≡ list_after self.old.list_len (length list.old) result }
         ensures stays { IsAllButPlace self.old self.new }
     {
+        let len = list.len();
         let outcome = listing.add(list, entry);
         self.state = State::Lists(out, listing);
-        told_added(outcome)
+        let told = told_added(outcome);
+        self.list_len = list_after(self.list_len, len, told);
+        told
     }
 
     // Brings an entry of READDIRPLUS to a listing.
@@ -72,17 +112,22 @@ impl Workbench {
     ) -> Result<Added, ChainError>
         ensures adds { AddsTo (at.Lists out listing) self.new.state list.old list.new (listed entry.now, node)
             (λ l. added_found l (length list.old) (length entry.now.name.now)) result }
+        ensures list { self.new.list_len ≡ list_after self.old.list_len (length list.old) result }
         ensures stays { IsAllButPlace self.old self.new }
     {
+        let len = list.len();
         let outcome = listing.add_with_node(list, entry, node);
         self.state = State::Lists(out, listing);
-        told_added(outcome)
+        let told = told_added(outcome);
+        self.list_len = list_after(self.list_len, len, told);
+        told
     }
 
-    /// Puts an entry of READDIR behind the others, unless it has no place.
-    pub fn add(&mut self, list: &mut [u8], entry: &DirEntry<'_>) -> Result<Added, ChainError>
+    // Puts an entry of READDIR behind those of the listing, if one waits.
+    fn add_asked(&mut self, list: &mut [u8], entry: &DirEntry<'_>) -> Result<Added, ChainError>
         ensures adds { AddsTo self.old.state self.new.state list.old list.new (listed entry.now, no_node (listed entry.now))
             (λ l. added_plain l (length list.old) (length entry.now.name.now)) result }
+        ensures list { self.new.list_len ≡ list_after self.old.list_len (length list.old) result }
         ensures stays { IsAllButPlace self.old self.new }
     {
         match mem::replace(&mut self.state, State::Free) {
@@ -98,8 +143,31 @@ impl Workbench {
         }
     }
 
-    /// Puts an entry of READDIRPLUS behind the others, with its node, unless it has no place; who looked it up undoes that then.
-    pub fn add_with_node(
+    /// Puts an entry of READDIR behind the others, unless it has no place. The list is the same at each call: once it has entries, one of another length
+    /// is refused (`BadArgument`). `WrongOrder` if no call waits, `OtherCall` if another one does than that of this number, `OtherKind` if it is no READDIR,
+    /// `ShortBuffer` if the list ends before the entry.
+    pub fn add(
+        &mut self,
+        serial: u32,
+        list: &mut [u8],
+        entry: &DirEntry<'_>,
+    ) -> Result<Added, ChainError>
+        ensures told { UnlessRefused (adding_error self.old serial (length list.old)) result ((self.new ≡ self.old) × (list.new ≡ list.old))
+            (AddsTo self.old.state self.new.state list.old list.new (listed entry.now, no_node (listed entry.now))
+            (λ l. added_plain l (length list.old) (length entry.now.name.now)) result) }
+        ensures adds { OnOk result (AddsTo self.old.state self.new.state list.old list.new (listed entry.now, no_node (listed entry.now))
+            (λ l. added_plain l (length list.old) (length entry.now.name.now)) result) }
+        ensures list { self.new.list_len ≡ list_after self.old.list_len (length list.old) result }
+        ensures stays { IsAllButPlace self.old self.new }
+    {
+        match self.adding_error(serial, list.len()) {
+            Some(error) => Err(error),
+            None => self.add_asked(list, entry),
+        }
+    }
+
+    // Puts an entry of READDIRPLUS, with its node, behind those of the listing, if one waits.
+    fn add_node_asked(
         &mut self,
         list: &mut [u8],
         entry: &DirEntry<'_>,
@@ -107,6 +175,7 @@ impl Workbench {
     ) -> Result<Added, ChainError>
         ensures adds { AddsTo self.old.state self.new.state list.old list.new (listed entry.now, node)
             (λ l. added_found l (length list.old) (length entry.now.name.now)) result }
+        ensures list { self.new.list_len ≡ list_after self.old.list_len (length list.old) result }
         ensures stays { IsAllButPlace self.old self.new }
     {
         match mem::replace(&mut self.state, State::Free) {
@@ -122,6 +191,29 @@ impl Workbench {
         }
     }
 
+    /// Puts an entry of READDIRPLUS behind the others, with its node, unless it has no place; who looked it up undoes that then. It is refused as that of
+    /// READDIR is.
+    pub fn add_with_node(
+        &mut self,
+        serial: u32,
+        list: &mut [u8],
+        entry: &DirEntry<'_>,
+        node: Entry<u64>,
+    ) -> Result<Added, ChainError>
+        ensures told { UnlessRefused (adding_error self.old serial (length list.old)) result ((self.new ≡ self.old) × (list.new ≡ list.old))
+            (AddsTo self.old.state self.new.state list.old list.new (listed entry.now, node)
+            (λ l. added_found l (length list.old) (length entry.now.name.now)) result) }
+        ensures adds { OnOk result (AddsTo self.old.state self.new.state list.old list.new (listed entry.now, node)
+            (λ l. added_found l (length list.old) (length entry.now.name.now)) result) }
+        ensures list { self.new.list_len ≡ list_after self.old.list_len (length list.old) result }
+        ensures stays { IsAllButPlace self.old self.new }
+    {
+        match self.adding_error(serial, list.len()) {
+            Some(error) => Err(error),
+            None => self.add_node_asked(list, entry, node),
+        }
+    }
+
     // Keeps the reply of a listing.
     fn keep_listed(&mut self, out: Out, reply: ListingReply) -> usize
         ensures len { result ≡ reply.len }
@@ -133,9 +225,10 @@ impl Workbench {
         behind
     }
 
-    /// Replies the entries so far: how many bytes of the list are the data.
-    pub fn end(&mut self) -> Result<usize, ChainError>
+    // Replies the entries of the listing, if one waits.
+    fn end_asked(&mut self) -> Result<usize, ChainError>
         ensures ended { Ends self.old.state self.new.state result }
+        ensures same { OnErr result (self.new ≡ self.old) }
         ensures stays { IsAllButPlace self.old self.new }
     {
         match mem::replace(&mut self.state, State::Free) {
@@ -151,9 +244,24 @@ impl Workbench {
         }
     }
 
-    /// Replies that the listing failed: how many bytes of the list are the data.
-    pub fn fail(&mut self, error: Errno) -> Result<usize, ChainError>
+    /// Replies the entries so far: how many bytes of the list are the data. `WrongOrder` if no call waits, `OtherCall` if another one does than that of this
+    /// number, `OtherKind` if it is no listing.
+    pub fn end(&mut self, serial: u32) -> Result<usize, ChainError>
+        ensures told { UnlessRefused (serial_error self.old.state self.old.serial serial) result (self.new ≡ self.old) (Ends self.old.state self.new.state result) }
+        ensures ended { OnOk result (Ends self.old.state self.new.state result) }
+        ensures same { OnErr result (self.new ≡ self.old) }
+        ensures stays { IsAllButPlace self.old self.new }
+    {
+        match self.serial_error(serial) {
+            Some(error) => Err(error),
+            None => self.end_asked(),
+        }
+    }
+
+    // Replies that the listing failed, if one waits.
+    fn fail_asked(&mut self, error: Errno) -> Result<usize, ChainError>
         ensures failed { Fails error self.old.state self.new.state result }
+        ensures same { OnErr result (self.new ≡ self.old) }
         ensures stays { IsAllButPlace self.old self.new }
     {
         match mem::replace(&mut self.state, State::Free) {
@@ -166,6 +274,19 @@ impl Workbench {
                 self.state = other;
                 Err(ChainError::WrongOrder)
             }
+        }
+    }
+
+    /// Replies that the listing failed: how many bytes of the list are the data. It is refused as `end` is.
+    pub fn fail(&mut self, serial: u32, error: Errno) -> Result<usize, ChainError>
+        ensures told { UnlessRefused (serial_error self.old.state self.old.serial serial) result (self.new ≡ self.old) (Fails error self.old.state self.new.state result) }
+        ensures failed { OnOk result (Fails error self.old.state self.new.state result) }
+        ensures same { OnErr result (self.new ≡ self.old) }
+        ensures stays { IsAllButPlace self.old self.new }
+    {
+        match self.serial_error(serial) {
+            Some(refusal) => Err(refusal),
+            None => self.fail_asked(error),
         }
     }
 }

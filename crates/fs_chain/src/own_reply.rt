@@ -30,10 +30,11 @@ impl Workbench {
     /// the used index is stored. 0 is silence. In place of `ask`, for a request that the server doesn't serve, or of the answer that a call waits for, of
     /// which nothing is kept then. `begin_return` tells no front, and `len` in the used element (VIRTIO 1.2, 2.7.8).
     ///
-    /// `WrongOrder` if no chain is out whose request has no reply yet: a faulty one has none. `LongReply` if the room is shorter, or from 2^32 bytes on.
-    pub fn reply(&mut self, len: usize) -> Result<(), ChainError>
-        ensures error { IfErr result (λ e. own_error self.old.state len ≡ Some e) }
-        ensures ok { OnOk result (own_error self.old.state len ≡ None) }
+    /// `WrongOrder` if no chain is out whose request has no reply yet: a faulty one has none. `OtherCall` if its number is another one (`serial`).
+    /// `LongReply` if the room is shorter, or from 2^32 bytes on.
+    pub fn reply(&mut self, serial: u32, len: usize) -> Result<(), ChainError>
+        ensures error { IfErr result (λ e. own_error self.old.state self.old.serial serial len ≡ Some e) }
+        ensures ok { OnOk result (own_error self.old.state self.old.serial serial len ≡ None) }
         ensures same { OnErr result (self.new ≡ self.old) }
         ensures kept { OnOk result (IfUnanswered self.old.state (λ out. self.new ≡ record self.old { state = at.HasReply out (own_reply len) })) }
         ensures told { OnOk result (IfUnanswered self.old.state (λ out. (front_len (own_reply len) ≡ 0) × (reply_len out (own_reply len) ≡ len))) }
@@ -41,6 +42,9 @@ impl Workbench {
         match &self.state {
             State::Taken(out) | State::Waits(out, _) | State::Lists(out, _) => {
                 let out = *out;
+                if self.serial != serial {
+                    return Err(ChainError::OtherCall);
+                }
                 self.keep_own(out, len)
             }
             _ => Err(ChainError::WrongOrder),

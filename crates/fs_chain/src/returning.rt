@@ -5,6 +5,7 @@ ghost use Rattle.fs_chain.specs.Events.{tells_of};
 ghost use Rattle.fs_chain.specs.Orders.{end_error, front_len, return_error};
 ghost use Rattle.fs_chain.specs.Queues.{gave};
 ghost use Rattle.fs_chain.specs.Returns.{IfHasReply, ReturnsBy, put_front};
+ghost use Rattle.fs_chain.specs.Serials.{freed};
 ghost use Rattle.fs_chain.specs.declared.state.State.TheVariants as at;
 
 use crate::error::ChainError;
@@ -121,7 +122,7 @@ impl Workbench {
         ensures error { IfErr result (λ e. end_error self.old.state queue.old ≡ Some e) }
         ensures ok { OnOk result (end_error self.old.state queue.old ≡ None) }
         ensures same { OnErr result ((self.new ≡ self.old) × (queue.new ≡ queue.old)) }
-        ensures free { OnOk result (self.new ≡ record self.old { state = at.Free }) }
+        ensures free { OnOk result (self.new ≡ freed self.old) }
         ensures queue { OnOk result (queue.new ≡ gave queue.old) }
         ensures tells { IfOk result (λ told. told ≡ tells_of queue.old seen) }
     {
@@ -131,7 +132,7 @@ impl Workbench {
                     return Err(ChainError::OtherQueue);
                 }
                 let told = queue.tells(seen);
-                self.state = State::Free;
+                self.free();
                 queue.end_return();
                 Ok(told)
             }

@@ -20,7 +20,7 @@ use vm_bitmaps::PAGE_SIZE;
 use vm_memory_core::VolatileSlice;
 
 /// A workbench for one chain at a time: from the walk that finds it to the stores that give it back. It keeps the first bytes of the load that its walk
-/// asks for, if the load is made in parts, and the session in which its chain was asked.
+/// asks for, if the load is made in parts, the session in which its chain was asked, and by which number an answer names that chain.
 #[derive(Drop)]
 pub struct Workbench {
     pub(crate) alloc: Global,
@@ -30,6 +30,10 @@ pub struct Workbench {
     pub(crate) state: State,
     pub(crate) part: Vec<u8>,
     pub(crate) session: Session,
+    /// The number of its chain.
+    pub(crate) serial: u32,
+    /// How long the list is that has the entries of a listing; 0 if it has none.
+    pub(crate) list_len: usize,
 }
 
 impl Workbench {
@@ -41,6 +45,7 @@ impl Workbench {
         ensures state { result.state ≡ at.Free }
         ensures part { result.part.items ≡ [] }
         ensures session { (result.session.page_size ≡ 4096) × (result.session.options.0 ≡ 0) }
+        ensures serial { result.serial ≡ 1 }
     {
         Workbench {
             alloc,
@@ -50,6 +55,8 @@ impl Workbench {
             state: State::Free,
             part: Vec::new(alloc),
             session: Session::new(PAGE_SIZE as u32),
+            serial: 1,
+            list_len: 0,
         }
     }
 
@@ -60,7 +67,7 @@ impl Workbench {
         ensures ok { OnOk result (memory_error self.old.state limit ≡ None) }
         ensures same { OnErr result (self.new ≡ self.old) }
         ensures set { OnOk result ((self.new.regions ≡ regions) × (self.new.limit ≡ limit) × (self.new.state ≡ self.old.state)
-            × (self.new.part ≡ self.old.part) × (self.new.session ≡ self.old.session)) }
+            × (self.new.part ≡ self.old.part) × (self.new.session ≡ self.old.session) × (self.new.serial ≡ self.old.serial)) }
     {
         match self.state {
             State::Free => self.take_memory(regions, limit),
@@ -74,7 +81,7 @@ impl Workbench {
         ensures ok { OnOk result (memory_error at.Free limit ≡ None) }
         ensures same { OnErr result (self.new ≡ self.old) }
         ensures set { OnOk result ((self.new.regions ≡ regions) × (self.new.limit ≡ limit) × (self.new.state ≡ self.old.state)
-            × (self.new.part ≡ self.old.part) × (self.new.session ≡ self.old.session)) }
+            × (self.new.part ≡ self.old.part) × (self.new.session ≡ self.old.session) × (self.new.serial ≡ self.old.serial)) }
     {
         if limit < MAX_REQUEST_LEN || MOST_LIMIT < limit {
             return Err(ChainError::BadArgument);

@@ -112,6 +112,7 @@ module _ (regions sorted : List FsRegion) (same : IsPermutation regions sorted) 
   none_of error.LongReply why = why
   none_of error.WrongOrder why = why
   none_of error.OtherQueue why = why
+  none_of error.OtherCall why = why
   none_of error.OtherKind why = why
   none_of error.ChainOut why = why
   none_of error.Returning why = why

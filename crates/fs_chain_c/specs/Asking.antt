@@ -15,7 +15,7 @@ use Rattle.fs_chain.specs.declared.asking.Told.TheVariants as tells
 use Rattle.fs_chain.specs.declared.error.ChainError.{ChainError}
 use Rattle.fs_chain.specs.declared.error.ChainError.TheVariants.{BadArgument}
 use Rattle.fs_chain.specs.declared.workbench.Workbench.{Workbench}
-use Rattle.fs_chain.specs.Answers.{AnswerFails, CanBeGiven, IfWaits, IsGiven, IsWaiting}
+use Rattle.fs_chain.specs.Answers.{CanBeGiven, IfWaits, IsGiven, IsNotTaken, IsWaiting}
 use Rattle.fs_chain.specs.Asking.{IfTaken, TellsMeaning, wanted_after, wanted_by}
 use Rattle.fs_chain.specs.Numbers.{chain_error_number}
 use Rattle.fs_chain.specs.Orders.{ask_error, room_len}
@@ -27,12 +27,13 @@ use Rattle.fs_chain_c.specs.Memory.{IsDevice}
 
 -- ---- an answer
 
--- what comes of an answer in the session in which a workbench's chain was asked: what is given of it, or why it is refused, and then nothing changes
-pub record Answers (w : Workbench) (a : FileAnswer) (told : Result Replied ChainError) (w' : Workbench) : Type 0 where
+-- what comes of an answer with a ticket in the session in which a workbench's chain was asked: what is given of it, or why it is refused, and then nothing changes
+pub record Answers (w : Workbench) (ticket : ℕ) (a : FileAnswer) (told : Result Replied ChainError) (w' : Workbench) : Type 0 where
   pub given : IfOk told (λ r. IfWaits w.state (λ out waiting.
       IsGiven (setting w.session.page_size w.session.options.0 waiting.room) waiting a out w'.session.options.0 r w'.state))
+  pub mine : OnOk told (w.serial ≡ ticket)
   pub taken : OnOk told (IsWaiting w.state × IfWaits w.state (λ out waiting. CanBeGiven waiting a))
-  pub refused : IfErr told (λ e. AnswerFails w.state a e)
+  pub refused : IfErr told (λ e. IsNotTaken w ticket a e)
   pub same : OnErr told (w' ≡ w)
   pub page_size : w'.session.page_size ≡ w.session.page_size
   pub stays : IsAllBut w w' × (w'.descriptors ≡ w.descriptors) × (w'.part ≡ w.part)
@@ -43,9 +44,9 @@ replied_status (Ok r) = if r.has_room then 0 else 35
 replied_status (Err e) = chain_error_number e
 
 -- a workbench's call is answered, and a status tells what comes of it
-abbrev pub AnswersWorkbench : Workbench → FileAnswer → (status : ℕ) → Workbench → Type 0
-AnswersWorkbench b a status b' =
-    (told : Result Replied ChainError) × Answers b a told b' × (status ≡ replied_status told)
+abbrev pub AnswersWorkbench : Workbench → (ticket : ℕ) → FileAnswer → (status : ℕ) → Workbench → Type 0
+AnswersWorkbench b ticket a status b' =
+    (told : Result Replied ChainError) × Answers b ticket a told b' × (status ≡ replied_status told)
 
 -- ---- a request
 
@@ -66,7 +67,7 @@ answer_unasked _ = None
 -- such a call is answered at once; others wait
 abbrev pub Settles : Workbench → Option FileAnswer → Workbench → Type 0
 Settles b None b' = b' ≡ b
-Settles b (Some a) b' = (status : ℕ) × AnswersWorkbench b a status b'
+Settles b (Some a) b' = (status : ℕ) × AnswersWorkbench b b.serial a status b'
 
 -- a workbench is asked in a session, which it keeps, by the first bytes of a request, and tells this: all requests that begin so, and are as long as its
 -- chain's, mean it
@@ -96,10 +97,11 @@ TellsAsked b request tells.Nothing call status b' = (status ≡ 0) × (call ≡ 
 TellsAsked b request (tells.Fault e) call status b' =
     (status ≡ 0) × (call ≡ numbered request (record no_call { fault = error_number e })) × (b' ≡ b)
 
--- a workbench that was asked in the session of the device
+-- a workbench that was asked in the session of the device: the call, with the ticket of its chain
 abbrev pub AsksSo : Workbench → FsDevice → (request : List ℕ) → FsCall → (status : ℕ) → Workbench → Type 0
 AsksSo b d request call status b' =
-    (s : Session) × IsSessionOf d s × (asked : Workbench) × (made : told.Told) × Asks b s request made asked × TellsAsked asked request made call status b'
+    (s : Session) × IsSessionOf d s × (asked : Workbench) × (made : told.Told) × Asks b s request made asked
+    × (fields : FsCall) × TellsAsked asked request made fields status b' × (call ≡ record fields { ticket = b.serial })
 
 -- a workbench is asked by the first bytes of a request; a bad argument, if the device's numbers are none
 abbrev pub AsksWorkbench : Workbench → FsDevice → (request : List ℕ) → FsCall → (status : ℕ) → Workbench → Type 0

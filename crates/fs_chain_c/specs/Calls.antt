@@ -82,6 +82,7 @@ no_call = record {
   has_group = 0;
   attr = no_attr;
   group = 0;
+  ticket = 0;
 }
 
 -- a number in 32 bits: the greatest, if it has none

@@ -1,5 +1,5 @@
 -- Listings that C answers entry by entry.
-use Rattle.std.specs.Prelude.{◌≡◌, ◌==◌, ◌/◌, ◌%◌, ◌&&◌, nat_le, ℕ, Bool, true, false, List, length, Option, Some, None, Result, Ok, Err, if◌then◌else◌}
+use Rattle.std.specs.Prelude.{◌≡◌, ◌==◌, ◌/◌, ◌%◌, ◌&&◌, nat_le, ℕ, Bool, true, false, List, length, Option, Some, None, Result, Ok, Err, OnErr, if◌then◌else◌}
 use Rattle.fuse_fs.specs.Calls.{Listed}
 use Rattle.fuse_fs.specs.declared.answers.Entry.{Entry}
 use Rattle.fuse_values.specs.declared.answer.FileAnswer.TheVariants as answer
@@ -11,9 +11,10 @@ use Rattle.fs_chain.specs.declared.error.ChainError.{ChainError}
 use Rattle.fs_chain.specs.declared.error.ChainError.TheVariants.{BadArgument, WrongOrder}
 use Rattle.fs_chain.specs.declared.listing.Added.{Added}
 use Rattle.fs_chain.specs.declared.listing.Added.TheVariants as added
-use Rattle.fs_chain.specs.Listings.{AddsTo, Ends, Fails}
+use Rattle.fs_chain.specs.Listings.{AddsTo, Ends, Fails, adding_error, list_after}
 use Rattle.fs_chain.specs.Numbers.{chain_error_number}
 use Rattle.fs_chain.specs.Orders.{is_listing}
+use Rattle.fs_chain.specs.Serials.{UnlessRefused, serial_error}
 use Rattle.fs_chain.specs.Walks.{IsAllButPlace}
 use Rattle.fs_chain_c.specs.declared.answers.FsEntry.{FsEntry}
 use Rattle.fs_chain.specs.declared.workbench.Workbench.{Workbench}
@@ -30,10 +31,11 @@ added_status (Ok added.NoRoom) = 37
 added_status (Ok added.TooLong) = 37
 added_status (Err e) = chain_error_number e
 
--- an entry is brought to a workbench's listing
-abbrev pub AddsWorkbench : Workbench → Brought → (outcome : Listing → Result (Unit {0}) reason.NotAdded) → (list : List ℕ) → (status : ℕ) → Workbench → (list' : List ℕ) → Type 0
-AddsWorkbench b e outcome list status b' list' =
-    (told : Result Added ChainError) × AddsTo b.state b'.state list list' e outcome told × IsAllButPlace b b' × (status ≡ added_status told)
+-- an entry is brought to a workbench's listing, by the ticket of its chain, in the list that has those before it; or it is refused, and nothing is done
+abbrev pub AddsWorkbench : Workbench → (ticket : ℕ) → Brought → (outcome : Listing → Result (Unit {0}) reason.NotAdded) → (list : List ℕ) → (status : ℕ) → Workbench → (list' : List ℕ) → Type 0
+AddsWorkbench b ticket e outcome list status b' list' =
+    (told : Result Added ChainError) × UnlessRefused (adding_error b ticket (length list)) told ((b' ≡ b) × (list' ≡ list)) (AddsTo b.state b'.state list list' e outcome told)
+    × (b'.list_len ≡ list_after b.list_len (length list) told) × IsAllButPlace b b' × (status ≡ added_status told)
 
 -- whether a name has a length that a directory's may have
 abbrev pub is_name : List ℕ → Bool
@@ -44,10 +46,10 @@ abbrev pub listed_as : (name : List ℕ) → (ino offset type : ℕ) → Listed
 listed_as name ino offset type = record { ino = ino; offset = offset; kind = type; name = name }
 
 -- an entry of READDIR is brought; a bad argument, if it has no name
-abbrev pub AddsEntry : (is : Bool) → Listed → Option Workbench → (list : List ℕ) → (status : ℕ) → Option Workbench → (list' : List ℕ) → Type 0
-AddsEntry false d before list status after list' = (status ≡ chain_error_number BadArgument) × (after ≡ before) × (list' ≡ list)
-AddsEntry true d before list status after list' =
-    OnWorkbench (λ b b'. AddsWorkbench b (d, no_node d) (λ l. added_plain l (length list) (length d.name)) list status b' list')
+abbrev pub AddsEntry : (is : Bool) → Listed → (ticket : ℕ) → Option Workbench → (list : List ℕ) → (status : ℕ) → Option Workbench → (list' : List ℕ) → Type 0
+AddsEntry false d ticket before list status after list' = (status ≡ chain_error_number BadArgument) × (after ≡ before) × (list' ≡ list)
+AddsEntry true d ticket before list status after list' =
+    OnWorkbench (λ b b'. AddsWorkbench b ticket (d, no_node d) (λ l. added_plain l (length list) (length d.name)) list status b' list')
     ((status ≡ chain_error_number WrongOrder) × (list' ≡ list)) before after
 
 -- the kind of an entry with these attributes: the bits of S_IFMT
@@ -55,12 +57,12 @@ abbrev pub type_of : FsEntry → ℕ
 type_of e = e.attr.mode / 4096 % 16
 
 -- an entry of READDIRPLUS is brought; a bad argument, if it has no name, or a time isn't one
-abbrev pub AddsNode : (is : Bool) → Listed → Option (Entry ℕ) → Option Workbench → (list : List ℕ) → (status : ℕ) → Option Workbench → (list' : List ℕ) → Type 0
-AddsNode true d (Some entry) before list status after list' =
-    OnWorkbench (λ b b'. AddsWorkbench b (d, entry) (λ l. added_found l (length list) (length d.name)) list status b' list')
+abbrev pub AddsNode : (is : Bool) → Listed → Option (Entry ℕ) → (ticket : ℕ) → Option Workbench → (list : List ℕ) → (status : ℕ) → Option Workbench → (list' : List ℕ) → Type 0
+AddsNode true d (Some entry) ticket before list status after list' =
+    OnWorkbench (λ b b'. AddsWorkbench b ticket (d, entry) (λ l. added_found l (length list) (length d.name)) list status b' list')
     ((status ≡ chain_error_number WrongOrder) × (list' ≡ list)) before after
-AddsNode true d None before list status after list' = (status ≡ chain_error_number BadArgument) × (after ≡ before) × (list' ≡ list)
-AddsNode false d entry before list status after list' = (status ≡ chain_error_number BadArgument) × (after ≡ before) × (list' ≡ list)
+AddsNode true d None ticket before list status after list' = (status ≡ chain_error_number BadArgument) × (after ≡ before) × (list' ≡ list)
+AddsNode false d entry ticket before list status after list' = (status ≡ chain_error_number BadArgument) × (after ≡ before) × (list' ≡ list)
 
 -- ---- the reply
 
@@ -79,34 +81,34 @@ ended_len (Ok n) = n
 ended_len (Err e) = 0
 
 -- a workbench's listing ends by the entries so far
-abbrev pub EndsListing : Workbench → (status len : ℕ) → Workbench → Type 0
-EndsListing b status len b' =
-    (told : Result ℕ ChainError) × Ends b.state b'.state told × IsAllButPlace b b' × (status ≡ ended_status told) × (len ≡ ended_len told)
+abbrev pub EndsListing : Workbench → (ticket status len : ℕ) → Workbench → Type 0
+EndsListing b ticket status len b' =
+    (told : Result ℕ ChainError) × UnlessRefused (serial_error b.state b.serial ticket) told (b' ≡ b) (Ends b.state b'.state told) × OnErr told (b' ≡ b) × IsAllButPlace b b' × (status ≡ ended_status told) × (len ≡ ended_len told)
 
 -- a handle's listing ends so
-abbrev pub EndsList : Option Workbench → (status len : ℕ) → Option Workbench → Type 0
-EndsList before status len after = OnWorkbench (λ b b'. EndsListing b status len b') ((status ≡ chain_error_number WrongOrder) × (len ≡ 0)) before after
+abbrev pub EndsList : (ticket : ℕ) → Option Workbench → (status len : ℕ) → Option Workbench → Type 0
+EndsList ticket before status len after = OnWorkbench (λ b b'. EndsListing b ticket status len b') ((status ≡ chain_error_number WrongOrder) × (len ≡ 0)) before after
 
 -- a workbench's listing fails by an errno
-abbrev pub FailsListing : (errno : ℕ) → Workbench → (status : ℕ) → Workbench → Type 0
-FailsListing errno b status b' =
-    (told : Result ℕ ChainError) × Fails errno b.state b'.state told × IsAllButPlace b b' × (status ≡ failed_status told)
+abbrev pub FailsListing : (errno ticket : ℕ) → Workbench → (status : ℕ) → Workbench → Type 0
+FailsListing errno ticket b status b' =
+    (told : Result ℕ ChainError) × UnlessRefused (serial_error b.state b.serial ticket) told (b' ≡ b) (Fails errno b.state b'.state told) × OnErr told (b' ≡ b) × IsAllButPlace b b' × (status ≡ failed_status told)
 
 -- a workbench's call fails by an errno: a listing by what it has, another call by its answer
-abbrev pub FailsWorkbench : (listing : Bool) → (errno : ℕ) → Workbench → (status : ℕ) → Workbench → Type 0
-FailsWorkbench true errno b status b' = FailsListing errno b status b'
-FailsWorkbench false errno b status b' = AnswersWorkbench b (answer.Failed errno) status b'
+abbrev pub FailsWorkbench : (listing : Bool) → (errno ticket : ℕ) → Workbench → (status : ℕ) → Workbench → Type 0
+FailsWorkbench true errno ticket b status b' = FailsListing errno ticket b status b'
+FailsWorkbench false errno ticket b status b' = AnswersWorkbench b ticket (answer.Failed errno) status b'
 
 -- the errno of a number, from 1 to 4095
 abbrev pub errno_of : ℕ → Option ℕ
 errno_of n = if nat_le 1 n && nat_le n 4095 then Some n else None
 
 -- a handle's call fails by an errno, or is done (0), or the number is a bad argument
-abbrev pub RepliesBy : (errno : Option ℕ) → (done : Bool) → Option Workbench → (status : ℕ) → Option Workbench → Type 0
-RepliesBy (Some errno) done before status after =
-    OnWorkbench (λ b b'. FailsWorkbench (is_listing b.state) errno b status b') (status ≡ chain_error_number WrongOrder) before after
-RepliesBy None true before status after = OnWorkbench (λ b b'. AnswersWorkbench b answer.Done status b') (status ≡ chain_error_number WrongOrder) before after
-RepliesBy None false before status after = (status ≡ chain_error_number BadArgument) × (after ≡ before)
+abbrev pub RepliesBy : (errno : Option ℕ) → (done : Bool) → (ticket : ℕ) → Option Workbench → (status : ℕ) → Option Workbench → Type 0
+RepliesBy (Some errno) done ticket before status after =
+    OnWorkbench (λ b b'. FailsWorkbench (is_listing b.state) errno ticket b status b') (status ≡ chain_error_number WrongOrder) before after
+RepliesBy None true ticket before status after = OnWorkbench (λ b b'. AnswersWorkbench b ticket answer.Done status b') (status ≡ chain_error_number WrongOrder) before after
+RepliesBy None false ticket before status after = (status ≡ chain_error_number BadArgument) × (after ≡ before)
 
-abbrev pub RepliesError : (error : ℕ) → Option Workbench → (status : ℕ) → Option Workbench → Type 0
-RepliesError error before status after = RepliesBy (errno_of error) (error == 0) before status after
+abbrev pub RepliesError : (error ticket : ℕ) → Option Workbench → (status : ℕ) → Option Workbench → Type 0
+RepliesError error ticket before status after = RepliesBy (errno_of error) (error == 0) ticket before status after

@@ -86,20 +86,20 @@ statfs_said s = answer.Stats (record {
 abbrev pub wish_said : ℕ → FileAnswer
 wish_said wanted = answer.Wants (record { 0 = wanted; 1 = record {} })
 
--- a handle's call is answered by this; a bad argument, if C's numbers are no answer
-abbrev pub MayReply : Option FileAnswer → Option Workbench → (status : ℕ) → Option Workbench → Type 0
-MayReply None before status after = (status ≡ chain_error_number BadArgument) × (after ≡ before)
-MayReply (Some a) before status after = OnWorkbench (λ b b'. AnswersWorkbench b a status b') (status ≡ chain_error_number WrongOrder) before after
+-- a handle's call is answered by this, with a ticket; a bad argument, if C's numbers are no answer
+abbrev pub MayReply : Option FileAnswer → (ticket : ℕ) → Option Workbench → (status : ℕ) → Option Workbench → Type 0
+MayReply None ticket before status after = (status ≡ chain_error_number BadArgument) × (after ≡ before)
+MayReply (Some a) ticket before status after = OnWorkbench (λ b b'. AnswersWorkbench b ticket a status b') (status ≡ chain_error_number WrongOrder) before after
 
 -- the same by an answer that is always one
-abbrev pub Replies : FileAnswer → Option Workbench → (status : ℕ) → Option Workbench → Type 0
-Replies a before status after = OnWorkbench (λ b b'. AnswersWorkbench b a status b') (status ≡ chain_error_number WrongOrder) before after
+abbrev pub Replies : FileAnswer → (ticket : ℕ) → Option Workbench → (status : ℕ) → Option Workbench → Type 0
+Replies a ticket before status after = OnWorkbench (λ b b'. AnswersWorkbench b ticket a status b') (status ≡ chain_error_number WrongOrder) before after
 
 -- an INIT is answered, and the device has the options that were agreed
-abbrev pub Starts : (wanted : ℕ) → Option Workbench → FsDevice → (status : ℕ) → Option Workbench → FsDevice → Type 0
-Starts wanted before d status after d' =
+abbrev pub Starts : (wanted ticket : ℕ) → Option Workbench → FsDevice → (status : ℕ) → Option Workbench → FsDevice → Type 0
+Starts wanted ticket before d status after d' =
     OnWorkbench
-    (λ b b'. AnswersWorkbench b (wish_said wanted) status b'
+    (λ b b'. AnswersWorkbench b ticket (wish_said wanted) status b'
     × (d' ≡ (if status == 0 || status == 35 then record d { options = b'.session.options.0 } else d)))
     ((status ≡ chain_error_number WrongOrder) × (d' ≡ d)) before after
 
@@ -113,12 +113,12 @@ abbrev pub KeepsOwn : (len : ℕ) → Workbench → Workbench → Type 0
 KeepsOwn len b b' =
     IfUnanswered b.state (λ out. b' ≡ record b { state = at.HasReply out (own_reply len) })
 
--- it replies them, or says why not, and nothing is done
-abbrev pub RepliesOwn : (len : ℕ) → Workbench → (status : ℕ) → Workbench → Type 0
-RepliesOwn len b status b' =
-    ((own_error b.state len ≡ None) × (status ≡ 0) × KeepsOwn len b b')
-    ⊎ ((e : ChainError) × (own_error b.state len ≡ Some e) × (status ≡ chain_error_number e) × (b' ≡ b))
+-- it replies them, by the ticket of its chain, or says why not, and nothing is done
+abbrev pub RepliesOwn : (ticket len : ℕ) → Workbench → (status : ℕ) → Workbench → Type 0
+RepliesOwn ticket len b status b' =
+    ((own_error b.state b.serial ticket len ≡ None) × (status ≡ 0) × KeepsOwn len b b')
+    ⊎ ((e : ChainError) × (own_error b.state b.serial ticket len ≡ Some e) × (status ≡ chain_error_number e) × (b' ≡ b))
 
 -- a handle's chain is replied so
-abbrev pub RepliesBytes : (len : ℕ) → Option Workbench → (status : ℕ) → Option Workbench → Type 0
-RepliesBytes len before status after = OnWorkbench (λ b b'. RepliesOwn len b status b') (status ≡ chain_error_number WrongOrder) before after
+abbrev pub RepliesBytes : (ticket len : ℕ) → Option Workbench → (status : ℕ) → Option Workbench → Type 0
+RepliesBytes ticket len before status after = OnWorkbench (λ b b'. RepliesOwn ticket len b status b') (status ≡ chain_error_number WrongOrder) before after

@@ -24,19 +24,19 @@ use Rattle.fs_chain_c.specs.Walking.{host_at}
 
 -- nothing is to be stored
 abbrev pub no_stores : FsStores
-no_stores = record { front_len = 0; id_at = 0; len_at = 0; id = 0; len = 0; index_at = 0; index = 0; seen_at = 0 }
+no_stores = record { front_len = 0; id_at = 0; len_at = 0; id = 0; len = 0; index_at = 0; index = 0; seen_at = 0; element_guest = 0; index_guest = 0 }
 
 -- so many bytes from a guest address on stand here from one on
 abbrev pub StandsHere : List Region → (guest len here : ℕ) → Type 0
 StandsHere regions guest len here = (v : Window) × IsWindowAt (place regions) guest len v × (v.len ≡ len) × (here ≡ host_at v)
 
--- the stores of a return, told by where they are made here
+-- the stores of a return, told by where they are made here, and by the guest addresses of element and index
 abbrev pub TellsStores : List Region → Stores → FsStores → Type 0
 TellsStores regions s told =
     (told.front_len ≡ s.front_len) × StandsHere regions s.used.head.address 4 told.id_at × (told.id ≡ s.used.head.value)
     × StandsHere regions s.used.len.address 4 told.len_at × (told.len ≡ s.used.len.value)
     × StandsHere regions s.used.index.address 2 told.index_at × (told.index ≡ s.used.index.value)
-    × StandsHere regions s.seen_at 2 told.seen_at
+    × StandsHere regions s.seen_at 2 told.seen_at × (told.element_guest ≡ s.used.head.address) × (told.index_guest ≡ s.used.index.address)
 
 -- they don't: their first one has no place, or their region ends before them
 abbrev pub IsNotHere : List Region → (guest len : ℕ) → Type 0

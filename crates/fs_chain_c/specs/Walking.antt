@@ -23,7 +23,7 @@ host_at v = (v.block + v.offset) % 2 ^ 64
 
 -- nothing is told
 abbrev pub no_step : FsStep
-no_step = record { at = 0; len = 0; request_len = 0; room_len = 0; fault = 0; head = 0 }
+no_step = record { at = 0; len = 0; request_len = 0; room_len = 0; fault = 0; head = 0; ticket = 0 }
 
 -- a load: where it is made here
 abbrev pub load_step : Window → FsStep
@@ -47,7 +47,7 @@ TellsWent b (goes.On (comes.Load n)) step status = TellsLoad b step status
 TellsWent b (goes.On comes.Idle) step status = (status ≡ 33) × (step ≡ no_step)
 TellsWent b (goes.On (comes.Refused e)) step status = (status ≡ queue_number e) × (step ≡ no_step)
 TellsWent b (goes.On (comes.Chain head request room)) step status =
-    (status ≡ 0) × (step ≡ record no_step { head = head; request_len = request; room_len = room })
+    (status ≡ 0) × (step ≡ record no_step { head = head; request_len = request; room_len = room; ticket = b.serial })
 TellsWent b (goes.On (comes.Faulty head fault)) step status =
     (status ≡ 0) × (step ≡ record no_step { head = head; fault = chain_fault_number fault })
 

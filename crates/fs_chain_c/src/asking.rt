@@ -18,11 +18,11 @@ const MORE: u32 = 34;
 /// The answer is taken, but the room holds no such reply.
 pub const NO_ROOM: u32 = 35;
 
-/// Answers the call that waits, and says a status.
-pub fn answer_workbench(workbench: &mut Workbench, answer: FileAnswer) -> u32
-    ensures { AnswersWorkbench workbench.old answer result workbench.new }
+/// Answers the call with this ticket, if it waits, and says a status.
+pub fn answer_workbench(workbench: &mut Workbench, ticket: u32, answer: FileAnswer) -> u32
+    ensures { AnswersWorkbench workbench.old ticket answer result workbench.new }
 {
-    match workbench.answer(answer) {
+    match workbench.answer(ticket, answer) {
         Ok(replied) => { if replied.has_room { 0 } else { NO_ROOM } }
         Err(error) => u32::from(error.number()),
     }
@@ -52,7 +52,8 @@ fn settle(workbench: &mut Workbench, answer: Option<FileAnswer>)
 {
     match answer {
         Some(answer) => {
-            let _status = answer_workbench(workbench, answer);
+            let ticket = workbench.serial();
+            let _status = answer_workbench(workbench, ticket, answer);
         }
         None => {}
     }
@@ -105,7 +106,12 @@ pub fn ask_workbench(
     let options = FsOptions::from_bits_retain(device.options);
     let session = Session::resume(device.page_size, options);
     match workbench.ask(session, request) {
-        Ok(told) => tell(workbench, request, told, call),
+        Ok(told) => {
+            let ticket = workbench.serial();
+            let status = tell(workbench, request, told, call);
+            call.ticket = ticket;
+            status
+        }
         Err(error) => {
             *call = FsCall::none();
             u32::from(error.number())

@@ -140,6 +140,8 @@ pub struct FsCall {
     pub attr: FsAttr,
     /// That group.
     pub group: u32,
+    /// By which number an answer names the call.
+    pub ticket: u32,
 }
 
 // No place.
@@ -207,6 +209,7 @@ const NO_CALL: FsCall = FsCall {
     has_group: 0,
     attr: NO_ATTR,
     group: 0,
+    ticket: 0,
 };
 
 impl FsCall {

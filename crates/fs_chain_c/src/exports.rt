@@ -16,7 +16,7 @@ use fs_chain::ChainError;
 use std::alloc::Global;
 
 /// The header's number.
-const VERSION: u32 = 6;
+const VERSION: u32 = 7;
 
 /// What is told of a handle that has no workbench.
 pub(crate) fn wrong_order() -> u32
@@ -28,7 +28,7 @@ pub(crate) fn wrong_order() -> u32
 /// The number of the header that the archive goes with.
 #[unsafe(no_mangle)]
 pub extern "C" fn fs_version() -> u32
-    ensures { result ≡ 6 }
+    ensures { result ≡ 7 }
 {
     VERSION
 }

@@ -53,22 +53,28 @@ fn is_name(name: &[u8]) -> bool
 }
 
 // Brings an entry of READDIR.
-fn add_workbench(workbench: &mut Workbench, list: &mut [u8], entry: &DirEntry<'_>) -> u32
-    ensures { AddsWorkbench workbench.old (listed entry.now, no_node (listed entry.now)) (λ l. added_plain l (length list.old) (length entry.now.name.now)) list.old result workbench.new list.new }
+fn add_workbench(
+    workbench: &mut Workbench,
+    ticket: u32,
+    list: &mut [u8],
+    entry: &DirEntry<'_>,
+) -> u32
+    ensures { AddsWorkbench workbench.old ticket (listed entry.now, no_node (listed entry.now)) (λ l. added_plain l (length list.old) (length entry.now.name.now)) list.old result workbench.new list.new }
 {
-    added_status(workbench.add(list, entry))
+    added_status(workbench.add(ticket, list, entry))
 }
 
 // Brings an entry of READDIRPLUS.
 fn add_node_workbench(
     workbench: &mut Workbench,
+    ticket: u32,
     list: &mut [u8],
     entry: &DirEntry<'_>,
     node: Entry<u64>,
 ) -> u32
-    ensures { AddsWorkbench workbench.old (listed entry.now, node) (λ l. added_found l (length list.old) (length entry.now.name.now)) list.old result workbench.new list.new }
+    ensures { AddsWorkbench workbench.old ticket (listed entry.now, node) (λ l. added_found l (length list.old) (length entry.now.name.now)) list.old result workbench.new list.new }
 {
-    added_status(workbench.add_with_node(list, entry, node))
+    added_status(workbench.add_with_node(ticket, list, entry, node))
 }
 
 /// Puts an entry of READDIR behind those before it.
@@ -76,13 +82,14 @@ fn add_node_workbench(
 pub extern "C" fn fs_add_direntry(
     alloc: Global,
     chain: &mut FsChain,
+    ticket: u32,
     list: &mut [u8],
     name: &[u8],
     ino: u64,
     next_offset: u64,
     type_: u32,
 ) -> u32
-    ensures { AddsEntry (is_name name.now) (listed_as name.now ino next_offset type_) chain.old.value list.old result chain.new.value list.new }
+    ensures { AddsEntry (is_name name.now) (listed_as name.now ino next_offset type_) ticket chain.old.value list.old result chain.new.value list.new }
 {
     if !is_name(name) {
         return u32::from(ChainError::BadArgument.number());
@@ -96,7 +103,7 @@ pub extern "C" fn fs_add_direntry(
         type_,
         name,
     };
-    let status = add_workbench(&mut workbench, list, &entry);
+    let status = add_workbench(&mut workbench, ticket, list, &entry);
     *chain = FsChain::of_box(workbench);
     status
 }
@@ -105,11 +112,12 @@ pub extern "C" fn fs_add_direntry(
 fn add_node(
     alloc: Global,
     chain: &mut FsChain,
+    ticket: u32,
     list: &mut [u8],
     entry: &DirEntry<'_>,
     node: Option<Entry<u64>>,
 ) -> u32
-    ensures { AddsNode true (listed entry.now) node chain.old.value list.old result chain.new.value list.new }
+    ensures { AddsNode true (listed entry.now) node ticket chain.old.value list.old result chain.new.value list.new }
 {
     let Some(node) = node else {
         return u32::from(ChainError::BadArgument.number());
@@ -117,7 +125,7 @@ fn add_node(
     let Some(mut workbench) = chain.take(alloc) else {
         return wrong_order();
     };
-    let status = add_node_workbench(&mut workbench, list, entry, node);
+    let status = add_node_workbench(&mut workbench, ticket, list, entry, node);
     *chain = FsChain::of_box(workbench);
     status
 }
@@ -127,12 +135,13 @@ fn add_node(
 pub extern "C" fn fs_add_direntry_plus(
     alloc: Global,
     chain: &mut FsChain,
+    ticket: u32,
     list: &mut [u8],
     name: &[u8],
     entry: &FsEntry,
     next_offset: u64,
 ) -> u32
-    ensures { AddsNode (is_name name.now) (listed_as name.now entry.now.attr.ino next_offset (type_of entry.now)) (entry_of entry.now)
+    ensures { AddsNode (is_name name.now) (listed_as name.now entry.now.attr.ino next_offset (type_of entry.now)) (entry_of entry.now) ticket
         chain.old.value list.old result chain.new.value list.new }
 {
     if !is_name(name) {
@@ -144,14 +153,14 @@ pub extern "C" fn fs_add_direntry_plus(
         type_: entry.attr.mode / 4096 % 16,
         name,
     };
-    add_node(alloc, chain, list, &listed, entry_of(entry))
+    add_node(alloc, chain, ticket, list, &listed, entry_of(entry))
 }
 
 // Replies the entries so far: a status, and how many bytes of the list are the data.
-fn end_listing(workbench: &mut Workbench) -> (u32, u64)
-    ensures { EndsListing workbench.old result.0 result.1 workbench.new }
+fn end_listing(workbench: &mut Workbench, ticket: u32) -> (u32, u64)
+    ensures { EndsListing workbench.old ticket result.0 result.1 workbench.new }
 {
-    match workbench.end() {
+    match workbench.end(ticket) {
         Ok(len) => (0, len as u64),
         Err(error) => (u32::from(error.number()), 0),
     }
@@ -159,37 +168,42 @@ fn end_listing(workbench: &mut Workbench) -> (u32, u64)
 
 /// Replies the entries so far: how many bytes of the list are the data.
 #[unsafe(no_mangle)]
-pub extern "C" fn fs_reply_entries(alloc: Global, chain: &mut FsChain, len: &mut u64) -> u32
-    ensures { EndsList chain.old.value result len.new chain.new.value }
+pub extern "C" fn fs_reply_entries(
+    alloc: Global,
+    chain: &mut FsChain,
+    ticket: u32,
+    len: &mut u64,
+) -> u32
+    ensures { EndsList ticket chain.old.value result len.new chain.new.value }
 {
     let Some(mut workbench) = chain.take(alloc) else {
         *len = 0;
         return wrong_order();
     };
-    let (status, told) = end_listing(&mut workbench);
+    let (status, told) = end_listing(&mut workbench, ticket);
     *len = told;
     *chain = FsChain::of_box(workbench);
     status
 }
 
 // A listing fails by an errno.
-fn fail_listing(workbench: &mut Workbench, error: Errno) -> u32
-    ensures { FailsListing error workbench.old result workbench.new }
+fn fail_listing(workbench: &mut Workbench, ticket: u32, error: Errno) -> u32
+    ensures { FailsListing error ticket workbench.old result workbench.new }
 {
-    match workbench.fail(error) {
+    match workbench.fail(ticket, error) {
         Ok(behind) => { if behind == 0 { 0 } else { ENTRIES } }
         Err(error) => u32::from(error.number()),
     }
 }
 
 // A chain's call fails by an errno.
-fn fail_workbench(workbench: &mut Workbench, error: Errno) -> u32
-    ensures { FailsWorkbench (is_listing workbench.old.state) error workbench.old result workbench.new }
+fn fail_workbench(workbench: &mut Workbench, ticket: u32, error: Errno) -> u32
+    ensures { FailsWorkbench (is_listing workbench.old.state) error ticket workbench.old result workbench.new }
 {
     if workbench.is_listing() {
-        fail_listing(workbench, error)
+        fail_listing(workbench, ticket, error)
     } else {
-        answer_workbench(workbench, FileAnswer::Failed(error))
+        answer_workbench(workbench, ticket, FileAnswer::Failed(error))
     }
 }
 
@@ -201,27 +215,27 @@ fn errno_of(number: u32) -> Option<Errno>
 }
 
 // A handle's call fails by an errno.
-fn fail_chain(alloc: Global, chain: &mut FsChain, error: Errno) -> u32
-    ensures { OnWorkbench (λ b b'. FailsWorkbench (is_listing b.state) error b result b') (result ≡ 73) chain.old.value chain.new.value }
+fn fail_chain(alloc: Global, chain: &mut FsChain, ticket: u32, error: Errno) -> u32
+    ensures { OnWorkbench (λ b b'. FailsWorkbench (is_listing b.state) error ticket b result b') (result ≡ 73) chain.old.value chain.new.value }
 {
     let Some(mut workbench) = chain.take(alloc) else {
         return wrong_order();
     };
-    let status = fail_workbench(&mut workbench, error);
+    let status = fail_workbench(&mut workbench, ticket, error);
     *chain = FsChain::of_box(workbench);
     status
 }
 
 /// A chain's call is done (0), or fails by an errno.
 #[unsafe(no_mangle)]
-pub extern "C" fn fs_reply_err(alloc: Global, chain: &mut FsChain, error: u32) -> u32
-    ensures { RepliesError error chain.old.value result chain.new.value }
+pub extern "C" fn fs_reply_err(alloc: Global, chain: &mut FsChain, ticket: u32, error: u32) -> u32
+    ensures { RepliesError error ticket chain.old.value result chain.new.value }
 {
     match errno_of(error) {
-        Some(errno) => fail_chain(alloc, chain, errno),
+        Some(errno) => fail_chain(alloc, chain, ticket, errno),
         None => {
             if error == 0 {
-                reply(alloc, chain, FileAnswer::Done)
+                reply(alloc, chain, ticket, FileAnswer::Done)
             } else {
                 u32::from(ChainError::BadArgument.number())
             }

@@ -18,24 +18,24 @@ use fs_chain::{ChainError, Workbench};
 use fuse_values::FileAnswer;
 use std::alloc::Global;
 
-/// Answers the call of a handle's chain.
-pub(crate) fn reply(alloc: Global, chain: &mut FsChain, said: FileAnswer) -> u32
-    ensures { Replies said chain.old.value result chain.new.value }
+/// Answers the call of a handle's chain that has this ticket.
+pub(crate) fn reply(alloc: Global, chain: &mut FsChain, ticket: u32, said: FileAnswer) -> u32
+    ensures { Replies said ticket chain.old.value result chain.new.value }
 {
     let Some(mut workbench) = chain.take(alloc) else {
         return wrong_order();
     };
-    let status = answer_workbench(&mut workbench, said);
+    let status = answer_workbench(&mut workbench, ticket, said);
     *chain = FsChain::of_box(workbench);
     status
 }
 
 // The same, if there is an answer.
-fn may_reply(alloc: Global, chain: &mut FsChain, said: Option<FileAnswer>) -> u32
-    ensures { MayReply said chain.old.value result chain.new.value }
+fn may_reply(alloc: Global, chain: &mut FsChain, ticket: u32, said: Option<FileAnswer>) -> u32
+    ensures { MayReply said ticket chain.old.value result chain.new.value }
 {
     match said {
-        Some(said) => reply(alloc, chain, said),
+        Some(said) => reply(alloc, chain, ticket, said),
         None => u32::from(ChainError::BadArgument.number()),
     }
 }
@@ -62,10 +62,15 @@ pub extern "C" fn fs_ask(
 
 /// Answers a call that wants an entry.
 #[unsafe(no_mangle)]
-pub extern "C" fn fs_reply_entry(alloc: Global, chain: &mut FsChain, entry: &FsEntry) -> u32
-    ensures { MayReply (entry_said (entry_of entry.now)) chain.old.value result chain.new.value }
+pub extern "C" fn fs_reply_entry(
+    alloc: Global,
+    chain: &mut FsChain,
+    ticket: u32,
+    entry: &FsEntry,
+) -> u32
+    ensures { MayReply (entry_said (entry_of entry.now)) ticket chain.old.value result chain.new.value }
 {
-    may_reply(alloc, chain, entry_said(entry_of(entry)))
+    may_reply(alloc, chain, ticket, entry_said(entry_of(entry)))
 }
 
 /// Answers CREATE.
@@ -73,15 +78,17 @@ pub extern "C" fn fs_reply_entry(alloc: Global, chain: &mut FsChain, entry: &FsE
 pub extern "C" fn fs_reply_create(
     alloc: Global,
     chain: &mut FsChain,
+    ticket: u32,
     entry: &FsEntry,
     handle: u64,
     open_flags: u32,
 ) -> u32
-    ensures { MayReply (create_said (entry_of entry.now) handle open_flags) chain.old.value result chain.new.value }
+    ensures { MayReply (create_said (entry_of entry.now) handle open_flags) ticket chain.old.value result chain.new.value }
 {
     may_reply(
         alloc,
         chain,
+        ticket,
         create_said(entry_of(entry), handle, open_flags),
     )
 }
@@ -91,13 +98,14 @@ pub extern "C" fn fs_reply_create(
 pub extern "C" fn fs_reply_attr(
     alloc: Global,
     chain: &mut FsChain,
+    ticket: u32,
     attr: &FsAttr,
     secs: u64,
     nanos: u32,
 ) -> u32
-    ensures { MayReply (attr_said attr.now secs nanos) chain.old.value result chain.new.value }
+    ensures { MayReply (attr_said attr.now secs nanos) ticket chain.old.value result chain.new.value }
 {
-    may_reply(alloc, chain, attr_said(attr, secs, nanos))
+    may_reply(alloc, chain, ticket, attr_said(attr, secs, nanos))
 }
 
 /// Answers OPEN and OPENDIR.
@@ -105,53 +113,64 @@ pub extern "C" fn fs_reply_attr(
 pub extern "C" fn fs_reply_open(
     alloc: Global,
     chain: &mut FsChain,
+    ticket: u32,
     handle: u64,
     open_flags: u32,
 ) -> u32
-    ensures { Replies (open_said handle open_flags) chain.old.value result chain.new.value }
+    ensures { Replies (open_said handle open_flags) ticket chain.old.value result chain.new.value }
 {
-    reply(alloc, chain, open_said(handle, open_flags))
+    reply(alloc, chain, ticket, open_said(handle, open_flags))
 }
 
 /// Answers a call that wants data: so many bytes, which stand in the room behind the header.
 #[unsafe(no_mangle)]
-pub extern "C" fn fs_reply_data(alloc: Global, chain: &mut FsChain, len: u64) -> u32
-    ensures { Replies (answer.Bytes len) chain.old.value result chain.new.value }
+pub extern "C" fn fs_reply_data(alloc: Global, chain: &mut FsChain, ticket: u32, len: u64) -> u32
+    ensures { Replies (answer.Bytes len) ticket chain.old.value result chain.new.value }
 {
     let len = len as usize;
-    reply(alloc, chain, FileAnswer::Bytes { len })
+    reply(alloc, chain, ticket, FileAnswer::Bytes { len })
 }
 
 /// Answers GETXATTR and LISTXATTR with size 0: how many bytes there are.
 #[unsafe(no_mangle)]
-pub extern "C" fn fs_reply_xattr(alloc: Global, chain: &mut FsChain, len: u32) -> u32
-    ensures { Replies (answer.Count len) chain.old.value result chain.new.value }
+pub extern "C" fn fs_reply_xattr(alloc: Global, chain: &mut FsChain, ticket: u32, len: u32) -> u32
+    ensures { Replies (answer.Count len) ticket chain.old.value result chain.new.value }
 {
-    reply(alloc, chain, FileAnswer::Count(len))
+    reply(alloc, chain, ticket, FileAnswer::Count(len))
 }
 
 /// Answers WRITE and COPY_FILE_RANGE: how many bytes were written.
 #[unsafe(no_mangle)]
-pub extern "C" fn fs_reply_write(alloc: Global, chain: &mut FsChain, count: u32) -> u32
-    ensures { Replies (answer.Wrote count) chain.old.value result chain.new.value }
+pub extern "C" fn fs_reply_write(alloc: Global, chain: &mut FsChain, ticket: u32, count: u32) -> u32
+    ensures { Replies (answer.Wrote count) ticket chain.old.value result chain.new.value }
 {
-    reply(alloc, chain, FileAnswer::Wrote(count))
+    reply(alloc, chain, ticket, FileAnswer::Wrote(count))
 }
 
 /// Answers STATFS.
 #[unsafe(no_mangle)]
-pub extern "C" fn fs_reply_statfs(alloc: Global, chain: &mut FsChain, statfs: &FsStatfs) -> u32
-    ensures { Replies (statfs_said statfs.now) chain.old.value result chain.new.value }
+pub extern "C" fn fs_reply_statfs(
+    alloc: Global,
+    chain: &mut FsChain,
+    ticket: u32,
+    statfs: &FsStatfs,
+) -> u32
+    ensures { Replies (statfs_said statfs.now) ticket chain.old.value result chain.new.value }
 {
-    reply(alloc, chain, statfs_said(statfs))
+    reply(alloc, chain, ticket, statfs_said(statfs))
 }
 
 /// Answers LSEEK.
 #[unsafe(no_mangle)]
-pub extern "C" fn fs_reply_lseek(alloc: Global, chain: &mut FsChain, offset: u64) -> u32
-    ensures { Replies (answer.Offset offset) chain.old.value result chain.new.value }
+pub extern "C" fn fs_reply_lseek(
+    alloc: Global,
+    chain: &mut FsChain,
+    ticket: u32,
+    offset: u64,
+) -> u32
+    ensures { Replies (answer.Offset offset) ticket chain.old.value result chain.new.value }
 {
-    reply(alloc, chain, FileAnswer::Offset(offset))
+    reply(alloc, chain, ticket, FileAnswer::Offset(offset))
 }
 
 /// Answers INIT: of the options that the guest can, these are wished for besides what is agreed on anyway. The device has then what was
@@ -160,15 +179,16 @@ pub extern "C" fn fs_reply_lseek(alloc: Global, chain: &mut FsChain, offset: u64
 pub extern "C" fn fs_reply_init(
     alloc: Global,
     chain: &mut FsChain,
+    ticket: u32,
     device: &mut FsDevice,
     wanted: u64,
 ) -> u32
-    ensures { Starts wanted chain.old.value device.old result chain.new.value device.new }
+    ensures { Starts wanted ticket chain.old.value device.old result chain.new.value device.new }
 {
     let Some(mut workbench) = chain.take(alloc) else {
         return wrong_order();
     };
-    let status = answer_workbench(&mut workbench, wish_said(wanted));
+    let status = answer_workbench(&mut workbench, ticket, wish_said(wanted));
     if status == 0 || status == NO_ROOM {
         device.options = workbench.session().options().bits();
     }
@@ -177,10 +197,10 @@ pub extern "C" fn fs_reply_init(
 }
 
 // Replies so many bytes of C's own, and says a status.
-fn reply_own(workbench: &mut Workbench, len: usize) -> u32
-    ensures { RepliesOwn len workbench.old result workbench.new }
+fn reply_own(workbench: &mut Workbench, ticket: u32, len: usize) -> u32
+    ensures { RepliesOwn ticket len workbench.old result workbench.new }
 {
-    match workbench.reply(len) {
+    match workbench.reply(ticket, len) {
         Ok(()) => 0,
         Err(error) => u32::from(error.number()),
     }
@@ -188,13 +208,13 @@ fn reply_own(workbench: &mut Workbench, len: usize) -> u32
 
 /// Replies so many bytes of C's own, which stand in the room from its first place on: in place of `fs_ask`, or of an answer.
 #[unsafe(no_mangle)]
-pub extern "C" fn fs_reply_bytes(alloc: Global, chain: &mut FsChain, len: u64) -> u32
-    ensures { RepliesBytes len chain.old.value result chain.new.value }
+pub extern "C" fn fs_reply_bytes(alloc: Global, chain: &mut FsChain, ticket: u32, len: u64) -> u32
+    ensures { RepliesBytes ticket len chain.old.value result chain.new.value }
 {
     let Some(mut workbench) = chain.take(alloc) else {
         return wrong_order();
     };
-    let status = reply_own(&mut workbench, len as usize);
+    let status = reply_own(&mut workbench, ticket, len as usize);
     *chain = FsChain::of_box(workbench);
     status
 }

@@ -27,6 +27,10 @@ pub struct FsStores {
     pub index: u16,
     /// Where 2 bytes stand that are loaded after a full barrier: whether the driver wants to be told.
     pub seen_at: usize,
+    /// The guest address of the used element's 8 bytes.
+    pub element_guest: u64,
+    /// The guest address of the used index's 2 bytes.
+    pub index_guest: u64,
 }
 
 impl FsStores {
@@ -43,6 +47,8 @@ impl FsStores {
             index_at: 0,
             index: 0,
             seen_at: 0,
+            element_guest: 0,
+            index_guest: 0,
         }
     }
 }
@@ -92,6 +98,8 @@ fn told_stores(workbench: &Workbench, stores: &Stores) -> Option<FsStores>
         index_at,
         index: used.index.value,
         seen_at,
+        element_guest: used.head.address,
+        index_guest: used.index.address,
     })
 }
 

@@ -32,6 +32,8 @@ pub struct FsStep {
     pub fault: u32,
     /// The number of its first descriptor.
     pub head: u16,
+    /// By which number an answer names the chain (0: it has a fault).
+    pub ticket: u32,
 }
 
 impl FsStep {
@@ -46,6 +48,7 @@ impl FsStep {
             room_len: 0,
             fault: 0,
             head: 0,
+            ticket: 0,
         }
     }
 }
@@ -106,6 +109,7 @@ fn told(workbench: &Workbench, went: Went) -> (FsStep, u32)
             step.head = head;
             step.request_len = request_len as u64;
             step.room_len = room_len as u64;
+            step.ticket = workbench.serial();
             (step, 0)
         }
         Went::On(WalkOutcome::Faulty { head, fault }) => {

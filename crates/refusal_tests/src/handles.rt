@@ -167,7 +167,8 @@ fn expect_hello(told: &Told<'_>) -> Result<(), Unmet> {
 // The chain goes back, as one of so many: there is no such name.
 fn give_back(workbench: &mut Workbench, queue: &mut KeptQueue, number: u16) -> Result<(), Unmet> {
     let answer = FileAnswer::Failed(Errno::ENOENT);
-    met(workbench.answer(answer), Unmet::Answer)?;
+    let serial = workbench.serial();
+    met(workbench.answer(serial, answer), Unmet::Answer)?;
     let mut front = [0u8; 16];
     let stores = met(workbench.begin_return(queue, &mut front), Unmet::Answer)?;
     let told = met(workbench.end_return(queue, [0, 0]), Unmet::Answer)?;

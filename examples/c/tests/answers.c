@@ -21,16 +21,16 @@ static uint32_t reply_data(struct fs_chain *chain, const struct fs_call *call) {
     uint64_t len = call->data_len < DATA_LEN ? call->data_len : DATA_LEN;
     if (call->kind == FS_CALL_READ && len > call->size) len = call->size;
     scatter(chain, call->data_at, data, len);
-    return fs_reply_data(chain, len);
+    return fs_reply_data(chain, call->ticket, len);
 }
 
 /* What is written is copied out as it stands. */
 static uint32_t reply_write(struct fs_chain *chain, const struct fs_call *call) {
     uint8_t data[DATA_LEN];
     uint64_t len = call->data_len < DATA_LEN ? call->data_len : DATA_LEN;
-    if (call->kind != FS_CALL_WRITE) return fs_reply_write(chain, 0);
+    if (call->kind != FS_CALL_WRITE) return fs_reply_write(chain, call->ticket, 0);
     gather(chain, call->data_at, data, len);
-    return fs_reply_write(chain, (uint32_t)len);
+    return fs_reply_write(chain, call->ticket, (uint32_t)len);
 }
 
 static uint32_t reply_entries(struct fs_chain *chain, const struct fs_call *call) {
@@ -39,9 +39,9 @@ static uint32_t reply_entries(struct fs_chain *chain, const struct fs_call *call
     const uint8_t *name = (const uint8_t *)"an entry";
     uint32_t status = FS_DONE;
     for (uint64_t k = 1; k < 20 && status == FS_DONE; k++)
-        status = call->kind == FS_CALL_READDIR ? fs_add_direntry(chain, list, sizeof list, name, 8, 2, k, 8)
-                                               : fs_add_direntry_plus(chain, list, sizeof list, name, 8, &entry, k);
-    status = fs_reply_entries(chain, &len);
+        status = call->kind == FS_CALL_READDIR ? fs_add_direntry(chain, call->ticket, list, sizeof list, name, 8, 2, k, 8)
+                                               : fs_add_direntry_plus(chain, call->ticket, list, sizeof list, name, 8, &entry, k);
+    status = fs_reply_entries(chain, call->ticket, &len);
     if (status == FS_DONE) scatter(chain, call->data_at, list, len);
     return status;
 }
@@ -54,17 +54,17 @@ uint32_t answer_some(void *files, struct fs_chain *chain, struct fs_device *devi
     if (answers->yields && answers->calls++ % 16 == 0) sched_yield();
     switch (call->answer) {
     case FS_ANSWER_NONE: return FS_DONE;
-    case FS_ANSWER_ENTRY: return fs_reply_entry(chain, &entry);
-    case FS_ANSWER_ATTR: return fs_reply_attr(chain, &entry.attr, 1, 0);
-    case FS_ANSWER_OPEN: return fs_reply_open(chain, 1, 0);
-    case FS_ANSWER_CREATE: return fs_reply_create(chain, &entry, 1, 0);
+    case FS_ANSWER_ENTRY: return fs_reply_entry(chain, call->ticket, &entry);
+    case FS_ANSWER_ATTR: return fs_reply_attr(chain, call->ticket, &entry.attr, 1, 0);
+    case FS_ANSWER_OPEN: return fs_reply_open(chain, call->ticket, 1, 0);
+    case FS_ANSWER_CREATE: return fs_reply_create(chain, call->ticket, &entry, 1, 0);
     case FS_ANSWER_DATA: return reply_data(chain, call);
-    case FS_ANSWER_XATTR: return fs_reply_xattr(chain, 5);
-    case FS_ANSWER_STATFS: return fs_reply_statfs(chain, &statfs);
+    case FS_ANSWER_XATTR: return fs_reply_xattr(chain, call->ticket, 5);
+    case FS_ANSWER_STATFS: return fs_reply_statfs(chain, call->ticket, &statfs);
     case FS_ANSWER_WRITE: return reply_write(chain, call);
-    case FS_ANSWER_LSEEK: return fs_reply_lseek(chain, 5);
+    case FS_ANSWER_LSEEK: return fs_reply_lseek(chain, call->ticket, 5);
     case FS_ANSWER_ENTRIES: return reply_entries(chain, call);
-    case FS_ANSWER_INIT: return fs_reply_init(chain, device, call->options);
-    default: return fs_reply_err(chain, call->kind == FS_CALL_DESTROY || call->node % 2 ? 0 : PERMISSION);
+    case FS_ANSWER_INIT: return fs_reply_init(chain, call->ticket, device, call->options);
+    default: return fs_reply_err(chain, call->ticket, call->kind == FS_CALL_DESTROY || call->node % 2 ? 0 : PERMISSION);
     }
 }

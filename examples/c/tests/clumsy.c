@@ -21,6 +21,7 @@ struct bench {
     uint64_t request_len, room_len; /* of the chain that is out */
     bool replied;                   /* it has a reply of the author's own bytes, */
     uint64_t replied_len;           /* so many of them */
+    uint32_t ticket;
     struct fs_step step;
     struct fs_call call;
     uint8_t *request;
@@ -211,6 +212,7 @@ static uint32_t do_walk(struct bench *b, struct fs_queue *queue) {
     b->replied = false;
     b->request_len = b->step.request_len;
     b->room_len = b->step.room_len;
+    b->ticket = b->step.ticket;
     return status;
 }
 
@@ -251,6 +253,7 @@ static void do_ask(struct bench *b) {
     b->have = want;
     uint32_t status = named(fs_ask(&b->chain, &device, b->request, want, &b->call));
     if (status == FS_DONE) asked++;
+    if (status == FS_DONE && b->call.ticket != b->ticket) wrong("a call has another ticket", b->call.ticket);
     const struct fs_span *spans[] = {&b->call.name, &b->call.name2, &b->call.value};
     for (size_t k = 0; k < 3; k++)
         if ((uint64_t)spans[k]->at + spans[k]->len > want) wrong("a span lies behind the request", k);
@@ -300,28 +303,42 @@ static void do_windows(struct bench *b) {
     calls += 3;
 }
 
+/* That of the chain, or a late one. */
+static uint32_t some_ticket(const struct bench *b) {
+    return below(30) ? b->ticket : (uint32_t)ONE_OF(b->ticket - 1, b->ticket + 1, 0, chance());
+}
+
+/* An answer with another ticket than that of the chain is taken for no call's, and one with its ticket isn't refused for that. */
+static void check_ticket(const struct bench *b, uint32_t ticket, uint32_t status) {
+    bool is_mine = ticket == b->ticket;
+    if (is_mine ? status == FS_OTHER_CALL : status != FS_OTHER_CALL && status != FS_WRONG_ORDER && status != FS_BAD_ARGUMENT)
+        wrong("a ticket is taken for another one", status);
+}
+
 static struct fs_entry some_entry(void) {
     struct fs_entry entry = {.node = below(3), .entry_secs = 1, .attr = {.ino = 7, .mode = 0100644}};
     if (below(10) == 0) entry.entry_nanos = (uint32_t)chance();
     return entry;
 }
 
-static void do_entries(struct bench *b) {
+static uint32_t do_entries(struct bench *b, uint32_t ticket) {
     struct fs_entry entry = some_entry();
     size_t len = below(BUFFER), name_len = below(300);
+    uint32_t status = FS_WRONG_ORDER;
     uint64_t listed;
     uint8_t name[300];
     memset(name, 'n', sizeof name);
     begin_buffer(len);
     for (uint64_t k = below(6); k > 0; k--) {
-        (void)named(fs_add_direntry(&b->chain, buffer, len, name, name_len, 7, k, 8));
-        (void)named(fs_add_direntry_plus(&b->chain, buffer, len, name, name_len, &entry, k));
+        check_ticket(b, ticket, named(fs_add_direntry(&b->chain, ticket, buffer, len, name, name_len, 7, k, 8)));
+        check_ticket(b, ticket, named(fs_add_direntry_plus(&b->chain, ticket, buffer, len, name, name_len, &entry, k)));
     }
     check_buffer(len);
     if (below(2) == 0) {
-        (void)named(fs_reply_entries(&b->chain, &listed));
+        status = named(fs_reply_entries(&b->chain, ticket, &listed));
         if (listed > b->room_len) wrong("a list is longer than the room", listed);
     }
+    return status;
 }
 
 /* The answer that is waited for, or another one. */
@@ -329,35 +346,33 @@ static void do_reply(struct bench *b) {
     struct fs_entry entry = some_entry();
     struct fs_attr attr = {.ino = 1};
     struct fs_statfs statfs = {.bsize = 4096};
+    struct fs_chain *chain = &b->chain;
+    uint32_t ticket = some_ticket(b), status;
     switch (below(3) ? b->call.answer : below(14)) {
-    case FS_ANSWER_DONE: (void)named(fs_reply_err(&b->chain, 0)); break;
-    case FS_ANSWER_ENTRY: (void)named(fs_reply_entry(&b->chain, &entry)); break;
-    case FS_ANSWER_ATTR:
-        (void)named(fs_reply_attr(&b->chain, &attr, 1, (uint32_t)ONE_OF(0, 999999999, 1000000000, chance())));
-        break;
-    case FS_ANSWER_OPEN: (void)named(fs_reply_open(&b->chain, chance(), 0)); break;
-    case FS_ANSWER_CREATE: (void)named(fs_reply_create(&b->chain, &entry, chance(), 0)); break;
-    case FS_ANSWER_DATA:
-        (void)named(fs_reply_data(&b->chain, below(4) ? below(b->call.data_len + 1) : chance()));
-        break;
-    case FS_ANSWER_XATTR: (void)named(fs_reply_xattr(&b->chain, (uint32_t)chance())); break;
-    case FS_ANSWER_STATFS: (void)named(fs_reply_statfs(&b->chain, &statfs)); break;
-    case FS_ANSWER_WRITE:
-        (void)named(fs_reply_write(&b->chain, (uint32_t)(below(4) ? below(b->call.size + 1) : chance())));
-        break;
-    case FS_ANSWER_LSEEK: (void)named(fs_reply_lseek(&b->chain, chance())); break;
-    case FS_ANSWER_ENTRIES: do_entries(b); break;
-    case FS_ANSWER_INIT: (void)named(fs_reply_init(&b->chain, &device, chance())); break;
-    default: (void)named(fs_reply_err(&b->chain, (uint32_t)ONE_OF(2, 38, 4095, 4096, 0, chance()))); break;
+    case FS_ANSWER_DONE: status = fs_reply_err(chain, ticket, 0); break;
+    case FS_ANSWER_ENTRY: status = fs_reply_entry(chain, ticket, &entry); break;
+    case FS_ANSWER_ATTR: status = fs_reply_attr(chain, ticket, &attr, 1, (uint32_t)ONE_OF(0, 999999999, 1000000000, chance())); break;
+    case FS_ANSWER_OPEN: status = fs_reply_open(chain, ticket, chance(), 0); break;
+    case FS_ANSWER_CREATE: status = fs_reply_create(chain, ticket, &entry, chance(), 0); break;
+    case FS_ANSWER_DATA: status = fs_reply_data(chain, ticket, below(4) ? below(b->call.data_len + 1) : chance()); break;
+    case FS_ANSWER_XATTR: status = fs_reply_xattr(chain, ticket, (uint32_t)chance()); break;
+    case FS_ANSWER_STATFS: status = fs_reply_statfs(chain, ticket, &statfs); break;
+    case FS_ANSWER_WRITE: status = fs_reply_write(chain, ticket, (uint32_t)(below(4) ? below(b->call.size + 1) : chance())); break;
+    case FS_ANSWER_LSEEK: status = fs_reply_lseek(chain, ticket, chance()); break;
+    case FS_ANSWER_ENTRIES: status = do_entries(b, ticket); break;
+    case FS_ANSWER_INIT: status = fs_reply_init(chain, ticket, &device, chance()); break;
+    default: status = fs_reply_err(chain, ticket, (uint32_t)ONE_OF(2, 38, 4095, 4096, 0, chance())); break;
     }
+    check_ticket(b, ticket, named(status));
 }
 
 /* A reply of the author's own bytes: in place of fs_ask or of an answer, behind one, or of a chain that isn't out. */
 static void do_bytes(struct bench *b) {
     uint64_t room = b->room_len, none;
     uint64_t len = ONE_OF(0, FS_HEADER, below(room + 1), room, room + 1, room + below(100), UINT32_MAX, chance());
-    uint32_t status = named(fs_reply_bytes(&b->chain, len));
-    if (status == FS_LONG_REPLY ? len <= room : status != FS_DONE && status != FS_WRONG_ORDER)
+    uint32_t ticket = some_ticket(b), status = named(fs_reply_bytes(&b->chain, ticket, len));
+    check_ticket(b, ticket, status);
+    if (status == FS_LONG_REPLY ? len <= room : status != FS_DONE && status != FS_WRONG_ORDER && status != FS_OTHER_CALL)
         wrong("bytes are refused otherwise", status);
     if (status != FS_DONE) return;
     if (len > room) wrong("bytes are longer than the room", len);
@@ -367,8 +382,8 @@ static void do_bytes(struct bench *b) {
     replied++;
     memset(buffer, 'b', BUFFER);
     scatter(&b->chain, 0, buffer, len < BUFFER ? (size_t)len : BUFFER);
-    if (named(fs_reply_bytes(&b->chain, 0)) != FS_WRONG_ORDER || named(fs_reply_err(&b->chain, 0)) != FS_WRONG_ORDER ||
-        named(fs_reply_entries(&b->chain, &none)) != FS_WRONG_ORDER)
+    if (named(fs_reply_bytes(&b->chain, ticket, 0)) != FS_WRONG_ORDER || named(fs_reply_err(&b->chain, ticket, 0)) != FS_WRONG_ORDER ||
+        named(fs_reply_entries(&b->chain, ticket, &none)) != FS_WRONG_ORDER)
         wrong("a chain has two replies", len);
 }
 
@@ -380,6 +395,7 @@ static void check_stores(const struct bench *b, const struct fs_queue *queue, co
         wrong("a store lies outside", element);
     if (stores->len_at - stores->id_at != 4 && b->region_count == 1) wrong("the element's halves lie apart", element);
     if (stores->index != (uint16_t)(queue->returned + 1)) wrong("another index", stores->index);
+    if (stores->element_guest != element || stores->index_guest != queue->used + 2) wrong("another guest address", stores->element_guest);
     if (stores->front_len > stores->len || stores->len > b->room_len)
         wrong("the reply is longer than the room", stores->len);
     if (b->replied && (stores->front_len || stores->len != b->replied_len)) wrong("other bytes go back", stores->len);

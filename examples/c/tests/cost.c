@@ -1,5 +1,6 @@
 /* What a chain costs by the library, with plain loads and stores: requests as a Linux guest cuts them, header, arguments and data in
  * pieces of their own, by direct descriptors; and one of 130 descriptors in a table, as a READ of 512 KiB has. Answers and data are at hand.
+ * One chain is out at a time, or four or sixteen of a queue, each by a handle of its own: all are taken, then answered, then given back.
  * cost [CHAINS]: prints for each kind of request the least of nine runs, in nanoseconds for a chain. */
 #define _POSIX_C_SOURCE 200809L
 #include "../access.h"
@@ -9,7 +10,7 @@
 #include <time.h>
 
 enum { SIZE = 256, DESC = 0x1000, AVAIL = 0x2000, USED = 0x3000, REQUEST = 0x4000, ROOM = 0x6000, TABLE = 0x8000, END = 0x9000 };
-enum { NEXT = 1, WRITE = 2, INDIRECT = 4, RUNS = 9, PIECES = 3, DATA = 4096, ENTRY = 16 };
+enum { NEXT = 1, WRITE = 2, INDIRECT = 4, RUNS = 9, PIECES = 3, DATA = 4096, ENTRY = 16, MOST_OUT = 16 };
 
 static _Alignas(4096) uint8_t memory[END];
 static uint8_t file[DATA];
@@ -21,6 +22,7 @@ struct row {
     uint32_t opcode;
     size_t request[PIECES], room[PIECES], pages;
     uint32_t (*answer)(struct fs_chain *, const struct fs_call *);
+    size_t out; /* so many chains at a time */
 };
 
 static void put(size_t at, uint64_t value, size_t len) {
@@ -34,17 +36,17 @@ static uint32_t answer_none(struct fs_chain *chain, const struct fs_call *call) 
 
 static uint32_t answer_attr(struct fs_chain *chain, const struct fs_call *call) {
     struct fs_attr attr = {.ino = call->node, .mode = 0100644, .nlink = 1};
-    return fs_reply_attr(chain, &attr, 1, 0);
+    return fs_reply_attr(chain, call->ticket, &attr, 1, 0);
 }
 
 static uint32_t answer_entry(struct fs_chain *chain, const struct fs_call *call) {
     struct fs_entry entry = {.node = call->node + 1, .attr = {.ino = 2, .mode = 0100644, .nlink = 1}};
-    return fs_reply_entry(chain, &entry);
+    return fs_reply_entry(chain, call->ticket, &entry);
 }
 
 static uint32_t answer_read(struct fs_chain *chain, const struct fs_call *call) {
     scatter(chain, FS_HEADER, file, call->size);
-    return fs_reply_data(chain, call->size);
+    return fs_reply_data(chain, call->ticket, call->size);
 }
 
 static uint32_t answer_write(struct fs_chain *chain, const struct fs_call *call) {
@@ -52,16 +54,20 @@ static uint32_t answer_write(struct fs_chain *chain, const struct fs_call *call)
     size_t count = fs_request_windows(chain, call->data_at, call->data_len, windows, PIECES), done = 0;
     for (size_t k = 0; k < count; done += windows[k++].len)
         memcpy(file + done, (const uint8_t *)memory + (windows[k].at - (uintptr_t)memory), windows[k].len);
-    return fs_reply_write(chain, (uint32_t)done);
+    return fs_reply_write(chain, call->ticket, (uint32_t)done);
 }
 
 static const struct row rows[] = {
-    {"unknown opcode", 0x7777, {40}, {16}, 0, answer_none},
-    {"GETATTR", 3, {40, 16}, {16, 104}, 0, answer_attr},
-    {"LOOKUP", 1, {40, 5}, {16, 128}, 0, answer_entry},
-    {"READ 4 KiB", 15, {40, 40}, {16, DATA}, 0, answer_read},
-    {"WRITE 4 KiB", 16, {40, 40, DATA}, {16, 8}, 0, answer_write},
-    {"130 descriptors in a table", 0x7777, {40}, {16}, 128, answer_none},
+    {"unknown opcode", 0x7777, {40}, {16}, 0, answer_none, 1},
+    {"GETATTR", 3, {40, 16}, {16, 104}, 0, answer_attr, 1},
+    {"LOOKUP", 1, {40, 5}, {16, 128}, 0, answer_entry, 1},
+    {"READ 4 KiB", 15, {40, 40}, {16, DATA}, 0, answer_read, 1},
+    {"WRITE 4 KiB", 16, {40, 40, DATA}, {16, 8}, 0, answer_write, 1},
+    {"130 descriptors in a table", 0x7777, {40}, {16}, 128, answer_none, 1},
+    {"LOOKUP, four out", 1, {40, 5}, {16, 128}, 0, answer_entry, 4},
+    {"LOOKUP, sixteen out", 1, {40, 5}, {16, 128}, 0, answer_entry, MOST_OUT},
+    {"READ 4 KiB, four out", 15, {40, 40}, {16, DATA}, 0, answer_read, 4},
+    {"READ 4 KiB, sixteen out", 15, {40, 40}, {16, DATA}, 0, answer_read, MOST_OUT},
 };
 
 /* Lays the entry of an index in a table. */
@@ -107,42 +113,48 @@ static void lay_request(const struct row *row) {
     lay_chain(row);
 }
 
-static void serve_next(const struct row *row, struct fs_chain *chain, struct fs_queue *queue, const struct fs_device *device) {
-    struct fs_step step;
+static void serve_next(const struct row *row, struct fs_chain *chains, struct fs_queue *queue, const struct fs_device *device) {
+    struct fs_step steps[MOST_OUT];
     struct fs_call call;
     uint8_t request[FS_FIRST];
     bool notify = false;
-    put(AVAIL + 2, (uint16_t)(queue->position + 1), 2);
-    if (take_chain(chain, queue, &step) || ask(chain, device, request, load_front(chain, &step, request), &call) ||
-        row->answer(chain, &call) || give_back(chain, queue, NULL, &notify))
-        abort();
+    put(AVAIL + 2, (uint16_t)(queue->position + row->out), 2);
+    for (size_t k = 0; k < row->out; k++)
+        if (take_chain(&chains[k], queue, &steps[k])) abort();
+    for (size_t k = 0; k < row->out; k++)
+        if (ask(&chains[k], device, request, load_front(&chains[k], &steps[k], request), &call) || row->answer(&chains[k], &call)) abort();
+    for (size_t k = 0; k < row->out; k++)
+        if (give_back(&chains[k], queue, NULL, &notify)) abort();
 }
 
-static double measure(const struct row *row, struct fs_chain *chain, struct fs_queue *queue, const struct fs_device *device,
+static double measure(const struct row *row, struct fs_chain *chains, struct fs_queue *queue, const struct fs_device *device,
                       long count) {
     struct timespec from, to;
+    long rounds = (count + (long)row->out - 1) / (long)row->out;
     clock_gettime(CLOCK_MONOTONIC, &from);
-    for (long k = 0; k < count; k++) serve_next(row, chain, queue, device);
+    for (long k = 0; k < rounds; k++) serve_next(row, chains, queue, device);
     clock_gettime(CLOCK_MONOTONIC, &to);
-    return ((double)(to.tv_sec - from.tv_sec) * 1e9 + (double)(to.tv_nsec - from.tv_nsec)) / (double)count;
+    double nanoseconds = (double)(to.tv_sec - from.tv_sec) * 1e9 + (double)(to.tv_nsec - from.tv_nsec);
+    return nanoseconds / (double)(rounds * (long)row->out);
 }
 
 int main(int argc, char **argv) {
     long count = argc > 1 ? atol(argv[1]) : 100000;
-    struct fs_chain chain = {0};
+    struct fs_chain chains[MOST_OUT] = {{0}};
     struct fs_device device = {.page_size = 4096, .limit = 0x101000};
     struct fs_region region = {0, sizeof memory, (uintptr_t)memory};
-    struct fs_queue queue = {.size = SIZE, .desc = DESC, .avail = AVAIL, .used = USED};
-    if (count < 1 || fs_chain_set_memory(&chain, &device, &region, 1)) return 1;
+    struct fs_queue queue = {.size = SIZE, .desc = DESC, .avail = AVAIL, .used = USED, .most_out = MOST_OUT};
+    for (size_t k = 0; k < MOST_OUT; k++)
+        if (count < 1 || fs_chain_set_memory(&chains[k], &device, &region, 1)) return 1;
     for (size_t at = 0; at < sizeof rows / sizeof *rows; at++) {
         double least = 0;
         lay_request(&rows[at]);
         for (int k = 0; k < RUNS; k++) {
-            double next = measure(&rows[at], &chain, &queue, &device, count);
+            double next = measure(&rows[at], chains, &queue, &device, count);
             if (k == 0 || next < least) least = next;
         }
         printf("%s: %.0f nanoseconds a chain\n", rows[at].name, least);
     }
-    fs_chain_free(&chain);
+    for (size_t k = 0; k < MOST_OUT; k++) fs_chain_free(&chains[k]);
     return 0;
 }

@@ -86,6 +86,7 @@ struct world {
 /* `told` is the world after each call with ample memory. */
 static struct world now, before, told[CALLS];
 static struct fs_chain chains[HANDLES], *chain = chains; /* the handle that is looked at, and the others, which have chains out meanwhile */
+static uint32_t tickets[HANDLES]; /* of their calls */
 static size_t at_call, call_count;
 
 #define PLACE(member) offsetof(struct world, member), sizeof now.member
@@ -105,11 +106,12 @@ static const struct {
     FIELD(queues),
     FIELD(restored),
     FIELDS(step.at, step.head),
+    FIELD(step.ticket),
     FIELDS(call.kind, call.fault),
     FIELDS(call.unique, call.has_group),
-    FIELDS(call.attr, call.group),
+    FIELDS(call.attr, call.ticket),
     FIELDS(stores.front_len, stores.index),
-    FIELD(stores.seen_at),
+    FIELDS(stores.seen_at, stores.index_guest),
     FIELD(listed),
     FIELD(len),
     FIELD(count),
@@ -119,7 +121,9 @@ static const struct {
     FIELD(notify),
     FIELDS(seen.walks, seen.answers),
     FIELDS(seen.wanted.at, seen.wanted.head),
+    FIELD(seen.wanted.ticket),
     FIELDS(seen.first.at, seen.first.head),
+    FIELD(seen.first.ticket),
     FIELDS(seen.request_count, seen.ranges),
 };
 
@@ -192,7 +196,7 @@ static void look(void) {
     }
     seen->asks = fs_ask(chain, &now.device, nothing, sizeof nothing, &call);
     bool is_seek = now.call.answer == FS_ANSWER_LSEEK;
-    seen->answers = is_seek ? fs_reply_open(chain, 1, 0) : fs_reply_lseek(chain, 1);
+    seen->answers = is_seek ? fs_reply_open(chain, tickets[chain - chains], 1, 0) : fs_reply_lseek(chain, tickets[chain - chains], 1);
     seen->request_count = fs_request_windows(chain, 0, UINT64_MAX, seen->request, WINDOWS);
     seen->room_count = fs_room_windows(chain, 0, UINT64_MAX, seen->room, WINDOWS);
     seen->range_count = fs_room_ranges(chain, 0, UINT64_MAX, seen->ranges, WINDOWS);
@@ -381,6 +385,7 @@ static void ask(const struct row *row) {
         do begin(ASK);
         while (again(fs_ask(chain, &now.device, request, have, &now.call), FS_DONE));
     }
+    tickets[chain - chains] = now.call.ticket;
     if (now.call.kind != row->kind || now.call.answer != row->answer)
         wrong("another call: ", fs_call_name(now.call.kind));
 }
@@ -390,25 +395,25 @@ static const struct fs_entry entry = {.node = 2, .entry_secs = 1, .attr = {.ino 
 static uint32_t add(const char *name, uint64_t next) {
     const uint8_t *bytes = (const uint8_t *)name;
     if (now.call.kind == FS_CALL_READDIR)
-        return fs_add_direntry(chain, now.list, sizeof now.list, bytes, strlen(name), 2, next, 8);
-    return fs_add_direntry_plus(chain, now.list, sizeof now.list, bytes, strlen(name), &entry, next);
+        return fs_add_direntry(chain, tickets[chain - chains], now.list, sizeof now.list, bytes, strlen(name), 2, next, 8);
+    return fs_add_direntry_plus(chain, tickets[chain - chains], now.list, sizeof now.list, bytes, strlen(name), &entry, next);
 }
 
 static uint32_t answer_so(uint32_t answer) {
     static const struct fs_statfs statfs = {.blocks = 1, .bsize = PAGE};
     switch (answer) {
-    case FS_ANSWER_ENTRY: return fs_reply_entry(chain, &entry);
-    case FS_ANSWER_ATTR: return fs_reply_attr(chain, &entry.attr, 1, 0);
-    case FS_ANSWER_OPEN: return fs_reply_open(chain, 1, 0);
-    case FS_ANSWER_CREATE: return fs_reply_create(chain, &entry, 1, 0);
-    case FS_ANSWER_DATA: return fs_reply_data(chain, 100);
-    case FS_ANSWER_XATTR: return fs_reply_xattr(chain, 5);
-    case FS_ANSWER_STATFS: return fs_reply_statfs(chain, &statfs);
-    case FS_ANSWER_WRITE: return fs_reply_write(chain, 5);
-    case FS_ANSWER_LSEEK: return fs_reply_lseek(chain, 5);
-    case FS_ANSWER_ENTRIES: return fs_reply_entries(chain, &now.listed);
-    case FS_ANSWER_INIT: return fs_reply_init(chain, &now.device, 0);
-    default: return fs_reply_err(chain, 0);
+    case FS_ANSWER_ENTRY: return fs_reply_entry(chain, tickets[chain - chains], &entry);
+    case FS_ANSWER_ATTR: return fs_reply_attr(chain, tickets[chain - chains], &entry.attr, 1, 0);
+    case FS_ANSWER_OPEN: return fs_reply_open(chain, tickets[chain - chains], 1, 0);
+    case FS_ANSWER_CREATE: return fs_reply_create(chain, tickets[chain - chains], &entry, 1, 0);
+    case FS_ANSWER_DATA: return fs_reply_data(chain, tickets[chain - chains], 100);
+    case FS_ANSWER_XATTR: return fs_reply_xattr(chain, tickets[chain - chains], 5);
+    case FS_ANSWER_STATFS: return fs_reply_statfs(chain, tickets[chain - chains], &statfs);
+    case FS_ANSWER_WRITE: return fs_reply_write(chain, tickets[chain - chains], 5);
+    case FS_ANSWER_LSEEK: return fs_reply_lseek(chain, tickets[chain - chains], 5);
+    case FS_ANSWER_ENTRIES: return fs_reply_entries(chain, tickets[chain - chains], &now.listed);
+    case FS_ANSWER_INIT: return fs_reply_init(chain, tickets[chain - chains], &now.device, 0);
+    default: return fs_reply_err(chain, tickets[chain - chains], 0);
     }
 }
 

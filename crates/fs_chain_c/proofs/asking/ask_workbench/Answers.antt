@@ -1,4 +1,4 @@
-use Rattle.std.proofs.Common.{rules, inl, inr}
+use Rattle.std.proofs.Common.{rules, ℕ, inl, inr, ap, ◌∙◌}
 use Rattle.fs_chain_c.proofs.asking.ask_workbench.Goals as goal
 
 pub returns-in-Ok : goal.returns-in-Ok
@@ -11,7 +11,9 @@ returns-in-Ok c =
         c.ask.new.self,
         c.in-Ok.told,
         record { can = search rules; tells = search rules; wanted = search rules; session = search rules; stays = search rules },
-        search rules,
+        c.tell-status.new.call,
+        c.tell-status.ensures,
+        ap (λ (n : ℕ). record c.tell-status.new.call { ticket = n }) (c.serial-ticket.ensures ∙ c.ask.ensures.same.0.2),
       ),
     ))
 

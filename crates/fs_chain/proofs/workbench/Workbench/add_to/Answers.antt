@@ -8,4 +8,4 @@ use Rattle.fs_chain.proofs.workbench.Workbench.add_to.Goals as goal
 pub returns-clause-adds : goal.returns-clause-adds
 returns-clause-adds c =
     let add = c.add-outcome.ensures in
-    (c.told_added.ensures ∙ ap told_added add.outcome, (_, refl, adds_by _ _ _ _ (listed c.args.entry.now, no_node (listed c.args.entry.now)) _ _ add.outcome add.holds add.full add.fails add.same add.stays))
+    (c.told_added-told.ensures ∙ ap told_added add.outcome, (_, refl, adds_by _ _ _ _ (listed c.args.entry.now, no_node (listed c.args.entry.now)) _ _ add.outcome add.holds add.full add.fails add.same add.stays))

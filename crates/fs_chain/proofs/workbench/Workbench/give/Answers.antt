@@ -9,7 +9,7 @@ returns-in-Load-clause-walks c =
     let w = c.args.self.now in
     walks_on c.in-Walking.course c.in-Walking.ticket c.in-Walking.walk _ _ _ _ _ _ c.requires.goes c.in-Walking.is (
       step.Load c.in-Load.next,
-      (ap tells.Load c.len-len.ensures.len, refl, refl, tt, (refl, refl)),
+      (ap tells.Load c.len-len.ensures.len, refl, refl, tt, (refl, refl, refl, refl)),
       comes_taken c.in-Walking.course c.in-Walking.walk c.take-taken.result c.args.loaded.now (step.Load c.in-Load.next) w.regions w.descriptors.items c.give.new.descriptors.items
           c.take-taken.ensures c.in-Load.ensures,
     )
