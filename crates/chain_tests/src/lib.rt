@@ -12,6 +12,8 @@ mod laws;
 #[cfg(test)]
 mod listings;
 #[cfg(test)]
+mod lives;
+#[cfg(test)]
 mod orders;
 #[cfg(test)]
 mod regions;

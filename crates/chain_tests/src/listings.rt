@@ -51,7 +51,8 @@ fn bring(
     ensures brought { OnOk result (Brings workbench.old list.old (listed entry.now, node) (Ok Added.In) workbench.new list.new) }
     ensures kind { OnOk result (FromLists workbench.old.state (λ l. l.with_nodes ≡ true)) }
 {
-    match workbench.add_with_node(list, entry, node)? {
+    let serial = workbench.serial();
+    match workbench.add_with_node(serial, list, entry, node)? {
         Added::In => Ok(()),
         _ => Err(ChainError::LongReply),
     }
@@ -70,7 +71,8 @@ fn list_two(
     let (first, second) = nodes;
     bring(workbench, list, &entries.first, first)?;
     bring(workbench, list, &entries.second, second)?;
-    workbench.end()
+    let serial = workbench.serial();
+    workbench.end(serial)
 }
 
 // A chain that is out alone and lists two entries with their nodes is a step by the listing and its look-ups.

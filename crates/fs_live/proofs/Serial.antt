@@ -28,7 +28,7 @@ use Rattle.fs_device.proofs.StepByLemmas.{step_by_is_step}
 use Rattle.fs_live.specs.Live.{Phase, Faulty, Fetched, Asked, OutChain, LiveState, LiveEvent, Walks, Asks, Answers, Returns, Sleeps, Begins, Happens, LiveRun, WalksSo, AsksSo, AnswersSo, ReturnsSo, calls_in, fault_of, new_chain, after_take, room_of, serving, acts_of, GoesBackWith}
 use Rattle.fs_live.specs.Runs.{IsAskedIn, options_left, after_alone, chain_loads, request_in}
 use Rattle.fs_live.specs.Several.{LiveQueue, took, gave, returning, wants}
-use Rattle.fs_live.specs.Serial.{IsAtRest, RoundIsStep, SerialIsKick, return_in, IsOfChain, plain}
+use Rattle.fs_live.specs.Serial.{IsAtRest, SingleIsStep, SerialIsKick, return_in, IsOfChain, plain}
 use Rattle.fs_live.proofs.Alone.{Walked, IsWhole, Exchanging, asked_walked, new_walked, exchange_of, room_offered, effects_of}
 use Rattle.fs_live.proofs.Queues.{none_some, same_some, there_same}
 use Rattle.fs_live.proofs.Options.{leaves_none, leaves_again}
@@ -316,13 +316,13 @@ state_same m files queues queues' options options' limit limit' page_size page_s
     ap (λ q. state_of m q options files limit page_size) qs ∙ ap (λ o. state_of m queues' o files limit page_size) os ∙ ap (λ l. state_of m queues' options' files l page_size) ls
     ∙ ap (λ p. state_of m queues' options' files limit' p) ps
 
--- ---- a round
+-- ---- a chain alone
 
 wants_flags : (w : LiveQueue) (seen : List ℕ) → w.event_index ≡ false → wants w seen ≡ tells seen
 wants_flags w seen no_event = rw no_event refl
 
-pub round_is_step : {F : Type 0} (may : May F) → RoundIsStep may
-round_is_step {F} may s after r m w none there rest of run found =
+pub single_is_step : {F : Type 0} (may : May F) → SingleIsStep may
+single_is_step {F} may s after r m w none there rest of run found =
     let i = r.queue in
     let walk : WalksSo s i r.loaded r.descriptors (step.Chain r.head r.fault) run.0 = run.1 in
     let v = walk.w in
@@ -392,7 +392,7 @@ serial_is_kick {F} may s after [] m m' i w none there rest run =
 serial_is_kick {F} may s after (r ∷ rs) m m' i w none there rest run =
     let mid = run.0 in
     let at_r : slice_get s.queues r.queue ≡ Some w = ap (λ (j : ℕ). slice_get s.queues j) run.1 ∙ there in
-    let one = round_is_step may s mid r m w none at_r rest run.2 run.3 run.4 in
+    let one = single_is_step may s mid r m w none at_r rest run.2 run.3 run.4 in
     let next : Memory = after_stores m (stores_among (acts_of (return_in r))) in (
       plain mid next,
       subst (λ (j : ℕ). Step may (plain s m) j (calls_in r.chain.phase) (Exchanged r.exchange r.notice) (plain mid next)) run.1 one.0,

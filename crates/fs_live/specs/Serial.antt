@@ -17,7 +17,7 @@ use Rattle.fs_live.specs.Live.{OutChain, LiveState, LiveEvent, Walks, Asks, Answ
 use Rattle.fs_live.specs.Runs.{request_in}
 
 -- a chain from its walk to its return, with what happens between
-pub record Round : Type 0 where
+pub record Single : Type 0 where
   pub queue : ℕ
   pub loaded : Loaded
   pub descriptors : List Descriptor
@@ -32,11 +32,11 @@ pub record Round : Type 0 where
   pub seen : List ℕ
 
 -- its return
-abbrev pub return_in : Round → LiveEvent
+abbrev pub return_in : Single → LiveEvent
 return_in r = Returns r.chain r.exchange r.notice r.last r.used r.seen
 
 -- all its events
-abbrev pub events_in : Round → List LiveEvent
+abbrev pub events_in : Single → List LiveEvent
 events_in r = Walks r.queue r.loaded r.descriptors (step.Chain r.head r.fault) ∷ (r.between ++ return_in r ∷ [])
 
 -- between them the chain is asked and answered, and nothing else happens
@@ -55,33 +55,33 @@ abbrev pub IsAtRest : LiveQueue → Type 0
 IsAtRest w = (w.event_index ≡ false) × (w.returned ≡ w.queue.position)
 
 -- one memory has what was loaded, the flags too, at the moment of each load; its places are the run's; what is stored last of the reply lies apart from the rest
-pub record FoundIn {F : Type 0} (m : Memory) (s : LiveState F) (r : Round) : Type 0 where
+pub record FoundIn {F : Type 0} (m : Memory) (s : LiveState F) (r : Single) : Type 0 where
   pub places : location m ≡ location s.places
   pub loads : (w : LiveQueue) → slice_get s.queues r.queue ≡ Some w → HasLoaded m w.queue r.loaded (request_in r.chain.phase)
   pub flags : (w : LiveQueue) → slice_get s.queues r.queue ≡ Some w → FindFlags m w.queue (acts_of (return_in r))
   pub apart : MayStoreLast m (room_of r.chain) r.last
 
--- such a round is a step of the plain machine, which leaves the memory with the stores in it
-abbrev pub RoundIsStep : {F : Type 0} → May F → Type 0
-RoundIsStep {F} may =
-    (s after : LiveState F) (r : Round) (m : Memory) (w : LiveQueue) → s.outs ≡ [] → slice_get s.queues r.queue ≡ Some w → IsAtRest w → AllByRecursion IsOfChain r.between →
+-- such a chain is a step of the plain machine, which leaves the memory with the stores in it
+abbrev pub SingleIsStep : {F : Type 0} → May F → Type 0
+SingleIsStep {F} may =
+    (s after : LiveState F) (r : Single) (m : Memory) (w : LiveQueue) → s.outs ≡ [] → slice_get s.queues r.queue ≡ Some w → IsAtRest w → AllByRecursion IsOfChain r.between →
     LiveRun may s (events_in r) after → FoundIn m s r →
     Step may (plain s m) r.queue (calls_in r.chain.phase) (Exchanged r.exchange r.notice) (plain after (after_stores m (stores_among (acts_of (return_in r)))))
     × (after.outs ≡ []) × (w' : LiveQueue) × (slice_get after.queues r.queue ≡ Some w') × IsAtRest w'
 
--- rounds of queue i, one after the other
-abbrev pub SerialRun : {F : Type 0} → May F → ℕ → Memory → LiveState F → List Round → Memory → LiveState F → Type 0
+-- such chains of queue i, one after the other
+abbrev pub SerialRun : {F : Type 0} → May F → ℕ → Memory → LiveState F → List Single → Memory → LiveState F → Type 0
 SerialRun may i m s [] m' after = (m' ≡ m) × (after ≡ s)
 SerialRun {F} may i m s (r ∷ rs) m' after =
     (mid : LiveState F) × (r.queue ≡ i) × AllByRecursion IsOfChain r.between × LiveRun may s (events_in r) mid × FoundIn m s r
     × SerialRun may i (after_stores m (stores_among (acts_of (return_in r)))) mid rs m' after
 
 -- what the plain machine is told of it
-abbrev pub turn_of : Round → Turn
+abbrev pub turn_of : Single → Turn
 turn_of r = record { exchange = r.exchange; notice = r.notice; calls = calls_in r.chain.phase }
 
 -- a serial run by loads that one memory has is a kick of the plain machine over it
 abbrev pub SerialIsKick : {F : Type 0} → May F → Type 0
 SerialIsKick {F} may =
-    (s after : LiveState F) (rs : List Round) (m m' : Memory) (i : ℕ) (w : LiveQueue) → s.outs ≡ [] → slice_get s.queues i ≡ Some w → IsAtRest w → SerialRun may i m s rs m' after →
+    (s after : LiveState F) (rs : List Single) (m m' : Memory) (i : ℕ) (w : LiveQueue) → s.outs ≡ [] → slice_get s.queues i ≡ Some w → IsAtRest w → SerialRun may i m s rs m' after →
     KickRun may (plain s m) i (length rs) (map turn_of rs) None (plain after m')

@@ -6,7 +6,7 @@ ghost use Rattle.fs_live.specs.InitBeside.{InitBeside};
 ghost use Rattle.fs_live.specs.Overlap.{Overlap};
 ghost use Rattle.fs_live.specs.Rewritten.{Rewritten};
 ghost use Rattle.fs_live.specs.Runs.{CallsAreARun, LiveUsedInOrder, OncePerLiveChain, ReturnedIsStepBy, RunsOnQueue, StoresStayThere};
-ghost use Rattle.fs_live.specs.Serial.{RoundIsStep, SerialIsKick};
+ghost use Rattle.fs_live.specs.Serial.{SingleIsStep, SerialIsKick};
 ghost use Rattle.fs_live.specs.Several.{ByEvent, KeepsOrder, OncePerChain, OneAtATime, UsedInOrder};
 
 use fuse_fs::FileSystem;
@@ -34,7 +34,7 @@ pub fn law_runs<F: FileSystem, G: FileSystem>()
 
 /// One chain after another on one queue, over a memory that has what was loaded: the plain machine's steps, and its kick.
 pub fn law_serial<F: FileSystem>()
-    ensures round { RoundIsStep F.may }
+    ensures single { SingleIsStep F.may }
     ensures kick { SerialIsKick F.may }
 {}
 

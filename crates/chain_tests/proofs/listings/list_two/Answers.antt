@@ -1,5 +1,5 @@
 use Rattle.std.proofs.Common.{refl}
-use Rattle.fs_chain.proofs.WholeEntries.{ended_by}
+use Rattle.chain_tests.proofs.Ended.{ended_ok}
 use Rattle.chain_tests.proofs.Served.{if_ok}
 use Rattle.chain_tests.proofs.listings.list_two.Goals as goal
 
@@ -20,4 +20,4 @@ returns c =
       ends = ended;
       told = refl;
     })
-    (ended_by c.end.result gathered c.end.new.self c.end.ensures.ended c.end.ensures.stays)
+    (ended_ok c.end.result gathered c.end.new.self c.end.ensures.ended c.end.ensures.stays)

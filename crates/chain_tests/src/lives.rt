@@ -1,0 +1,80 @@
+//! Chains that are out at once, by a handle each, are a run beside a guest that writes.
+
+ghost use Rattle.std.specs.Prelude.{◌≡◌, ℕ, List, [], ◌∷◌, map, IsPermutation, IsTrue, None, Some, IfOk, OnOk, slice_get};
+ghost use Rattle.fs_regions.specs.Places.{places_in};
+ghost use Rattle.fs_chain.specs.Whole.{IsWalked};
+ghost use Rattle.fs_chain.specs.declared.state.State.TheVariants as at;
+ghost use Rattle.fs_live.specs.Handles.{live_of};
+ghost use Rattle.fs_live.specs.Live.{LiveEvent, LiveRun, LiveState};
+ghost use Rattle.fs_live.specs.Runs.{tickets_on};
+ghost use Rattle.fs_live.specs.Several.{may_take};
+
+use crate::given::{expect_same, queue, workbench};
+use crate::wholes::walk_chain;
+use call_log::CallLog;
+use fs_chain::{ChainError, KeptQueue, WalkOutcome, Went, Workbench};
+use fs_live::{law_handles, law_runs};
+use fuse_fs::FileSystem;
+
+// A walk through a queue of which one more chain may be out comes to a chain: its head, and how many bytes its request and its room have.
+fn take_one(
+    workbench: &mut Workbench,
+    queue: &mut KeptQueue,
+    given: &[&[u8]],
+) -> Result<(u16, usize, usize), ChainError>
+    requires free { workbench.old.state ≡ at.Free }
+    ensures walked { IfOk result (λ c. IsWalked workbench.old workbench.new queue.old queue.new (Went.On (WalkOutcome.Chain c.0 c.1 c.2))) }
+    ensures may { OnOk result (IsTrue (may_take (live_of queue.old))) }
+{
+    if queue.out() >= queue.most_out {
+        return Err(ChainError::ChainOut);
+    }
+    walk_chain(workbench, queue, given)
+}
+
+// Two chains of one queue are taken by two handles: both are out then, each once.
+fn take_two<F: FileSystem>(
+    first: &mut Workbench,
+    second: &mut Workbench,
+    queue: &mut KeptQueue,
+    given: &[&[u8]],
+    more: &[&[u8]],
+) -> Result<(u16, u16), ChainError>
+    requires first_free { first.old.state ≡ at.Free }
+    requires second_free { second.old.state ≡ at.Free }
+    requires goes { queue.old.stopped ≡ None }
+    ensures out { IfOk result (λ heads. (s : LiveState F) (i : ℕ) → s.outs ≡ [] → slice_get s.queues i ≡ Some (live_of queue.old)
+        → s.places ≡ places_in first.old.regions → s.places ≡ places_in second.old.regions → s.limit ≡ first.old.limit → s.limit ≡ second.old.limit
+        → (es : List LiveEvent) × (next : LiveState F) × LiveRun F.may s es next
+        × IsPermutation (map (λ t. t.1) (tickets_on i next.outs)) (heads.0 ∷ heads.1 ∷ [])) }
+{
+    law_handles::<F>();
+    law_runs::<F, F>();
+    let (head, _, _) = take_one(first, queue, given)?;
+    let (other, _, _) = take_one(second, queue, more)?;
+    Ok((head, other))
+}
+
+// The loads of the first two chains of a queue: of head 1 as ever, and of head 3, with 46 bytes at 0x300 and no room.
+const FIRST: &[&[u8]] = &[
+    &[1, 0],
+    &[1, 0],
+    &[0, 1, 0, 0, 0, 0, 0, 0, 46, 0, 0, 0, 1, 0, 2, 0],
+    &[0, 2, 0, 0, 0, 0, 0, 0, 144, 0, 0, 0, 2, 0, 0, 0],
+];
+
+const SECOND: &[&[u8]] = &[
+    &[1, 0],
+    &[3, 0],
+    &[0, 3, 0, 0, 0, 0, 0, 0, 46, 0, 0, 0, 0, 0, 0, 0],
+];
+
+#[test]
+fn two_chains_are_out_at_once(rt: HostRuntime) {
+    let mut first = workbench(&rt, rt.alloc());
+    let mut second = workbench(&rt, rt.alloc());
+    let mut queue = queue(&rt);
+    queue.most_out = 2;
+    let told = take_two::<CallLog>(&mut first, &mut second, &mut queue, FIRST, SECOND);
+    expect_same(&rt, told, Ok((1, 3)));
+}
