@@ -53,6 +53,6 @@ suites() {
         [ "$(wc -l < "$work/suite-$name-ours")" -gt 3 ] || failure "suite $name: it tells nothing"
         diff "$work/suite-$name-virtiofsd" "$work/suite-$name-ours" > "$work/suite-$name.diff" ||
             failure "suite $name: other outcomes than over virtiofsd: $(grep '^[<>]' "$work/suite-$name.diff" | head -n 20)"
-        echo "suite $name: $(wc -l < "$work/suite-$name-ours") outcomes, $(grep -cE ': (PASS|OK|0|completed)' "$work/suite-$name-ours") of them good"
+        echo "suite $name: $(wc -l < "$work/suite-$name-ours") outcomes over each"
     done
 }
