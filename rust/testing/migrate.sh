@@ -7,7 +7,12 @@
 # The logs of a journey on which one failed or was nudged are kept in WORK/kept.
 
 # What a monitor prints comes to `said` of its folder.
-listen() { (cat "$1/monitor.out" >> "$1/said" 2> "$work/none") & }
+listen() {
+    (
+        until [ -p "$1/monitor.out" ]; do sleep 0.1; done
+        cat "$1/monitor.out" >> "$1/said" 2> "$work/none"
+    ) &
+}
 
 is_alive() { kill -0 "$1" 2> "$work/none"; }
 
