@@ -80,6 +80,8 @@ numbered! {
         NoPlace = 77, "what is to be loaded or stored has no place";
         /// Another chain of the queue is being returned.
         Returning = 78, "another chain of the queue is being returned";
+        /// The answer is of a call that is gone.
+        OtherCall = 79, "an answer of a call that is gone";
         /// A record ends early.
         RecordTruncated = 81, "the record ends early";
         /// It isn't a record.

@@ -4,7 +4,7 @@ use crate::memory::{GuestRange as Range, Region, Window};
 use crate::queue::Queue;
 use core::ffi::c_void;
 
-pub const VERSION: u32 = 6;
+pub const VERSION: u32 = 7;
 pub const REGIONS_MAX: usize = 64;
 pub const QUEUES_MAX: usize = 64;
 pub const FIRST: usize = 80;
@@ -96,6 +96,7 @@ pub struct Step {
     pub room_len: u64,
     pub fault: u32,
     pub head: u16,
+    pub ticket: u32,
 }
 
 #[repr(C)]
@@ -169,6 +170,7 @@ pub struct Call {
     pub has_group: u8,
     pub attr: Attr,
     pub group: u32,
+    pub ticket: u32,
 }
 
 #[repr(C)]
@@ -207,6 +209,8 @@ pub struct Stores {
     pub index_at: usize,
     pub index: u16,
     pub seen_at: usize,
+    pub element_guest: u64,
+    pub index_guest: u64,
 }
 
 #[repr(C)]
@@ -232,23 +236,23 @@ extern "C" {
     pub fn fs_room_windows(chain: &mut Chain, from: u64, len: u64, windows: *mut Window, window_count: usize) -> usize;
     pub fn fs_room_ranges(chain: &mut Chain, from: u64, len: u64, ranges: *mut Range, range_count: usize) -> usize;
     pub fn fs_ask(chain: &mut Chain, device: &Device, request: *const u8, request_len: usize, call: &mut Call) -> u32;
-    pub fn fs_reply_err(chain: &mut Chain, error: u32) -> u32;
-    pub fn fs_reply_entry(chain: &mut Chain, entry: &Entry) -> u32;
-    pub fn fs_reply_create(chain: &mut Chain, entry: &Entry, handle: u64, open_flags: u32) -> u32;
-    pub fn fs_reply_attr(chain: &mut Chain, attr: &Attr, secs: u64, nanos: u32) -> u32;
-    pub fn fs_reply_open(chain: &mut Chain, handle: u64, open_flags: u32) -> u32;
-    pub fn fs_reply_data(chain: &mut Chain, len: u64) -> u32;
-    pub fn fs_reply_xattr(chain: &mut Chain, len: u32) -> u32;
-    pub fn fs_reply_write(chain: &mut Chain, count: u32) -> u32;
-    pub fn fs_reply_statfs(chain: &mut Chain, statfs: &Statfs) -> u32;
-    pub fn fs_reply_lseek(chain: &mut Chain, offset: u64) -> u32;
-    pub fn fs_reply_init(chain: &mut Chain, device: &mut Device, wanted: u64) -> u32;
-    pub fn fs_add_direntry(chain: &mut Chain, list: *mut u8, list_len: usize, name: *const u8, name_len: usize, ino: u64,
-        next_offset: u64, r#type: u32) -> u32;
-    pub fn fs_add_direntry_plus(chain: &mut Chain, list: *mut u8, list_len: usize, name: *const u8, name_len: usize,
-        entry: &Entry, next_offset: u64) -> u32;
-    pub fn fs_reply_entries(chain: &mut Chain, len: &mut u64) -> u32;
-    pub fn fs_reply_bytes(chain: &mut Chain, len: u64) -> u32;
+    pub fn fs_reply_err(chain: &mut Chain, ticket: u32, error: u32) -> u32;
+    pub fn fs_reply_entry(chain: &mut Chain, ticket: u32, entry: &Entry) -> u32;
+    pub fn fs_reply_create(chain: &mut Chain, ticket: u32, entry: &Entry, handle: u64, open_flags: u32) -> u32;
+    pub fn fs_reply_attr(chain: &mut Chain, ticket: u32, attr: &Attr, secs: u64, nanos: u32) -> u32;
+    pub fn fs_reply_open(chain: &mut Chain, ticket: u32, handle: u64, open_flags: u32) -> u32;
+    pub fn fs_reply_data(chain: &mut Chain, ticket: u32, len: u64) -> u32;
+    pub fn fs_reply_xattr(chain: &mut Chain, ticket: u32, len: u32) -> u32;
+    pub fn fs_reply_write(chain: &mut Chain, ticket: u32, count: u32) -> u32;
+    pub fn fs_reply_statfs(chain: &mut Chain, ticket: u32, statfs: &Statfs) -> u32;
+    pub fn fs_reply_lseek(chain: &mut Chain, ticket: u32, offset: u64) -> u32;
+    pub fn fs_reply_init(chain: &mut Chain, ticket: u32, device: &mut Device, wanted: u64) -> u32;
+    pub fn fs_add_direntry(chain: &mut Chain, ticket: u32, list: *mut u8, list_len: usize, name: *const u8, name_len: usize,
+        ino: u64, next_offset: u64, r#type: u32) -> u32;
+    pub fn fs_add_direntry_plus(chain: &mut Chain, ticket: u32, list: *mut u8, list_len: usize, name: *const u8,
+        name_len: usize, entry: &Entry, next_offset: u64) -> u32;
+    pub fn fs_reply_entries(chain: &mut Chain, ticket: u32, len: &mut u64) -> u32;
+    pub fn fs_reply_bytes(chain: &mut Chain, ticket: u32, len: u64) -> u32;
     pub fn fs_return(chain: &mut Chain, queue: &mut Queue, front: *mut u8, front_len: usize, stores: &mut Stores) -> u32;
     pub fn fs_returned(chain: &mut Chain, queue: &mut Queue, seen: u16, notify: &mut u8) -> u32;
     pub fn fs_save(device: &Device, queues: *const Queue, queue_count: usize, buffer: *mut u8, buffer_len: usize,
