@@ -58,12 +58,15 @@ begin_stop() {
 
 settle() { here=$next here_kind=$next_kind here_server=$next_server here_qemu=$next_qemu; }
 
-# The guest is gone from here: sets `outcome`. One that stands still there is stopped and resumed once.
+# The guest is gone from here, says QEMU here: sets `outcome`. One that stands still there is stopped and resumed once.
 arrive() {
     outcome=moved
     if ! tells "$next" "$next_qemu" READER; then
         outcome=failed
-        is_alive "$next_qemu" || return 0
+        if ! is_alive "$next_qemu"; then
+            stay
+            return
+        fi
         say "$next" stop cont
         ! tells "$next" "$next_qemu" READER || outcome=nudged
     fi
@@ -73,10 +76,12 @@ arrive() {
     settle
 }
 
-# The guest stays: whether it goes on, and what keeps it is a file that is gone.
+# It wasn't taken there: whether it goes on here, and what kept it is a file that is gone. QEMU says that a guest is gone as soon as it has
+# sent all, so it may have to be resumed.
 stay() {
     wait "$next_qemu" || true
     wait "$next_server" || true
+    say "$here" cont
     ! grep -q 'has lost inode' "$next/server" || ! tells "$here" "$here_qemu" READER || outcome=refused
     : > "$here/said"
 }
