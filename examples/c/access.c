@@ -19,54 +19,54 @@ static void load(void *to, uintptr_t at, size_t len) {
     else copy_out(to, at, len);
 }
 
-uint32_t take_chain(struct fs_chain *chain, struct fs_queue *queue, struct fs_step *step) {
-    uint8_t bytes[FS_LOAD_MAX];
+uint32_t take_chain(struct pk_chain *chain, struct pk_queue *queue, struct pk_step *step) {
+    uint8_t bytes[PK_LOAD_MAX];
     uint32_t status;
-    *step = (struct fs_step){0};
-    while ((status = fs_walk(chain, queue, bytes, step->len, step)) == FS_LOAD) load(bytes, step->at, step->len);
+    *step = (struct pk_step){0};
+    while ((status = pk_walk(chain, queue, bytes, step->len, step)) == PK_LOAD) load(bytes, step->at, step->len);
     return status;
 }
 
-void gather(struct fs_chain *chain, uint64_t from, void *to, uint64_t len) {
-    struct fs_window windows[WINDOWS];
+void gather(struct pk_chain *chain, uint64_t from, void *to, uint64_t len) {
+    struct pk_window windows[WINDOWS];
     size_t count;
-    while (len > 0 && (count = fs_request_windows(chain, from, len, windows, WINDOWS)) > 0)
+    while (len > 0 && (count = pk_request_windows(chain, from, len, windows, WINDOWS)) > 0)
         for (size_t k = 0; k < count; k++) {
             copy_out(to, windows[k].at, windows[k].len);
             to = (uint8_t *)to + windows[k].len, from += windows[k].len, len -= windows[k].len;
         }
 }
 
-void scatter(struct fs_chain *chain, uint64_t from, const void *bytes, uint64_t len) {
-    struct fs_window windows[WINDOWS];
+void scatter(struct pk_chain *chain, uint64_t from, const void *bytes, uint64_t len) {
+    struct pk_window windows[WINDOWS];
     size_t count;
-    while (len > 0 && (count = fs_room_windows(chain, from, len, windows, WINDOWS)) > 0)
+    while (len > 0 && (count = pk_room_windows(chain, from, len, windows, WINDOWS)) > 0)
         for (size_t k = 0; k < count; k++) {
             memcpy((void *)windows[k].at, bytes, windows[k].len);
             bytes = (const uint8_t *)bytes + windows[k].len, from += windows[k].len, len -= windows[k].len;
         }
 }
 
-size_t load_front(struct fs_chain *chain, const struct fs_step *step, uint8_t *request) {
-    size_t len = step->request_len < FS_FIRST ? (size_t)step->request_len : FS_FIRST;
+size_t load_front(struct pk_chain *chain, const struct pk_step *step, uint8_t *request) {
+    size_t len = step->request_len < PK_FIRST ? (size_t)step->request_len : PK_FIRST;
     gather(chain, 0, request, len);
     return len;
 }
 
-uint32_t ask(struct fs_chain *chain, const struct fs_device *device, uint8_t *request, size_t have, struct fs_call *call) {
+uint32_t ask(struct pk_chain *chain, const struct pk_device *device, uint8_t *request, size_t have, struct pk_call *call) {
     uint32_t status;
-    while ((status = fs_ask(chain, device, request, have, call)) == FS_MORE) {
-        if (call->needed > FS_REQUEST_MAX) return FS_SHORT_BUFFER; /* a limit above it wants a longer buffer */
+    while ((status = pk_ask(chain, device, request, have, call)) == PK_MORE) {
+        if (call->needed > PK_REQUEST_MAX) return PK_SHORT_BUFFER; /* a limit above it wants a longer buffer */
         gather(chain, have, request + have, call->needed - have);
         have = call->needed;
     }
     return status;
 }
 
-static void mark_room(struct fs_chain *chain, const struct marker *marker, uint64_t len) {
-    struct fs_window windows[WINDOWS];
+static void mark_room(struct pk_chain *chain, const struct marker *marker, uint64_t len) {
+    struct pk_window windows[WINDOWS];
     for (uint64_t from = 0; from < len;) {
-        size_t count = fs_room_windows(chain, from, len - from, windows, WINDOWS);
+        size_t count = pk_room_windows(chain, from, len - from, windows, WINDOWS);
         if (count == 0) return;
         for (size_t k = 0; k < count; k++) {
             marker->mark(marker->log, windows[k].at, windows[k].len);
@@ -75,17 +75,17 @@ static void mark_room(struct fs_chain *chain, const struct marker *marker, uint6
     }
 }
 
-static void mark_stores(struct fs_chain *chain, const struct marker *marker, const struct fs_stores *stores) {
+static void mark_stores(struct pk_chain *chain, const struct marker *marker, const struct pk_stores *stores) {
     mark_room(chain, marker, stores->len);
     marker->mark(marker->log, stores->id_at, 4);
     marker->mark(marker->log, stores->len_at, 4);
     marker->mark(marker->log, stores->index_at, 2);
 }
 
-uint32_t give_back(struct fs_chain *chain, struct fs_queue *queue, const struct marker *marker, bool *notify) {
-    uint8_t front[FS_FRONT_MAX], wanted = 0;
-    struct fs_stores stores;
-    uint32_t status = fs_return(chain, queue, front, sizeof front, &stores);
+uint32_t give_back(struct pk_chain *chain, struct pk_queue *queue, const struct marker *marker, bool *notify) {
+    uint8_t front[PK_FRONT_MAX], wanted = 0;
+    struct pk_stores stores;
+    uint32_t status = pk_return(chain, queue, front, sizeof front, &stores);
     if (status) return status;
     scatter(chain, 0, front, stores.front_len);
     atomic_store_explicit((_Atomic uint32_t *)stores.id_at, stores.id, memory_order_relaxed);
@@ -94,25 +94,25 @@ uint32_t give_back(struct fs_chain *chain, struct fs_queue *queue, const struct 
     if (marker) mark_stores(chain, marker, &stores);
     /* Without a full barrier the flags may be read before the driver sees the index, and a notification is lost. */
     atomic_thread_fence(memory_order_seq_cst);
-    status = fs_returned(chain, queue, load_index(stores.seen_at), &wanted);
+    status = pk_returned(chain, queue, load_index(stores.seen_at), &wanted);
     *notify = *notify || wanted;
     return status;
 }
 
-bool ask_kicks(struct fs_chain *chain, const struct fs_queue *queue, bool wanted, const struct marker *marker) {
-    struct fs_store store;
-    if (fs_ask_kicks(chain, queue, wanted, &store) != FS_DONE || store.len == 0) return false;
+bool ask_kicks(struct pk_chain *chain, const struct pk_queue *queue, bool wanted, const struct marker *marker) {
+    struct pk_store store;
+    if (pk_ask_kicks(chain, queue, wanted, &store) != PK_DONE || store.len == 0) return false;
     atomic_store_explicit((_Atomic uint16_t *)store.at, store.value, memory_order_relaxed);
     if (marker) marker->mark(marker->log, store.at, store.len);
     atomic_thread_fence(memory_order_seq_cst);
     return true;
 }
 
-void give_up(struct fs_chain *chain, struct fs_queue *queue, uint32_t ticket, const struct marker *marker, bool *notify) {
+void give_up(struct pk_chain *chain, struct pk_queue *queue, uint32_t ticket, const struct marker *marker, bool *notify) {
     uint8_t wanted;
-    if (fs_drop(chain, queue) == FS_DONE) return;
-    uint32_t status = fs_reply_bytes(chain, ticket, 0); /* silence, unless it has a reply */
+    if (pk_drop(chain, queue) == PK_DONE) return;
+    uint32_t status = pk_reply_bytes(chain, ticket, 0); /* silence, unless it has a reply */
     status = give_back(chain, queue, marker, notify);
-    if (status != FS_DONE) status = fs_returned(chain, queue, 0, &wanted); /* its stores were told: it ends without them */
-    if (status != FS_DONE) fs_abandon(chain);                              /* the queue was begun anew */
+    if (status != PK_DONE) status = pk_returned(chain, queue, 0, &wanted); /* its stores were told: it ends without them */
+    if (status != PK_DONE) pk_abandon(chain);                              /* the queue was begun anew */
 }

@@ -16,30 +16,30 @@ uint16_t load_index(uintptr_t at);
 
 /* Says to the driver whether its kicks are wanted (VIRTIO 1.2, 2.7.10): at most one store of 2 bytes, and a full barrier. Whether something was
  * stored: where they are wanted, walk once more then, since a chain may have come before the driver could know. `marker` may be NULL. */
-bool ask_kicks(struct fs_chain *chain, const struct fs_queue *queue, bool wanted, const struct marker *marker);
+bool ask_kicks(struct pk_chain *chain, const struct pk_queue *queue, bool wanted, const struct marker *marker);
 
-/* Walks to the next chain of a queue: the status is FS_DONE with a chain, FS_IDLE, or why there is none. */
-uint32_t take_chain(struct fs_chain *chain, struct fs_queue *queue, struct fs_step *step);
+/* Walks to the next chain of a queue: the status is PK_DONE with a chain, PK_IDLE, or why there is none. */
+uint32_t take_chain(struct pk_chain *chain, struct pk_queue *queue, struct pk_step *step);
 
 /* Copies `len` bytes of the request out, from its byte `from` on. */
-void gather(struct fs_chain *chain, uint64_t from, void *to, uint64_t len);
+void gather(struct pk_chain *chain, uint64_t from, void *to, uint64_t len);
 
 /* Copies `len` bytes into the room of the reply, from its byte `from` on. */
-void scatter(struct fs_chain *chain, uint64_t from, const void *bytes, uint64_t len);
+void scatter(struct pk_chain *chain, uint64_t from, const void *bytes, uint64_t len);
 
-/* Loads the request's first bytes, and says how many: at most FS_FIRST. */
-size_t load_front(struct fs_chain *chain, const struct fs_step *step, uint8_t *request);
+/* Loads the request's first bytes, and says how many: at most PK_FIRST. */
+size_t load_front(struct pk_chain *chain, const struct pk_step *step, uint8_t *request);
 
 /* Asks what the request means, of which `have` bytes were loaded, and loads more as they are wanted, each once. `request` has
- * FS_REQUEST_MAX bytes, which hold any request if the device's limit is that; a longer one is FS_SHORT_BUFFER. */
-uint32_t ask(struct fs_chain *chain, const struct fs_device *device, uint8_t *request, size_t have, struct fs_call *call);
+ * PK_REQUEST_MAX bytes, which hold any request if the device's limit is that; a longer one is PK_SHORT_BUFFER. */
+uint32_t ask(struct pk_chain *chain, const struct pk_device *device, uint8_t *request, size_t have, struct pk_call *call);
 
 /* Gives a chain back in the order of VIRTIO 1.2, 2.7.8, and marks the stores and as much of the room as the reply has (what else
  * was put into the room, mark yourself); `marker` may be NULL. `notify` becomes true if the driver wants to be told. */
-uint32_t give_back(struct fs_chain *chain, struct fs_queue *queue, const struct marker *marker, bool *notify);
+uint32_t give_back(struct pk_chain *chain, struct pk_queue *queue, const struct marker *marker, bool *notify);
 
 /* Has this chain out of the queue no more, whatever it came to: one that wasn't asked waits as before if it is the last that was taken, and
  * any other goes back, with silence if it has no reply. `ticket` is the step's, `notify` as with give_back. */
-void give_up(struct fs_chain *chain, struct fs_queue *queue, uint32_t ticket, const struct marker *marker, bool *notify);
+void give_up(struct pk_chain *chain, struct pk_queue *queue, uint32_t ticket, const struct marker *marker, bool *notify);
 
 #endif

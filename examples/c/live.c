@@ -7,7 +7,7 @@
 #include <sys/eventfd.h>
 #include <unistd.h>
 
-enum { PAGE_SIZE = 4096, LIMIT = FS_REQUEST_MAX, RETRY_MILLISECONDS = 10 };
+enum { PAGE_SIZE = 4096, LIMIT = PK_REQUEST_MAX, RETRY_MILLISECONDS = 10 };
 
 /* What came of looking for a chain: one went back, none waits, or one waits for which there is no memory yet. */
 enum found { SERVED, NOTHING, LATER };
@@ -20,26 +20,26 @@ static void signal_event(int fd) {
 /* ------------------------------------------------------------- one chain */
 
 /* From the request to the reply, without the lock: a slow file holds its own chain alone. */
-static uint32_t serve_request(struct worker *worker, const struct fs_step *step) {
+static uint32_t serve_request(struct worker *worker, const struct pk_step *step) {
     struct live *live = worker->live;
-    struct fs_device device = {PAGE_SIZE, LIMIT, atomic_load(live->options)};
+    struct pk_device device = {PAGE_SIZE, LIMIT, atomic_load(live->options)};
     uint64_t options = device.options;
-    struct fs_call call;
+    struct pk_call call;
     size_t have = load_front(&worker->chain, step, worker->request);
     uint32_t status = ask(&worker->chain, &device, worker->request, have, &call);
-    if (status != FS_DONE) return status;
+    if (status != PK_DONE) return status;
     status = live->answer(live->files, &worker->chain, &device, &call, worker->request);
     if (device.options != options) atomic_store(live->options, device.options);
-    return status == FS_DONE || status == FS_NO_ROOM ? FS_DONE : fs_reply_err(&worker->chain, call.ticket, EIO);
+    return status == PK_DONE || status == PK_NO_ROOM ? PK_DONE : pk_reply_err(&worker->chain, call.ticket, EIO);
 }
 
-/* Takes the next chain. FS_CHAIN_OUT: as many are out as the queue holds, and whoever gives one back looks again. */
-static uint32_t take(struct worker *worker, struct fs_step *step) {
+/* Takes the next chain. PK_CHAIN_OUT: as many are out as the queue holds, and whoever gives one back looks again. */
+static uint32_t take(struct worker *worker, struct pk_step *step) {
     struct live *live = worker->live;
-    uint32_t status = live->refused ? FS_IDLE : take_chain(&worker->chain, &live->queue, step);
+    uint32_t status = live->refused ? PK_IDLE : take_chain(&worker->chain, &live->queue, step);
     uint16_t out = (uint16_t)(live->queue.position - live->queue.returned);
     if (out > live->most) live->most = out;
-    return status == FS_CHAIN_OUT ? FS_IDLE : status;
+    return status == PK_CHAIN_OUT ? PK_IDLE : status;
 }
 
 /* Says to the driver whether it has to kick, if it doesn't know. Whether it had to be told: then look once more, since a chain may have come
@@ -65,25 +65,25 @@ static void hand_on(struct worker *worker) {
 /* The lock is held, but while the request is served. */
 static enum found serve_one(struct worker *worker) {
     struct live *live = worker->live;
-    struct fs_step step;
+    struct pk_step step;
     bool notify = false;
     uint32_t status = take(worker, &step);
-    if (status == FS_IDLE) return NOTHING;
-    if (status == FS_DONE) hand_on(worker);
-    if (status == FS_DONE && step.fault == 0) {
+    if (status == PK_IDLE) return NOTHING;
+    if (status == PK_DONE) hand_on(worker);
+    if (status == PK_DONE && step.fault == 0) {
         pthread_mutex_unlock(&live->lock);
         status = serve_request(worker, &step);
         pthread_mutex_lock(&live->lock);
-    } else if (status == FS_DONE) {
+    } else if (status == PK_DONE) {
         live->faulty++;
     }
-    if (status == FS_DONE) status = give_back(&worker->chain, &live->queue, live->marker, &notify);
-    if (status != FS_DONE) give_up(&worker->chain, &live->queue, step.ticket, live->marker, &notify);
+    if (status == PK_DONE) status = give_back(&worker->chain, &live->queue, live->marker, &notify);
+    if (status != PK_DONE) give_up(&worker->chain, &live->queue, step.ticket, live->marker, &notify);
     if (notify) signal_event(live->call);
-    if (status == FS_OUT_OF_MEMORY) return LATER;
-    if (status == FS_DONE) live->served++;
+    if (status == PK_OUT_OF_MEMORY) return LATER;
+    if (status == PK_DONE) live->served++;
     else if (!live->refused) live->refused = status;
-    return status == FS_DONE ? SERVED : NOTHING;
+    return status == PK_DONE ? SERVED : NOTHING;
 }
 
 /* ------------------------------------------------------------- sleep and wake */
@@ -118,26 +118,26 @@ static void *work(void *at) {
 
 /* ------------------------------------------------------------- start and stop */
 
-static int start_worker(struct live *live, const struct fs_region *regions, size_t region_count) {
+static int start_worker(struct live *live, const struct pk_region *regions, size_t region_count) {
     struct worker *worker = &live->workers[live->count];
-    struct fs_device device = {PAGE_SIZE, LIMIT, 0};
-    *worker = (struct worker){.live = live, .request = malloc(FS_REQUEST_MAX)};
+    struct pk_device device = {PAGE_SIZE, LIMIT, 0};
+    *worker = (struct worker){.live = live, .request = malloc(PK_REQUEST_MAX)};
     live->count++;
     if (!worker->request) return ENOMEM;
-    if (fs_chain_set_memory(&worker->chain, &device, regions, region_count) != FS_DONE) return EINVAL;
+    if (pk_chain_set_memory(&worker->chain, &device, regions, region_count) != PK_DONE) return EINVAL;
     int error = pthread_create(&worker->thread, NULL, work, worker);
-    if (error) fs_chain_free(&worker->chain);
+    if (error) pk_chain_free(&worker->chain);
     return error;
 }
 
-int live_start(struct live *live, const struct fs_region *regions, size_t region_count, size_t thread_count) {
+int live_start(struct live *live, const struct pk_region *regions, size_t region_count, size_t thread_count) {
     live->quit = eventfd(0, EFD_CLOEXEC);
     live->workers = calloc(thread_count, sizeof *live->workers);
     live->queue.most_out = thread_count < live->queue.size ? (uint16_t)thread_count : live->queue.size;
     live->sleeping = (unsigned)thread_count;
     live->kicks = UNTOLD; /* the first thread that finds no chain tells the driver, whatever flags a device of before left */
     if (live->quit < 0 || !live->workers || pthread_mutex_init(&live->lock, NULL)) return ENOMEM;
-    if (fs_queue_begin(&live->queue, live->queue.position) != FS_DONE) return EINVAL;
+    if (pk_queue_begin(&live->queue, live->queue.position) != PK_DONE) return EINVAL;
     for (size_t k = 0; k < thread_count; k++) {
         int error = start_worker(live, regions, region_count);
         if (error) return error;
@@ -156,7 +156,7 @@ void live_stop(struct live *live) {
     signal_event(live->quit);
     for (size_t k = 0; k < live->count; k++) {
         pthread_join(live->workers[k].thread, NULL);
-        fs_chain_free(&live->workers[k].chain);
+        pk_chain_free(&live->workers[k].chain);
         free(live->workers[k].request);
     }
     free(live->workers);

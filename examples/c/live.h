@@ -6,15 +6,15 @@
 #include "access.h"
 #include <pthread.h>
 
-/* What answers a call: FS_DONE or FS_NO_ROOM, or why the chain gets no such answer (it is told EIO then). `device` is a copy of
+/* What answers a call: PK_DONE or PK_NO_ROOM, or why the chain gets no such answer (it is told EIO then). `device` is a copy of
  * the device's numbers, whose options INIT may change. Threads of other queues answer meanwhile. */
-typedef uint32_t answerer(void *files, struct fs_chain *chain, struct fs_device *device, const struct fs_call *call,
+typedef uint32_t answerer(void *files, struct pk_chain *chain, struct pk_device *device, const struct pk_call *call,
                           const uint8_t *request);
 
 /* A thread's own: a chain, and the bytes of its request. */
 struct worker {
     struct live *live;
-    struct fs_chain chain;
+    struct pk_chain chain;
     pthread_t thread;
     uint8_t *request;
 };
@@ -22,7 +22,7 @@ struct worker {
 /* Set the first eight, and the rest to 0; of the queue its parts, its size, whether the driver took VIRTIO_F_EVENT_IDX, and the position where it
  * begins. `avail_at` is the place here of the available ring. */
 struct live {
-    struct fs_queue queue; /* from here on the threads', under the lock */
+    struct pk_queue queue; /* from here on the threads', under the lock */
     uintptr_t avail_at;
     int kick, call;
     _Atomic uint64_t *options; /* what INIT agreed on: all queues of a device share it */
@@ -42,7 +42,7 @@ struct live {
 };
 
 /* Begins the queue, and starts so many threads over the guest's memory, each of which has a chain out at a time. 0 or an errno. */
-int live_start(struct live *live, const struct fs_region *regions, size_t region_count, size_t thread_count);
+int live_start(struct live *live, const struct pk_region *regions, size_t region_count, size_t thread_count);
 
 /* Why the queue isn't served any more (set DEVICE_NEEDS_RESET), or 0. */
 uint32_t live_refusal(struct live *live);

@@ -17,10 +17,10 @@
 enum { ROOT = FUSE_ROOT_ID, FILES = 8, CONTENTS = 0x4000, NAME_MOST = 255 };
 
 /* Device and queue are numbers. Each thread has a chain and buffers of its own; here there is one. */
-static struct fs_device device = FS_DEVICE;
-static struct fs_queue queue;
-static struct fs_chain chain;
-static uint8_t request[FS_REQUEST_MAX]; /* as long as the device's limit, so that it holds any request */
+static struct pk_device device = PK_DEVICE;
+static struct pk_queue queue;
+static struct pk_chain chain;
+static uint8_t request[PK_REQUEST_MAX]; /* as long as the device's limit, so that it holds any request */
 static uint8_t list[PAGE];              /* READDIR's entries */
 
 static uint64_t least(uint64_t a, uint64_t b) { return a < b ? a : b; }
@@ -33,7 +33,7 @@ struct file {
     size_t name_len;     /* 0: it has none */
     uint64_t held;       /* how often the guest was told its node, less what it forgot */
     uint64_t generation; /* no two files have had one node and one generation */
-    struct fs_attr attr;
+    struct pk_attr attr;
     uint8_t contents[CONTENTS];
 };
 static struct file files[FILES];
@@ -44,7 +44,7 @@ static struct file *file_of(uint64_t node) {
 }
 
 /* A name is a place in the request's bytes. */
-static struct file *named(const struct fs_call *call) {
+static struct file *named(const struct pk_call *call) {
     const uint8_t *name = request + call->name.at;
     size_t len = call->node == ROOT ? call->name.len : 0;
     for (size_t k = 0; k < FILES && len > 0; k++)
@@ -60,8 +60,8 @@ static void set_size(struct file *f, uint64_t size) {
 }
 
 /* What a name stands for. For a second the guest need not ask again for name or attributes. */
-static struct fs_entry entry_of(const struct file *f) {
-    return (struct fs_entry){.node = f->attr.ino, .generation = f->generation, .entry_secs = 1, .attr_secs = 1, .attr = f->attr};
+static struct pk_entry entry_of(const struct file *f) {
+    return (struct pk_entry){.node = f->attr.ino, .generation = f->generation, .entry_secs = 1, .attr_secs = 1, .attr = f->attr};
 }
 
 static void forget(uint64_t node, uint64_t count) {
@@ -71,95 +71,95 @@ static void forget(uint64_t node, uint64_t count) {
 
 /* The guest holds the node of an entry once more, if it is told. */
 static uint32_t told(struct file *f, uint32_t status) {
-    if (status == FS_DONE) f->held++;
+    if (status == PK_DONE) f->held++;
     return status;
 }
 
-static uint32_t do_lookup(const struct fs_call *call) {
+static uint32_t do_lookup(const struct pk_call *call) {
     struct file *f = named(call);
-    if (!f) return fs_reply_err(&chain, call->ticket, ENOENT);
-    struct fs_entry entry = entry_of(f);
-    return told(f, fs_reply_entry(&chain, call->ticket, &entry));
+    if (!f) return pk_reply_err(&chain, call->ticket, ENOENT);
+    struct pk_entry entry = entry_of(f);
+    return told(f, pk_reply_entry(&chain, call->ticket, &entry));
 }
 
 /* GETATTR, and SETATTR, whose `valid` says what is to be set. */
-static uint32_t do_attr(const struct fs_call *call) {
-    struct fs_attr root = {.ino = ROOT, .mode = S_IFDIR | 0755, .nlink = 2, .block_size = PAGE};
+static uint32_t do_attr(const struct pk_call *call) {
+    struct pk_attr root = {.ino = ROOT, .mode = S_IFDIR | 0755, .nlink = 2, .block_size = PAGE};
     struct file *f = file_of(call->node);
-    if (!f && (call->node != ROOT || call->valid)) return fs_reply_err(&chain, call->ticket, call->node == ROOT ? EPERM : ENOENT);
-    if (call->valid & FATTR_SIZE && call->attr.size > CONTENTS) return fs_reply_err(&chain, call->ticket, EFBIG);
+    if (!f && (call->node != ROOT || call->valid)) return pk_reply_err(&chain, call->ticket, call->node == ROOT ? EPERM : ENOENT);
+    if (call->valid & FATTR_SIZE && call->attr.size > CONTENTS) return pk_reply_err(&chain, call->ticket, EFBIG);
     if (call->valid & FATTR_SIZE) set_size(f, call->attr.size);
     if (call->valid & FATTR_MODE) f->attr.mode = S_IFREG | (call->attr.mode & 07777); /* kind and permissions, as st_mode */
-    return fs_reply_attr(&chain, call->ticket, f ? &f->attr : &root, 1, 0); /* good for 1 second and 0 nanoseconds */
+    return pk_reply_attr(&chain, call->ticket, f ? &f->attr : &root, 1, 0); /* good for 1 second and 0 nanoseconds */
 }
 
-static uint32_t do_create(const struct fs_call *call) {
+static uint32_t do_create(const struct pk_call *call) {
     struct file *f = files;
-    if (call->node != ROOT) return fs_reply_err(&chain, call->ticket, ENOTDIR);
-    if (call->name.len > NAME_MOST) return fs_reply_err(&chain, call->ticket, ENAMETOOLONG);
-    if (named(call)) return fs_reply_err(&chain, call->ticket, EEXIST);
+    if (call->node != ROOT) return pk_reply_err(&chain, call->ticket, ENOTDIR);
+    if (call->name.len > NAME_MOST) return pk_reply_err(&chain, call->ticket, ENAMETOOLONG);
+    if (named(call)) return pk_reply_err(&chain, call->ticket, EEXIST);
     while (f < files + FILES && (f->name_len || f->held)) f++;
-    if (f == files + FILES) return fs_reply_err(&chain, call->ticket, ENOSPC);
+    if (f == files + FILES) return pk_reply_err(&chain, call->ticket, ENOSPC);
     memcpy(f->name, request + call->name.at, call->name.len);
     f->name_len = call->name.len;
     f->generation++;
-    f->attr = (struct fs_attr){.ino = (uint64_t)(f - files) + 2, .mode = S_IFREG | (call->mode & ~call->umask & 07777), .nlink = 1,
+    f->attr = (struct pk_attr){.ino = (uint64_t)(f - files) + 2, .mode = S_IFREG | (call->mode & ~call->umask & 07777), .nlink = 1,
                                .uid = call->uid, .gid = call->gid, .block_size = PAGE};
-    struct fs_entry entry = entry_of(f);
-    return told(f, fs_reply_create(&chain, call->ticket, &entry, 0, 0)); /* handle and FOPEN_ bits; files that are open need no number here */
+    struct pk_entry entry = entry_of(f);
+    return told(f, pk_reply_create(&chain, call->ticket, &entry, 0, 0)); /* handle and FOPEN_ bits; files that are open need no number here */
 }
 
-static uint32_t do_unlink(const struct fs_call *call) {
+static uint32_t do_unlink(const struct pk_call *call) {
     struct file *f = named(call);
-    if (!f) return fs_reply_err(&chain, call->ticket, ENOENT);
+    if (!f) return pk_reply_err(&chain, call->ticket, ENOENT);
     f->name_len = f->attr.nlink = 0;
-    return fs_reply_err(&chain, call->ticket, 0);
+    return pk_reply_err(&chain, call->ticket, 0);
 }
 
-static uint32_t do_open(const struct fs_call *call) {
+static uint32_t do_open(const struct pk_call *call) {
     struct file *f = file_of(call->node);
-    if (!f) return fs_reply_err(&chain, call->ticket, ENOENT);
+    if (!f) return pk_reply_err(&chain, call->ticket, ENOENT);
     if (call->flags & O_TRUNC) set_size(f, 0);
-    return fs_reply_open(&chain, call->ticket, 0, 0);
+    return pk_reply_open(&chain, call->ticket, 0, 0);
 }
 
 /* Data goes from the file into the room, behind the header: no more than was asked for, nor than there is room for. */
-static uint32_t do_read(const struct fs_call *call) {
+static uint32_t do_read(const struct pk_call *call) {
     const struct file *f = file_of(call->node);
-    if (!f) return fs_reply_err(&chain, call->ticket, ENOENT);
+    if (!f) return pk_reply_err(&chain, call->ticket, ENOENT);
     uint64_t from = least(call->offset, f->attr.size);
     uint64_t len = least(f->attr.size - from, least(call->size, call->data_len));
     scatter(&chain, call->data_at, f->contents + from, len);
-    return fs_reply_data(&chain, call->ticket, len);
+    return pk_reply_data(&chain, call->ticket, len);
 }
 
-static uint32_t do_write(const struct fs_call *call) {
+static uint32_t do_write(const struct pk_call *call) {
     struct file *f = file_of(call->node);
-    if (!f) return fs_reply_err(&chain, call->ticket, ENOENT);
-    if (call->offset > CONTENTS || call->data_len > CONTENTS - call->offset) return fs_reply_err(&chain, call->ticket, EFBIG);
+    if (!f) return pk_reply_err(&chain, call->ticket, ENOENT);
+    if (call->offset > CONTENTS || call->data_len > CONTENTS - call->offset) return pk_reply_err(&chain, call->ticket, EFBIG);
     if (call->offset + call->data_len > f->attr.size) set_size(f, call->offset + call->data_len);
     gather(&chain, call->data_at, f->contents + call->offset, call->data_len);
-    return fs_reply_write(&chain, call->ticket, (uint32_t)call->data_len);
+    return pk_reply_write(&chain, call->ticket, (uint32_t)call->data_len);
 }
 
 /* From the offset on, which is that of the last entry that the guest has: here the place of the next file. */
-static uint32_t do_readdir(const struct fs_call *call) {
+static uint32_t do_readdir(const struct pk_call *call) {
     uint64_t most = least(call->data_len, sizeof list), used = 0, len = 0;
-    bool plus = call->kind == FS_CALL_READDIRPLUS;
+    bool plus = call->kind == PK_CALL_READDIRPLUS;
     for (uint64_t k = call->offset; k < FILES; k++) {
         struct file *f = &files[k];
-        struct fs_entry entry = entry_of(f);
+        struct pk_entry entry = entry_of(f);
         if (f->name_len == 0) continue;
-        used += fs_direntry_len(f->name_len, plus);
+        used += pk_direntry_len(f->name_len, plus);
         if (used > most) break;
         uint32_t status =
-            plus ? told(f, fs_add_direntry_plus(&chain, call->ticket, list, sizeof list, f->name, f->name_len, &entry, k + 1))
-                 : fs_add_direntry(&chain, call->ticket, list, sizeof list, f->name, f->name_len, k + 2, k + 1, DT_REG);
-        if (status != FS_DONE) break;
+            plus ? told(f, pk_add_direntry_plus(&chain, call->ticket, list, sizeof list, f->name, f->name_len, &entry, k + 1))
+                 : pk_add_direntry(&chain, call->ticket, list, sizeof list, f->name, f->name_len, k + 2, k + 1, DT_REG);
+        if (status != PK_DONE) break;
         len = used;
     }
-    if (len == 0 && used > 0) return fs_reply_err(&chain, call->ticket, EINVAL); /* an empty list would end the directory */
-    uint32_t status = fs_reply_entries(&chain, call->ticket, &len);
+    if (len == 0 && used > 0) return pk_reply_err(&chain, call->ticket, EINVAL); /* an empty list would end the directory */
+    uint32_t status = pk_reply_entries(&chain, call->ticket, &len);
     scatter(&chain, call->data_at, list, len);
     return status;
 }
@@ -184,88 +184,88 @@ static void print_written(void) {
     printf("\n");
 }
 
-/* FS_DONE: answered. FS_NO_ROOM: the chain has no room for the reply, and goes back with none. Others: the call waits still. */
-static uint32_t answer(const struct fs_call *call) {
+/* PK_DONE: answered. PK_NO_ROOM: the chain has no room for the reply, and goes back with none. Others: the call waits still. */
+static uint32_t answer(const struct pk_call *call) {
     uint64_t node, count;
     switch (call->kind) {
-    case FS_CALL_NONE: return FS_DONE; /* the library has the reply already, or there is none */
-    case FS_CALL_INIT:
+    case PK_CALL_NONE: return PK_DONE; /* the library has the reply already, or there is none */
+    case PK_CALL_INIT:
         for (size_t k = 0; k < FILES; k++) files[k].held = 0;
-        return fs_reply_init(&chain, call->ticket, &device, call->options & FUSE_DO_READDIRPLUS);
-    case FS_CALL_DESTROY: device.options = 0; return fs_reply_err(&chain, call->ticket, 0);
-    case FS_CALL_FORGET: forget(call->node, call->count); return FS_DONE; /* there is no reply to it, nor to the next */
-    case FS_CALL_BATCH_FORGET:
-        for (uint64_t k = 0; k < call->count; k++) fs_pair(request, call, k, &node, &count), forget(node, count);
-        return FS_DONE;
-    case FS_CALL_LOOKUP: return do_lookup(call);
-    case FS_CALL_GETATTR:
-    case FS_CALL_SETATTR: return do_attr(call);
-    case FS_CALL_CREATE: return do_create(call);
-    case FS_CALL_UNLINK: return do_unlink(call);
-    case FS_CALL_OPEN: return do_open(call);
-    case FS_CALL_OPENDIR: return fs_reply_open(&chain, call->ticket, 0, 0);
-    case FS_CALL_READ: return do_read(call);
-    case FS_CALL_WRITE: return do_write(call);
-    case FS_CALL_READDIR:
-    case FS_CALL_READDIRPLUS: return do_readdir(call);
-    case FS_CALL_RELEASE:
-    case FS_CALL_RELEASEDIR: return fs_reply_err(&chain, call->ticket, 0);
-    default: return fs_reply_err(&chain, call->ticket, ENOSYS);
+        return pk_reply_init(&chain, call->ticket, &device, call->options & FUSE_DO_READDIRPLUS);
+    case PK_CALL_DESTROY: device.options = 0; return pk_reply_err(&chain, call->ticket, 0);
+    case PK_CALL_FORGET: forget(call->node, call->count); return PK_DONE; /* there is no reply to it, nor to the next */
+    case PK_CALL_BATCH_FORGET:
+        for (uint64_t k = 0; k < call->count; k++) pk_pair(request, call, k, &node, &count), forget(node, count);
+        return PK_DONE;
+    case PK_CALL_LOOKUP: return do_lookup(call);
+    case PK_CALL_GETATTR:
+    case PK_CALL_SETATTR: return do_attr(call);
+    case PK_CALL_CREATE: return do_create(call);
+    case PK_CALL_UNLINK: return do_unlink(call);
+    case PK_CALL_OPEN: return do_open(call);
+    case PK_CALL_OPENDIR: return pk_reply_open(&chain, call->ticket, 0, 0);
+    case PK_CALL_READ: return do_read(call);
+    case PK_CALL_WRITE: return do_write(call);
+    case PK_CALL_READDIR:
+    case PK_CALL_READDIRPLUS: return do_readdir(call);
+    case PK_CALL_RELEASE:
+    case PK_CALL_RELEASEDIR: return pk_reply_err(&chain, call->ticket, 0);
+    default: return pk_reply_err(&chain, call->ticket, ENOSYS);
     }
 }
 
 /* A FUSE server of this monitor's own, for an opcode that the library doesn't serve: what was asked, in capitals. The reply are
  * bytes of the room, header and all (struct fuse_out_header). */
-static uint32_t reply_capitals(const struct fs_step *step, const struct fuse_in_header *in, uint64_t have) {
+static uint32_t reply_capitals(const struct pk_step *step, const struct fuse_in_header *in, uint64_t have) {
     uint64_t len = step->request_len - sizeof *in;
     struct fuse_out_header out = {.len = (uint32_t)(sizeof out + len), .unique = in->unique};
-    if (out.len > step->room_len) return fs_reply_bytes(&chain, step->ticket, 0); /* silence */
+    if (out.len > step->room_len) return pk_reply_bytes(&chain, step->ticket, 0); /* silence */
     gather(&chain, have, request + have, step->request_len - have);
     for (uint64_t k = sizeof *in; k < step->request_len; k++) request[k] = (uint8_t)toupper(request[k]);
     scatter(&chain, 0, &out, sizeof out);
     scatter(&chain, sizeof out, request + sizeof *in, len);
-    return fs_reply_bytes(&chain, step->ticket, out.len);
+    return pk_reply_bytes(&chain, step->ticket, out.len);
 }
 
-/* FS_DONE: the chain may go back. Each byte of the request is loaded once. */
-static uint32_t serve_request(const struct fs_step *step) {
+/* PK_DONE: the chain may go back. Each byte of the request is loaded once. */
+static uint32_t serve_request(const struct pk_step *step) {
     size_t have = load_front(&chain, step, request);
     struct fuse_in_header in = {0};
-    struct fs_call call;
+    struct pk_call call;
     if (have >= sizeof in) memcpy(&in, request, sizeof in);
     if (in.opcode == CAPITALS) return reply_capitals(step, &in, have);
     uint32_t status = ask(&chain, &device, request, have, &call);
-    if (status != FS_DONE) return status;
+    if (status != PK_DONE) return status;
     status = answer(&call);
-    return status == FS_DONE || status == FS_NO_ROOM ? FS_DONE : fs_reply_err(&chain, call.ticket, EIO);
+    return status == PK_DONE || status == PK_NO_ROOM ? PK_DONE : pk_reply_err(&chain, call.ticket, EIO);
 }
 
-/* Serves the chains that wait. FS_IDLE: none waits any more. FS_OUT_OF_MEMORY: one waits, call again later. 1 to 8: the queue is
+/* Serves the chains that wait. PK_IDLE: none waits any more. PK_OUT_OF_MEMORY: one waits, call again later. 1 to 8: the queue is
  * stopped, so set DEVICE_NEEDS_RESET. `notify`: interrupt the driver. */
 static uint32_t serve(bool *notify) {
-    struct fs_step step;
+    struct pk_step step;
     uint32_t status;
     *notify = false;
-    while ((status = take_chain(&chain, &queue, &step)) == FS_DONE) {
-        if (step.fault) printf("Chain %u goes back with no reply: %s\n", step.head, fs_fault_name(step.fault));
+    while ((status = take_chain(&chain, &queue, &step)) == PK_DONE) {
+        if (step.fault) printf("Chain %u goes back with no reply: %s\n", step.head, pk_fault_name(step.fault));
         else status = serve_request(&step);
-        if (status == FS_DONE) status = give_back(&chain, &queue, &marker, notify);
-        if (status != FS_DONE) break;
+        if (status == PK_DONE) status = give_back(&chain, &queue, &marker, notify);
+        if (status != PK_DONE) break;
     }
-    if (status != FS_IDLE) give_up(&chain, &queue, step.ticket, &marker, notify); /* what was taken and isn't given back */
+    if (status != PK_IDLE) give_up(&chain, &queue, step.ticket, &marker, notify); /* what was taken and isn't given back */
     return status;
 }
 
 static void expect(uint32_t status, uint32_t wanted) {
     if (status == wanted) return;
-    fprintf(stderr, "%s, and not %s\n", fs_status_name(status), fs_status_name(wanted));
+    fprintf(stderr, "%s, and not %s\n", pk_status_name(status), pk_status_name(wanted));
     exit(1);
 }
 
 /* The guest's driver kicks the queue, and wants to be interrupted. */
 static void kick(void) {
     bool notify;
-    expect(serve(&notify), FS_IDLE);
+    expect(serve(&notify), PK_IDLE);
     if (!notify) exit(1);
 }
 
@@ -273,27 +273,27 @@ static void kick(void) {
 static void move(void) {
     uint8_t record[64];
     size_t len, count;
-    expect(fs_save(&device, &queue, 1, record, sizeof record, &len), FS_DONE);
-    expect(fs_restore(&device, &queue, 1, record, len - 1, &count), FS_RECORD_TRUNCATED);
-    queue = (struct fs_queue){0};
-    expect(fs_restore(&device, &queue, 1, record, len, &count), FS_DONE);
+    expect(pk_save(&device, &queue, 1, record, sizeof record, &len), PK_DONE);
+    expect(pk_restore(&device, &queue, 1, record, len - 1, &count), PK_RECORD_TRUNCATED);
+    queue = (struct pk_queue){0};
+    expect(pk_restore(&device, &queue, 1, record, len, &count), PK_DONE);
     printf("From a record of %zu bytes the device goes on\n", len);
 }
 
 int main(void) {
     memory = mmap(NULL, MEMORY, PROT_READ | PROT_WRITE, MAP_SHARED | MAP_ANONYMOUS, -1, 0);
-    struct fs_region region = {.guest = 0, .len = MEMORY, .host = (uintptr_t)memory};
-    if (memory == MAP_FAILED || fs_version() != FS_VERSION) return 1;
-    queue = (struct fs_queue){.desc = DESC, .avail = AVAIL, .used = USED, .size = SIZE};
-    expect(fs_queue_begin(&queue, 0), FS_DONE);
-    expect(fs_chain_set_memory(&chain, &device, &region, 1), FS_DONE);
+    struct pk_region region = {.guest = 0, .len = MEMORY, .host = (uintptr_t)memory};
+    if (memory == MAP_FAILED || pk_version() != PK_VERSION) return 1;
+    queue = (struct pk_queue){.desc = DESC, .avail = AVAIL, .used = USED, .size = SIZE};
+    expect(pk_queue_begin(&queue, 0), PK_DONE);
+    expect(pk_chain_set_memory(&chain, &device, &region, 1), PK_DONE);
     if (!ask_kicks(&chain, &queue, true, &marker)) return 1; /* whatever flags a device of before left */
     guest_uses_a_file();
     guest_errs();
     print_written();
     move();
     guest_removes_it();
-    fs_chain_free(&chain);
+    pk_chain_free(&chain);
     munmap(memory, MEMORY);
     return 0;
 }

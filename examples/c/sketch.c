@@ -10,10 +10,10 @@
 enum { SIZE = 8, DESC = 0x1000, AVAIL = 0x2000, USED = 0x3000, REQUEST = 0x4000, ROOM = 0x5000, MEMORY = 0x6000, WINDOWS = 8 };
 
 static _Alignas(4096) uint8_t memory[MEMORY]; /* the guest's, from its address 0 on */
-static struct fs_device device = FS_DEVICE;
-static struct fs_queue queue = {.desc = DESC, .avail = AVAIL, .used = USED, .size = SIZE};
-static struct fs_chain chain;
-static uint8_t request[FS_REQUEST_MAX];
+static struct pk_device device = PK_DEVICE;
+static struct pk_queue queue = {.desc = DESC, .avail = AVAIL, .used = USED, .size = SIZE};
+static struct pk_chain chain;
+static uint8_t request[PK_REQUEST_MAX];
 
 /* ------------------------------------------------------------- loads and stores */
 
@@ -24,90 +24,90 @@ static void load(void *to, uintptr_t at, size_t len) {
 }
 
 static void gather(uint8_t *bytes, size_t from, size_t to) {
-    struct fs_window w[WINDOWS];
+    struct pk_window w[WINDOWS];
     size_t count;
-    while (from < to && (count = fs_request_windows(&chain, from, to - from, w, WINDOWS)) > 0)
+    while (from < to && (count = pk_request_windows(&chain, from, to - from, w, WINDOWS)) > 0)
         for (size_t k = 0; k < count; from += w[k++].len) memcpy(bytes + from, (const void *)w[k].at, w[k].len);
 }
 
 static void scatter(const uint8_t *front, size_t len) {
-    struct fs_window w[WINDOWS];
+    struct pk_window w[WINDOWS];
     size_t count, from = 0;
-    while (from < len && (count = fs_room_windows(&chain, from, len - from, w, WINDOWS)) > 0)
+    while (from < len && (count = pk_room_windows(&chain, from, len - from, w, WINDOWS)) > 0)
         for (size_t k = 0; k < count; from += w[k++].len) memcpy((void *)w[k].at, front + from, w[k].len);
 }
 
 /* ------------------------------------------------------------- one chain */
 
 /* Each byte of the request is loaded once: its first, and then as many as the library needs. */
-static uint32_t ask(const struct fs_step *step, struct fs_call *call) {
-    size_t have = 0, want = step->request_len < FS_FIRST ? (size_t)step->request_len : FS_FIRST;
+static uint32_t ask(const struct pk_step *step, struct pk_call *call) {
+    size_t have = 0, want = step->request_len < PK_FIRST ? (size_t)step->request_len : PK_FIRST;
     for (;;) {
         gather(request, have, want);
-        uint32_t s = fs_ask(&chain, &device, request, have = want, call);
-        if (s != FS_MORE) return s;
+        uint32_t s = pk_ask(&chain, &device, request, have = want, call);
+        if (s != PK_MORE) return s;
         want = call->needed;
     }
 }
 
 /* The file system: each name is there. */
-static uint32_t answer(const struct fs_call *call) {
+static uint32_t answer(const struct pk_call *call) {
     const uint8_t *name = request + call->name.at;
-    struct fs_entry entry = {.node = 2, .attr = {.ino = 2, .mode = 0100644, .nlink = 1}};
-    if (call->answer == FS_ANSWER_NONE) return FS_DONE; // nobody waits; FORGET and BATCH_FORGET are made still
+    struct pk_entry entry = {.node = 2, .attr = {.ino = 2, .mode = 0100644, .nlink = 1}};
+    if (call->answer == PK_ANSWER_NONE) return PK_DONE; // nobody waits; FORGET and BATCH_FORGET are made still
     switch (call->kind) {
-    case FS_CALL_LOOKUP: return fs_is_name(name, call->name.len) ? fs_reply_entry(&chain, call->ticket, &entry)
-                                                                 : fs_reply_err(&chain, call->ticket, EINVAL);
-    case FS_CALL_INIT: return fs_reply_init(&chain, call->ticket, &device, 0);
-    case FS_CALL_DESTROY: device.options = 0; return fs_reply_err(&chain, call->ticket, 0);
-    default: return fs_reply_err(&chain, call->ticket, ENOSYS);
+    case PK_CALL_LOOKUP: return pk_is_name(name, call->name.len) ? pk_reply_entry(&chain, call->ticket, &entry)
+                                                                 : pk_reply_err(&chain, call->ticket, EINVAL);
+    case PK_CALL_INIT: return pk_reply_init(&chain, call->ticket, &device, 0);
+    case PK_CALL_DESTROY: device.options = 0; return pk_reply_err(&chain, call->ticket, 0);
+    default: return pk_reply_err(&chain, call->ticket, ENOSYS);
     }
 }
 
-static uint32_t serve_request(const struct fs_step *step) {
-    struct fs_call call;
+static uint32_t serve_request(const struct pk_step *step) {
+    struct pk_call call;
     uint32_t s = ask(step, &call);
-    if (s != FS_DONE) return s;
+    if (s != PK_DONE) return s;
     s = answer(&call);
-    return s == FS_DONE || s == FS_NO_ROOM ? FS_DONE : fs_reply_err(&chain, call.ticket, EIO);
+    return s == PK_DONE || s == PK_NO_ROOM ? PK_DONE : pk_reply_err(&chain, call.ticket, EIO);
 }
 
 /* The reply's front, the used element, and then the index, which the guest may see when all else is there. */
 static uint32_t give_back(bool *notify) {
-    uint8_t front[FS_FRONT_MAX], wanted;
-    struct fs_stores out;
+    uint8_t front[PK_FRONT_MAX], wanted;
+    struct pk_stores out;
     uint16_t seen;
-    uint32_t s = fs_return(&chain, &queue, front, sizeof front, &out);
-    if (s != FS_DONE) return s;
+    uint32_t s = pk_return(&chain, &queue, front, sizeof front, &out);
+    if (s != PK_DONE) return s;
     scatter(front, out.front_len);
     memcpy((void *)out.id_at, &out.id, 4);
     memcpy((void *)out.len_at, &out.len, 4);
     atomic_store_explicit((_Atomic uint16_t *)out.index_at, out.index, memory_order_release);
     atomic_thread_fence(memory_order_seq_cst);
     load(&seen, out.seen_at, 2);
-    s = fs_returned(&chain, &queue, seen, &wanted);
+    s = pk_returned(&chain, &queue, seen, &wanted);
     *notify = *notify || wanted;
     return s;
 }
 
-/* FS_IDLE: no chain waits. Else why the queue isn't served any more, or not now. */
+/* PK_IDLE: no chain waits. Else why the queue isn't served any more, or not now. */
 static uint32_t serve(bool *notify) {
-    uint8_t bytes[FS_LOAD_MAX];
+    uint8_t bytes[PK_LOAD_MAX];
     uint32_t s;
     for (;;) {
-        struct fs_step step = {0}; // a walk begins without bytes
-        while ((s = fs_walk(&chain, &queue, bytes, step.len, &step)) == FS_LOAD) load(bytes, step.at, step.len);
-        if (s != FS_DONE) return s;
-        if (step.fault == 0 && (s = serve_request(&step)) != FS_DONE) return s; // a faulty chain goes back without a reply
-        if ((s = give_back(notify)) != FS_DONE) return s;
+        struct pk_step step = {0}; // a walk begins without bytes
+        while ((s = pk_walk(&chain, &queue, bytes, step.len, &step)) == PK_LOAD) load(bytes, step.at, step.len);
+        if (s != PK_DONE) return s;
+        if (step.fault == 0 && (s = serve_request(&step)) != PK_DONE) return s; // a faulty chain goes back without a reply
+        if ((s = give_back(notify)) != PK_DONE) return s;
     }
 }
 
 /* The driver is to kick: once at the beginning, since a device of before may have left a flag by which it doesn't, and before each sleep. Walk once more then. */
 static uint32_t want_kicks(void) {
-    struct fs_store store;
-    uint32_t s = fs_ask_kicks(&chain, &queue, 1, &store);
-    if (s == FS_DONE && store.len) atomic_store_explicit((_Atomic uint16_t *)store.at, store.value, memory_order_relaxed);
+    struct pk_store store;
+    uint32_t s = pk_ask_kicks(&chain, &queue, 1, &store);
+    if (s == PK_DONE && store.len) atomic_store_explicit((_Atomic uint16_t *)store.at, store.value, memory_order_relaxed);
     atomic_thread_fence(memory_order_seq_cst);
     return s;
 }
@@ -125,16 +125,16 @@ static void offer_lookup(void) {
 }
 
 int main(void) {
-    struct fs_region region = {.guest = 0, .len = MEMORY, .host = (uintptr_t)memory};
+    struct pk_region region = {.guest = 0, .len = MEMORY, .host = (uintptr_t)memory};
     bool notify = false;
     uint64_t node;
-    if (fs_version() != FS_VERSION || fs_queue_begin(&queue, 0) || fs_chain_set_memory(&chain, &device, &region, 1)) return 1;
+    if (pk_version() != PK_VERSION || pk_queue_begin(&queue, 0) || pk_chain_set_memory(&chain, &device, &region, 1)) return 1;
     put(USED, 1, 2); /* a device of before wanted no kicks */
     if (want_kicks() || memory[USED]) return 1;
     offer_lookup();
     uint32_t s = serve(&notify);
-    memcpy(&node, memory + ROOM + FS_HEADER, sizeof node);
-    printf("%s; the name is node %llu; notify: %u\n", fs_status_name(s), (unsigned long long)node, notify);
-    fs_chain_free(&chain);
-    return s != FS_IDLE || node != 2 || !notify;
+    memcpy(&node, memory + ROOM + PK_HEADER, sizeof node);
+    printf("%s; the name is node %llu; notify: %u\n", pk_status_name(s), (unsigned long long)node, notify);
+    pk_chain_free(&chain);
+    return s != PK_IDLE || node != 2 || !notify;
 }

@@ -52,6 +52,9 @@ alone() {
     compile checks checks.c escape.c front.c
     compile hostile hostile.c front.c
     compile state state.c front.c
+    rm -rf "$work/starts"
+    mkdir -p "$work/starts"
+    timeout 300 python3 "$here/testing/starts.py" "$DAEMON" "$work/starts" || failure "starts"
     try checks escape
     try checks groups
     try checks readonly

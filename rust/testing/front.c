@@ -1,5 +1,6 @@
 #define _GNU_SOURCE
 #include "front.h"
+#include <dirent.h>
 #include <errno.h>
 #include <fcntl.h>
 #include <linux/fuse.h>
@@ -193,6 +194,7 @@ void front_connect(struct front *front) {
     for (size_t k = 0; front->options && front->options[k]; k++) argv[OPTIONS + k] = front->options[k];
     front->pid = fork();
     if (front->pid == 0) {
+        setsid(); /* by its session its children are known */
         execv(front->server, (char *const *)(uintptr_t)argv);
         _exit(127);
     }
@@ -224,6 +226,30 @@ void front_begin(struct front *front, const char *server, const char *dir, const
         r->err = eventfd(0, EFD_NONBLOCK | EFD_CLOEXEC);
     }
     front_connect(front);
+}
+
+/* Processor time of a process, if it is of a session: 14 and 15 of proc_pid_stat(5) in ticks, behind a name in brackets. */
+static unsigned long ticks_of(const char *process, pid_t wanted) {
+    char path[300], line[1024] = "";
+    int session = 0;
+    unsigned long user = 0, system = 0;
+    snprintf(path, sizeof path, "/proc/%s/stat", process);
+    FILE *file = fopen(path, "r");
+    if (!file) return 0; /* it has ended */
+    const char *rest = fgets(line, sizeof line, file) ? strrchr(line, ')') : NULL;
+    fclose(file);
+    if (!rest || sscanf(rest, ") %*c %*d %*d %d %*d %*d %*u %*u %*u %*u %*u %lu %lu", &session, &user, &system) != 3) return 0;
+    return session == wanted ? user + system : 0;
+}
+
+double front_processor(const struct front *front) {
+    unsigned long ticks = 0;
+    DIR *processes = opendir("/proc");
+    if (!processes) die("no /proc");
+    for (struct dirent *entry; (entry = readdir(processes));)
+        if (entry->d_name[0] >= '1' && entry->d_name[0] <= '9') ticks += ticks_of(entry->d_name, front->pid);
+    closedir(processes);
+    return (double)ticks * 1e3 / (double)sysconf(_SC_CLK_TCK);
 }
 
 void front_leave(struct front *front) {
@@ -272,6 +298,7 @@ void front_kick(struct front *front, size_t ring) {
     uint64_t one = 1;
     atomic_thread_fence(memory_order_seq_cst);
     if (!wants_kick(front, ring)) return;
+    front->rings[ring].kicks++;
     if (write(front->rings[ring].kick, &one, sizeof one) < 0) die("no kick");
 }
 
@@ -302,7 +329,10 @@ bool front_wait(struct front *front, size_t ring, int milliseconds) {
         if (is_back(front, ring)) return true;
         if (r->seen != seen) continue; /* the device may have named this one before it was wanted */
         if (poll(&event, 1, milliseconds) <= 0) return false; /* whether or not all is back: nobody said so */
-        if (read(event.fd, &word, sizeof word) < 0 && errno != EAGAIN) die("no call");
+        if (read(event.fd, &word, sizeof word) > 0)
+            r->calls += word;
+        else if (errno != EAGAIN)
+            die("no call");
     }
 }
 

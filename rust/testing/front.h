@@ -19,6 +19,7 @@ struct front_ring {
     uint16_t offered, seen; /* how many chains were offered, and how many came back */
     uint16_t told;          /* and how many were offered when the device was last told, or wasn't since it needn't be */
     uint64_t unique;        /* of the last request */
+    uint64_t kicks, calls;  /* how often the device was told, and told */
 };
 
 struct front {
@@ -48,6 +49,9 @@ void front_connect(struct front *front);
 
 /* Leaves the back-end, which has to end with 0. */
 void front_leave(struct front *front);
+
+/* The milliseconds of processor time that the back-end took so far, with its children. */
+double front_processor(const struct front *front);
 
 /* Messages: one that is acknowledged, with the number that it is acknowledged by; and one that is answered in
  * `body`. */

@@ -50,16 +50,16 @@ take_module() {
 
 # The guest's first files: busybox, the modules, what it runs.
 make_image() {
+    local name
     rm -rf "$work/root"
     mkdir -p "$work"/root/{bin,dev,proc,sys,mnt,mod,tmp}
     : > "$work/root/mod/order"
     cp "$busybox" "$work/root/bin/busybox"
-    gcc -std=c11 -O2 -static -o "$work/root/bin/ask" "$here"/testing/guest/{ask,calls}.c
+    gcc -std=c11 -O2 -static -pthread -o "$work/root/bin/ask" "$here"/testing/guest/{ask,calls}.c
     gcc -std=c11 -O2 -static -o "$work/root/bin/hold" "$here/testing/guest/hold.c"
-    cp "$here"/testing/guest/{init,scenarios.sh} "$work/root/"
+    cp "$here"/testing/guest/{init,scenarios.sh,suites} "$work/root/"
     chmod 755 "$work/root/init"
-    take_module virtio_pci
-    take_module virtiofs
+    for name in virtio_pci virtiofs virtio_blk ext4; do take_module $name; done
     (cd "$work/root" && find . | "$busybox" cpio -o -H newc 2> "$work/none" | gzip -1) > "$work/image"
 }
 
@@ -104,20 +104,22 @@ start_server() {
     return 1
 }
 
-# QEMU with a guest over a socket, in a run's folder; its monitor is on a pipe. What follows is added to its words.
+# QEMU with a guest over a socket, in a run's folder; its monitor is on a pipe. What follows is added to its words. MEMORY is how much it
+# has, and DISK a disk of its own, which stays as it is.
 qemu() {
-    local run=$1 scenario=$2 socket=$3
+    local run=$1 scenario=$2 socket=$3 disk=()
     shift 3
+    [ -z "${DISK:-}" ] || disk=(-drive "file=$DISK,format=raw,if=virtio,snapshot=on")
     rm -f "$run"/monitor.{in,out}
     mkfifo "$run/monitor.in" "$run/monitor.out"
     (timeout "${GUEST_SECONDS:-900}" bash -c "$(declare -f other); other \"\$@\"" qemu /usr/bin/qemu-system-x86_64 \
         -L "$root/usr/share/qemu" -L "$root/usr/share/seabios" \
         -M "pc,accel=${ACCEL:-tcg},memory-backend=mem" -cpu max -smp "${PROCESSORS:-2}" \
-        -object "memory-backend-memfd,id=mem,size=256M,share=on" -nodefaults -no-user-config -nic none -display none \
+        -object "memory-backend-memfd,id=mem,size=${MEMORY:-256M},share=on" -nodefaults -no-user-config -nic none -display none \
         -serial "file:$run/console" -chardev "pipe,id=mon,path=$run/monitor" -mon chardev=mon,mode=readline \
         -chardev "socket,id=fs,path=$socket" -kernel "$work/vmlinuz" -initrd "$work/image" \
         -append "console=ttyS0 quiet loglevel=3 panic=-1 no_timer_check nowatchdog rcupdate.rcu_cpu_stall_suppress=1 \
-rdinit=/init scenario=$scenario" "$@") > "$run/qemu" 2>&1
+rdinit=/init scenario=$scenario" "${disk[@]}" "$@") > "$run/qemu" 2>&1
 }
 busybox=$root/usr/bin/busybox
 export root
@@ -139,6 +141,16 @@ say() {
     timeout 10 bash -c 'printf "%s\n" "$@" > "$0"' "$run/monitor.in" "$@" || true
 }
 
+# How many kilobytes of the guest's memory the daemon has mapped: it runs as a child of its own.
+lent() {
+    local daemon range sum=0
+    daemon=$(pgrep -P "$server" | head -n 1)
+    for range in $(sed -n '/memory-backend-memfd/s/ .*//p' "/proc/${daemon:-$server}/maps"); do
+        sum=$((sum + 0x${range#*-} - 0x${range%-*}))
+    done
+    echo $((sum / 1024))
+}
+
 # The monitor's commands of a scenario, once the guest is ready.
 meddle() {
     local run=$1 scenario=$2
@@ -155,6 +167,17 @@ meddle() {
     hotplug | descriptors)
         wait_for "$run" READY || return
         say "$run" 'object_add memory-backend-memfd,id=m1,size=256M,share=on' 'device_add pc-dimm,id=d1,memdev=m1'
+        wait_for "$run" ENOUGH || return
+        lent > "$run/lent"
+        say "$run" 'device_del d1'
+        wait_for "$run" 'PLUGGED out' || return
+        sleep 1
+        lent >> "$run/lent"
+        ;;
+    reset)
+        wait_for "$run" READY || return
+        sleep 2
+        say "$run" system_reset
         ;;
     killed)
         wait_for "$run" READY || return
@@ -167,7 +190,7 @@ meddle() {
 
 # One guest runs one scenario over one server; its lines come to `run/lines`.
 run_guest() {
-    local scenario=$1 kind=$2 name=$3 memory=256M status=0
+    local scenario=$1 kind=$2 name=$3 memory=${MEMORY:-256M} status=0
     shift 3
     run=$work/run-$name
     rm -rf "$run"
@@ -176,7 +199,7 @@ run_guest() {
     start_server "$kind" "$run/socket" "$run/server" "$@" || return 0
     meddle "$run" "$scenario" > "$run/meddle" 2>&1 &
     local meddler=$! reboot=(-no-reboot)
-    [ "$scenario" != reboot ] || reboot=()
+    case $scenario in reboot | reset) reboot=() ;; esac
     qemu "$run" "$scenario" "$run/socket" -m "$memory" -device "$(device)" "${reboot[@]}" || status=$?
     kill "$meddler" 2> "$work/none" || true
     tr -d '\r' < "$run/console" | sed -n '/^== begin/,$p' > "$run/lines"
@@ -237,7 +260,19 @@ all_are() {
     echo "$name: done, $count readings"
 }
 
+# Each option of virtiofsd's is served, or refused by its name.
+options() {
+    local word
+    (other /usr/libexec/virtiofsd --help) > "$work/help.virtiofsd"
+    "$DAEMON" --help > "$work/help"
+    for word in $(grep -oE '^ +(-[a-zA-Z], )?--?[a-zA-Z0-9-]+' "$work/help.virtiofsd" | tr -d ,); do
+        grep -qE -e "(^| )$word([][,= ]|\$)" "$work/help" || failure "options: $word isn't known"
+    done
+    echo "options: done, those of $(other /usr/libexec/virtiofsd --version)"
+}
+
 guest() {
+    options
     whole ours whole
     THREADS=4 whole ours whole-threads
     QUEUES=3 whole ours whole-3 --num-request-queues 3 --cache never --killpriv-v2
@@ -258,12 +293,24 @@ guest() {
     make_files
     run_guest reboot ours reboot
     all_are reboot READER "$(sum "$share/files/m8")"
-    run_guest hotplug ours hotplug
-    all_are hotplug BIG "$(sum "$share/files/big")"
-    grep -q '^PLUGGED in' "$run/lines" || failure "hotplug: no memory came"
+    make_files
+    run_guest reset ours reset
+    all_are reset READER "$(sum "$share/files/m8")"
+    grep -q '^AGAIN' "$run/lines" || failure "reset: the guest didn't come again"
+    hotplug
     descriptors
     run_guest killed ours killed
     grep '^AFTER' "$run/lines" || echo "killed: calls of the guest wait"
+}
+
+# Memory comes and goes, and the daemon lets go of what went.
+hotplug() {
+    run_guest hotplug ours hotplug
+    all_are hotplug BIG "$(sum "$share/files/big")"
+    all_are hotplug READER "$(sum "$share/files/m8")"
+    grep -q '^PLUGGED in' "$run/lines" || failure "hotplug: no memory came"
+    grep -q '^PLUGGED out' "$run/lines" || failure "hotplug: no memory went"
+    [ "$(cat "$run/lent")" = $'524288\n262144' ] || failure "hotplug: the daemon has other memory mapped than it was lent: $(cat "$run/lent")"
 }
 
 # The guest takes all descriptors: it is told ENFILE or EMFILE, memory still comes, and files are read when some are free again.

@@ -1,118 +1,142 @@
-# A guest goes to another QEMU under load, with its share: sourced by ./test. Each migration's outcome is a line of WORK/migrations: from,
-# to, outcome, and QEMU's milliseconds in all and of standing still. Outcomes:
-#   moved      the guest went on there, and read and wrote what it should
+# A guest goes from QEMU to QEMU under load, with its share: sourced by ./test. A journey is one guest's, over several servers in turn. Each
+# migration's outcome is a line of WORK/migrations: from, to, outcome, and QEMU's milliseconds in all and of standing still. Outcomes:
+#   moved      the guest went on there
 #   nudged     it did so only after `stop` and `cont`: a fault
-#   refused    a file that was removed wasn't forgotten yet, and no path leads to it: the migration ends, as virtiofsd's would
+#   refused    a file that was removed wasn't forgotten yet, and no path leads to it: the guest goes on here, as over virtiofsd
 #   failed     anything else
-# The logs of one that wasn't moved are kept in WORK/kept.
+# The logs of a journey on which one failed or was nudged are kept in WORK/kept.
 
-# What a monitor prints comes to `run/said`.
-listen() { (cat "$1/monitor.out" > "$1/said" 2> "$work/none") & }
+# What a monitor prints comes to `said` of its folder.
+listen() {
+    (
+        until [ -p "$1/monitor.out" ]; do sleep 0.1; done
+        cat "$1/monitor.out" >> "$1/said" 2> "$work/none"
+    ) &
+}
 
 is_alive() { kill -0 "$1" 2> "$work/none"; }
 
-# Ends a QEMU that doesn't end by itself: its status.
-end_qemu() {
-    ! is_alive "$2" || say "$1" quit
-    wait "$2"
-}
-
 # Whether the source says that its guest is gone.
 is_gone() {
-    local run=$1
     for _ in $(seq "${GUEST_SECONDS:-900}"); do
-        say "$run" 'info migrate'
+        say "$1" 'info migrate'
         sleep 0.5
-        ! grep -q 'Migration status: completed' "$run/said" || return 0
-        ! grep -q 'Migration status: failed' "$run/said" || return 1
+        ! grep -aq 'Migration status: completed' "$1/said" || return 0
+        ! grep -aq 'Migration status: failed' "$1/said" || return 1
     done
     return 1
 }
 
-# Whether the guest comes to its end, within PATIENCE and as long as its QEMU lives.
-comes_to_end() {
+# Whether the guest tells another line of this kind, within PATIENCE and as long as its QEMU lives.
+tells() {
+    local before
+    before=$(grep -c "^$3" "$1/console" 2> "$work/none" || true)
     for _ in $(seq $((4 * ${PATIENCE:-180}))); do
-        ! grep -q '^== end' "$1/console" || return 0
-        is_alive "$2" || break
+        [ "$(grep -c "^$3" "$1/console" 2> "$work/none" || true)" = "$before" ] || return 0
+        is_alive "$2" || return 1
         sleep 0.25
     done
-    grep -q '^== end' "$1/console"
-}
-
-# Has the guest go; sets `outcome`. One that stands still there is stopped and resumed once.
-go_over() {
-    local run=$1 there=$2 there_qemu=$3
-    outcome=failed
-    wait_for "$run" READER || return 0
-    listen "$run"
-    say "$run" 'migrate_set_parameter downtime-limit 5000' "migrate unix:$there/stream" # a busy host takes long to come to an end
-    is_gone "$run" || return 0
-    say "$run" quit
-    sleep 5
-    : > "$share/work/over"
-    outcome=moved
-    if ! comes_to_end "$there" "$there_qemu" && is_alive "$there_qemu"; then
-        say "$there" stop cont
-        outcome=nudged
-        comes_to_end "$there" "$there_qemu" || outcome=failed
-    fi
-}
-
-# What the guest did before and after.
-check_moved() {
-    local name=$1
-    grep -q '^== end' "$run/lines" || failure "$name: the guest didn't come to its end"
-    grep -q '^HELD before after' "$run/lines" || failure "$name: a file that was held open lost its words"
-    ! grep '^FAILED' "$run/lines" || failure "$name: a file isn't made"
-    all_are "$name" READER "$(sum "$share/files/m1")"
+    return 1
 }
 
 # QEMU's milliseconds, by the name that its monitor has for them.
-milliseconds() { tr -d '\r' < "$run/said" 2> "$work/none" | sed -n "s/^$1: \([0-9]*\) ms.*/\1/p" | tail -n 1 | grep . || echo -; }
+milliseconds() { tr -d '\r' < "$1/said" 2> "$work/none" | sed -n "s/^$2: \([0-9]*\) ms.*/\1/p" | tail -n 1 | grep . || echo -; }
 
-# Says what came of a migration.
-conclude() {
-    local from=$1 to=$2 status=$3 there=$run/there name=migrate-$1-$2 count kept
-    if [ "$outcome" = moved ] || [ "$outcome" = nudged ]; then
-        [ "$status" = 0 ] || outcome=failed
-    fi
-    [ "$outcome" != failed ] || ! grep -q 'has lost inode' "$there/server" || outcome=refused
-    echo "$from $to $outcome $(milliseconds 'total time') $(milliseconds downtime)" >> "$work/migrations"
-    cat "$run/console" "$there/console" 2> "$work/none" | tr -d '\r' > "$run/lines"
-    case $outcome in
-    moved) check_moved "$name" ;;
-    nudged) failure "$name: the guest went on only after stop and cont" && check_moved "$name" ;;
-    refused) echo "$name: refused, since a file that was removed wasn't forgotten yet" ;;
-    failed) failure "$name: QEMU ended with $status: $(tail -n 3 "$run/said" "$there/server" "$there/qemu" 2> "$work/none")" ;;
-    esac
-    [ "$outcome" = moved ] && return
-    count=$(wc -l < "$work/migrations") kept=$work/kept/$name-$count
-    mkdir -p "$work/kept"
-    cp -r "$run" "$kept" 2> "$work/none" || true
+# A server and a QEMU in a folder of their own, the next stop of a journey: sets `next` and its kin. With a word more the guest comes there
+# by the folder's `stream`.
+begin_stop() {
+    local incoming=()
+    next_kind=$1 next=$journey/$((++stops))
+    mkdir -p "$next"
+    start_server "$1" "$next/socket" "$next/server" "${words[@]}" || return 1
+    next_server=$server
+    [ $# = 1 ] || incoming=(-incoming "unix:$next/stream")
+    qemu "$next" "$scenario" "$next/socket" -m 256M -no-reboot -device "$(device)" "${incoming[@]}" &
+    next_qemu=$!
+    listen "$next"
 }
 
-# One migration: the source's daemon, and the target's.
-move() {
-    local from=$1 to=$2 status=0 there source target here_qemu there_qemu
+settle() { here=$next here_kind=$next_kind here_server=$next_server here_qemu=$next_qemu; }
+
+# The guest is gone from here, says QEMU here: sets `outcome`. One that stands still there is stopped and resumed once.
+arrive() {
+    outcome=moved
+    if ! tells "$next" "$next_qemu" READER; then
+        outcome=failed
+        if ! is_alive "$next_qemu"; then
+            stay
+            return
+        fi
+        say "$next" stop cont
+        ! tells "$next" "$next_qemu" READER || outcome=nudged
+    fi
+    say "$here" quit
+    wait "$here_qemu" || true
+    wait "$here_server" || failure "$here_kind to $next_kind: the source's daemon ended with $?"
+    settle
+}
+
+# It wasn't taken there: whether it goes on here, and what kept it is a file that is gone. QEMU says that a guest is gone as soon as it has
+# sent all, so it may have to be resumed.
+stay() {
+    wait "$next_qemu" || true
+    wait "$next_server" || true
+    say "$here" cont
+    ! grep -q 'has lost inode' "$next/server" || ! tells "$here" "$here_qemu" READER || outcome=refused
+    : > "$here/said"
+}
+
+# One migration, to a server of this kind.
+hop() {
+    local from=$here_kind to=$1 source=$here
+    outcome=failed
+    begin_stop "$to" incoming || return 0
+    for _ in $(seq 300); do
+        [ ! -S "$next/stream" ] || break
+        sleep 0.1
+    done
+    say "$source" 'migrate_set_parameter downtime-limit 5000' "migrate unix:$next/stream" # a busy host takes long to come to an end
+    if is_gone "$source"; then arrive; else stay; fi
+    echo "$from $to $outcome $(milliseconds "$source" 'total time') $(milliseconds "$source" downtime)" >> "$work/migrations"
+    case $outcome in failed | nudged) failure "from $from to $to: $outcome: $(tail -n 3 "$source/said" "$next"/{server,qemu} 2> "$work/none")" ;; esac
+}
+
+# What the guest did on its way, at all stops.
+check_journey() {
+    run=$journey
+    cat $(seq -f "$journey/%g/console" "$stops") 2> "$work/none" | tr -d '\r' > "$run/lines"
+    grep -q '^== end' "$run/lines" || failure "$scenario: the guest didn't come to its end"
+    if [ "$scenario" = migrate_full ]; then
+        grep -q '^TAKEN .*oo many open files' "$run/lines" || failure "$scenario: the guest has descriptors left"
+        all_are "$scenario" BIG "$(sum "$share/files/m8")"
+        return
+    fi
+    grep -q '^HELD before after' "$run/lines" || failure "$scenario: a file that was held open lost its words"
+    ! grep '^FAILED' "$run/lines" || failure "$scenario: a file isn't made"
+    all_are "$scenario" READER "$(sum "$share/files/m1")"
+}
+
+# A guest with this scenario begins at the first server of these and goes to the others in turn. `words` of the daemons may be set.
+travel() {
+    local scenario=$1 kind
+    shift
+    journey=$work/journey stops=0
+    rm -rf "$journey"
     make_files
-    run=$work/run-migrate-$from-$to there=$work/run-migrate-$from-$to/there
-    rm -rf "$run"
-    mkdir -p "$there"
-    start_server "$from" "$run/socket" "$run/server" || return 0
-    source=$server
-    start_server "$to" "$there/socket" "$there/server" || return 0
-    target=$server
-    qemu "$run" migrate "$run/socket" -m 256M -no-reboot -device "$(device)" &
-    here_qemu=$!
-    qemu "$there" migrate "$there/socket" -m 256M -no-reboot -device "$(device)" -incoming "unix:$there/stream" &
-    there_qemu=$!
-    go_over "$run" "$there" "$there_qemu"
-    [ "$outcome" != failed ] || ! is_alive "$there_qemu" || say "$there" quit
-    end_qemu "$run" "$here_qemu" || true
-    wait "$there_qemu" || status=$?
-    wait "$source" || failure "migrate-$from-$to: the source's daemon ended with $?"
-    wait "$target" || [ "$outcome" = failed ] || failure "migrate-$from-$to: the target's daemon ended with $?"
-    conclude "$from" "$to" "$status"
+    begin_stop "$1"
+    settle
+    shift
+    wait_for "$here" READER || failure "$scenario: the guest doesn't begin"
+    for kind in "$@"; do
+        hop "$kind"
+        [ "$outcome" != failed ] || break
+    done
+    echo over > "$share/work/over"
+    tells "$here" "$here_qemu" '== end' || say "$here" quit
+    wait "$here_qemu" || failure "$scenario: qemu ended with $?"
+    wait "$here_server" || failure "$scenario: the server ended with $?"
+    check_journey
+    ! grep -qE ' (failed|nudged) ' "$work/migrations" || cp -r "$journey" "$work/kept-$(wc -l < "$work/migrations")" 2> "$work/none" || true
 }
 
 # How many migrations of each pair came out how, and the least, the median and the most of their times.
@@ -137,16 +161,19 @@ for (source, target), (outcomes, *lists) in pairs.items():
 END_OF_PYTHON
 }
 
-# So many of each pair, the pairs in turn. PAIRS names those that are wanted, as `ours-ours ours-virtiofsd`.
+# MIGRATIONS of each pair, five of each with a guest.
 migrate() {
-    local round pair
-    rm -rf "$work/migrations" "$work/kept"
+    local round left=${MIGRATIONS:-3} count kinds words=()
+    rm -rf "$work"/migrations "$work"/kept-*
     : > "$work/migrations"
-    for round in $(seq "${MIGRATIONS:-3}"); do
-        for pair in ${PAIRS:-ours-ours ours-virtiofsd virtiofsd-ours}; do
-            move "${pair%-*}" "${pair#*-}"
-            echo "round $round of ${MIGRATIONS:-3}, $pair: $outcome"
-        done
+    while [ "$left" -gt 0 ]; do
+        count=$((left < 5 ? left : 5)) kinds=(ours)
+        for round in $(seq "$count"); do kinds+=(ours virtiofsd ours); done
+        travel migrate "${kinds[@]}"
+        left=$((left - count))
+        sum_up
     done
-    sum_up
+    words=(--rlimit-nofile 1600)
+    travel migrate_full ours ours
+    echo "all descriptors are the guest's: $outcome"
 }

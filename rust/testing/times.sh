@@ -18,23 +18,43 @@ for kind, path in enumerate(sys.argv[1:]):
         number, what = line.rstrip("\n").split("\t")
         rows.setdefault(what, ([], []))[kind].append(float(number))
 for what, both in rows.items():
-    ratio = f"{statistics.median(both[0]) / statistics.median(both[1]):6.2f}" if all(both) else " " * 6
+    ratio = f"{statistics.median(both[0]) / statistics.median(both[1]):6.2f}" if all(both) and any(both[1]) else " " * 6
     print(*(f"{min(found):11.1f} {statistics.median(found):11.1f}" if found else " " * 23 for found in both), ratio, what, sep="  ")
 END
 }
 
+# 10,000 files in a directory, and 2,000 in an archive.
+make_many() {
+    local k
+    [ ! -f "$share/tar" ] || return 0
+    mkdir -p "$share/ten-thousand" "$work/tar"
+    for k in $(seq 10000); do : > "$share/ten-thousand/name-$k"; done
+    for k in $(seq 2000); do
+        mkdir -p "$work/tar/$((k % 40))"
+        head -c $((k * 37 % 9000)) /dev/urandom > "$work/tar/$((k % 40))/$k"
+    done
+    tar -C "$work/tar" -cf "$work/tar.made" .
+    mv "$work/tar.made" "$share/tar"
+}
+
 # In a guest under QEMU: the scenario `times`.
 times() {
-    local kind
-    make_files
+    local kind unit
+    make_many
     rm -f "$work"/times.*
     for kind in $(turns "${ROUNDS:-5}"); do
+        make_files
         cat "$share"/files/{big,m1} > "$work/warm" # neither waits for the host's disk
         run_guest times "$kind" "times-$kind"
-        sed -n 's/^TIME \([0-9.]*\) ms: \(.*\)/\1\t\2/p' "$run/lines" >> "$work/times.$kind"
+        for unit in ms interrupts; do
+            sed -n "s/^TIME \([0-9.]*\) $unit: \(.*\)/\1\t\2/p" "$run/lines" >> "$work/times.$unit.$kind"
+        done
     done
-    echo "milliseconds in the guest, least and median of ${ROUNDS:-5} in turn: ours, virtiofsd, ratio of medians (below 1: ours is faster)"
-    compare "$work/times.ours" "$work/times.virtiofsd"
+    echo "in the guest, least and median of ${ROUNDS:-5} in turn: ours, virtiofsd, ratio of medians (below 1: ours is faster)"
+    echo "milliseconds:"
+    compare "$work"/times.ms.{ours,virtiofsd}
+    echo "interrupts:"
+    compare "$work"/times.interrupts.{ours,virtiofsd}
 }
 
 # virtiofsd for a driver that names more queues than virtiofsd has an option for.
@@ -55,9 +75,9 @@ END
     chmod +x "$work/virtiofsd"
 }
 
-# Without a guest: rows.c.
+# Without a guest: rows.c. Its driver takes the event index, as Linux does.
 rows() {
-    local kind daemon
+    local kind daemon word
     take_virtiofsd
     make_virtiofsd
     compile rows rows.c front.c
@@ -65,10 +85,20 @@ rows() {
     mkdir -p "$work/rows-share"
     for kind in $(turns "${ROUNDS:-5}"); do
         [ "$kind" = ours ] && daemon=$DAEMON || daemon=$work/virtiofsd
-        "$work/rows" "$daemon" "$work/rows-share" "${REQUESTS:-20000}" > "$work/rows.lines" 2> "$work/rows.errors" ||
+        EVENT_INDEX=${EVENT_INDEX:-1} "$work/rows" "$daemon" "$work/rows-share" "${REQUESTS:-20000}" \
+            > "$work/rows.lines" 2> "$work/rows.errors" ||
             failure "rows of $kind: $(tail -n 3 "$work/rows.errors")"
-        sed -n 's/^ROW \([0-9]*\) ns: \(.*\)/\1\t\2/p' "$work/rows.lines" >> "$work/rows.$kind"
+        for word in ROW PROCESSOR KICKS CALLS; do
+            sed -n "s/^$word \([0-9]*\) [^:]*: \(.*\)/\1\t\2/p" "$work/rows.lines" >> "$work/rows.$word.$kind"
+        done
     done
-    echo "nanoseconds a request, least and median of ${ROUNDS:-5} in turn: ours, virtiofsd, ratio of medians (below 1: ours is faster)"
-    compare "$work/rows.ours" "$work/rows.virtiofsd"
+    echo "least and median of ${ROUNDS:-5} in turn: ours, virtiofsd, ratio of medians (below 1: ours is faster)"
+    echo "nanoseconds a request:"
+    compare "$work"/rows.ROW.{ours,virtiofsd}
+    echo "of these on the daemon's processors:"
+    compare "$work"/rows.PROCESSOR.{ours,virtiofsd}
+    echo "notifications of the device for 1000 requests:"
+    compare "$work"/rows.KICKS.{ours,virtiofsd}
+    echo "and of the driver:"
+    compare "$work"/rows.CALLS.{ours,virtiofsd}
 }

@@ -36,7 +36,7 @@ fn an_answer_to_a_call_that_is_gone_is_refused(rt: HostRuntime) {
     let late = asked(&rt, &mut workbench, &mut queue, LOADS, LOOKUP);
     begin_anew(&mut workbench, &mut queue);
     let now = asked(&rt, &mut workbench, &mut queue, LOADS, LOOKUP);
-    expect_same(&rt, now, late + 1);
+    expect_same(&rt, now, late.wrapping_add(1));
     let refused = workbench
         .answer(late, FileAnswer::Failed(Errno::ENOENT))
         .err();

@@ -5,7 +5,7 @@ ghost use Rattle.fs_chain_c.specs.Numbers.{answer_number, call_number, listing, 
 
 use fuse_wire::Opcode;
 
-/// What a call waits for (FS_ANSWER_).
+/// What a call waits for (PK_ANSWER_).
 #[derive(Clone, Copy, Debug, PartialEq, Eq)]
 pub enum AnswerKind {
     /// None: it is answered, or no call is made.

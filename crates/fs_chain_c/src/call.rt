@@ -60,15 +60,15 @@ pub struct FsAttr {
 #[repr(C)]
 #[derive(Clone, Copy)]
 pub struct FsCall {
-    /// The call's number (FS_CALL_).
+    /// The call's number (PK_CALL_).
     pub kind: u32,
-    /// What it waits for (FS_ANSWER_).
+    /// What it waits for (PK_ANSWER_).
     pub answer: u32,
     /// The number of the request, as the guest wrote it.
     pub opcode: u32,
     /// 0.
     pub error: u32,
-    /// Why there is no reply, if no call is made (FS_REQUEST_), or 0.
+    /// Why there is no reply, if no call is made (PK_REQUEST_), or 0.
     pub fault: u32,
     /// The guest's number of the request.
     pub unique: u64,

@@ -27,7 +27,7 @@ pub(crate) fn wrong_order() -> u32
 
 /// The number of the header that the archive goes with.
 #[unsafe(no_mangle)]
-pub extern "C" fn fs_version() -> u32
+pub extern "C" fn pk_version() -> u32
     ensures { result ≡ 7 }
 {
     VERSION
@@ -35,7 +35,7 @@ pub extern "C" fn fs_version() -> u32
 
 /// Over which memory the chain's next walks go, and the device's limit. A handle without a workbench gets one.
 #[unsafe(no_mangle)]
-pub extern "C" fn fs_chain_set_memory(
+pub extern "C" fn pk_chain_set_memory(
     alloc: Global,
     chain: &mut FsChain,
     device: &FsDevice,
@@ -64,7 +64,7 @@ pub extern "C" fn fs_chain_set_memory(
 
 /// Frees what a handle holds; then it has no workbench. The queue of a chain that is out isn't told.
 #[unsafe(no_mangle)]
-pub extern "C" fn fs_chain_free(alloc: Global, chain: &mut FsChain)
+pub extern "C" fn pk_chain_free(alloc: Global, chain: &mut FsChain)
     ensures { chain.new.value ≡ None }
 {
     *chain = FsChain::empty(alloc);
@@ -72,7 +72,7 @@ pub extern "C" fn fs_chain_free(alloc: Global, chain: &mut FsChain)
 
 /// Takes the next chain of a queue: at first without bytes, then with those of each load that was told.
 #[unsafe(no_mangle)]
-pub extern "C" fn fs_walk(
+pub extern "C" fn pk_walk(
     alloc: Global,
     chain: &mut FsChain,
     queue: &mut FsQueue,
@@ -93,7 +93,7 @@ pub extern "C" fn fs_walk(
 
 /// Begins a queue anew at a position, by the parts that it has: its walks and its chains are refused from then on.
 #[unsafe(no_mangle)]
-pub extern "C" fn fs_queue_begin(queue: &mut FsQueue, position: u16) -> u32
+pub extern "C" fn pk_queue_begin(queue: &mut FsQueue, position: u16) -> u32
     ensures { BeginsQueue queue.old position result queue.new }
 {
     if queue.begin(position) {
@@ -105,7 +105,7 @@ pub extern "C" fn fs_queue_begin(queue: &mut FsQueue, position: u16) -> u32
 
 /// Frees a handle whose queue was begun anew: no queue is told.
 #[unsafe(no_mangle)]
-pub extern "C" fn fs_abandon(alloc: Global, chain: &mut FsChain)
+pub extern "C" fn pk_abandon(alloc: Global, chain: &mut FsChain)
     ensures { Abandons chain.old.value chain.new.value }
 {
     let Some(mut workbench) = chain.take(alloc) else {
@@ -117,7 +117,7 @@ pub extern "C" fn fs_abandon(alloc: Global, chain: &mut FsChain)
 
 /// Gives a chain up that wasn't asked; the queue hands it out again at its next walk. A walk ends.
 #[unsafe(no_mangle)]
-pub extern "C" fn fs_drop(alloc: Global, chain: &mut FsChain, queue: &mut FsQueue) -> u32
+pub extern "C" fn pk_drop(alloc: Global, chain: &mut FsChain, queue: &mut FsQueue) -> u32
     ensures { Drops chain.old.value queue.old result chain.new.value queue.new }
 {
     let Some(mut workbench) = chain.take(alloc) else {
@@ -130,7 +130,7 @@ pub extern "C" fn fs_drop(alloc: Global, chain: &mut FsChain, queue: &mut FsQueu
 
 /// Where the bytes of a chain's request stand from one on, at most so many: how many windows are filled.
 #[unsafe(no_mangle)]
-pub extern "C" fn fs_request_windows(
+pub extern "C" fn pk_request_windows(
     alloc: Global,
     chain: &mut FsChain,
     from: u64,
@@ -149,7 +149,7 @@ pub extern "C" fn fs_request_windows(
 
 /// Where the bytes of a chain's room stand from one on, at most so many: how many windows are filled.
 #[unsafe(no_mangle)]
-pub extern "C" fn fs_room_windows(
+pub extern "C" fn pk_room_windows(
     alloc: Global,
     chain: &mut FsChain,
     from: u64,
@@ -168,7 +168,7 @@ pub extern "C" fn fs_room_windows(
 
 /// Says how a chain goes back: its reply's front at the front of a buffer, and the stores. Until they are made no other chain of the queue goes back.
 #[unsafe(no_mangle)]
-pub extern "C" fn fs_return(
+pub extern "C" fn pk_return(
     alloc: Global,
     chain: &mut FsChain,
     queue: &mut FsQueue,
@@ -189,7 +189,7 @@ pub extern "C" fn fs_return(
 
 /// The stores are made, and these are the two bytes at `seen_at`: the queue's next chain goes back at the next position, and whether the driver wants to be told.
 #[unsafe(no_mangle)]
-pub extern "C" fn fs_returned(
+pub extern "C" fn pk_returned(
     alloc: Global,
     chain: &mut FsChain,
     queue: &mut FsQueue,

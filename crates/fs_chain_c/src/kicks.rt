@@ -60,7 +60,7 @@ fn ask_workbench(workbench: &Workbench, queue: &FsQueue, wanted: u32) -> (FsStor
 
 /// What is stored to be told of the next chain of a queue, or of none (0), over a handle's regions.
 #[unsafe(no_mangle)]
-pub extern "C" fn fs_ask_kicks(
+pub extern "C" fn pk_ask_kicks(
     alloc: Global,
     chain: &mut FsChain,
     queue: &FsQueue,

@@ -27,15 +27,15 @@ mod walking;
 mod windows;
 
 pub use exports::{
-    fs_abandon, fs_chain_free, fs_chain_set_memory, fs_drop, fs_queue_begin, fs_request_windows,
-    fs_return, fs_returned, fs_room_windows, fs_version, fs_walk,
+    pk_abandon, pk_chain_free, pk_chain_set_memory, pk_drop, pk_queue_begin, pk_request_windows,
+    pk_return, pk_returned, pk_room_windows, pk_version, pk_walk,
 };
-pub use kicks::fs_ask_kicks;
-pub use listing::{fs_add_direntry, fs_add_direntry_plus, fs_reply_entries, fs_reply_err};
-pub use names::fs_is_name;
-pub use ranges::fs_room_ranges;
-pub use record::{fs_restore, fs_save};
+pub use kicks::pk_ask_kicks;
+pub use listing::{pk_add_direntry, pk_add_direntry_plus, pk_reply_entries, pk_reply_err};
+pub use names::pk_is_name;
+pub use ranges::pk_room_ranges;
+pub use record::{pk_restore, pk_save};
 pub use replies::{
-    fs_ask, fs_reply_attr, fs_reply_bytes, fs_reply_create, fs_reply_data, fs_reply_entry,
-    fs_reply_init, fs_reply_lseek, fs_reply_open, fs_reply_statfs, fs_reply_write, fs_reply_xattr,
+    pk_ask, pk_reply_attr, pk_reply_bytes, pk_reply_create, pk_reply_data, pk_reply_entry,
+    pk_reply_init, pk_reply_lseek, pk_reply_open, pk_reply_statfs, pk_reply_write, pk_reply_xattr,
 };

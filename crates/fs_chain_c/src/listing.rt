@@ -79,7 +79,7 @@ fn add_node_workbench(
 
 /// Puts an entry of READDIR behind those before it.
 #[unsafe(no_mangle)]
-pub extern "C" fn fs_add_direntry(
+pub extern "C" fn pk_add_direntry(
     alloc: Global,
     chain: &mut FsChain,
     ticket: u32,
@@ -132,7 +132,7 @@ fn add_node(
 
 /// Puts an entry of READDIRPLUS, with its node, behind those before it.
 #[unsafe(no_mangle)]
-pub extern "C" fn fs_add_direntry_plus(
+pub extern "C" fn pk_add_direntry_plus(
     alloc: Global,
     chain: &mut FsChain,
     ticket: u32,
@@ -168,7 +168,7 @@ fn end_listing(workbench: &mut Workbench, ticket: u32) -> (u32, u64)
 
 /// Replies the entries so far: how many bytes of the list are the data.
 #[unsafe(no_mangle)]
-pub extern "C" fn fs_reply_entries(
+pub extern "C" fn pk_reply_entries(
     alloc: Global,
     chain: &mut FsChain,
     ticket: u32,
@@ -228,7 +228,7 @@ fn fail_chain(alloc: Global, chain: &mut FsChain, ticket: u32, error: Errno) -> 
 
 /// A chain's call is done (0), or fails by an errno.
 #[unsafe(no_mangle)]
-pub extern "C" fn fs_reply_err(alloc: Global, chain: &mut FsChain, ticket: u32, error: u32) -> u32
+pub extern "C" fn pk_reply_err(alloc: Global, chain: &mut FsChain, ticket: u32, error: u32) -> u32
     ensures { RepliesError error ticket chain.old.value result chain.new.value }
 {
     match errno_of(error) {

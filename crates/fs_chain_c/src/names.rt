@@ -25,7 +25,7 @@ fn is_name(name: &[u8]) -> bool
 
 /// Whether a name is one component of a path: 1, or 0 if it is empty, `.` or `..`, or has a slash or a zero byte.
 #[unsafe(no_mangle)]
-pub extern "C" fn fs_is_name(name: &[u8]) -> u8
+pub extern "C" fn pk_is_name(name: &[u8]) -> u8
     ensures { result ≡ flag (is_name name.now) }
 {
     u8::from(is_name(name))

@@ -54,7 +54,7 @@ fn fill_ranges(workbench: &Workbench, from: u64, most: u64, ranges: &mut [FsRang
 
 /// The guest's addresses of the bytes of a chain's room from one on, at most so many: how many ranges are filled.
 #[unsafe(no_mangle)]
-pub extern "C" fn fs_room_ranges(
+pub extern "C" fn pk_room_ranges(
     alloc: Global,
     chain: &mut FsChain,
     from: u64,

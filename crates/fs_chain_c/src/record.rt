@@ -136,7 +136,7 @@ fn saved_status(refused: Option<ChainError>) -> u32
 
 /// Puts the record of a device and its queues at the front of a buffer: how long it is.
 #[unsafe(no_mangle)]
-pub extern "C" fn fs_save(
+pub extern "C" fn pk_save(
     alloc: Global,
     device: &FsDevice,
     queues: &[FsQueue],
@@ -183,7 +183,7 @@ fn put_queues(queues: &mut [FsQueue], restored: &[Queue])
 
 /// Reads a record into the device's options and the queues: how many queues it has.
 #[unsafe(no_mangle)]
-pub extern "C" fn fs_restore(
+pub extern "C" fn pk_restore(
     alloc: Global,
     device: &mut FsDevice,
     queues: &mut [FsQueue],

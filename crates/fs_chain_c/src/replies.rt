@@ -42,7 +42,7 @@ fn may_reply(alloc: Global, chain: &mut FsChain, ticket: u32, said: Option<FileA
 
 /// Tells what a chain's request asks, by its first bytes.
 #[unsafe(no_mangle)]
-pub extern "C" fn fs_ask(
+pub extern "C" fn pk_ask(
     alloc: Global,
     chain: &mut FsChain,
     device: &FsDevice,
@@ -62,7 +62,7 @@ pub extern "C" fn fs_ask(
 
 /// Answers a call that wants an entry.
 #[unsafe(no_mangle)]
-pub extern "C" fn fs_reply_entry(
+pub extern "C" fn pk_reply_entry(
     alloc: Global,
     chain: &mut FsChain,
     ticket: u32,
@@ -75,7 +75,7 @@ pub extern "C" fn fs_reply_entry(
 
 /// Answers CREATE.
 #[unsafe(no_mangle)]
-pub extern "C" fn fs_reply_create(
+pub extern "C" fn pk_reply_create(
     alloc: Global,
     chain: &mut FsChain,
     ticket: u32,
@@ -95,7 +95,7 @@ pub extern "C" fn fs_reply_create(
 
 /// Answers GETATTR and SETATTR.
 #[unsafe(no_mangle)]
-pub extern "C" fn fs_reply_attr(
+pub extern "C" fn pk_reply_attr(
     alloc: Global,
     chain: &mut FsChain,
     ticket: u32,
@@ -110,7 +110,7 @@ pub extern "C" fn fs_reply_attr(
 
 /// Answers OPEN and OPENDIR.
 #[unsafe(no_mangle)]
-pub extern "C" fn fs_reply_open(
+pub extern "C" fn pk_reply_open(
     alloc: Global,
     chain: &mut FsChain,
     ticket: u32,
@@ -124,7 +124,7 @@ pub extern "C" fn fs_reply_open(
 
 /// Answers a call that wants data: so many bytes, which stand in the room behind the header.
 #[unsafe(no_mangle)]
-pub extern "C" fn fs_reply_data(alloc: Global, chain: &mut FsChain, ticket: u32, len: u64) -> u32
+pub extern "C" fn pk_reply_data(alloc: Global, chain: &mut FsChain, ticket: u32, len: u64) -> u32
     ensures { Replies (answer.Bytes len) ticket chain.old.value result chain.new.value }
 {
     let len = len as usize;
@@ -133,7 +133,7 @@ pub extern "C" fn fs_reply_data(alloc: Global, chain: &mut FsChain, ticket: u32,
 
 /// Answers GETXATTR and LISTXATTR with size 0: how many bytes there are.
 #[unsafe(no_mangle)]
-pub extern "C" fn fs_reply_xattr(alloc: Global, chain: &mut FsChain, ticket: u32, len: u32) -> u32
+pub extern "C" fn pk_reply_xattr(alloc: Global, chain: &mut FsChain, ticket: u32, len: u32) -> u32
     ensures { Replies (answer.Count len) ticket chain.old.value result chain.new.value }
 {
     reply(alloc, chain, ticket, FileAnswer::Count(len))
@@ -141,7 +141,7 @@ pub extern "C" fn fs_reply_xattr(alloc: Global, chain: &mut FsChain, ticket: u32
 
 /// Answers WRITE and COPY_FILE_RANGE: how many bytes were written.
 #[unsafe(no_mangle)]
-pub extern "C" fn fs_reply_write(alloc: Global, chain: &mut FsChain, ticket: u32, count: u32) -> u32
+pub extern "C" fn pk_reply_write(alloc: Global, chain: &mut FsChain, ticket: u32, count: u32) -> u32
     ensures { Replies (answer.Wrote count) ticket chain.old.value result chain.new.value }
 {
     reply(alloc, chain, ticket, FileAnswer::Wrote(count))
@@ -149,7 +149,7 @@ pub extern "C" fn fs_reply_write(alloc: Global, chain: &mut FsChain, ticket: u32
 
 /// Answers STATFS.
 #[unsafe(no_mangle)]
-pub extern "C" fn fs_reply_statfs(
+pub extern "C" fn pk_reply_statfs(
     alloc: Global,
     chain: &mut FsChain,
     ticket: u32,
@@ -162,7 +162,7 @@ pub extern "C" fn fs_reply_statfs(
 
 /// Answers LSEEK.
 #[unsafe(no_mangle)]
-pub extern "C" fn fs_reply_lseek(
+pub extern "C" fn pk_reply_lseek(
     alloc: Global,
     chain: &mut FsChain,
     ticket: u32,
@@ -176,7 +176,7 @@ pub extern "C" fn fs_reply_lseek(
 /// Answers INIT: of the options that the guest can, these are wished for besides what is agreed on anyway. The device has then what was
 /// agreed.
 #[unsafe(no_mangle)]
-pub extern "C" fn fs_reply_init(
+pub extern "C" fn pk_reply_init(
     alloc: Global,
     chain: &mut FsChain,
     ticket: u32,
@@ -206,9 +206,9 @@ fn reply_own(workbench: &mut Workbench, ticket: u32, len: usize) -> u32
     }
 }
 
-/// Replies so many bytes of C's own, which stand in the room from its first place on: in place of `fs_ask`, or of an answer.
+/// Replies so many bytes of C's own, which stand in the room from its first place on: in place of `pk_ask`, or of an answer.
 #[unsafe(no_mangle)]
-pub extern "C" fn fs_reply_bytes(alloc: Global, chain: &mut FsChain, ticket: u32, len: u64) -> u32
+pub extern "C" fn pk_reply_bytes(alloc: Global, chain: &mut FsChain, ticket: u32, len: u64) -> u32
     ensures { RepliesBytes ticket len chain.old.value result chain.new.value }
 {
     let Some(mut workbench) = chain.take(alloc) else {

@@ -9,7 +9,7 @@ struct answers {
     _Atomic unsigned calls;
 };
 
-uint32_t answer_some(void *files, struct fs_chain *chain, struct fs_device *device, const struct fs_call *call,
+uint32_t answer_some(void *files, struct pk_chain *chain, struct pk_device *device, const struct pk_call *call,
                      const uint8_t *request);
 
 #endif

@@ -15,22 +15,22 @@ enum { DESC = 0, AVAIL = 0x1000, USED = 0x2000, TABLES = 0x3000, REQUESTS = 0x80
 
 /* A chain with the regions that it was told last, and what it said last. */
 struct bench {
-    struct fs_chain chain;
-    struct fs_region regions[REGIONS];
+    struct pk_chain chain;
+    struct pk_region regions[REGIONS];
     size_t region_count, have;
     uint64_t request_len, room_len; /* of the chain that is out */
     bool replied;                   /* it has a reply of the author's own bytes, */
     uint64_t replied_len;           /* so many of them */
     uint32_t ticket;
-    struct fs_step step;
-    struct fs_call call;
+    struct pk_step step;
+    struct pk_call call;
     uint8_t *request;
 };
 
 static uint8_t *memory;
 static struct bench benches[CHAINS];
-static struct fs_queue queues[QUEUES];
-static struct fs_device device = FS_DEVICE;
+static struct pk_queue queues[QUEUES];
+static struct pk_device device = PK_DEVICE;
 static uint64_t calls, taken, asked, replied, returned;
 static uint16_t at_once; /* so many chains were out */
 
@@ -42,7 +42,7 @@ static _Noreturn void wrong(const char *what, uint64_t number) {
 
 static uint32_t named(uint32_t status) {
     calls++;
-    if (!*fs_status_name(status)) wrong("a status has no name", status);
+    if (!*pk_status_name(status)) wrong("a status has no name", status);
     return status;
 }
 
@@ -73,7 +73,7 @@ static bool is_told(const struct bench *b, uintptr_t at, uint64_t len) {
     return len == 0;
 }
 
-static void check_windows(const struct bench *b, const struct fs_window *windows, size_t count, size_t most,
+static void check_windows(const struct bench *b, const struct pk_window *windows, size_t count, size_t most,
                           uint64_t len) {
     uint64_t sum = 0;
     if (count > most) wrong("too many windows", count);
@@ -121,7 +121,7 @@ static uint16_t available(void) {
     return value;
 }
 
-static void stir_guest(const struct fs_queue *queue) {
+static void stir_guest(const struct pk_queue *queue) {
     unsigned head = (unsigned)below(SIZE);
     some_chain(head);
     put(AVAIL + 4 + 2u * (available() % SIZE), below(60) ? head : below(40), 2);
@@ -132,7 +132,7 @@ static void stir_guest(const struct fs_queue *queue) {
 
 /* ------------------------------------------------------------- numbers that are lent */
 
-static void some_queue(struct fs_queue *queue) {
+static void some_queue(struct pk_queue *queue) {
     uint16_t position = below(6) ? available() : (uint16_t)chance();
     queue->desc = below(6) ? DESC : some_address();
     queue->avail = below(6) ? AVAIL : some_address();
@@ -140,10 +140,10 @@ static void some_queue(struct fs_queue *queue) {
     queue->size = below(6) ? SIZE : (uint16_t)ONE_OF(0, 1, 3, 32768, chance());
     queue->most_out = below(9) ? (uint16_t)below(CHAINS + 1) : (uint16_t)chance();
     queue->event_index = (uint8_t)(below(9) ? below(2) : chance());
-    struct fs_queue before = *queue;
-    uint32_t status = named(fs_queue_begin(queue, position));
-    if (status != FS_DONE && memcmp(&before, queue, sizeof before) != 0) wrong("a queue that isn't begun is another", status);
-    if (status == FS_DONE && (queue->position != position || queue->returned != position || queue->begun != before.begun + 1))
+    struct pk_queue before = *queue;
+    uint32_t status = named(pk_queue_begin(queue, position));
+    if (status != PK_DONE && memcmp(&before, queue, sizeof before) != 0) wrong("a queue that isn't begun is another", status);
+    if (status == PK_DONE && (queue->position != position || queue->returned != position || queue->begun != before.begun + 1))
         wrong("a queue begins elsewhere", queue->position);
     if (below(9)) return;
     switch (below(5)) {
@@ -157,24 +157,24 @@ static void some_queue(struct fs_queue *queue) {
 
 /* Regions over the memory, some with a second one far away for the guest, or with what none may have. */
 static void tell_memory(struct bench *b) {
-    struct fs_region regions[REGIONS] = {{0, MEMORY_LEN, (uintptr_t)memory}};
+    struct pk_region regions[REGIONS] = {{0, MEMORY_LEN, (uintptr_t)memory}};
     size_t count = 1 + below(3);
     uintptr_t host = (uintptr_t)memory;
     if (below(2)) {
         regions[0].len = MEMORY_LEN / 2;
-        regions[1] = (struct fs_region){MEMORY_LEN / 2, MEMORY_LEN / 2, host + MEMORY_LEN / 2};
+        regions[1] = (struct pk_region){MEMORY_LEN / 2, MEMORY_LEN / 2, host + MEMORY_LEN / 2};
     } else {
-        regions[1] = (struct fs_region){FAR_AWAY, 4096 * (1 + below(2)), host + 4096 * below(8)};
+        regions[1] = (struct pk_region){FAR_AWAY, 4096 * (1 + below(2)), host + 4096 * below(8)};
     }
-    regions[2] = (struct fs_region){UINT64_MAX - 4095, 4096, host + 4096 * below(8)};
+    regions[2] = (struct pk_region){UINT64_MAX - 4095, 4096, host + 4096 * below(8)};
     if (below(20) == 0) regions[below(3)].len = ONE_OF(0, 4095, UINT64_MAX, chance());
     if (below(20) == 0) regions[below(3)].guest = ONE_OF(0, 1, 4096, UINT64_MAX, chance());
     if (below(30) == 0) count = ONE_OF(0, 65, 3);
     if (count > REGIONS) return;
-    struct fs_device lent = device;
+    struct pk_device lent = device;
     if (below(30) == 0) lent.limit = (uint32_t)ONE_OF(0, 0x100fff, 1u << 31, chance());
-    uint32_t status = named(fs_chain_set_memory(&b->chain, &lent, regions, count));
-    if (status == FS_DONE) {
+    uint32_t status = named(pk_chain_set_memory(&b->chain, &lent, regions, count));
+    if (status == PK_DONE) {
         memcpy(b->regions, regions, sizeof regions);
         b->region_count = count;
     }
@@ -182,27 +182,27 @@ static void tell_memory(struct bench *b) {
 
 /* ------------------------------------------------------------- calls */
 
-static uint16_t out_of(const struct fs_queue *queue) { return (uint16_t)(queue->position - queue->returned); }
+static uint16_t out_of(const struct pk_queue *queue) { return (uint16_t)(queue->position - queue->returned); }
 
 /* Which of the two says that nothing was done leaves the numbers as they were. */
-static void check_same(uint32_t status, const struct fs_queue *before, const struct fs_queue *after) {
+static void check_same(uint32_t status, const struct pk_queue *before, const struct pk_queue *after) {
     if (status >= 64 && memcmp(before, after, sizeof *before) != 0) wrong("a refusal changes a queue", status);
 }
 
-static uint32_t do_walk(struct bench *b, struct fs_queue *queue) {
-    static uint8_t bytes[FS_LOAD_MAX];
-    size_t len = below(30) ? b->step.len : (size_t)ONE_OF(16, below(FS_LOAD_MAX + 1));
-    struct fs_queue before = *queue;
-    struct fs_step step;
+static uint32_t do_walk(struct bench *b, struct pk_queue *queue) {
+    static uint8_t bytes[PK_LOAD_MAX];
+    size_t len = below(30) ? b->step.len : (size_t)ONE_OF(16, below(PK_LOAD_MAX + 1));
+    struct pk_queue before = *queue;
+    struct pk_step step;
     if (len == b->step.len && len > 0 && is_told(b, b->step.at, len)) memcpy(bytes, (const void *)b->step.at, len);
     if (below(500) == 0)
         for (size_t k = 0; k < len; k++) bytes[k] = (uint8_t)chance();
-    uint32_t status = named(fs_walk(&b->chain, queue, bytes, len, &step));
+    uint32_t status = named(pk_walk(&b->chain, queue, bytes, len, &step));
     check_same(status, &before, queue);
-    if (status != FS_BAD_ARGUMENT) b->step = step; /* else the load is wanted still */
-    if (status == FS_LOAD && (b->step.len == 0 || b->step.len > FS_LOAD_MAX || !is_told(b, b->step.at, b->step.len)))
+    if (status != PK_BAD_ARGUMENT) b->step = step; /* else the load is wanted still */
+    if (status == PK_LOAD && (b->step.len == 0 || b->step.len > PK_LOAD_MAX || !is_told(b, b->step.at, b->step.len)))
         wrong("a load lies outside", b->step.len);
-    if (status != FS_DONE) return status;
+    if (status != PK_DONE) return status;
     if (queue->position != (uint16_t)(before.position + 1) || queue->returned != before.returned)
         wrong("a chain is taken elsewhere", queue->position);
     if (out_of(queue) > (queue->most_out ? queue->most_out : 1)) wrong("too many chains are out", out_of(queue));
@@ -217,27 +217,27 @@ static uint32_t do_walk(struct bench *b, struct fs_queue *queue) {
 }
 
 /* Nothing is to be loaded after it. */
-static void do_drop(struct bench *b, struct fs_queue *queue) {
-    struct fs_queue before = *queue;
+static void do_drop(struct bench *b, struct pk_queue *queue) {
+    struct pk_queue before = *queue;
     uint16_t out = out_of(queue);
-    uint32_t status = named(fs_drop(&b->chain, queue));
+    uint32_t status = named(pk_drop(&b->chain, queue));
     check_same(status, &before, queue);
-    if (status == FS_DONE && memcmp(&before, queue, sizeof before) != 0 && out_of(queue) != out - 1)
+    if (status == PK_DONE && memcmp(&before, queue, sizeof before) != 0 && out_of(queue) != out - 1)
         wrong("a chain is dropped elsewhere", out_of(queue));
-    b->step = (struct fs_step){0};
+    b->step = (struct pk_step){0};
 }
 
 static void do_abandon(struct bench *b) {
-    fs_abandon(&b->chain);
-    b->step = (struct fs_step){0};
+    pk_abandon(&b->chain);
+    b->step = (struct pk_step){0};
     calls++;
 }
 
 /* Walks on until there is a chain or none. What stands in the way goes out of it now and then. */
-static void walk_on(struct bench *b, struct fs_queue *queue) {
+static void walk_on(struct bench *b, struct pk_queue *queue) {
     uint32_t status;
-    while ((status = do_walk(b, queue)) == FS_LOAD) {}
-    if (status == FS_DONE || status == FS_IDLE || below(3) > 0) return;
+    while ((status = do_walk(b, queue)) == PK_LOAD) {}
+    if (status == PK_DONE || status == PK_IDLE || below(3) > 0) return;
     for (size_t k = 0; k < QUEUES; k++) do_drop(b, &queues[k]);
     if (below(4) == 0) do_abandon(b);
     if (below(8) == 0) some_queue(queue);
@@ -245,23 +245,23 @@ static void walk_on(struct bench *b, struct fs_queue *queue) {
 }
 
 static void do_ask(struct bench *b) {
-    size_t want = (size_t)(b->request_len < FS_FIRST ? b->request_len : FS_FIRST);
+    size_t want = (size_t)(b->request_len < PK_FIRST ? b->request_len : PK_FIRST);
     if (b->call.needed > want && b->have > 0) want = b->call.needed;
     if (below(20) == 0) want = below(4096);
-    if (want > FS_REQUEST_MAX) return;
+    if (want > PK_REQUEST_MAX) return;
     gather(&b->chain, 0, b->request, want);
     b->have = want;
-    uint32_t status = named(fs_ask(&b->chain, &device, b->request, want, &b->call));
-    if (status == FS_DONE) asked++;
-    if (status == FS_DONE && b->call.ticket != b->ticket) wrong("a call has another ticket", b->call.ticket);
-    const struct fs_span *spans[] = {&b->call.name, &b->call.name2, &b->call.value};
+    uint32_t status = named(pk_ask(&b->chain, &device, b->request, want, &b->call));
+    if (status == PK_DONE) asked++;
+    if (status == PK_DONE && b->call.ticket != b->ticket) wrong("a call has another ticket", b->call.ticket);
+    const struct pk_span *spans[] = {&b->call.name, &b->call.name2, &b->call.value};
     for (size_t k = 0; k < 3; k++)
         if ((uint64_t)spans[k]->at + spans[k]->len > want) wrong("a span lies behind the request", k);
     if (b->call.name.len && b->request[b->call.name.at + b->call.name.len])
         wrong("a name has no zero byte behind it", b->call.kind);
-    if (b->call.kind == FS_CALL_BATCH_FORGET && 16 * b->call.count > b->call.value.len)
+    if (b->call.kind == PK_CALL_BATCH_FORGET && 16 * b->call.count > b->call.value.len)
         wrong("pairs lie behind the request", b->call.count);
-    if (b->call.answer == FS_ANSWER_DATA && b->call.data_len > b->room_len)
+    if (b->call.answer == PK_ANSWER_DATA && b->call.data_len > b->room_len)
         wrong("data is longer than the room", b->call.data_len);
 }
 
@@ -279,7 +279,7 @@ static bool is_guests(const struct bench *b, uint64_t guest, uint64_t len) {
     return len == 0;
 }
 
-static void check_ranges(const struct bench *b, const struct fs_range *ranges, size_t count, size_t most, uint64_t len) {
+static void check_ranges(const struct bench *b, const struct pk_range *ranges, size_t count, size_t most, uint64_t len) {
     uint64_t sum = 0;
     if (count > most) wrong("too many ranges", count);
     for (size_t k = 0; k < count; k++) {
@@ -290,15 +290,15 @@ static void check_ranges(const struct bench *b, const struct fs_range *ranges, s
 }
 
 static void do_windows(struct bench *b) {
-    struct fs_window windows[5];
-    struct fs_range ranges[5];
+    struct pk_window windows[5];
+    struct pk_range ranges[5];
     uint64_t from = ONE_OF(0, 16, below(5000), chance()), len = ONE_OF(1, 16, below(100000), UINT64_MAX);
     size_t most = below(6), count;
-    count = fs_request_windows(&b->chain, from, len, windows, most);
+    count = pk_request_windows(&b->chain, from, len, windows, most);
     check_windows(b, windows, count, most, len);
-    count = fs_room_windows(&b->chain, from, len, windows, most);
+    count = pk_room_windows(&b->chain, from, len, windows, most);
     check_windows(b, windows, count, most, len);
-    count = fs_room_ranges(&b->chain, from, len, ranges, most);
+    count = pk_room_ranges(&b->chain, from, len, ranges, most);
     check_ranges(b, ranges, count, most, len);
     calls += 3;
 }
@@ -311,31 +311,31 @@ static uint32_t some_ticket(const struct bench *b) {
 /* An answer with another ticket than that of the chain is taken for no call's, and one with its ticket isn't refused for that. */
 static void check_ticket(const struct bench *b, uint32_t ticket, uint32_t status) {
     bool is_mine = ticket == b->ticket;
-    if (is_mine ? status == FS_OTHER_CALL : status != FS_OTHER_CALL && status != FS_WRONG_ORDER && status != FS_BAD_ARGUMENT)
+    if (is_mine ? status == PK_OTHER_CALL : status != PK_OTHER_CALL && status != PK_WRONG_ORDER && status != PK_BAD_ARGUMENT)
         wrong("a ticket is taken for another one", status);
 }
 
-static struct fs_entry some_entry(void) {
-    struct fs_entry entry = {.node = below(3), .entry_secs = 1, .attr = {.ino = 7, .mode = 0100644}};
+static struct pk_entry some_entry(void) {
+    struct pk_entry entry = {.node = below(3), .entry_secs = 1, .attr = {.ino = 7, .mode = 0100644}};
     if (below(10) == 0) entry.entry_nanos = (uint32_t)chance();
     return entry;
 }
 
 static uint32_t do_entries(struct bench *b, uint32_t ticket) {
-    struct fs_entry entry = some_entry();
+    struct pk_entry entry = some_entry();
     size_t len = below(BUFFER), name_len = below(300);
-    uint32_t status = FS_WRONG_ORDER;
+    uint32_t status = PK_WRONG_ORDER;
     uint64_t listed;
     uint8_t name[300];
     memset(name, 'n', sizeof name);
     begin_buffer(len);
     for (uint64_t k = below(6); k > 0; k--) {
-        check_ticket(b, ticket, named(fs_add_direntry(&b->chain, ticket, buffer, len, name, name_len, 7, k, 8)));
-        check_ticket(b, ticket, named(fs_add_direntry_plus(&b->chain, ticket, buffer, len, name, name_len, &entry, k)));
+        check_ticket(b, ticket, named(pk_add_direntry(&b->chain, ticket, buffer, len, name, name_len, 7, k, 8)));
+        check_ticket(b, ticket, named(pk_add_direntry_plus(&b->chain, ticket, buffer, len, name, name_len, &entry, k)));
     }
     check_buffer(len);
     if (below(2) == 0) {
-        status = named(fs_reply_entries(&b->chain, ticket, &listed));
+        status = named(pk_reply_entries(&b->chain, ticket, &listed));
         if (listed > b->room_len) wrong("a list is longer than the room", listed);
     }
     return status;
@@ -343,38 +343,38 @@ static uint32_t do_entries(struct bench *b, uint32_t ticket) {
 
 /* The answer that is waited for, or another one. */
 static void do_reply(struct bench *b) {
-    struct fs_entry entry = some_entry();
-    struct fs_attr attr = {.ino = 1};
-    struct fs_statfs statfs = {.bsize = 4096};
-    struct fs_chain *chain = &b->chain;
+    struct pk_entry entry = some_entry();
+    struct pk_attr attr = {.ino = 1};
+    struct pk_statfs statfs = {.bsize = 4096};
+    struct pk_chain *chain = &b->chain;
     uint32_t ticket = some_ticket(b), status;
     switch (below(3) ? b->call.answer : below(14)) {
-    case FS_ANSWER_DONE: status = fs_reply_err(chain, ticket, 0); break;
-    case FS_ANSWER_ENTRY: status = fs_reply_entry(chain, ticket, &entry); break;
-    case FS_ANSWER_ATTR: status = fs_reply_attr(chain, ticket, &attr, 1, (uint32_t)ONE_OF(0, 999999999, 1000000000, chance())); break;
-    case FS_ANSWER_OPEN: status = fs_reply_open(chain, ticket, chance(), 0); break;
-    case FS_ANSWER_CREATE: status = fs_reply_create(chain, ticket, &entry, chance(), 0); break;
-    case FS_ANSWER_DATA: status = fs_reply_data(chain, ticket, below(4) ? below(b->call.data_len + 1) : chance()); break;
-    case FS_ANSWER_XATTR: status = fs_reply_xattr(chain, ticket, (uint32_t)chance()); break;
-    case FS_ANSWER_STATFS: status = fs_reply_statfs(chain, ticket, &statfs); break;
-    case FS_ANSWER_WRITE: status = fs_reply_write(chain, ticket, (uint32_t)(below(4) ? below(b->call.size + 1) : chance())); break;
-    case FS_ANSWER_LSEEK: status = fs_reply_lseek(chain, ticket, chance()); break;
-    case FS_ANSWER_ENTRIES: status = do_entries(b, ticket); break;
-    case FS_ANSWER_INIT: status = fs_reply_init(chain, ticket, &device, chance()); break;
-    default: status = fs_reply_err(chain, ticket, (uint32_t)ONE_OF(2, 38, 4095, 4096, 0, chance())); break;
+    case PK_ANSWER_DONE: status = pk_reply_err(chain, ticket, 0); break;
+    case PK_ANSWER_ENTRY: status = pk_reply_entry(chain, ticket, &entry); break;
+    case PK_ANSWER_ATTR: status = pk_reply_attr(chain, ticket, &attr, 1, (uint32_t)ONE_OF(0, 999999999, 1000000000, chance())); break;
+    case PK_ANSWER_OPEN: status = pk_reply_open(chain, ticket, chance(), 0); break;
+    case PK_ANSWER_CREATE: status = pk_reply_create(chain, ticket, &entry, chance(), 0); break;
+    case PK_ANSWER_DATA: status = pk_reply_data(chain, ticket, below(4) ? below(b->call.data_len + 1) : chance()); break;
+    case PK_ANSWER_XATTR: status = pk_reply_xattr(chain, ticket, (uint32_t)chance()); break;
+    case PK_ANSWER_STATFS: status = pk_reply_statfs(chain, ticket, &statfs); break;
+    case PK_ANSWER_WRITE: status = pk_reply_write(chain, ticket, (uint32_t)(below(4) ? below(b->call.size + 1) : chance())); break;
+    case PK_ANSWER_LSEEK: status = pk_reply_lseek(chain, ticket, chance()); break;
+    case PK_ANSWER_ENTRIES: status = do_entries(b, ticket); break;
+    case PK_ANSWER_INIT: status = pk_reply_init(chain, ticket, &device, chance()); break;
+    default: status = pk_reply_err(chain, ticket, (uint32_t)ONE_OF(2, 38, 4095, 4096, 0, chance())); break;
     }
     check_ticket(b, ticket, named(status));
 }
 
-/* A reply of the author's own bytes: in place of fs_ask or of an answer, behind one, or of a chain that isn't out. */
+/* A reply of the author's own bytes: in place of pk_ask or of an answer, behind one, or of a chain that isn't out. */
 static void do_bytes(struct bench *b) {
     uint64_t room = b->room_len, none;
-    uint64_t len = ONE_OF(0, FS_HEADER, below(room + 1), room, room + 1, room + below(100), UINT32_MAX, chance());
-    uint32_t ticket = some_ticket(b), status = named(fs_reply_bytes(&b->chain, ticket, len));
+    uint64_t len = ONE_OF(0, PK_HEADER, below(room + 1), room, room + 1, room + below(100), UINT32_MAX, chance());
+    uint32_t ticket = some_ticket(b), status = named(pk_reply_bytes(&b->chain, ticket, len));
     check_ticket(b, ticket, status);
-    if (status == FS_LONG_REPLY ? len <= room : status != FS_DONE && status != FS_WRONG_ORDER && status != FS_OTHER_CALL)
+    if (status == PK_LONG_REPLY ? len <= room : status != PK_DONE && status != PK_WRONG_ORDER && status != PK_OTHER_CALL)
         wrong("bytes are refused otherwise", status);
-    if (status != FS_DONE) return;
+    if (status != PK_DONE) return;
     if (len > room) wrong("bytes are longer than the room", len);
     if (b->replied) wrong("bytes are taken twice", len);
     b->replied = true;
@@ -382,13 +382,13 @@ static void do_bytes(struct bench *b) {
     replied++;
     memset(buffer, 'b', BUFFER);
     scatter(&b->chain, 0, buffer, len < BUFFER ? (size_t)len : BUFFER);
-    if (named(fs_reply_bytes(&b->chain, ticket, 0)) != FS_WRONG_ORDER || named(fs_reply_err(&b->chain, ticket, 0)) != FS_WRONG_ORDER ||
-        named(fs_reply_entries(&b->chain, ticket, &none)) != FS_WRONG_ORDER)
+    if (named(pk_reply_bytes(&b->chain, ticket, 0)) != PK_WRONG_ORDER || named(pk_reply_err(&b->chain, ticket, 0)) != PK_WRONG_ORDER ||
+        named(pk_reply_entries(&b->chain, ticket, &none)) != PK_WRONG_ORDER)
         wrong("a chain has two replies", len);
 }
 
 /* A chain goes back at `returned`, whichever was taken first. */
-static void check_stores(const struct bench *b, const struct fs_queue *queue, const struct fs_stores *stores) {
+static void check_stores(const struct bench *b, const struct pk_queue *queue, const struct pk_stores *stores) {
     uint64_t element = queue->used + 4 + 8 * (uint64_t)(queue->returned & (queue->size - 1u));
     if (!is_told(b, stores->id_at, 4) || !is_told(b, stores->len_at, 4) || !is_told(b, stores->index_at, 2) ||
         !is_told(b, stores->seen_at, 2))
@@ -401,27 +401,27 @@ static void check_stores(const struct bench *b, const struct fs_queue *queue, co
     if (b->replied && (stores->front_len || stores->len != b->replied_len)) wrong("other bytes go back", stores->len);
 }
 
-static void do_returned(struct bench *b, struct fs_queue *queue) {
-    struct fs_queue before = *queue;
+static void do_returned(struct bench *b, struct pk_queue *queue) {
+    struct pk_queue before = *queue;
     uint8_t notify;
-    uint32_t status = named(fs_returned(&b->chain, queue, (uint16_t)chance(), &notify));
+    uint32_t status = named(pk_returned(&b->chain, queue, (uint16_t)chance(), &notify));
     check_same(status, &before, queue);
     if (notify > 1) wrong("neither 0 nor 1", notify);
-    if (status != FS_DONE) return;
+    if (status != PK_DONE) return;
     if (queue->returned != (uint16_t)(before.returned + 1) || queue->position != before.position)
         wrong("a chain goes back elsewhere", queue->returned);
     returned++;
 }
 
-static void do_return(struct bench *b, struct fs_queue *queue) {
-    struct fs_stores stores;
-    struct fs_queue before = *queue;
-    size_t len = below(20) ? FS_FRONT_MAX : below(FS_FRONT_MAX);
+static void do_return(struct bench *b, struct pk_queue *queue) {
+    struct pk_stores stores;
+    struct pk_queue before = *queue;
+    size_t len = below(20) ? PK_FRONT_MAX : below(PK_FRONT_MAX);
     begin_buffer(len);
-    uint32_t status = named(fs_return(&b->chain, queue, buffer, len, &stores));
+    uint32_t status = named(pk_return(&b->chain, queue, buffer, len, &stores));
     check_buffer(len);
     check_same(status, &before, queue);
-    if (status == FS_DONE) {
+    if (status == PK_DONE) {
         check_stores(b, queue, &stores);
         scatter(&b->chain, 0, buffer, stores.front_len);
     }
@@ -432,10 +432,10 @@ static void do_return(struct bench *b, struct fs_queue *queue) {
 }
 
 /* Where the driver is told whether its kicks are wanted. */
-static void do_kicks(struct bench *b, const struct fs_queue *queue) {
-    struct fs_store store;
-    uint32_t wanted = (uint32_t)(below(9) ? below(2) : chance()), status = named(fs_ask_kicks(&b->chain, queue, wanted, &store));
-    if (status != FS_DONE) return;
+static void do_kicks(struct bench *b, const struct pk_queue *queue) {
+    struct pk_store store;
+    uint32_t wanted = (uint32_t)(below(9) ? below(2) : chance()), status = named(pk_ask_kicks(&b->chain, queue, wanted, &store));
+    if (status != PK_DONE) return;
     if (store.len != 2 && (store.len != 0 || wanted || !queue->event_index)) wrong("another length", store.len);
     if (store.len && !is_told(b, store.at, 2)) wrong("a store lies outside", store.at);
     if (store.len && store.value != (queue->event_index ? queue->position : !wanted)) wrong("another value", store.value);
@@ -443,29 +443,29 @@ static void do_kicks(struct bench *b, const struct fs_queue *queue) {
 
 /* A record is written and read again, sometimes cut, with other bytes in it, or into too few queues. */
 static void do_move(void) {
-    struct fs_device lent = device;
-    struct fs_queue there[QUEUES];
+    struct pk_device lent = device;
+    struct pk_queue there[QUEUES];
     size_t room = below(4) ? 32 + 32 * QUEUES : below(200), len, count;
     if (below(20) == 0) lent.page_size = (uint32_t)ONE_OF(0, 4095, 8192, chance());
     if (below(20) == 0) lent.options = chance();
     begin_buffer(room);
-    uint32_t status = named(fs_save(&lent, queues, below(6) ? QUEUES : below(QUEUES), buffer, room, &len));
+    uint32_t status = named(pk_save(&lent, queues, below(6) ? QUEUES : below(QUEUES), buffer, room, &len));
     check_buffer(room);
-    if (status == FS_DONE ? len > room : len > 0 && status != FS_SHORT_BUFFER) wrong("a record's length", len);
-    if (status != FS_DONE) return;
+    if (status == PK_DONE ? len > room : len > 0 && status != PK_SHORT_BUFFER) wrong("a record's length", len);
+    if (status != PK_DONE) return;
     for (uint64_t k = below(3); k > 0; k--) buffer[below(len)] = (uint8_t)chance();
     if (below(6) == 0) len = below(len + 1);
     memcpy(there, queues, sizeof there);
-    struct fs_device before = lent;
-    status = named(fs_restore(&lent, there, below(6) ? QUEUES : below(QUEUES), buffer, len, &count));
-    if (status == FS_DONE ? count > QUEUES : memcmp(there, queues, sizeof there) || lent.options != before.options)
+    struct pk_device before = lent;
+    status = named(pk_restore(&lent, there, below(6) ? QUEUES : below(QUEUES), buffer, len, &count));
+    if (status == PK_DONE ? count > QUEUES : memcmp(there, queues, sizeof there) || lent.options != before.options)
         wrong("a refused record changes numbers", status);
 }
 
 /* One call, or a chain's calls in their order with slips among them. */
 static void stumble(void) {
     struct bench *b = &benches[below(CHAINS)];
-    struct fs_queue *queue = &queues[below(QUEUES)];
+    struct pk_queue *queue = &queues[below(QUEUES)];
     stir_guest(queue);
     switch (below(40)) {
     case 0: tell_memory(b); break;
@@ -475,7 +475,7 @@ static void stumble(void) {
     case 2: do_windows(b); break;
     case 3: do_drop(b, queue); break;
     case 4:
-        if (below(20) == 0) fs_chain_free(&b->chain), b->region_count = 0;
+        if (below(20) == 0) pk_chain_free(&b->chain), b->region_count = 0;
         break;
     case 5: do_reply(b); break;
     case 6: (void)do_walk(b, queue); break;
@@ -509,10 +509,10 @@ int main(int argc, char **argv) {
     if (!memory) return 1;
     memset(memory, 0, MEMORY_LEN);
     for (size_t k = 0; k < CHAINS; k++)
-        if (!(benches[k].request = malloc(FS_REQUEST_MAX))) return 1;
+        if (!(benches[k].request = malloc(PK_REQUEST_MAX))) return 1;
     for (size_t k = 0; k < QUEUES; k++) some_queue(&queues[k]);
     while (calls % 1024 > 40 || time(NULL) < end) stumble();
-    for (size_t k = 0; k < CHAINS; k++) fs_chain_free(&benches[k].chain), free(benches[k].request);
+    for (size_t k = 0; k < CHAINS; k++) pk_chain_free(&benches[k].chain), free(benches[k].request);
     free(memory);
     printf("clumsy author: %llu calls, %llu chains taken, up to %u out at once, %llu asked, %llu replied with bytes, %llu returned\n",
            (unsigned long long)calls, (unsigned long long)taken, at_once, (unsigned long long)asked, (unsigned long long)replied,

@@ -21,7 +21,7 @@ struct row {
     const char *name;
     uint32_t opcode;
     size_t request[PIECES], room[PIECES], pages;
-    uint32_t (*answer)(struct fs_chain *, const struct fs_call *);
+    uint32_t (*answer)(struct pk_chain *, const struct pk_call *);
     size_t out; /* so many chains at a time */
 };
 
@@ -29,32 +29,32 @@ static void put(size_t at, uint64_t value, size_t len) {
     for (size_t k = 0; k < len; k++) memory[at + k] = (uint8_t)(value >> 8 * k);
 }
 
-static uint32_t answer_none(struct fs_chain *chain, const struct fs_call *call) {
+static uint32_t answer_none(struct pk_chain *chain, const struct pk_call *call) {
     (void)chain;
-    return call->kind == FS_CALL_NONE ? FS_DONE : FS_OTHER_KIND;
+    return call->kind == PK_CALL_NONE ? PK_DONE : PK_OTHER_KIND;
 }
 
-static uint32_t answer_attr(struct fs_chain *chain, const struct fs_call *call) {
-    struct fs_attr attr = {.ino = call->node, .mode = 0100644, .nlink = 1};
-    return fs_reply_attr(chain, call->ticket, &attr, 1, 0);
+static uint32_t answer_attr(struct pk_chain *chain, const struct pk_call *call) {
+    struct pk_attr attr = {.ino = call->node, .mode = 0100644, .nlink = 1};
+    return pk_reply_attr(chain, call->ticket, &attr, 1, 0);
 }
 
-static uint32_t answer_entry(struct fs_chain *chain, const struct fs_call *call) {
-    struct fs_entry entry = {.node = call->node + 1, .attr = {.ino = 2, .mode = 0100644, .nlink = 1}};
-    return fs_reply_entry(chain, call->ticket, &entry);
+static uint32_t answer_entry(struct pk_chain *chain, const struct pk_call *call) {
+    struct pk_entry entry = {.node = call->node + 1, .attr = {.ino = 2, .mode = 0100644, .nlink = 1}};
+    return pk_reply_entry(chain, call->ticket, &entry);
 }
 
-static uint32_t answer_read(struct fs_chain *chain, const struct fs_call *call) {
-    scatter(chain, FS_HEADER, file, call->size);
-    return fs_reply_data(chain, call->ticket, call->size);
+static uint32_t answer_read(struct pk_chain *chain, const struct pk_call *call) {
+    scatter(chain, PK_HEADER, file, call->size);
+    return pk_reply_data(chain, call->ticket, call->size);
 }
 
-static uint32_t answer_write(struct fs_chain *chain, const struct fs_call *call) {
-    struct fs_window windows[PIECES];
-    size_t count = fs_request_windows(chain, call->data_at, call->data_len, windows, PIECES), done = 0;
+static uint32_t answer_write(struct pk_chain *chain, const struct pk_call *call) {
+    struct pk_window windows[PIECES];
+    size_t count = pk_request_windows(chain, call->data_at, call->data_len, windows, PIECES), done = 0;
     for (size_t k = 0; k < count; done += windows[k++].len)
         memcpy(file + done, (const uint8_t *)memory + (windows[k].at - (uintptr_t)memory), windows[k].len);
-    return fs_reply_write(chain, call->ticket, (uint32_t)done);
+    return pk_reply_write(chain, call->ticket, (uint32_t)done);
 }
 
 static const struct row rows[] = {
@@ -113,10 +113,10 @@ static void lay_request(const struct row *row) {
     lay_chain(row);
 }
 
-static void serve_next(const struct row *row, struct fs_chain *chains, struct fs_queue *queue, const struct fs_device *device) {
-    struct fs_step steps[MOST_OUT];
-    struct fs_call call;
-    uint8_t request[FS_FIRST];
+static void serve_next(const struct row *row, struct pk_chain *chains, struct pk_queue *queue, const struct pk_device *device) {
+    struct pk_step steps[MOST_OUT];
+    struct pk_call call;
+    uint8_t request[PK_FIRST];
     bool notify = false;
     put(AVAIL + 2, (uint16_t)(queue->position + row->out), 2);
     for (size_t k = 0; k < row->out; k++)
@@ -127,7 +127,7 @@ static void serve_next(const struct row *row, struct fs_chain *chains, struct fs
         if (give_back(&chains[k], queue, NULL, &notify)) abort();
 }
 
-static double measure(const struct row *row, struct fs_chain *chains, struct fs_queue *queue, const struct fs_device *device,
+static double measure(const struct row *row, struct pk_chain *chains, struct pk_queue *queue, const struct pk_device *device,
                       long count) {
     struct timespec from, to;
     long rounds = (count + (long)row->out - 1) / (long)row->out;
@@ -140,12 +140,12 @@ static double measure(const struct row *row, struct fs_chain *chains, struct fs_
 
 int main(int argc, char **argv) {
     long count = argc > 1 ? atol(argv[1]) : 100000;
-    struct fs_chain chains[MOST_OUT] = {{0}};
-    struct fs_device device = {.page_size = 4096, .limit = 0x101000};
-    struct fs_region region = {0, sizeof memory, (uintptr_t)memory};
-    struct fs_queue queue = {.size = SIZE, .desc = DESC, .avail = AVAIL, .used = USED, .most_out = MOST_OUT};
+    struct pk_chain chains[MOST_OUT] = {{0}};
+    struct pk_device device = {.page_size = 4096, .limit = 0x101000};
+    struct pk_region region = {0, sizeof memory, (uintptr_t)memory};
+    struct pk_queue queue = {.size = SIZE, .desc = DESC, .avail = AVAIL, .used = USED, .most_out = MOST_OUT};
     for (size_t k = 0; k < MOST_OUT; k++)
-        if (count < 1 || fs_chain_set_memory(&chains[k], &device, &region, 1)) return 1;
+        if (count < 1 || pk_chain_set_memory(&chains[k], &device, &region, 1)) return 1;
     for (size_t at = 0; at < sizeof rows / sizeof *rows; at++) {
         double least = 0;
         lay_request(&rows[at]);
@@ -155,6 +155,6 @@ int main(int argc, char **argv) {
         }
         printf("%s: %.0f nanoseconds a chain\n", rows[at].name, least);
     }
-    for (size_t k = 0; k < MOST_OUT; k++) fs_chain_free(&chains[k]);
+    for (size_t k = 0; k < MOST_OUT; k++) pk_chain_free(&chains[k]);
     return 0;
 }

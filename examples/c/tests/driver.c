@@ -39,7 +39,7 @@ _Atomic uint16_t *index_of(const struct driver *driver, uint64_t guest) {
 
 static void start(struct driver *driver, uint16_t position) {
     uintptr_t host = (uintptr_t)driver->memory;
-    const struct fs_region regions[REGIONS] = {
+    const struct pk_region regions[REGIONS] = {
         {QUIET, QUIET_LEN, host + 2 * REGION_LEN}, {0, REGION_LEN, host}, {HIGH, REGION_LEN, host + REGION_LEN}};
     driver->live = (struct live){.queue = {.desc = DESC,
                                            .avail = AVAIL,

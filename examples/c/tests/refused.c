@@ -1,7 +1,7 @@
 /* Want of memory: one script of calls of pitskhomu.h, over a guest's memory of its own, is played with all the memory
  * that it asks for, and then with each of its requests for memory refused in turn: that one alone, and that one with
- * those behind it until the call ends. A call of which a request was refused says so by FS_OUT_OF_MEMORY (fs_restore by
- * FS_RECORD_OUT_OF_MEMORY), no other says that, and nothing was done: what it was lent is as before, and so is the
+ * those behind it until the call ends. A call of which a request was refused says so by PK_OUT_OF_MEMORY (pk_restore by
+ * PK_RECORD_OUT_OF_MEMORY), no other says that, and nothing was done: what it was lent is as before, and so is the
  * handle as far as it can be seen. Made again, it says what it says with ample memory, and so do all behind it. A call
  * of which pitskhomu.h doesn't say that memory may be wanting asks for none. Three more handles have a chain out of the same queue meanwhile. */
 #include "pitskhomu.h"
@@ -55,15 +55,15 @@ void __wrap_free(void *block) {
 enum { PAGE = 4096, PAGES = 7, HIGH = 1, LOW = 3, LOW_MOVED = 5, BOUND = 2 * PAGE, SIZE = 64, JUNK = 0xa5 };
 enum { DESC = 0, AVAIL = 0x400, USED = 0x800, ROOM = 0xc00, REQUEST = 0x1000, ROOM_LEN = 0x400, CALLS = 400, HANDLES = 4 };
 /* A table of descriptors one of which goes over the end of a region: the ninth, when a list of eight grows. */
-enum { SPLIT = 8, TABLE = BOUND - 16 * SPLIT - 8, PIECE = 4, ROOM_PIECE = 16, ROOM_PIECES = 10, WINDOWS = 64, NO_LOAD = FS_LOAD_MAX + 1 };
+enum { SPLIT = 8, TABLE = BOUND - 16 * SPLIT - 8, PIECE = 4, ROOM_PIECE = 16, ROOM_PIECES = 10, WINDOWS = 64, NO_LOAD = PK_LOAD_MAX + 1 };
 
 /* What a handle shows of itself by calls that change nothing. */
 struct seen {
     uint32_t walks, begins, asks, answers;
-    struct fs_step wanted, first;
+    struct pk_step wanted, first;
     size_t request_count, room_count, range_count;
-    struct fs_window request[WINDOWS], room[WINDOWS];
-    struct fs_range ranges[WINDOWS];
+    struct pk_window request[WINDOWS], room[WINDOWS];
+    struct pk_range ranges[WINDOWS];
 };
 
 /* The guest's memory, numbers that are lent, and what calls filled. Two regions of the guest that touch stand apart
@@ -71,21 +71,21 @@ struct seen {
 struct world {
     _Alignas(PAGE) uint8_t pages[PAGES * PAGE];
     unsigned low, offered;
-    struct fs_device device, moved;
-    struct fs_queue queues[2], restored[2];
-    struct fs_step step;
-    struct fs_call call;
-    struct fs_stores stores;
+    struct pk_device device, moved;
+    struct pk_queue queues[2], restored[2];
+    struct pk_step step;
+    struct pk_call call;
+    struct pk_stores stores;
     uint64_t listed;
     size_t len, count;
-    uint8_t front[FS_FRONT_MAX], list[512], record[256], notify;
+    uint8_t front[PK_FRONT_MAX], list[512], record[256], notify;
     struct seen seen;
     uint32_t status;
 };
 
 /* `told` is the world after each call with ample memory. */
 static struct world now, before, told[CALLS];
-static struct fs_chain chains[HANDLES], *chain = chains; /* the handle that is looked at, and the others, which have chains out meanwhile */
+static struct pk_chain chains[HANDLES], *chain = chains; /* the handle that is looked at, and the others, which have chains out meanwhile */
 static uint32_t tickets[HANDLES]; /* of their calls */
 static size_t at_call, call_count;
 
@@ -145,17 +145,17 @@ static const struct {
     size_t at, len;   /* what it fills: with zeros where memory is wanting, */
     bool stays;       /* or with what stood there before */
 } kinds[KINDS] = {
-    [SET_MEMORY] = {"fs_chain_set_memory", FS_OUT_OF_MEMORY, .stays = true},
-    [WALK] = {"fs_walk", FS_OUT_OF_MEMORY, PLACE(step), .stays = true},
-    [SAVE] = {"fs_save", FS_OUT_OF_MEMORY, PLACE(len), .stays = false},
-    [RESTORE] = {"fs_restore", FS_RECORD_OUT_OF_MEMORY, PLACE(count), .stays = false},
-    [ASK] = {.name = "fs_ask"},
-    [DROP] = {.name = "fs_drop"},
+    [SET_MEMORY] = {"pk_chain_set_memory", PK_OUT_OF_MEMORY, .stays = true},
+    [WALK] = {"pk_walk", PK_OUT_OF_MEMORY, PLACE(step), .stays = true},
+    [SAVE] = {"pk_save", PK_OUT_OF_MEMORY, PLACE(len), .stays = false},
+    [RESTORE] = {"pk_restore", PK_RECORD_OUT_OF_MEMORY, PLACE(count), .stays = false},
+    [ASK] = {.name = "pk_ask"},
+    [DROP] = {.name = "pk_drop"},
     [REPLY] = {.name = "an answer"},
-    [RETURN] = {.name = "fs_return"},
-    [RETURNED] = {.name = "fs_returned"},
-    [KICKS] = {.name = "fs_ask_kicks"},
-    [FREE] = {.name = "fs_chain_free"},
+    [RETURN] = {.name = "pk_return"},
+    [RETURNED] = {.name = "pk_returned"},
+    [KICKS] = {.name = "pk_ask_kicks"},
+    [FREE] = {.name = "pk_chain_free"},
 };
 
 /* The call that is made, of which row, whether it is made again, and how many requests were made and refused before. */
@@ -176,8 +176,8 @@ static _Noreturn void wrong(const char *what, const char *more) {
 
 static _Noreturn void wrong_status(uint32_t status, uint32_t wanted) {
     char what[64];
-    snprintf(what, sizeof what, "it says %s, and not ", fs_status_name(status));
-    wrong(what, fs_status_name(wanted));
+    snprintf(what, sizeof what, "it says %s, and not ", pk_status_name(status));
+    wrong(what, pk_status_name(wanted));
 }
 
 /* A walk is handed more than any load has, a question more than any request has, an answer is of another kind: so each
@@ -185,21 +185,21 @@ static _Noreturn void wrong_status(uint32_t status, uint32_t wanted) {
 static void look(void) {
     static const uint8_t nothing[NO_LOAD];
     struct seen *seen = &now.seen;
-    struct fs_queue *queue = &now.queues[0];
-    struct fs_call call;
+    struct pk_queue *queue = &now.queues[0];
+    struct pk_call call;
     uint64_t made = heap.made;
     memset(seen, 0, sizeof *seen);
-    seen->walks = fs_walk(chain, queue, nothing, sizeof nothing, &seen->wanted);
-    if (seen->walks == FS_BAD_ARGUMENT && seen->wanted.len == 0) {
-        seen->begins = fs_walk(chain, queue, nothing, 0, &seen->first);
-        (void)fs_drop(chain, queue);
+    seen->walks = pk_walk(chain, queue, nothing, sizeof nothing, &seen->wanted);
+    if (seen->walks == PK_BAD_ARGUMENT && seen->wanted.len == 0) {
+        seen->begins = pk_walk(chain, queue, nothing, 0, &seen->first);
+        (void)pk_drop(chain, queue);
     }
-    seen->asks = fs_ask(chain, &now.device, nothing, sizeof nothing, &call);
-    bool is_seek = now.call.answer == FS_ANSWER_LSEEK;
-    seen->answers = is_seek ? fs_reply_open(chain, tickets[chain - chains], 1, 0) : fs_reply_lseek(chain, tickets[chain - chains], 1);
-    seen->request_count = fs_request_windows(chain, 0, UINT64_MAX, seen->request, WINDOWS);
-    seen->room_count = fs_room_windows(chain, 0, UINT64_MAX, seen->room, WINDOWS);
-    seen->range_count = fs_room_ranges(chain, 0, UINT64_MAX, seen->ranges, WINDOWS);
+    seen->asks = pk_ask(chain, &now.device, nothing, sizeof nothing, &call);
+    bool is_seek = now.call.answer == PK_ANSWER_LSEEK;
+    seen->answers = is_seek ? pk_reply_open(chain, tickets[chain - chains], 1, 0) : pk_reply_lseek(chain, tickets[chain - chains], 1);
+    seen->request_count = pk_request_windows(chain, 0, UINT64_MAX, seen->request, WINDOWS);
+    seen->room_count = pk_room_windows(chain, 0, UINT64_MAX, seen->room, WINDOWS);
+    seen->range_count = pk_room_ranges(chain, 0, UINT64_MAX, seen->ranges, WINDOWS);
     if (heap.made != made) wrong("a look at the handle asks for memory", "");
 }
 
@@ -249,10 +249,10 @@ static bool again(uint32_t status, uint32_t wanted) {
         return is_again = true;
     }
     is_again = false;
-    if (asked && (status == FS_BAD_ARGUMENT || status == FS_WRONG_ORDER || status == FS_MORE))
-        wrong("it asks for memory before it says ", fs_status_name(status));
-    if (status != FS_DONE && status == kinds[kind].refusal)
-        wrong("no request was refused, and it says ", fs_status_name(status));
+    if (asked && (status == PK_BAD_ARGUMENT || status == PK_WRONG_ORDER || status == PK_MORE))
+        wrong("it asks for memory before it says ", pk_status_name(status));
+    if (status != PK_DONE && status == kinds[kind].refusal)
+        wrong("no request was refused, and it says ", pk_status_name(status));
     check_told(wanted);
     at_call++;
     return false;
@@ -286,7 +286,7 @@ struct row {
     bool is_wide, slips; /* whether it stands in many pieces, by a table; whether it is dropped when it is out */
 };
 
-#define ASKS(name, answer) #name, FUSE_##name, FS_CALL_##name, FS_ANSWER_##answer
+#define ASKS(name, answer) #name, FUSE_##name, PK_CALL_##name, PK_ANSWER_##answer
 #define WORDS(count, ...) .word_count = count, .words = {__VA_ARGS__}
 #define BYTES(text) .bytes = text, .byte_count = sizeof text
 #define LABEL "\x17\0\0\0\1\0\0\0\5\0\0\0\0\0\0\0s\0mine" /* fuse_secctx_header, fuse_secctx, name, value */
@@ -309,7 +309,7 @@ static const struct row rows[] = {
     {ASKS(OPEN, OPEN), WORDS(2, 2)},
     {ASKS(STATFS, STATFS), WORDS(0, 0)},
     {ASKS(LSEEK, LSEEK), WORDS(6, 1)},
-    {"an unknown opcode", 999, FS_CALL_NONE, FS_ANSWER_NONE, WORDS(0, 0)},
+    {"an unknown opcode", 999, PK_CALL_NONE, PK_ANSWER_NONE, WORDS(0, 0)},
 };
 
 static size_t length(const struct row *row) { return 40 + 4 * row->word_count + row->byte_count; }
@@ -344,89 +344,89 @@ static void offer(const struct row *row) {
 
 static void tell_memory(unsigned low, uint64_t high, uint32_t wanted) {
     uintptr_t host = (uintptr_t)now.pages;
-    struct fs_region regions[] = {{high, PAGE, host + HIGH * PAGE}, {0, 2 * PAGE, host + low * PAGE}};
+    struct pk_region regions[] = {{high, PAGE, host + HIGH * PAGE}, {0, 2 * PAGE, host + low * PAGE}};
     do begin(SET_MEMORY);
-    while (again(fs_chain_set_memory(chain, &now.device, regions, 2), wanted));
+    while (again(pk_chain_set_memory(chain, &now.device, regions, 2), wanted));
 }
 
 /* Walks on to a place that is to be loaded, or to the end where there is none. How many bytes a load has is the library's. */
 static void walk_to(uintptr_t end, uint32_t wanted) {
-    uint8_t bytes[FS_LOAD_MAX];
+    uint8_t bytes[PK_LOAD_MAX];
     uint32_t status;
     size_t len = 0;
-    now.step = (struct fs_step){0};
+    now.step = (struct pk_step){0};
     do {
         do {
             begin(WALK);
-            status = fs_walk(chain, &now.queues[0], bytes, len, &now.step);
-        } while (again(status, status == FS_LOAD ? FS_LOAD : wanted));
+            status = pk_walk(chain, &now.queues[0], bytes, len, &now.step);
+        } while (again(status, status == PK_LOAD ? PK_LOAD : wanted));
         len = now.step.len;
         if (len > 0) memcpy(bytes, (const void *)now.step.at, len);
-    } while (status == FS_LOAD && now.step.at != end);
+    } while (status == PK_LOAD && now.step.at != end);
 }
 
 static void walk(uint32_t wanted) { walk_to(0, wanted); }
 
 static void drop(void) {
     do begin(DROP);
-    while (again(fs_drop(chain, &now.queues[0]), FS_DONE));
+    while (again(pk_drop(chain, &now.queues[0]), PK_DONE));
 }
 
 static void ask(const struct row *row) {
     uint8_t request[512];
-    size_t whole = length(row), have = 0, first = whole < FS_FIRST ? whole : FS_FIRST;
-    uint32_t more = row->opcode == FUSE_WRITE ? FS_DONE : FS_MORE;
+    size_t whole = length(row), have = 0, first = whole < PK_FIRST ? whole : PK_FIRST;
+    uint32_t more = row->opcode == FUSE_WRITE ? PK_DONE : PK_MORE;
     for (size_t k = 0; k < now.seen.request_count; have += now.seen.request[k++].len)
         memcpy(request + have, (const void *)now.seen.request[k].at, now.seen.request[k].len);
     now.device.options = row->options;
     do begin(ASK);
-    while (again(fs_ask(chain, &now.device, request, first, &now.call), first < whole ? more : FS_DONE));
-    if (now.status == FS_MORE) {
+    while (again(pk_ask(chain, &now.device, request, first, &now.call), first < whole ? more : PK_DONE));
+    if (now.status == PK_MORE) {
         do begin(ASK);
-        while (again(fs_ask(chain, &now.device, request, have, &now.call), FS_DONE));
+        while (again(pk_ask(chain, &now.device, request, have, &now.call), PK_DONE));
     }
     tickets[chain - chains] = now.call.ticket;
     if (now.call.kind != row->kind || now.call.answer != row->answer)
-        wrong("another call: ", fs_call_name(now.call.kind));
+        wrong("another call: ", pk_call_name(now.call.kind));
 }
 
-static const struct fs_entry entry = {.node = 2, .entry_secs = 1, .attr = {.ino = 2, .mode = 0100644, .nlink = 1}};
+static const struct pk_entry entry = {.node = 2, .entry_secs = 1, .attr = {.ino = 2, .mode = 0100644, .nlink = 1}};
 
 static uint32_t add(const char *name, uint64_t next) {
     const uint8_t *bytes = (const uint8_t *)name;
-    if (now.call.kind == FS_CALL_READDIR)
-        return fs_add_direntry(chain, tickets[chain - chains], now.list, sizeof now.list, bytes, strlen(name), 2, next, 8);
-    return fs_add_direntry_plus(chain, tickets[chain - chains], now.list, sizeof now.list, bytes, strlen(name), &entry, next);
+    if (now.call.kind == PK_CALL_READDIR)
+        return pk_add_direntry(chain, tickets[chain - chains], now.list, sizeof now.list, bytes, strlen(name), 2, next, 8);
+    return pk_add_direntry_plus(chain, tickets[chain - chains], now.list, sizeof now.list, bytes, strlen(name), &entry, next);
 }
 
 static uint32_t answer_so(uint32_t answer) {
-    static const struct fs_statfs statfs = {.blocks = 1, .bsize = PAGE};
+    static const struct pk_statfs statfs = {.blocks = 1, .bsize = PAGE};
     switch (answer) {
-    case FS_ANSWER_ENTRY: return fs_reply_entry(chain, tickets[chain - chains], &entry);
-    case FS_ANSWER_ATTR: return fs_reply_attr(chain, tickets[chain - chains], &entry.attr, 1, 0);
-    case FS_ANSWER_OPEN: return fs_reply_open(chain, tickets[chain - chains], 1, 0);
-    case FS_ANSWER_CREATE: return fs_reply_create(chain, tickets[chain - chains], &entry, 1, 0);
-    case FS_ANSWER_DATA: return fs_reply_data(chain, tickets[chain - chains], 100);
-    case FS_ANSWER_XATTR: return fs_reply_xattr(chain, tickets[chain - chains], 5);
-    case FS_ANSWER_STATFS: return fs_reply_statfs(chain, tickets[chain - chains], &statfs);
-    case FS_ANSWER_WRITE: return fs_reply_write(chain, tickets[chain - chains], 5);
-    case FS_ANSWER_LSEEK: return fs_reply_lseek(chain, tickets[chain - chains], 5);
-    case FS_ANSWER_ENTRIES: return fs_reply_entries(chain, tickets[chain - chains], &now.listed);
-    case FS_ANSWER_INIT: return fs_reply_init(chain, tickets[chain - chains], &now.device, 0);
-    default: return fs_reply_err(chain, tickets[chain - chains], 0);
+    case PK_ANSWER_ENTRY: return pk_reply_entry(chain, tickets[chain - chains], &entry);
+    case PK_ANSWER_ATTR: return pk_reply_attr(chain, tickets[chain - chains], &entry.attr, 1, 0);
+    case PK_ANSWER_OPEN: return pk_reply_open(chain, tickets[chain - chains], 1, 0);
+    case PK_ANSWER_CREATE: return pk_reply_create(chain, tickets[chain - chains], &entry, 1, 0);
+    case PK_ANSWER_DATA: return pk_reply_data(chain, tickets[chain - chains], 100);
+    case PK_ANSWER_XATTR: return pk_reply_xattr(chain, tickets[chain - chains], 5);
+    case PK_ANSWER_STATFS: return pk_reply_statfs(chain, tickets[chain - chains], &statfs);
+    case PK_ANSWER_WRITE: return pk_reply_write(chain, tickets[chain - chains], 5);
+    case PK_ANSWER_LSEEK: return pk_reply_lseek(chain, tickets[chain - chains], 5);
+    case PK_ANSWER_ENTRIES: return pk_reply_entries(chain, tickets[chain - chains], &now.listed);
+    case PK_ANSWER_INIT: return pk_reply_init(chain, tickets[chain - chains], &now.device, 0);
+    default: return pk_reply_err(chain, tickets[chain - chains], 0);
     }
 }
 
 /* A listing has place for two entries. */
 static void answer(const struct row *row) {
     static const char *const names[] = {"first", "second", "third"};
-    if (row->answer == FS_ANSWER_NONE) return;
-    for (unsigned k = 0; k < 3 && row->answer == FS_ANSWER_ENTRIES; k++) {
+    if (row->answer == PK_ANSWER_NONE) return;
+    for (unsigned k = 0; k < 3 && row->answer == PK_ANSWER_ENTRIES; k++) {
         do begin(REPLY);
-        while (again(add(names[k], k + 1), k < 2 ? FS_DONE : FS_FULL));
+        while (again(add(names[k], k + 1), k < 2 ? PK_DONE : PK_FULL));
     }
     do begin(REPLY);
-    while (again(answer_so(row->answer), FS_DONE));
+    while (again(answer_so(row->answer), PK_DONE));
 }
 
 static void scatter(const uint8_t *bytes, size_t len) {
@@ -441,29 +441,29 @@ static void scatter(const uint8_t *bytes, size_t len) {
 static void give_back(void) {
     uint16_t seen;
     do begin(RETURN);
-    while (again(fs_return(chain, &now.queues[0], now.front, sizeof now.front, &now.stores), FS_DONE));
+    while (again(pk_return(chain, &now.queues[0], now.front, sizeof now.front, &now.stores), PK_DONE));
     scatter(now.front, now.stores.front_len);
     memcpy((void *)now.stores.id_at, &now.stores.id, 4);
     memcpy((void *)now.stores.len_at, &now.stores.len, 4);
     memcpy((void *)now.stores.index_at, &now.stores.index, 2);
     memcpy(&seen, (const void *)now.stores.seen_at, 2);
     do begin(RETURNED);
-    while (again(fs_returned(chain, &now.queues[0], seen, &now.notify), FS_DONE));
+    while (again(pk_returned(chain, &now.queues[0], seen, &now.notify), PK_DONE));
 }
 
 static void play(const struct row *row) {
     offer(row);
     row_name = row->name;
     if (row->is_wide) {
-        walk_to((uintptr_t)at(BOUND), FS_LOAD); /* to the second part of what is split */
-        tell_memory(LOW_MOVED, BOUND, FS_CHAIN_OUT);
+        walk_to((uintptr_t)at(BOUND), PK_LOAD); /* to the second part of what is split */
+        tell_memory(LOW_MOVED, BOUND, PK_CHAIN_OUT);
         drop();
     }
-    walk(FS_DONE);
+    walk(PK_DONE);
     if (row->slips) {
-        tell_memory(LOW_MOVED, BOUND, FS_CHAIN_OUT);
+        tell_memory(LOW_MOVED, BOUND, PK_CHAIN_OUT);
         drop();
-        walk(FS_DONE);
+        walk(PK_DONE);
     }
     ask(row);
     answer(row);
@@ -482,9 +482,9 @@ static void hold(void) {
     row_name = "the other handles";
     for (size_t k = 1; k < HANDLES; k++) {
         look_at(k);
-        tell_memory(LOW, BOUND, FS_DONE);
+        tell_memory(LOW, BOUND, PK_DONE);
         offer(&held);
-        walk(FS_DONE);
+        walk(PK_DONE);
         if (k > 1) ask(&held);
         if (k > 2) answer(&held);
     }
@@ -505,23 +505,23 @@ static void let_go(void) {
 }
 
 static void ask_kicks(void) {
-    struct fs_store store;
+    struct pk_store store;
     do begin(KICKS);
-    while (again(fs_ask_kicks(chain, &now.queues[0], 1, &store), FS_DONE));
+    while (again(pk_ask_kicks(chain, &now.queues[0], 1, &store), PK_DONE));
 }
 
 static void save(size_t room, uint32_t wanted) {
     do begin(SAVE);
-    while (again(fs_save(&now.device, now.queues, 2, now.record, room, &now.len), wanted));
+    while (again(pk_save(&now.device, now.queues, 2, now.record, room, &now.len), wanted));
 }
 
 static void restore(size_t room, uint32_t wanted) {
     do begin(RESTORE);
-    while (again(fs_restore(&now.moved, now.restored, room, now.record, now.len, &now.count), wanted));
+    while (again(pk_restore(&now.moved, now.restored, room, now.record, now.len, &now.count), wanted));
 }
 
 /* A queue of a record is begun anew, so it isn't the same in all. */
-static bool is_alike(const struct fs_queue *a, const struct fs_queue *b) {
+static bool is_alike(const struct pk_queue *a, const struct pk_queue *b) {
     return a->desc == b->desc && a->avail == b->avail && a->used == b->used && a->size == b->size && a->position == b->position &&
            a->returned == b->returned && a->stopped == b->stopped;
 }
@@ -529,10 +529,10 @@ static bool is_alike(const struct fs_queue *a, const struct fs_queue *b) {
 static void move(void) {
     row_name = "a record";
     now.device.options = FUSE_SECURITY_CTX;
-    save(20, FS_SHORT_BUFFER);
-    save(sizeof now.record, FS_DONE);
-    restore(1, FS_SHORT_BUFFER);
-    restore(2, FS_DONE);
+    save(20, PK_SHORT_BUFFER);
+    save(sizeof now.record, PK_DONE);
+    restore(1, PK_SHORT_BUFFER);
+    restore(2, PK_DONE);
     for (size_t k = 0; k < 2; k++)
         if (!is_alike(&now.restored[k], &now.queues[k])) wrong("another queue", "");
     if (now.moved.options != now.device.options) wrong("another record", "");
@@ -543,8 +543,8 @@ static void free_chains(void) {
     for (size_t k = HANDLES; k > 0; k--) {
         look_at(k - 1);
         begin(FREE);
-        fs_chain_free(chain);
-        (void)again(FS_DONE, FS_DONE);
+        pk_chain_free(chain);
+        (void)again(PK_DONE, PK_DONE);
         if (chain->at != NULL || chain->full != 0) wrong("the handle isn't zeros", "");
     }
     if (heap.held != 0) wrong("memory isn't freed", "");
@@ -552,18 +552,18 @@ static void free_chains(void) {
 
 static void play_script(void) {
     row_name = "memory";
-    tell_memory(LOW, BOUND, FS_DONE);
-    walk(FS_IDLE);
+    tell_memory(LOW, BOUND, PK_DONE);
+    walk(PK_IDLE);
     hold();
     ask_kicks();
     for (size_t k = 0; k < sizeof rows / sizeof rows[0]; k++) play(&rows[k]);
-    save(sizeof now.record, FS_CHAIN_OUT);
+    save(sizeof now.record, PK_CHAIN_OUT);
     let_go();
     move();
     row_name = "other memory";
-    tell_memory(LOW_MOVED, PAGE, FS_BAD_ARGUMENT);
+    tell_memory(LOW_MOVED, PAGE, PK_BAD_ARGUMENT);
     memcpy(now.pages + LOW_MOVED * PAGE, now.pages + LOW * PAGE, 2 * PAGE);
-    tell_memory(LOW_MOVED, BOUND, FS_DONE);
+    tell_memory(LOW_MOVED, BOUND, PK_DONE);
     now.low = LOW_MOVED;
     play(&rows[0]);
     free_chains();
@@ -578,9 +578,9 @@ static bool run(uint64_t number, bool goes_on) {
     heap.number = number;
     heap.goes_on = goes_on;
     now.low = LOW;
-    now.device = now.moved = (struct fs_device)FS_DEVICE;
-    now.queues[0] = (struct fs_queue){.desc = DESC, .avail = AVAIL, .used = USED, .size = SIZE, .most_out = HANDLES};
-    now.queues[1] = (struct fs_queue){.used = 0x1000, .size = 8, .position = 7, .returned = 7, .stopped = FS_STOPPED};
+    now.device = now.moved = (struct pk_device)PK_DEVICE;
+    now.queues[0] = (struct pk_queue){.desc = DESC, .avail = AVAIL, .used = USED, .size = SIZE, .most_out = HANDLES};
+    now.queues[1] = (struct pk_queue){.used = 0x1000, .size = 8, .position = 7, .returned = 7, .stopped = PK_STOPPED};
     memset(chains, 0, sizeof chains);
     chain = chains;
     at_call = 0;

@@ -1,15 +1,15 @@
 //! The guest's memory as the front-end tells it. A table never changes: another takes its place, and the old one stays mapped while
-//! a chain is out over it. The library is told each region by the guest's own addresses, so vm-memory looks each access up, checks
-//! it, and marks it in the log.
+//! a chain is out over it. The library is told each region by the guest's own addresses, so each access is looked up here and checked;
+//! vm-memory makes it, and marks it in the log. (vm-memory's own look-up takes several times as long, some fifteen times a request.)
 use crate::marks::{Log, Marks, MarksFrom};
 use std::fs::File;
 use std::io;
 use std::sync::atomic::Ordering;
 use std::sync::Arc;
 use vhost::vhost_user::message::VhostUserMemoryRegion;
+use vm_memory::bitmap::Bitmap;
 use vm_memory::{
-    Address, Bytes, GuestAddress, GuestMemory, GuestMemoryError, GuestMemoryMmap, GuestMemoryRegion, GuestRegionMmap,
-    VolatileSlice,
+    Address, Bytes, GuestAddress, GuestMemory, GuestMemoryMmap, GuestMemoryRegion, GuestRegionMmap, VolatileSlice,
 };
 
 /// All of a region's numbers are multiples of it.
@@ -26,11 +26,22 @@ struct Place {
     len: u64,
 }
 
+/// A region as it is looked up.
+#[derive(Debug, Clone)]
+struct Stretch {
+    guest: u64,
+    len: u64,
+    /// Where it is mapped: as long as the table holds the region.
+    host: usize,
+    marks: Marks,
+}
+
 /// The guest's memory.
 #[derive(Debug, Default)]
 pub struct Table {
     guest: GuestMemoryMmap<Marks>,
     places: Vec<Place>,
+    stretches: Vec<Stretch>,
 }
 
 fn invalid(why: &str) -> io::Error {
@@ -53,28 +64,35 @@ impl Table {
         let mapped = regions.iter().zip(files).map(|(region, file)| map(region, file));
         let (mut regions, places) = mapped.collect::<io::Result<(Vec<_>, Vec<_>)>>()?;
         regions.sort_by_key(|region| region.start_addr());
-        Table { guest: GuestMemoryMmap::from_arc_regions(regions).map_err(io::Error::other)?, places }.checked()
+        Table::over(GuestMemoryMmap::from_arc_regions(regions).map_err(io::Error::other)?, places)
     }
 
     /// One region more.
     pub fn with(&self, region: &VhostUserMemoryRegion, file: File) -> io::Result<Table> {
         let (mapped, place) = map(region, file)?;
         let guest = self.guest.insert_region(mapped).map_err(io::Error::other)?;
-        Table { guest, places: self.places.iter().copied().chain([place]).collect() }.checked()
+        Table::over(guest, self.places.iter().copied().chain([place]).collect())
     }
 
     /// One region less.
     pub fn without(&self, guest: u64, len: u64) -> io::Result<Table> {
         let (memory, _) = self.guest.remove_region(GuestAddress(guest), len).map_err(io::Error::other)?;
         let places = self.places.iter().copied().filter(|place| place.guest != guest).collect();
-        Ok(Table { guest: memory, places })
+        Table::over(memory, places)
     }
 
-    fn checked(self) -> io::Result<Table> {
-        if self.guest.num_regions() > pitskhomu::Device::MOST_REGIONS {
+    fn over(guest: GuestMemoryMmap<Marks>, places: Vec<Place>) -> io::Result<Table> {
+        if guest.num_regions() > pitskhomu::Device::MOST_REGIONS {
             return Err(invalid("more regions of memory than the library takes"));
         }
-        Ok(self)
+        let stretch = |region: &GuestRegionMmap<Marks>| Stretch {
+            guest: region.start_addr().raw_value(),
+            len: region.len(),
+            host: region.as_ptr() as usize,
+            marks: region.bitmap().clone(),
+        };
+        let stretches = guest.iter().map(stretch).collect();
+        Ok(Table { guest, places, stretches })
     }
 
     /// The guest's address for one of the front-end's.
@@ -99,15 +117,26 @@ impl Table {
         self.guest.iter().map(|mapped| region(mapped.start_addr().raw_value(), mapped.len())).collect()
     }
 
-    /// A stretch within one region.
-    pub fn slice(&self, at: usize, len: usize) -> Result<Slice<'_>, GuestMemoryError> {
-        self.guest.get_slice(GuestAddress(at as u64), len)
+    /// A stretch within one region, if it is one.
+    pub fn slice(&self, at: usize, len: usize) -> Option<Slice<'_>> {
+        let offset_in =
+            |stretch: &Stretch| (at as u64).checked_sub(stretch.guest).filter(|offset| *offset < stretch.len);
+        let (stretch, offset) = self.stretches.iter().find_map(|stretch| Some((stretch, offset_in(stretch)?)))?;
+        if len as u64 > stretch.len - offset {
+            return None;
+        }
+        let offset = offset as usize;
+        // SAFETY: these bytes are a part of a region that `self.guest` has mapped as long as it lives, and so as long as the slice.
+        Some(unsafe {
+            let at = (stretch.host as *mut u8).add(offset);
+            VolatileSlice::with_bitmap(at, len, stretch.marks.slice_at(offset), None)
+        })
     }
 
     /// The index of an available ring (VIRTIO 1.2, 2.7.6), if it has a place.
     pub fn available_index(&self, available: u64) -> Option<u16> {
-        let at = GuestAddress(available.saturating_add(2));
-        self.guest.load::<u16>(at, Ordering::Acquire).ok().map(u16::from_le)
+        let index = self.slice(available.checked_add(2)? as usize, 2)?;
+        index.load(0, Ordering::Acquire).ok().map(u16::from_le)
     }
 }
 
@@ -115,17 +144,67 @@ impl Table {
 /// library's own mistake. It is answered by zeros, and stores nothing.
 impl pitskhomu::GuestMemory for Table {
     fn load(&self, at: usize, to: &mut [u8]) {
-        if self.guest.read_slice(to, GuestAddress(at as u64)).is_err() {
-            to.fill(0);
+        match self.slice(at, to.len()) {
+            Some(slice) => {
+                slice.copy_to(to);
+            }
+            None => to.fill(0),
         }
     }
     fn load_u16(&self, at: usize) -> u16 {
-        self.guest.load(GuestAddress(at as u64), Ordering::Acquire).map_or(0, u16::from_le)
+        self.slice(at, 2).and_then(|slice| slice.load(0, Ordering::Acquire).ok()).map_or(0, u16::from_le)
     }
     fn store(&self, at: usize, bytes: &[u8]) {
-        let _ = self.guest.write_slice(bytes, GuestAddress(at as u64));
+        if let Some(slice) = self.slice(at, bytes.len()) {
+            slice.copy_from(bytes);
+        }
     }
     fn store_u16(&self, at: usize, value: u16) {
-        let _ = self.guest.store(value.to_le(), GuestAddress(at as u64), Ordering::Release);
+        if let Some(slice) = self.slice(at, 2) {
+            let _ = slice.store(value.to_le(), 0, Ordering::Release);
+        }
+    }
+}
+
+#[cfg(test)]
+mod tests {
+    use super::*;
+    use pitskhomu::GuestMemory as _;
+
+    const HIGH: u64 = 1 << 32;
+
+    /// Two regions of two pages each: at 0x4000, and at 2^32.
+    fn table() -> Table {
+        let file = crate::state::scratch().expect("a file in memory");
+        file.set_len(4 * PAGE).expect("room");
+        let regions = [(HIGH, 2 * PAGE), (0x4000, 0)]
+            .map(|(guest, offset)| VhostUserMemoryRegion::new(guest, 2 * PAGE, 0x7000_0000 + offset, offset));
+        Table::new(&regions, vec![file.try_clone().expect("a descriptor"), file]).expect("a table")
+    }
+
+    #[test]
+    fn an_access_is_within_one_region() {
+        let table = table();
+        let has = |at: u64, len| table.slice(at as usize, len).is_some();
+        assert!(has(0x4000, 0x2000) && has(0x5fff, 1) && has(HIGH + 8, 8) && has(HIGH, 0x2000));
+        assert!(!has(0x3fff, 1) && !has(0x3fff, 2) && !has(0x5fff, 2) && !has(0x6000, 1) && !has(0x4000, 0x2001));
+        assert!(!has(0, 1) && !has(HIGH - 1, 2) && !has(HIGH + 0x1fff, usize::MAX) && !has(u64::MAX, 1));
+        let without = table.without(HIGH, 2 * PAGE).expect("a table");
+        assert!(without.slice(HIGH as usize, 1).is_none() && without.slice(0x4000, 1).is_some());
+    }
+
+    #[test]
+    fn what_is_stored_is_loaded() {
+        let table = table();
+        table.store(0x5ffd, &[1, 2, 3]);
+        table.store(0x5ffe, &[9, 9, 9]); // past the end: nothing is stored
+        table.store_u16(HIGH as usize + 2, 0x1234);
+        let mut bytes = [7; 3];
+        table.load(0x5ffd, &mut bytes);
+        assert_eq!((bytes, table.load_u16(HIGH as usize + 2)), ([1, 2, 3], 0x1234));
+        table.load(0x5ffe, &mut bytes);
+        assert_eq!((bytes, table.load_u16(HIGH as usize + 3), table.load_u16(0x6000)), ([0, 0, 0], 0, 0));
+        assert_eq!((table.available_index(HIGH), table.available_index(u64::MAX)), (Some(0x1234), None));
+        assert_eq!(table.guest_address(0x7000_2008).ok(), Some(HIGH + 8));
     }
 }

@@ -102,8 +102,8 @@ pub struct Options {
     /// The directory that the guest is to see
     #[arg(long, required_unless_present = "print_capabilities")]
     pub shared_dir: Option<String>,
-    /// Where the front-end (QEMU) connects to; it is made anew
-    #[arg(long, required_unless_present_any = ["fd", "print_capabilities"], conflicts_with = "fd")]
+    /// Where the front-end (QEMU) connects to; it is made anew. --socket is the same
+    #[arg(long, alias = "socket", required_unless_present_any = ["fd", "print_capabilities"], conflicts_with = "fd")]
     pub socket_path: Option<PathBuf>,
     /// The group that may connect to the socket, besides its owner
     #[arg(long, requires = "socket_path")]
@@ -201,6 +201,12 @@ pub struct Options {
     /// error, warn, info, debug, trace, off
     #[arg(long, default_value = "info")]
     pub log_level: log::LevelFilter,
+    /// The same as --log-level debug
+    #[arg(short = 'd')]
+    pub debug: bool,
+    /// Means nothing: the daemon never goes to the background
+    #[arg(short = 'f')]
+    pub foreground: bool,
     /// Log by syslog, not to standard error
     #[arg(long)]
     pub syslog: bool,
@@ -235,6 +241,15 @@ impl Options {
             (!asked.o.is_empty(), "-o: these are options of the C virtiofsd; take --shared-dir and its kin"),
         ];
         refusals.into_iter().find_map(|(is_asked, why)| is_asked.then(|| why.into()))
+    }
+
+    /// Which messages are logged.
+    pub fn messages(&self) -> log::LevelFilter {
+        if self.debug {
+            log::LevelFilter::Debug
+        } else {
+            self.log_level
+        }
     }
 
     /// Whether there are extended attributes.
@@ -277,6 +292,9 @@ mod tests {
                    --translate-uid=map:0:1000:1 --migration-mode=file-handles --log-level=debug --syslog --tag=shared \
                    --thread-pool-size=64";
         assert_eq!(options(all).expect("options").refusal(), None);
+        let old =
+            Options::try_parse_from(["daemon", "--socket", "/s", "--shared-dir", "/d", "-f", "-d"]).expect("options");
+        assert_eq!((old.messages(), old.socket_path), (log::LevelFilter::Debug, Some("/s".into())));
         for wrong in [
             "--cache=some",
             "--sandbox=x",

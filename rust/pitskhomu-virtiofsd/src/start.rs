@@ -33,9 +33,9 @@ pub fn log(options: &Options) -> Result<(), Failure> {
         let process = "pitskhomu-virtiofsd".into();
         let format = Formatter3164 { facility: Facility::LOG_DAEMON, hostname: None, process, pid: std::process::id() };
         log::set_boxed_logger(Box::new(BasicLogger::new(syslog::unix(format)?)))?;
-        log::set_max_level(options.log_level);
+        log::set_max_level(options.messages());
     } else {
-        env_logger::Builder::new().filter_level(options.log_level).try_init()?;
+        env_logger::Builder::new().filter_level(options.messages()).try_init()?;
     }
     Ok(())
 }

@@ -52,9 +52,13 @@ pub(crate) enum Added {
     NoRoom,
 }
 
-/// The one handle of the library (struct fs_chain).
+/// The one handle of the library (struct pk_chain), and the ticket of the chain that is out: each answer brings it. A worker answers before
+/// it takes another, so no answer comes late.
 #[derive(Debug)]
-pub(crate) struct Chain(sys::Chain);
+pub(crate) struct Chain {
+    handle: sys::Chain,
+    ticket: u32,
+}
 
 // SAFETY: the handle's memory is malloc's, and the library keeps nothing of a thread's (pitskhomu.h, THREADS).
 unsafe impl Send for Chain {}
@@ -62,25 +66,28 @@ unsafe impl Send for Chain {}
 impl Drop for Chain {
     fn drop(&mut self) {
         // SAFETY: as the module says; of zeros it does nothing.
-        unsafe { sys::fs_chain_free(&mut self.0) }
+        unsafe { sys::pk_chain_free(&mut self.handle) }
     }
 }
 
 impl Chain {
     pub const fn new() -> Chain {
-        Chain(sys::Chain { at: ptr::null_mut(), full: 0 })
+        Chain { handle: sys::Chain { at: ptr::null_mut(), full: 0 }, ticket: 0 }
     }
 
     pub fn set_memory(&mut self, device: &sys::Device, regions: &[Region]) -> Result<(), Status> {
         // SAFETY: as the module says.
-        Status::check(unsafe { sys::fs_chain_set_memory(&mut self.0, device, regions.as_ptr(), regions.len()) })
+        Status::check(unsafe { sys::pk_chain_set_memory(&mut self.handle, device, regions.as_ptr(), regions.len()) })
     }
 
     /// `loaded` has the bytes that the step before wanted; at first none.
     pub fn walk(&mut self, queue: &mut Queue, loaded: &[u8], step: &mut sys::Step) -> Result<Walked, Status> {
         // SAFETY: as the module says.
-        match unsafe { sys::fs_walk(&mut self.0, queue, loaded.as_ptr(), loaded.len(), step) } {
-            status::DONE => Ok(Walked::Out),
+        match unsafe { sys::pk_walk(&mut self.handle, queue, loaded.as_ptr(), loaded.len(), step) } {
+            status::DONE => {
+                self.ticket = step.ticket;
+                Ok(Walked::Out)
+            }
             status::IDLE => Ok(Walked::Idle),
             status::LOAD => Ok(Walked::Load),
             number => Err(Status::of(number)),
@@ -89,44 +96,45 @@ impl Chain {
 
     pub fn give_up(&mut self, queue: &mut Queue) -> Result<(), Status> {
         // SAFETY: as the module says.
-        Status::check(unsafe { sys::fs_drop(&mut self.0, queue) })
+        Status::check(unsafe { sys::pk_drop(&mut self.handle, queue) })
     }
 
     /// The chain is free; its queue isn't told.
     pub fn abandon(&mut self) {
         // SAFETY: as the module says.
-        unsafe { sys::fs_abandon(&mut self.0) }
+        unsafe { sys::pk_abandon(&mut self.handle) }
     }
 
     /// What says to the driver whether its kicks are wanted.
     pub fn ask_kicks(&mut self, queue: &Queue, wanted: bool) -> Result<sys::Store, Status> {
         let mut store = sys::Store::default();
         // SAFETY: as the module says.
-        Status::check(unsafe { sys::fs_ask_kicks(&mut self.0, queue, wanted.into(), &mut store) })?;
+        Status::check(unsafe { sys::pk_ask_kicks(&mut self.handle, queue, wanted.into(), &mut store) })?;
         Ok(store)
     }
 
     pub fn request_windows<'w>(&mut self, from: u64, len: u64, windows: &'w mut [Window]) -> &'w [Window] {
         // SAFETY: as the module says; it fills no more than the slice has.
-        let count = unsafe { sys::fs_request_windows(&mut self.0, from, len, windows.as_mut_ptr(), windows.len()) };
+        let count =
+            unsafe { sys::pk_request_windows(&mut self.handle, from, len, windows.as_mut_ptr(), windows.len()) };
         windows.get(..count).unwrap_or_default()
     }
 
     pub fn room_windows<'w>(&mut self, from: u64, len: u64, windows: &'w mut [Window]) -> &'w [Window] {
         // SAFETY: as of `request_windows`.
-        let count = unsafe { sys::fs_room_windows(&mut self.0, from, len, windows.as_mut_ptr(), windows.len()) };
+        let count = unsafe { sys::pk_room_windows(&mut self.handle, from, len, windows.as_mut_ptr(), windows.len()) };
         windows.get(..count).unwrap_or_default()
     }
 
     pub fn room_ranges<'r>(&mut self, from: u64, len: u64, ranges: &'r mut [GuestRange]) -> &'r [GuestRange] {
         // SAFETY: as of `request_windows`.
-        let count = unsafe { sys::fs_room_ranges(&mut self.0, from, len, ranges.as_mut_ptr(), ranges.len()) };
+        let count = unsafe { sys::pk_room_ranges(&mut self.handle, from, len, ranges.as_mut_ptr(), ranges.len()) };
         ranges.get(..count).unwrap_or_default()
     }
 
     pub fn ask(&mut self, device: &sys::Device, request: &[u8], call: &mut sys::Call) -> Result<Asked, Status> {
         // SAFETY: as the module says.
-        match unsafe { sys::fs_ask(&mut self.0, device, request.as_ptr(), request.len(), call) } {
+        match unsafe { sys::pk_ask(&mut self.handle, device, request.as_ptr(), request.len(), call) } {
             status::DONE => Ok(Asked::Call),
             status::MORE => Ok(Asked::More(call.needed as usize)),
             number => Err(Status::of(number)),
@@ -135,76 +143,79 @@ impl Chain {
 
     pub fn reply_done(&mut self) -> Result<Replied, Status> {
         // SAFETY: as the module says.
-        replied(unsafe { sys::fs_reply_err(&mut self.0, 0) })
+        replied(unsafe { sys::pk_reply_err(&mut self.handle, self.ticket, 0) })
     }
 
     pub fn reply_error(&mut self, error: Errno) -> Result<Replied, Status> {
         // SAFETY: as the module says.
-        replied(unsafe { sys::fs_reply_err(&mut self.0, error.number()) })
+        replied(unsafe { sys::pk_reply_err(&mut self.handle, self.ticket, error.number()) })
     }
 
     pub fn reply_entry(&mut self, entry: &sys::Entry) -> Result<Replied, Status> {
         // SAFETY: as the module says.
-        replied(unsafe { sys::fs_reply_entry(&mut self.0, entry) })
+        replied(unsafe { sys::pk_reply_entry(&mut self.handle, self.ticket, entry) })
     }
 
     pub fn reply_create(&mut self, entry: &sys::Entry, handle: u64, options: u32) -> Result<Replied, Status> {
         // SAFETY: as the module says.
-        replied(unsafe { sys::fs_reply_create(&mut self.0, entry, handle, options) })
+        replied(unsafe { sys::pk_reply_create(&mut self.handle, self.ticket, entry, handle, options) })
     }
 
     pub fn reply_attributes(&mut self, attr: &sys::Attr, secs: u64, nanos: u32) -> Result<Replied, Status> {
         // SAFETY: as the module says.
-        replied(unsafe { sys::fs_reply_attr(&mut self.0, attr, secs, nanos) })
+        replied(unsafe { sys::pk_reply_attr(&mut self.handle, self.ticket, attr, secs, nanos) })
     }
 
     pub fn reply_open(&mut self, handle: u64, options: u32) -> Result<Replied, Status> {
         // SAFETY: as the module says.
-        replied(unsafe { sys::fs_reply_open(&mut self.0, handle, options) })
+        replied(unsafe { sys::pk_reply_open(&mut self.handle, self.ticket, handle, options) })
     }
 
     pub fn reply_data(&mut self, len: u64) -> Result<Replied, Status> {
         // SAFETY: as the module says.
-        replied(unsafe { sys::fs_reply_data(&mut self.0, len) })
+        replied(unsafe { sys::pk_reply_data(&mut self.handle, self.ticket, len) })
     }
 
     pub fn reply_xattr(&mut self, len: u32) -> Result<Replied, Status> {
         // SAFETY: as the module says.
-        replied(unsafe { sys::fs_reply_xattr(&mut self.0, len) })
+        replied(unsafe { sys::pk_reply_xattr(&mut self.handle, self.ticket, len) })
     }
 
     pub fn reply_write(&mut self, count: u32) -> Result<Replied, Status> {
         // SAFETY: as the module says.
-        replied(unsafe { sys::fs_reply_write(&mut self.0, count) })
+        replied(unsafe { sys::pk_reply_write(&mut self.handle, self.ticket, count) })
     }
 
     pub fn reply_statfs(&mut self, statfs: &sys::Statfs) -> Result<Replied, Status> {
         // SAFETY: as the module says.
-        replied(unsafe { sys::fs_reply_statfs(&mut self.0, statfs) })
+        replied(unsafe { sys::pk_reply_statfs(&mut self.handle, self.ticket, statfs) })
     }
 
     pub fn reply_lseek(&mut self, offset: u64) -> Result<Replied, Status> {
         // SAFETY: as the module says.
-        replied(unsafe { sys::fs_reply_lseek(&mut self.0, offset) })
+        replied(unsafe { sys::pk_reply_lseek(&mut self.handle, self.ticket, offset) })
     }
 
     pub fn reply_init(&mut self, device: &mut sys::Device, wanted: u64) -> Result<Replied, Status> {
         // SAFETY: as the module says.
-        replied(unsafe { sys::fs_reply_init(&mut self.0, device, wanted) })
+        replied(unsafe { sys::pk_reply_init(&mut self.handle, self.ticket, device, wanted) })
     }
 
     pub fn add(&mut self, list: &mut [u8], name: &[u8], inode: u64, next: u64, kind: u32) -> Result<Added, Status> {
         let (at, len) = (list.as_mut_ptr(), list.len());
         // SAFETY: as the module says; list and name are apart, since the list is borrowed mutably.
-        let number =
-            unsafe { sys::fs_add_direntry(&mut self.0, at, len, name.as_ptr(), name.len(), inode, next, kind) };
+        let number = unsafe {
+            sys::pk_add_direntry(&mut self.handle, self.ticket, at, len, name.as_ptr(), name.len(), inode, next, kind)
+        };
         added(number)
     }
 
     pub fn add_entry(&mut self, list: &mut [u8], name: &[u8], entry: &sys::Entry, next: u64) -> Result<Added, Status> {
         let (at, len) = (list.as_mut_ptr(), list.len());
         // SAFETY: as of `add`.
-        let number = unsafe { sys::fs_add_direntry_plus(&mut self.0, at, len, name.as_ptr(), name.len(), entry, next) };
+        let number = unsafe {
+            sys::pk_add_direntry_plus(&mut self.handle, self.ticket, at, len, name.as_ptr(), name.len(), entry, next)
+        };
         added(number)
     }
 
@@ -212,20 +223,22 @@ impl Chain {
     pub fn reply_entries(&mut self) -> Result<(Replied, u64), Status> {
         let mut len = 0;
         // SAFETY: as the module says.
-        let reply = replied(unsafe { sys::fs_reply_entries(&mut self.0, &mut len) })?;
+        let reply = replied(unsafe { sys::pk_reply_entries(&mut self.handle, self.ticket, &mut len) })?;
         Ok((reply, len))
     }
 
     /// The reply is so many bytes of the caller's own.
     pub fn reply_bytes(&mut self, len: u64) -> Result<(), Status> {
         // SAFETY: as the module says.
-        Status::check(unsafe { sys::fs_reply_bytes(&mut self.0, len) })
+        Status::check(unsafe { sys::pk_reply_bytes(&mut self.handle, self.ticket, len) })
     }
 
     pub fn begin_return(&mut self, queue: &mut Queue, front: &mut [u8]) -> Result<sys::Stores, Status> {
         let mut stores = sys::Stores::default();
         // SAFETY: as the module says.
-        Status::check(unsafe { sys::fs_return(&mut self.0, queue, front.as_mut_ptr(), front.len(), &mut stores) })?;
+        Status::check(unsafe {
+            sys::pk_return(&mut self.handle, queue, front.as_mut_ptr(), front.len(), &mut stores)
+        })?;
         Ok(stores)
     }
 
@@ -233,7 +246,7 @@ impl Chain {
     pub fn end_return(&mut self, queue: &mut Queue, seen: u16) -> Result<bool, Status> {
         let mut notify = 0;
         // SAFETY: as the module says.
-        Status::check(unsafe { sys::fs_returned(&mut self.0, queue, seen, &mut notify) })?;
+        Status::check(unsafe { sys::pk_returned(&mut self.handle, queue, seen, &mut notify) })?;
         Ok(notify != 0)
     }
 }
@@ -259,19 +272,19 @@ fn added(number: u32) -> Result<Added, Status> {
 /// Begins a queue anew.
 pub(crate) fn begin(queue: &mut Queue, position: u16) -> Result<(), Status> {
     // SAFETY: as the module says.
-    Status::check(unsafe { sys::fs_queue_begin(queue, position) })
+    Status::check(unsafe { sys::pk_queue_begin(queue, position) })
 }
 
 /// The header's number of the archive.
 pub(crate) fn version() -> u32 {
     // SAFETY: it takes nothing.
-    unsafe { sys::fs_version() }
+    unsafe { sys::pk_version() }
 }
 
 /// Whether a name is one component of a path.
 pub(crate) fn is_name(name: &[u8]) -> bool {
     // SAFETY: as the module says.
-    unsafe { sys::fs_is_name(name.as_ptr(), name.len()) == 1 }
+    unsafe { sys::pk_is_name(name.as_ptr(), name.len()) == 1 }
 }
 
 /// How long the record is, also with `ShortBuffer`, and whether it stands in the buffer.
@@ -279,7 +292,7 @@ pub(crate) fn save(device: &sys::Device, queues: &[Queue], buffer: &mut [u8]) ->
     let mut len = 0;
     // SAFETY: as the module says.
     let number =
-        unsafe { sys::fs_save(device, queues.as_ptr(), queues.len(), buffer.as_mut_ptr(), buffer.len(), &mut len) };
+        unsafe { sys::pk_save(device, queues.as_ptr(), queues.len(), buffer.as_mut_ptr(), buffer.len(), &mut len) };
     (len, Status::check(number))
 }
 
@@ -288,7 +301,7 @@ pub(crate) fn restore(device: &mut sys::Device, queues: &mut [Queue], record: &[
     let mut count = 0;
     // SAFETY: as the module says.
     let number = unsafe {
-        sys::fs_restore(device, queues.as_mut_ptr(), queues.len(), record.as_ptr(), record.len(), &mut count)
+        sys::pk_restore(device, queues.as_mut_ptr(), queues.len(), record.as_ptr(), record.len(), &mut count)
     };
     Status::check(number).map(|()| count)
 }

@@ -7,7 +7,7 @@ use crate::sys;
 use alloc::vec::Vec;
 use core::sync::atomic::{AtomicU64, Ordering};
 
-/// What all queues of a device share (struct fs_device). The options that INIT agreed on are one atomic word, so that workers of several
+/// What all queues of a device share (struct pk_device). The options that INIT agreed on are one atomic word, so that workers of several
 /// threads share it by reference, without a lock.
 #[derive(Debug)]
 pub struct Device {

@@ -85,7 +85,7 @@ pub use status::{Fault, RequestFault, Status};
 pub use values::{Attributes, Context, DirectoryEntry, Entry, Handle, Node, Opened, Statistics, Time};
 pub use worker::{Served, Worker};
 
-/// The version of pitskhomu.h that this crate follows (FS_VERSION).
+/// The version of pitskhomu.h that this crate follows (PK_VERSION).
 pub const VERSION: u32 = sys::VERSION;
 
 /// The version of the archive that is linked: compare it once with [`VERSION`], where the two may be of two releases.

@@ -28,7 +28,7 @@ pub trait GuestMemory {
     fn mark(&self, _written: GuestRange) {}
 }
 
-/// A stretch of the guest's memory (struct fs_region). All three numbers are multiples of 4096.
+/// A stretch of the guest's memory (struct pk_region). All three numbers are multiples of 4096.
 #[repr(C)]
 #[derive(Clone, Copy, Debug, Default, PartialEq, Eq)]
 pub struct Region {
@@ -40,7 +40,7 @@ pub struct Region {
     pub host: usize,
 }
 
-/// `len` bytes of memory from the number `at` on (struct fs_window), laid out as struct iovec is.
+/// `len` bytes of memory from the number `at` on (struct pk_window), laid out as struct iovec is.
 #[repr(C)]
 #[derive(Clone, Copy, Debug, Default, PartialEq, Eq)]
 pub struct Window {
@@ -50,7 +50,7 @@ pub struct Window {
     pub len: usize,
 }
 
-/// `len` bytes of the guest from a guest address on (struct fs_range).
+/// `len` bytes of the guest from a guest address on (struct pk_range).
 #[repr(C)]
 #[derive(Clone, Copy, Debug, Default, PartialEq, Eq)]
 pub struct GuestRange {

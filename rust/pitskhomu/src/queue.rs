@@ -15,7 +15,7 @@ pub struct QueueLayout {
     pub used: u64,
 }
 
-/// A queue (struct fs_queue). It is told with each call, and moved on by it. Of several workers each has at most one chain out of it.
+/// A queue (struct pk_queue). It is told with each call, and moved on by it. Of several workers each has at most one chain out of it.
 #[repr(C)]
 #[derive(Debug, Default)]
 pub struct Queue {

@@ -42,8 +42,8 @@ macro_rules! numbered {
 }
 
 numbered! {
-    /// Why the library refused (enum fs_status): nothing was done, but that 2 to 8 stop the queue.
-    Status, "enum fs_status" {
+    /// Why the library refused (enum pk_status): nothing was done, but that 2 to 8 stop the queue.
+    Status, "enum pk_status" {
         /// The queue stopped before: nothing until it is begun anew.
         Stopped = 1, "the queue stopped before";
         /// The available index lies in no region. It stops the queue.
@@ -80,6 +80,8 @@ numbered! {
         NoPlace = 77, "what is to be loaded or stored has no place";
         /// Another chain of the queue is being returned.
         Returning = 78, "another chain of the queue is being returned";
+        /// The answer is of a call that is gone.
+        OtherCall = 79, "an answer of a call that is gone";
         /// A record ends early.
         RecordTruncated = 81, "the record ends early";
         /// It isn't a record.
@@ -133,8 +135,8 @@ impl From<Status> for std::io::Error {
 }
 
 numbered! {
-    /// What is wrong with a chain of descriptors (enum fs_fault; VIRTIO 1.2, 2.7.5): it goes back with no reply.
-    Fault, "enum fs_fault" {
+    /// What is wrong with a chain of descriptors (enum pk_fault; VIRTIO 1.2, 2.7.5): it goes back with no reply.
+    Fault, "enum pk_fault" {
         /// More descriptors than the table has.
         TooLong = 1, "the chain is longer than its table";
         /// A descriptor names a next one that the table doesn't have.
@@ -159,8 +161,8 @@ numbered! {
 }
 
 numbered! {
-    /// What is wrong with a FUSE request (enum fs_request_fault): no call is made, and there is no reply.
-    RequestFault, "enum fs_request_fault" {
+    /// What is wrong with a FUSE request (enum pk_request_fault): no call is made, and there is no reply.
+    RequestFault, "enum pk_request_fault" {
         /// The request ends early.
         Decode = 1, "the request ends early";
         /// The reply is longer than the room.

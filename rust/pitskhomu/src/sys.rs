@@ -4,7 +4,7 @@ use crate::memory::{GuestRange as Range, Region, Window};
 use crate::queue::Queue;
 use core::ffi::c_void;
 
-pub const VERSION: u32 = 6;
+pub const VERSION: u32 = 7;
 pub const REGIONS_MAX: usize = 64;
 pub const QUEUES_MAX: usize = 64;
 pub const FIRST: usize = 80;
@@ -12,7 +12,7 @@ pub const REQUEST_MAX: usize = 0x101000;
 pub const FRONT_MAX: usize = 160;
 pub const HEADER: u64 = 16;
 
-/// enum fs_status: how to go on. The refusals are `Status`.
+/// enum pk_status: how to go on. The refusals are `Status`.
 pub mod status {
     pub const DONE: u32 = 0;
     pub const LOAD: u32 = 32;
@@ -24,7 +24,7 @@ pub mod status {
     pub const ENTRIES: u32 = 38;
 }
 
-/// enum fs_call_kind.
+/// enum pk_call_kind.
 pub mod kind {
     pub const NONE: u32 = 0;
     pub const LOOKUP: u32 = 1;
@@ -66,7 +66,7 @@ pub mod kind {
     pub const SYNCFS: u32 = 50;
 }
 
-/// enum fs_answer_kind: what the wrapper has to tell apart.
+/// enum pk_answer_kind: what the wrapper has to tell apart.
 pub mod answer {
     pub const NONE: u32 = 0;
     pub const XATTR: u32 = 7;
@@ -96,6 +96,7 @@ pub struct Step {
     pub room_len: u64,
     pub fault: u32,
     pub head: u16,
+    pub ticket: u32,
 }
 
 #[repr(C)]
@@ -169,6 +170,7 @@ pub struct Call {
     pub has_group: u8,
     pub attr: Attr,
     pub group: u32,
+    pub ticket: u32,
 }
 
 #[repr(C)]
@@ -207,6 +209,8 @@ pub struct Stores {
     pub index_at: usize,
     pub index: u16,
     pub seen_at: usize,
+    pub element_guest: u64,
+    pub index_guest: u64,
 }
 
 #[repr(C)]
@@ -219,40 +223,40 @@ pub struct Store {
 
 #[rustfmt::skip]
 extern "C" {
-    pub fn fs_version() -> u32;
-    pub fn fs_is_name(name: *const u8, name_len: usize) -> u8;
-    pub fn fs_chain_set_memory(chain: &mut Chain, device: &Device, regions: *const Region, region_count: usize) -> u32;
-    pub fn fs_chain_free(chain: &mut Chain);
-    pub fn fs_walk(chain: &mut Chain, queue: &mut Queue, loaded: *const u8, loaded_len: usize, step: &mut Step) -> u32;
-    pub fn fs_queue_begin(queue: &mut Queue, position: u16) -> u32;
-    pub fn fs_abandon(chain: &mut Chain);
-    pub fn fs_ask_kicks(chain: &mut Chain, queue: &Queue, wanted: u32, store: &mut Store) -> u32;
-    pub fn fs_drop(chain: &mut Chain, queue: &mut Queue) -> u32;
-    pub fn fs_request_windows(chain: &mut Chain, from: u64, len: u64, windows: *mut Window, window_count: usize) -> usize;
-    pub fn fs_room_windows(chain: &mut Chain, from: u64, len: u64, windows: *mut Window, window_count: usize) -> usize;
-    pub fn fs_room_ranges(chain: &mut Chain, from: u64, len: u64, ranges: *mut Range, range_count: usize) -> usize;
-    pub fn fs_ask(chain: &mut Chain, device: &Device, request: *const u8, request_len: usize, call: &mut Call) -> u32;
-    pub fn fs_reply_err(chain: &mut Chain, error: u32) -> u32;
-    pub fn fs_reply_entry(chain: &mut Chain, entry: &Entry) -> u32;
-    pub fn fs_reply_create(chain: &mut Chain, entry: &Entry, handle: u64, open_flags: u32) -> u32;
-    pub fn fs_reply_attr(chain: &mut Chain, attr: &Attr, secs: u64, nanos: u32) -> u32;
-    pub fn fs_reply_open(chain: &mut Chain, handle: u64, open_flags: u32) -> u32;
-    pub fn fs_reply_data(chain: &mut Chain, len: u64) -> u32;
-    pub fn fs_reply_xattr(chain: &mut Chain, len: u32) -> u32;
-    pub fn fs_reply_write(chain: &mut Chain, count: u32) -> u32;
-    pub fn fs_reply_statfs(chain: &mut Chain, statfs: &Statfs) -> u32;
-    pub fn fs_reply_lseek(chain: &mut Chain, offset: u64) -> u32;
-    pub fn fs_reply_init(chain: &mut Chain, device: &mut Device, wanted: u64) -> u32;
-    pub fn fs_add_direntry(chain: &mut Chain, list: *mut u8, list_len: usize, name: *const u8, name_len: usize, ino: u64,
-        next_offset: u64, r#type: u32) -> u32;
-    pub fn fs_add_direntry_plus(chain: &mut Chain, list: *mut u8, list_len: usize, name: *const u8, name_len: usize,
-        entry: &Entry, next_offset: u64) -> u32;
-    pub fn fs_reply_entries(chain: &mut Chain, len: &mut u64) -> u32;
-    pub fn fs_reply_bytes(chain: &mut Chain, len: u64) -> u32;
-    pub fn fs_return(chain: &mut Chain, queue: &mut Queue, front: *mut u8, front_len: usize, stores: &mut Stores) -> u32;
-    pub fn fs_returned(chain: &mut Chain, queue: &mut Queue, seen: u16, notify: &mut u8) -> u32;
-    pub fn fs_save(device: &Device, queues: *const Queue, queue_count: usize, buffer: *mut u8, buffer_len: usize,
+    pub fn pk_version() -> u32;
+    pub fn pk_is_name(name: *const u8, name_len: usize) -> u8;
+    pub fn pk_chain_set_memory(chain: &mut Chain, device: &Device, regions: *const Region, region_count: usize) -> u32;
+    pub fn pk_chain_free(chain: &mut Chain);
+    pub fn pk_walk(chain: &mut Chain, queue: &mut Queue, loaded: *const u8, loaded_len: usize, step: &mut Step) -> u32;
+    pub fn pk_queue_begin(queue: &mut Queue, position: u16) -> u32;
+    pub fn pk_abandon(chain: &mut Chain);
+    pub fn pk_ask_kicks(chain: &mut Chain, queue: &Queue, wanted: u32, store: &mut Store) -> u32;
+    pub fn pk_drop(chain: &mut Chain, queue: &mut Queue) -> u32;
+    pub fn pk_request_windows(chain: &mut Chain, from: u64, len: u64, windows: *mut Window, window_count: usize) -> usize;
+    pub fn pk_room_windows(chain: &mut Chain, from: u64, len: u64, windows: *mut Window, window_count: usize) -> usize;
+    pub fn pk_room_ranges(chain: &mut Chain, from: u64, len: u64, ranges: *mut Range, range_count: usize) -> usize;
+    pub fn pk_ask(chain: &mut Chain, device: &Device, request: *const u8, request_len: usize, call: &mut Call) -> u32;
+    pub fn pk_reply_err(chain: &mut Chain, ticket: u32, error: u32) -> u32;
+    pub fn pk_reply_entry(chain: &mut Chain, ticket: u32, entry: &Entry) -> u32;
+    pub fn pk_reply_create(chain: &mut Chain, ticket: u32, entry: &Entry, handle: u64, open_flags: u32) -> u32;
+    pub fn pk_reply_attr(chain: &mut Chain, ticket: u32, attr: &Attr, secs: u64, nanos: u32) -> u32;
+    pub fn pk_reply_open(chain: &mut Chain, ticket: u32, handle: u64, open_flags: u32) -> u32;
+    pub fn pk_reply_data(chain: &mut Chain, ticket: u32, len: u64) -> u32;
+    pub fn pk_reply_xattr(chain: &mut Chain, ticket: u32, len: u32) -> u32;
+    pub fn pk_reply_write(chain: &mut Chain, ticket: u32, count: u32) -> u32;
+    pub fn pk_reply_statfs(chain: &mut Chain, ticket: u32, statfs: &Statfs) -> u32;
+    pub fn pk_reply_lseek(chain: &mut Chain, ticket: u32, offset: u64) -> u32;
+    pub fn pk_reply_init(chain: &mut Chain, ticket: u32, device: &mut Device, wanted: u64) -> u32;
+    pub fn pk_add_direntry(chain: &mut Chain, ticket: u32, list: *mut u8, list_len: usize, name: *const u8, name_len: usize,
+        ino: u64, next_offset: u64, r#type: u32) -> u32;
+    pub fn pk_add_direntry_plus(chain: &mut Chain, ticket: u32, list: *mut u8, list_len: usize, name: *const u8,
+        name_len: usize, entry: &Entry, next_offset: u64) -> u32;
+    pub fn pk_reply_entries(chain: &mut Chain, ticket: u32, len: &mut u64) -> u32;
+    pub fn pk_reply_bytes(chain: &mut Chain, ticket: u32, len: u64) -> u32;
+    pub fn pk_return(chain: &mut Chain, queue: &mut Queue, front: *mut u8, front_len: usize, stores: &mut Stores) -> u32;
+    pub fn pk_returned(chain: &mut Chain, queue: &mut Queue, seen: u16, notify: &mut u8) -> u32;
+    pub fn pk_save(device: &Device, queues: *const Queue, queue_count: usize, buffer: *mut u8, buffer_len: usize,
         len: &mut usize) -> u32;
-    pub fn fs_restore(device: &mut Device, queues: *mut Queue, queue_count: usize, saved: *const u8, saved_len: usize,
+    pub fn pk_restore(device: &mut Device, queues: *mut Queue, queue_count: usize, saved: *const u8, saved_len: usize,
         count: &mut usize) -> u32;
 }

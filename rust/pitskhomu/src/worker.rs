@@ -407,7 +407,7 @@ impl Worker {
         fence(Ordering::Release);
         memory.store_u16(stores.index_at, stores.index);
         if memory.is_logging() {
-            self.mark_written(queue, memory, u64::from(stores.len).max(self.written));
+            self.mark_written(memory, stores);
         }
         // What the driver wants is read after it can see the index, or a notification is lost.
         fence(Ordering::SeqCst);
@@ -433,8 +433,9 @@ impl Worker {
         Ok(true)
     }
 
-    /// Tells what was written: so many bytes of the room, the used element and the used index (VIRTIO 1.2, 2.7.8).
-    fn mark_written(&mut self, queue: &Queue, memory: &dyn GuestMemory, written: u64) {
+    /// Tells what was written: the room as far as the reply goes and the file system may have written, the used element and the used index.
+    fn mark_written(&mut self, memory: &dyn GuestMemory, stores: &sys::Stores) {
+        let written = u64::from(stores.len).max(self.written);
         let mut ranges = [GuestRange::default(); 16];
         let mut done = 0;
         while done < written {
@@ -447,10 +448,8 @@ impl Worker {
                 done += range.len;
             }
         }
-        let layout = queue.layout();
-        let element = u64::from(queue.returned() % layout.size);
-        memory.mark(GuestRange { guest: layout.used + 4 + 8 * element, len: 8 });
-        memory.mark(GuestRange { guest: layout.used + 2, len: 2 });
+        memory.mark(GuestRange { guest: stores.element_guest, len: 8 });
+        memory.mark(GuestRange { guest: stores.index_guest, len: 2 });
     }
 
     fn served(&self, reply_len: u32, notify: bool) -> Served {

@@ -56,7 +56,7 @@ fn statuses_and_faults() {
     assert!(Status::RecordOutOfMemory.is_out_of_memory() && !Status::Stopped.is_out_of_memory());
     assert_eq!(
         (Status::Unknown(99).number(), Status::Unknown(99).to_string().as_str()),
-        (99, "number 99 of enum fs_status")
+        (99, "number 99 of enum pk_status")
     );
     assert_eq!(
         (Fault::OverLimit.number(), Fault::OverLimit.to_string().as_str()),

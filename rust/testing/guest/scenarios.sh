@@ -128,20 +128,44 @@ scenario_unbind() {
     run umount /mnt
 }
 
-# The host plugs memory in meanwhile, and the guest reads into it.
-scenario_hotplug() {
-    echo online > /sys/devices/system/memory/auto_online_blocks
-    mount_it
-    echo READY
-    i=0
-    while [ $i -lt 100 ] && [ "$(kilobytes)" -lt 400000 ]; do
+# Whether there is so much memory in the end, within so many seconds: `-gt 400000`, `-lt 400000`.
+comes_to() {
+    local i=0
+    while [ $i -lt 120 ] && ! [ "$(kilobytes)" "$1" "$2" ]; do
         drop
         echo "READER $(dd if=/mnt/files/m8 bs=256k iflag=direct 2> /tmp/dd | sum_of)"
+        sleep 1
         i=$((i + 1))
     done
-    [ "$(kilobytes)" -gt 400000 ] && echo "PLUGGED in"
+    [ "$(kilobytes)" "$1" "$2" ]
+}
+
+# The host plugs memory in meanwhile, the guest reads into it, and the host takes it out again.
+scenario_hotplug() {
+    echo online_movable > /sys/devices/system/memory/auto_online_blocks
+    mount_it
+    echo READY
+    comes_to -gt 400000 && echo "PLUGGED in"
     dd if=/dev/zero of=/tmp/zeros bs=1M count=180 2> /tmp/dd
     echo "BIG $(dd if=/mnt/files/big bs=32M iflag=direct 2> /tmp/dd | sum_of)"
+    rm /tmp/zeros
+    drop
+    echo ENOUGH
+    comes_to -lt 400000 && echo "PLUGGED out"
+    echo "BIG $(dd if=/mnt/files/big bs=32M iflag=direct 2> /tmp/dd | sum_of)"
+    run umount /mnt
+}
+
+# The host resets the guest in the middle of reading.
+scenario_reset() {
+    mount_it
+    echo "READER $(sum_of < /mnt/files/m8)"
+    if [ ! -e /mnt/work/rebooted ]; then
+        echo > /mnt/work/rebooted
+        echo READY
+        while :; do dd if=/mnt/files/m8 of=/dev/null bs=1M iflag=direct 2> /tmp/dd; done
+    fi
+    echo "AGAIN $(sum_of < /mnt/files/m1)"
     run umount /mnt
 }
 
@@ -158,19 +182,38 @@ scenario_readonly() {
     run umount /mnt
 }
 
-# What is timed, in the guest's own seconds.
+# A thing that is timed, in the guest's own seconds; and how often the device interrupted meanwhile.
+time_it() {
+    local before
+    drop
+    before=$(interrupts)
+    ask "$@" | tee /tmp/timed
+    echo "TIME $(($(interrupts) - before)).0 interrupts: $(sed 's/.*ms: //' /tmp/timed)"
+}
+interrupts() { awk '/virtio/ { for (k = 2; k <= NF && $k ~ /^[0-9]+$/; k++) sum += $k } END { print sum + 0 }' /proc/interrupts; }
+
 scenario_times() {
+    local how each threads
     mount_it
-    drop
-    ask read 1048576 /mnt/files/big
-    ask read 1048576 /mnt/files/big direct
-    ask write 1048576 /mnt/work/written
-    ask write 1048576 /mnt/work/written direct
-    ask stat 10000 /mnt/files/m1
-    ask missing 10000 /mnt/none
-    ask open 5000 /mnt/files/m1
-    drop
-    ask list 1 /mnt/files/many
+    mkdir /mnt/work/made /mnt/work/out
+    cp /mnt/tar /tmp/tar
+    cat /mnt/files/big > /tmp/none
+    for threads in 1 8; do time_it small 4000 /mnt/files/big $threads; done
+    for each in 65536 1048576; do
+        for how in '' direct; do
+            # shellcheck disable=SC2086
+            time_it read $each /mnt/files/big $how
+            # shellcheck disable=SC2086
+            time_it write $each /mnt/work/written $how
+        done
+    done
+    for threads in 1 4 8; do time_it jobs 1024 /mnt/files/big $threads; done
+    time_it stat 10000 /mnt/files/m1
+    time_it missing 10000 /mnt/none
+    time_it open 5000 /mnt/files/m1
+    time_it look 1 /mnt/ten-thousand
+    time_it create 5000 /mnt/work/made/
+    time_it run tar -xf /tmp/tar -C /mnt/work/out
     run umount /mnt
 }
 
@@ -208,6 +251,27 @@ scenario_killed() {
     done
 }
 
+# The guest holds all descriptors that it may have while it goes to another host. It hears of the end by a file that it has open already.
+scenario_migrate_full() {
+    local line
+    ulimit -n 20000
+    mount_it
+    : > /mnt/work/over
+    exec 8< /mnt/work/over
+    mkdir /mnt/work/held
+    hold 3000 /mnt/work/held/ &
+    sleep 10
+    while ! read -r line <&8; do
+        echo "READER waits"
+        sleep 1
+    done
+    kill %1
+    sleep 2
+    drop
+    echo "BIG $(sum_of < /mnt/files/m8)"
+    run umount /mnt
+}
+
 # Files are held open, made, renamed and removed while the guest goes to another host.
 scenario_migrate() {
     mount_it
@@ -233,4 +297,22 @@ scenario_migrate() {
     exec 7>&-
     echo "HELD $(cat /mnt/work/moved/held | tr '\n' ' ')"
     run umount /mnt
+}
+
+# Suites that others wrote, in a root of their own on a disk.
+scenario_suite() {
+    local name
+    mkdir /disk
+    run mount -t ext4 /dev/vda /disk
+    for name in proc sys dev; do mount -o bind /$name /disk/$name; done
+    mkdir -p /dev/shm
+    mount -t tmpfs tmp /disk/tmp
+    mount -t tmpfs shm /dev/shm
+    ln -s /proc/self/fd /dev/fd
+    cp /suites /disk/
+    run mount -t virtiofs shared /disk/mnt
+    for name in $(sed -n 's/.*suites=\([^ ]*\).*/\1/p' /proc/cmdline | tr ',' ' '); do
+        chroot /disk /usr/bin/bash /suites "$name"
+    done
+    run umount /disk/mnt
 }

@@ -2,7 +2,7 @@ use Rattle.std.proofs.Common.{◌≡◌, rules, refl, subst}
 use Rattle.fs_chain.specs.declared.workbench.Workbench.{Workbench}
 use Rattle.fs_chain_c.specs.Kicks.{AsksWorkbench}
 use Rattle.fs_chain_c.proofs.HandleLemmas.{on_workbench}
-use Rattle.fs_chain_c.proofs.kicks.fs_ask_kicks.Goals as goal
+use Rattle.fs_chain_c.proofs.kicks.pk_ask_kicks.Goals as goal
 
 pub returns : goal.returns
 returns c =

@@ -1,6 +1,6 @@
 use Rattle.std.proofs.Common.{rules, refl}
 use Rattle.fs_chain_c.specs.Records.{Read, NoPlace, NoRecord}
-use Rattle.fs_chain_c.proofs.record.fs_restore.Goals as goal
+use Rattle.fs_chain_c.proofs.record.pk_restore.Goals as goal
 
 pub returns-then-len-queues : goal.returns-then-len-queues
 returns-then-len-queues c = (

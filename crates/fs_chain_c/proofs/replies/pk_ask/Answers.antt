@@ -1,6 +1,6 @@
 use Rattle.std.proofs.Common.{rules}
 use Rattle.fs_chain_c.proofs.HandleLemmas.{on_workbench}
-use Rattle.fs_chain_c.proofs.replies.fs_ask.Goals as goal
+use Rattle.fs_chain_c.proofs.replies.pk_ask.Goals as goal
 
 pub returns : goal.returns
 returns c =

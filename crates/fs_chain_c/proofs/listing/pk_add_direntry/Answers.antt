@@ -1,7 +1,7 @@
 use Rattle.std.proofs.Common.{rules, ◌≡◌, Bool, true, sym, subst}
 use Rattle.fs_chain_c.specs.Listing.{AddsEntry, is_name, listed_as}
 use Rattle.fs_chain_c.proofs.HandleLemmas.{on_workbench}
-use Rattle.fs_chain_c.proofs.listing.fs_add_direntry.Goals as goal
+use Rattle.fs_chain_c.proofs.listing.pk_add_direntry.Goals as goal
 
 pub returns : goal.returns
 returns c =

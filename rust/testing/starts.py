@@ -1,0 +1,88 @@
+#!/usr/bin/env python3
+"""starts.py DAEMON FOLDER: how the daemon starts and ends: what it refuses by name, its socket, the file beside it, a second daemon, --fd,
+signals, and --syslog where nothing else listens. Ends with 1 at the first that isn't so."""
+import json
+import os
+import signal
+import socket
+import subprocess
+import sys
+import time
+
+DAEMON, FOLDER = sys.argv[1:]
+PATH, SHARED = FOLDER + "/socket", FOLDER + "/shared"
+SYSLOG = "/dev/log"
+
+
+def start(*words, **more):
+    return subprocess.Popen([DAEMON, "--shared-dir", SHARED, *words], stderr=subprocess.PIPE, text=True, **more)
+
+
+def ended(daemon):
+    """Its status, and what it told."""
+    told = daemon.communicate(timeout=20)[1]
+    return daemon.returncode, told
+
+
+def meet(path):
+    """Connects as soon as the socket is there, and leaves."""
+    for _ in range(400):
+        if os.path.exists(path):
+            break
+        time.sleep(0.05)
+    with socket.socket(socket.AF_UNIX) as front_end:
+        front_end.connect(path)
+
+
+def check(what, holds):
+    if not holds:
+        sys.exit(f"FAILED: {what}")
+
+
+def listener(path, kind):
+    made = socket.socket(socket.AF_UNIX, kind)
+    made.bind(path)
+    made.settimeout(10)
+    return made
+
+
+os.makedirs(SHARED, exist_ok=True)
+for word in ("--posix-acl", "--security-label", "-o=source=/x", "--no-such-option"):
+    status, told = ended(start("--socket-path", PATH, word))
+    check(f"{word} is refused by name: {told}", status == 2 and word.split("=")[0] in told)
+told = subprocess.run([DAEMON, "--print-capabilities"], stdout=subprocess.PIPE, check=True).stdout
+check("capabilities", json.loads(told) == {"type": "fs", "features": ["migrate-precopy", "separate-options"]})
+
+daemon = start("--socket-path", PATH)
+while not os.path.exists(PATH):
+    time.sleep(0.05)
+check("its number stands beside the socket", open(PATH + ".pid").read().strip() == str(daemon.pid))
+status, told = ended(start("--socket-path", PATH))
+check(f"a second daemon is refused: {told}", status == 1 and "locked" in told)
+meet(PATH)
+check("it ends with its front-end", ended(daemon)[0] == 0)
+
+for number in (signal.SIGTERM, signal.SIGINT, signal.SIGHUP):
+    os.unlink(PATH)
+    daemon = start("--socket-path", PATH)
+    while not os.path.exists(PATH):
+        time.sleep(0.05)
+    daemon.send_signal(number)
+    check(f"it ends by signal {number}", ended(daemon)[0] == 0)
+
+with listener(FOLDER + "/handed", socket.SOCK_STREAM) as handed:
+    handed.listen(1)
+    daemon = start("--fd", str(handed.fileno()), pass_fds=[handed.fileno()])
+    meet(FOLDER + "/handed")
+    check("a socket that is handed in", ended(daemon)[0] == 0)
+
+if not os.path.exists(SYSLOG):
+    with listener(SYSLOG, socket.SOCK_DGRAM) as log:
+        os.unlink(PATH)
+        daemon = start("--socket-path", PATH, "--syslog")
+        meet(PATH)
+        check("it is silent with --syslog", ended(daemon) == (0, ""))
+        while b"the front-end is gone" not in log.recv(4096):
+            pass
+    os.unlink(SYSLOG)
+print("starts: done")
