@@ -77,7 +77,8 @@
  *
  * WHAT IS PROVED. Each function, whenever its arguments are what their types say, returns, doesn't panic, reads and writes only what it is
  * lent, and does what its contract in the crate fs_chain_c says, in the terms of the crate fs_chain: the load that is asked for, the
- * call that a request means, the reply that an answer gives, the stores of a return. Of a chain from its walk to its return fs_chain's law_chains says more.
+ * call that a request means, the reply that an answer gives, the stores of a return. Of a chain from its walk to its return fs_chain's law_chains says more,
+ * and of several chains that are out at once the laws of fs_live.
  * TRIED ALONE is this: that pk_chain_free frees all; that the stores of pk_return have a place (PK_NO_PLACE); that the calls of a walk are no more loads than
  * the walk behind them makes (fs_queue's law_any_loads: 2 * size + 6); that the bytes of a span are the name's (proved is where it stands, and its length); which
  * of two errors comes first, of pk_chain_set_memory and pk_save; a chain whose calls several threads make; and what is written out here in C.
@@ -98,9 +99,9 @@
  *     is marked in a migration's log after the store and before pk_returned; that of pk_ask_kicks's store after it, under the same lock. Mark what you wrote, and
  *     not what the reply counts: data that you put into the room before pk_reply_err, or more than you told pk_reply_data, stands there too.
  *  7. One call at a time on a chain, on a queue, on a device that isn't const; each with the thread's order in between.
- *  8. A queue begins anew by pk_queue_begin (or pk_restore), on the struct that it has: its walks and its chains are refused from then on by each call that takes
- *     the queue. pk_ask and the replies don't take it: let pk_abandon free each chain before. No load, store or file call of yours for them goes on by then; an
- *     answer that comes later is refused by its ticket (PK_OTHER_CALL).
+ *  8. A queue begins anew by pk_queue_begin (or pk_restore), on the struct that it has: pk_walk, pk_return and pk_returned refuse its walks and chains from then
+ *     on, and pk_drop its chains. pk_ask and the replies don't take it: let pk_abandon free each chain before. No load, store or file call of yours for them goes
+ *     on by then; an answer that comes later is refused: PK_WRONG_ORDER while no call waits, PK_OTHER_CALL once another does.
  *  9. A chain that was asked is answered: with nothing else to say, by pk_reply_err(EIO), or with silence by pk_reply_bytes(0). It can't be dropped.
  * 10. malloc, realloc and free are of one allocator, aligned as C says. No call from a signal handler, nor after fork in the child
  *     of a process with threads.
@@ -110,7 +111,8 @@
  * of the walk behind it. A walk between whose calls another chain is taken is refused (PK_OTHER_QUEUE): drop it, and begin again. Chains go back in any order.
  * With the event index the driver kicks for the chain at the stored position alone. So whoever takes a chain while another thread of the queue sleeps asks anew
  * before it lets the lock go, which is at the position behind that chain: pk_ask_kicks, the store, the barrier, and one more look, at the available index. A
- * chain that is there already brings no kick: wake a thread for it. Without all this the one that sleeps may sleep on.
+ * chain that is there already brings no kick: wake a thread for it. Nor does one that waits while most_out are out, or that was dropped: whoever returns a chain,
+ * or drops one, walks once more or wakes a thread. Without all this the one that sleeps may sleep on.
  *
  * FEATURES of VIRTIO 1.2 that may be offered: VERSION_1 (32, insist on it), INDIRECT_DESC (28), EVENT_IDX (29, with `event_index` set), and IN_ORDER (35), if
  * you return the chains of a queue in the order of their walks. Not RING_PACKED (34), not ACCESS_PLATFORM (33).
@@ -392,8 +394,8 @@ struct pk_queue {
     uint32_t taken;     /* how often a chain was taken or dropped, modulo 2^32 */
 };
 
-/* Begins a queue at a position (SET_VRING_BASE, 0 after a reset), by the parts that you set: no chain is out of it, and it isn't stopped. Walks and chains that
- * it had are refused from then on by the calls that take the queue (PK_OTHER_QUEUE), unless it is begun anew 2^32 times. Make the store of pk_ask_kicks(.., 1)
+/* Begins a queue at a position (SET_VRING_BASE, 0 after a reset), by the parts that you set: no chain is out of it, and it isn't stopped. pk_walk, pk_return,
+ * pk_returned and pk_drop refuse what it had from then on (PK_OTHER_QUEUE; rule 8), unless it is begun anew 2^32 times. Make the store of pk_ask_kicks(.., 1)
  * then, and its barrier: a device of before may have left the used flag by which the driver doesn't kick.
  * Errors: PK_BAD_ARGUMENT (the numbers that you set are no queue's); then nothing is done. */
 uint32_t pk_queue_begin(struct pk_queue *queue, uint16_t position) PK_CHECK PK_NONNULL;
@@ -557,7 +559,8 @@ struct pk_statfs {
 };
 
 /* All of these answer the call that pk_ask told, by its ticket, once, and touch no memory; the reply is handed out by pk_return. From chain to chain of a
- * handle the ticket grows by 1, modulo 2^32: an answer that comes late, to a chain that was abandoned, is taken for no other. Errors, the same
+ * handle the ticket grows by 1, modulo 2^32: an answer that comes late, to a chain that was abandoned, is taken for no other of this
+ * handle, unless 2^32 came between or pk_chain_free. Another handle's chain may have the same ticket: answer the handle that asked. Errors, the same
  * for all: what stands beside each, then PK_WRONG_ORDER (nothing is asked, or it was answered), PK_OTHER_CALL, PK_OTHER_KIND; after these the call
  * waits still. PK_NO_ROOM isn't one: see there. No memory is wanted. */
 
@@ -607,7 +610,8 @@ uint32_t pk_add_direntry(struct pk_chain *chain, uint32_t ticket, uint8_t *list,
                          uint64_t next_offset, uint32_t type) PK_CHECK PK_NONNULL PK_READS(5, 6);
 
 /* READDIRPLUS: an entry with its node, which the guest holds once more, as after LOOKUP. For "." and ".." entry->node is 0, and
- * nothing is held. PK_FULL, PK_LIST_FAILS, and any error: the look-up isn't told, so undo it. Type and ino are the attributes'. */
+ * nothing is held. PK_FULL, PK_LIST_FAILS, and any error: the look-up isn't told, so undo it. Type and ino are the attributes'.
+ * Errors: pk_add_direntry's; PK_BAD_ARGUMENT also for nanoseconds of a second or more. */
 uint32_t pk_add_direntry_plus(struct pk_chain *chain, uint32_t ticket, uint8_t *list, size_t list_len, const uint8_t *name, size_t name_len,
                               const struct pk_entry *entry, uint64_t next_offset) PK_CHECK PK_NONNULL PK_READS(5, 6);
 
@@ -674,7 +678,7 @@ struct pk_store {
  * under the queue's lock; with event_index also when you took a chain and another thread of the queue sleeps (SEVERAL CHAINS, above). Of the chain only the
  * regions count, and it stays as it was. `wanted` other than 0 is 1. The guest address of the store is `used`, or with event_index used + 4 + 8 * size.
  * Errors: PK_WRONG_ORDER (no memory was told), PK_BAD_ARGUMENT (the queue's numbers are none), PK_NO_PLACE (these two bytes are in no region: a walk looks for
- * those of event_index as it begins, and for the flags' as it takes a chain); then `store` is zeros. */
+ * those of event_index as it begins, and for the used index behind the flags as it takes a chain); then `store` is zeros. */
 uint32_t pk_ask_kicks(struct pk_chain *chain, const struct pk_queue *queue, uint32_t wanted, struct pk_store *store)
     PK_CHECK PK_NONNULL PK_FILLS(4);
 

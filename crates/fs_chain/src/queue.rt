@@ -60,8 +60,8 @@ impl KeptQueue {
         }
     }
 
-    /// Begins the queue anew with its parts there, at a position: no chain is out. Each walk and each chain that it had is refused from then on
-    /// (`OtherQueue`), unless it is begun anew 2^32 times. How many may be out stays, and the event index.
+    /// Begins the queue anew with its parts there, at a position: no chain is out. Each call that takes the queue refuses its walks and chains from
+    /// then on (`OtherQueue`; `give_up` ends a walk), unless it is begun anew 2^32 times. How many may be out stays, and the event index.
     pub fn begin_anew(&mut self, layout: QueueLayout, position: u16)
         ensures { self.new ≡ begun_anew self.old layout position }
     {

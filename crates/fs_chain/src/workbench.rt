@@ -46,6 +46,7 @@ impl Workbench {
         ensures part { result.part.items ≡ [] }
         ensures session { (result.session.page_size ≡ 4096) × (result.session.options.0 ≡ 0) }
         ensures serial { result.serial ≡ 1 }
+        ensures list { result.list_len ≡ 0 }
     {
         Workbench {
             alloc,
@@ -67,7 +68,8 @@ impl Workbench {
         ensures ok { OnOk result (memory_error self.old.state limit ≡ None) }
         ensures same { OnErr result (self.new ≡ self.old) }
         ensures set { OnOk result ((self.new.regions ≡ regions) × (self.new.limit ≡ limit) × (self.new.state ≡ self.old.state)
-            × (self.new.part ≡ self.old.part) × (self.new.session ≡ self.old.session) × (self.new.serial ≡ self.old.serial)) }
+            × (self.new.part ≡ self.old.part) × (self.new.session ≡ self.old.session) × (self.new.serial ≡ self.old.serial)
+            × (self.new.list_len ≡ self.old.list_len)) }
     {
         match self.state {
             State::Free => self.take_memory(regions, limit),
@@ -81,7 +83,8 @@ impl Workbench {
         ensures ok { OnOk result (memory_error at.Free limit ≡ None) }
         ensures same { OnErr result (self.new ≡ self.old) }
         ensures set { OnOk result ((self.new.regions ≡ regions) × (self.new.limit ≡ limit) × (self.new.state ≡ self.old.state)
-            × (self.new.part ≡ self.old.part) × (self.new.session ≡ self.old.session) × (self.new.serial ≡ self.old.serial)) }
+            × (self.new.part ≡ self.old.part) × (self.new.session ≡ self.old.session) × (self.new.serial ≡ self.old.serial)
+            × (self.new.list_len ≡ self.old.list_len)) }
     {
         if limit < MAX_REQUEST_LEN || MOST_LIMIT < limit {
             return Err(ChainError::BadArgument);

@@ -33,13 +33,13 @@ OnWorkbench Does Nothing (Some b) (Some b') = Does b b'
 abbrev pub IsNewWorkbench : Workbench → Type 0
 IsNewWorkbench b =
     (b.regions ≡ []) × (b.limit ≡ 0x101000) × (b.descriptors.items ≡ []) × (b.state ≡ at.Free) × (b.part.items ≡ [])
-    × (b.session.page_size ≡ 4096) × (b.session.options.0 ≡ 0) × (b.serial ≡ 1)
+    × (b.session.page_size ≡ 4096) × (b.session.options.0 ≡ 0) × (b.serial ≡ 1) × (b.list_len ≡ 0)
 
 -- the next walks go over these regions, by the device's limit
 abbrev pub GoesOver : Workbench → FsDevice → List FsRegion → Workbench → Type 0
 GoesOver b d regions b' =
     (memory_error b.state d.limit ≡ None) × IsDevice d × IsMemory regions b'.regions × (b'.limit ≡ d.limit)
-    × (b'.state ≡ b.state) × (b'.part ≡ b.part) × (b'.session ≡ b.session) × (b'.serial ≡ b.serial)
+    × (b'.state ≡ b.state) × (b'.part ≡ b.part) × (b'.session ≡ b.session) × (b'.serial ≡ b.serial) × (b'.list_len ≡ b.list_len)
 
 -- why they don't: the device's numbers are none, the regions are no memory, or a chain is walked or out
 abbrev pub RefusesMemory : Workbench → FsDevice → List FsRegion → ChainError → Type 0

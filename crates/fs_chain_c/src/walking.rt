@@ -32,7 +32,7 @@ pub struct FsStep {
     pub fault: u32,
     /// The number of its first descriptor.
     pub head: u16,
-    /// By which number an answer names the chain (0: it has a fault).
+    /// By which number an answer names the chain; a faulty chain has 0.
     pub ticket: u32,
 }
 

@@ -45,7 +45,8 @@ pub fn law_examples<F: FileSystem>()
     ensures init { InitBeside F.may }
 {}
 
-/// What calls of handles give a run, by their contracts, whatever other chains are out: a walk, an asking, an answer and a return are its events.
+/// What calls of handles give a run, by their contracts, whatever other chains are out: a walk that finds its queue as its call before left it, an asking,
+/// a call's first answer, and the return of a chain that was asked are its events.
 pub fn law_handles<F: FileSystem>()
     ensures walks { HandleWalks F.may }
     ensures asks { HandleAsks F.may }

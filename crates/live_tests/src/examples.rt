@@ -1,0 +1,55 @@
+//! Chains of the worked runs, each by itself.
+
+ghost use Rattle.std.specs.Prelude.{[], ◌∷◌, List, true};
+ghost use Rattle.fs_queue.specs.Loads.{Load};
+ghost use Rattle.fuse_fs.specs.Calls.{Destroy, Done, Failed, FileRun, Wants};
+ghost use Rattle.fs_device.specs.Step.{Exchanged, State};
+ghost use Rattle.fs_device.specs.StepBy.{Effects, StepBy};
+ghost use Rattle.fs_live.specs.InitBeside as init;
+ghost use Rattle.fs_live.specs.Live.{LiveState};
+ghost use Rattle.fs_live.specs.Overlap.{first_answered, first_exchange};
+ghost use Rattle.fs_live.specs.Rewritten as rewritten;
+ghost use Rattle.fs_live.specs.Runs.{IsBefore, after_alone, chain_loads};
+
+use call_log::CallLog;
+use fs_live::{law_examples, law_runs};
+use fuse_fs::FileSystem;
+
+// DESTROY's chain, behind which another one was taken and went back, is a step by its own loads.
+fn overlapped<F: FileSystem>()
+    ensures { (before after : F) → F.may before Destroy Done after → (now : LiveState F)
+        × ((m : State F) (files : F) → IsBefore now first_answered m → FileRun F.may m.files ((Destroy, Done) ∷ []) files
+        → (lost : List Load) × (e : Effects) × StepBy F.may m 0 (chain_loads first_answered lost) ((Destroy, Done) ∷ []) (Exchanged first_exchange true) e (after_alone m first_answered files)) }
+{
+    law_examples::<F>();
+    law_runs::<F, F>();
+}
+
+// The chain whose ring's entry was rewritten is a step by what was loaded of it.
+fn kept<F: FileSystem>()
+    ensures { (before after : F) → F.may before rewritten.told Done after → (now : LiveState F)
+        × ((m : State F) (files : F) → IsBefore now rewritten.first_answered m → FileRun F.may m.files ((rewritten.told, Done) ∷ []) files
+        → (lost : List Load) × (e : Effects)
+        × StepBy F.may m 0 (chain_loads rewritten.first_answered lost) ((rewritten.told, Done) ∷ []) (Exchanged rewritten.exchange true) e (after_alone m rewritten.first_answered files)) }
+{
+    law_examples::<F>();
+    law_runs::<F, F>();
+}
+
+// LOOKUP's chain, which was asked before INIT was answered, is a step by the options of its asking.
+fn asked_before<F: FileSystem>()
+    ensures { (before between after : F) → F.may before init.starts (Wants 0) between → F.may between init.looks (Failed 2) after → (now : LiveState F)
+        × ((m : State F) (files : F) → IsBefore now init.first_answered m → FileRun F.may m.files ((init.looks, Failed 2) ∷ []) files
+        → (lost : List Load) × (e : Effects)
+        × StepBy F.may m 0 (chain_loads init.first_answered lost) ((init.looks, Failed 2) ∷ []) (Exchanged init.first_exchange true) e (after_alone m init.first_answered files)) }
+{
+    law_examples::<F>();
+    law_runs::<F, F>();
+}
+
+#[test]
+fn chains_of_the_worked_runs_are_steps() {
+    overlapped::<CallLog>();
+    kept::<CallLog>();
+    asked_before::<CallLog>();
+}
