@@ -582,6 +582,7 @@ static bool run(uint64_t number, bool goes_on) {
     now.queues[0] = (struct pk_queue){.desc = DESC, .avail = AVAIL, .used = USED, .size = SIZE, .most_out = HANDLES};
     now.queues[1] = (struct pk_queue){.used = 0x1000, .size = 8, .position = 7, .returned = 7, .stopped = PK_STOPPED};
     memset(chains, 0, sizeof chains);
+    memset(tickets, 0, sizeof tickets);
     chain = chains;
     at_call = 0;
     row_name = "no memory";
