@@ -171,8 +171,12 @@ meddle() {
         lent > "$run/lent"
         say "$run" 'device_del d1'
         wait_for "$run" 'PLUGGED out' || return
-        sleep 1
-        lent >> "$run/lent"
+        for _ in $(seq 50); do
+            lent > "$run/lent-then"
+            [ "$(cat "$run/lent-then")" = "$(cat "$run/lent")" ] || break # QEMU takes it back after the guest gave it up
+            sleep 0.2
+        done
+        cat "$run/lent-then" >> "$run/lent"
         ;;
     reset)
         wait_for "$run" READY || return

@@ -71,7 +71,6 @@ impl<F: Served> FrontEnd<F> {
         let table = table.map_err(told)?;
         table.set_log(self.active_log());
         self.core.set_memory(table);
-        self.bench.forget_memory(); // else what the front-end doesn't share any more stays mapped
         Ok(())
     }
 

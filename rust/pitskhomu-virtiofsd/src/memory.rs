@@ -4,7 +4,7 @@
 use crate::marks::{Log, Marks, MarksFrom};
 use std::fs::File;
 use std::io;
-use std::sync::atomic::Ordering;
+use std::sync::atomic::{AtomicU64, Ordering};
 use std::sync::Arc;
 use vhost::vhost_user::message::VhostUserMemoryRegion;
 use vm_memory::bitmap::Bitmap;
@@ -42,7 +42,11 @@ pub struct Table {
     guest: GuestMemoryMmap<Marks>,
     places: Vec<Place>,
     stretches: Vec<Stretch>,
+    number: u64,
 }
+
+/// Each table has a number of its own, but the one without memory has 0.
+static NUMBER: AtomicU64 = AtomicU64::new(1);
 
 fn invalid(why: &str) -> io::Error {
     io::Error::new(io::ErrorKind::InvalidInput, why)
@@ -92,7 +96,12 @@ impl Table {
             marks: region.bitmap().clone(),
         };
         let stretches = guest.iter().map(stretch).collect();
-        Ok(Table { guest, places, stretches })
+        Ok(Table { guest, places, stretches, number: NUMBER.fetch_add(1, Ordering::Relaxed) })
+    }
+
+    /// What tells it from all others.
+    pub fn number(&self) -> u64 {
+        self.number
     }
 
     /// The guest's address for one of the front-end's.

@@ -65,28 +65,25 @@ pub struct Bench<F> {
     core: Arc<Core<F>>,
     index: usize,
     worker: pitskhomu::Worker,
-    /// The memory whose regions the worker was told; held, so that no other comes to stand at its place.
-    told: Option<Arc<Table>>,
+    /// The number of the memory whose regions the worker was told.
+    told: Option<u64>,
+    /// The memory that the chain is out over; held no longer, so that what the front-end takes back isn't mapped any more.
+    memory: Option<Arc<Table>>,
 }
 
 impl<F: Served> Bench<F> {
     /// A bench for the ring with this index.
     pub fn new(core: Arc<Core<F>>, index: usize) -> Bench<F> {
-        Bench { core, index, worker: pitskhomu::Worker::new(), told: None }
+        Bench { core, index, worker: pitskhomu::Worker::new(), told: None, memory: None }
     }
 
-    fn work_over(&mut self, memory: &Arc<Table>) -> Result<(), Status> {
-        if !self.told.as_ref().is_some_and(|told| Arc::ptr_eq(told, memory)) {
+    fn work_over(&mut self, memory: &Table) -> Result<(), Status> {
+        if self.told != Some(memory.number()) {
             self.told = None; // if it is refused, the worker has what it had, and is told anew
             self.worker.set_memory(&self.core.device, &memory.regions())?;
-            self.told = Some(memory.clone());
+            self.told = Some(memory.number());
         }
         Ok(())
-    }
-
-    /// Lets go of the memory that it worked over: while it has no chain.
-    pub fn forget_memory(&mut self) {
-        self.told = None;
     }
 
     fn log(&self, served: &pitskhomu::Served) {
@@ -102,12 +99,14 @@ impl<F: Served> Bench<F> {
 impl<F: Served> Server for Bench<F> {
     fn take(&mut self, queue: &mut Queue, memory: &Arc<Table>) -> Result<bool, Status> {
         self.work_over(memory)?;
-        self.worker.take(queue, &**memory)
+        let taken = self.worker.take(queue, &**memory)?;
+        self.memory = taken.then(|| memory.clone());
+        Ok(taken)
     }
 
     /// What a guest makes the file system panic at is answered EIO, and costs it no more.
     fn answer(&mut self) {
-        let (core, Some(memory)) = (&self.core, &self.told) else { return };
+        let (core, Some(memory)) = (&self.core, &self.memory) else { return };
         let adapter = Adapter { fs: &core.fs, memory };
         let mut answer = || self.worker.answer(&core.device, &adapter, &**memory);
         let answered = catch_unwind(AssertUnwindSafe(&mut answer)).or_else(|_| {
@@ -120,8 +119,8 @@ impl<F: Served> Server for Bench<F> {
     }
 
     fn give_back(&mut self, queue: &mut Queue) -> Result<bool, Status> {
-        let memory = self.told.as_deref().ok_or(Status::WrongOrder)?;
-        let served = self.worker.give_back(queue, memory);
+        let memory = self.memory.take().ok_or(Status::WrongOrder)?;
+        let served = self.worker.give_back(queue, &*memory);
         self.worker.abandon(); // it has one only if this is refused
         served.map(|served| {
             self.log(&served);

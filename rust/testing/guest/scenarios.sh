@@ -152,6 +152,7 @@ scenario_hotplug() {
     drop
     echo ENOUGH
     comes_to -lt 400000 && echo "PLUGGED out"
+    sleep 10
     echo "BIG $(dd if=/mnt/files/big bs=32M iflag=direct 2> /tmp/dd | sum_of)"
     run umount /mnt
 }
@@ -217,14 +218,20 @@ scenario_times() {
     run umount /mnt
 }
 
+# Holds all files that it may, in the background.
+hold_all() {
+    hold 3000 /mnt/work/held/ > /tmp/taken &
+    until [ -s /tmp/taken ]; do sleep 1; done
+    cat /tmp/taken
+}
+
 # All descriptors of the host's daemon are taken by open files; memory is plugged in meanwhile.
 scenario_descriptors() {
     echo online > /sys/devices/system/memory/auto_online_blocks
     ulimit -n 20000
     mount_it
     mkdir /mnt/work/held
-    hold 3000 /mnt/work/held/ &
-    sleep 10
+    hold_all
     cat /mnt/files/m1 > /tmp/m1 || echo "another file isn't opened"
     echo READY
     i=0
@@ -234,7 +241,7 @@ scenario_descriptors() {
     done
     [ "$(kilobytes)" -gt 400000 ] && echo "PLUGGED in"
     kill %1
-    sleep 2
+    wait
     drop
     echo "BIG $(dd if=/mnt/files/big bs=1M 2> /tmp/dd | sum_of)"
     run umount /mnt
@@ -259,14 +266,13 @@ scenario_migrate_full() {
     : > /mnt/work/over
     exec 8< /mnt/work/over
     mkdir /mnt/work/held
-    hold 3000 /mnt/work/held/ &
-    sleep 10
+    hold_all
     while ! read -r line <&8; do
         echo "READER waits"
         sleep 1
     done
     kill %1
-    sleep 2
+    wait
     drop
     echo "BIG $(sum_of < /mnt/files/m8)"
     run umount /mnt
