@@ -109,10 +109,8 @@ bool ask_kicks(struct pk_chain *chain, const struct pk_queue *queue, bool wanted
 }
 
 void give_up(struct pk_chain *chain, struct pk_queue *queue, uint32_t ticket, const struct marker *marker, bool *notify) {
-    uint8_t wanted;
     if (pk_drop(chain, queue) == PK_DONE) return;
     uint32_t status = pk_reply_bytes(chain, ticket, 0); /* silence, unless it has a reply */
     status = give_back(chain, queue, marker, notify);
-    if (status != PK_DONE) status = pk_returned(chain, queue, 0, &wanted); /* its stores were told: it ends without them */
-    if (status != PK_DONE) pk_abandon(chain);                              /* the queue was begun anew */
+    if (status != PK_DONE) pk_abandon(chain); /* its queue was begun anew, or has to be, since a store had no place */
 }
