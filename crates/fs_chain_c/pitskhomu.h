@@ -560,7 +560,7 @@ struct pk_statfs {
 
 /* All of these answer the call that pk_ask told, by its ticket, once, and touch no memory; the reply is handed out by pk_return. From chain to chain of a
  * handle the ticket grows by 1, modulo 2^32: an answer that comes late, to a chain that was abandoned, is taken for no other of this
- * handle, unless 2^32 came between or pk_chain_free. Another handle's chain may have the same ticket: answer the handle that asked. Errors, the same
+ * handle, unless 2^32 chains came between, or pk_chain_free. Another handle's chain may have the same ticket: answer the handle that asked. Errors, the same
  * for all: what stands beside each, then PK_WRONG_ORDER (nothing is asked, or it was answered), PK_OTHER_CALL, PK_OTHER_KIND; after these the call
  * waits still. PK_NO_ROOM isn't one: see there. No memory is wanted. */
 
