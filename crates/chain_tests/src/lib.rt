@@ -1,4 +1,4 @@
-//! Tests of walks over regions, and of one chain from its walk to its return.
+//! Tests of walks over regions, of a chain from its walk to its return, and of what follows from the laws of chains that are out at once.
 #![tactic(auto)]
 
 #[cfg(test)]
@@ -11,6 +11,8 @@ mod labels;
 mod laws;
 #[cfg(test)]
 mod listings;
+#[cfg(test)]
+mod live_queues;
 #[cfg(test)]
 mod lives;
 #[cfg(test)]
@@ -29,3 +31,5 @@ mod tables;
 mod walks;
 #[cfg(test)]
 mod wholes;
+#[cfg(test)]
+mod worked_runs;

@@ -1,7 +1,7 @@
 -- What a listing whose entries are brought one by one has gathered, and what the plain machine's server says of it.
 use Rattle.std.proofs.Common.{◌≡◌, ℕ, ◌-◌, ◌≤◌, ◌<◌, Bool, true, false, List, [], ◌∷◌, ◌++◌, length, take, Option, Some, None, Result, Ok, Err, inl, inr, refl, subst, sym, ap, ◌∙◌}
 use Rattle.std.proofs.Common.{arith, append_assoc, append-nil, length-append}
-use Rattle.std.specs.Prelude.{◌⊎◌, ◌&&◌, IfOk, not, nat_lt, if◌then◌else◌}
+use Rattle.std.specs.Prelude.{◌⊎◌, ◌&&◌, not, nat_lt, if◌then◌else◌}
 use Rattle.std.proofs.lemmas.Bool.{le-ltb, lt-ltb}
 use Rattle.std.proofs.lemmas.List.{map-append}
 use Rattle.fuse_fs.specs.Calls.{FileCall, FileAnswer, Listed, Lookup, Forget, HasEntry, Entries, Failed, Done}
@@ -17,7 +17,7 @@ use Rattle.server_phases.specs.declared.listing.ListingReply.{ListingReply}
 use Rattle.server_phases.specs.declared.listing.NotAdded as reason
 use Rattle.server_phases.specs.declared.listing.NotAdded.TheVariants as not_added
 use Rattle.server_phases.specs.Gathering.{Brought, EndsList, FailsList, Holds, IsListingFor, StaysBut, added_found, added_plain, all_bytes, all_found, bytes_of}
-use Rattle.server_phases.specs.Gathering.{entries_of, found_of, is_looked_up, look_up, look_ups, node_given_back, node_of, placed}
+use Rattle.server_phases.specs.Gathering.{entries_of, found_of, is_looked_up, look_up, look_ups, node_given_back, node_of}
 use Rattle.server_phases.proofs.Gathered.{length_entry, listed_all}
 use Rattle.fs_chain.specs.declared.error.ChainError.{ChainError}
 use Rattle.fs_chain.specs.declared.listing.Added.{Added}
@@ -26,10 +26,9 @@ use Rattle.fs_chain.specs.declared.state.Out.{Out}
 use Rattle.fs_chain.specs.declared.state.State as state
 use Rattle.fs_chain.specs.declared.state.State.TheVariants as at
 use Rattle.fs_chain.specs.declared.workbench.Workbench.{Workbench}
-use Rattle.fs_chain.specs.Walks.{IsAllButPlace}
-use Rattle.fs_chain.specs.Listings.{Adds, AddsTo, Ends, IsFailedReply, IsListReply, told_added}
+use Rattle.fs_chain.specs.Listings.{Adds, AddsTo, IsFailedReply, IsListReply, told_added}
 use Rattle.fs_device.specs.Step.{Calls, answers_alone, calls_alone}
-use Rattle.fs_chain.specs.WholeListings.{Brings, Ending, EndsBy, EndsThere, FailsAt, FromLists, FullAt, Gathers, IsEnded, IsListedBy, NotFound, Unreadable, all_looked_up, listing_calls, looked_up, node_back, unreadable_calls}
+use Rattle.fs_chain.specs.WholeListings.{Brings, Ending, EndsBy, EndsThere, FailsAt, FullAt, Gathers, IsListedBy, NotFound, Unreadable, all_looked_up, listing_calls, looked_up, node_back, unreadable_calls}
 
 -- ---- what was told of an entry
 
@@ -361,26 +360,3 @@ unreadable s l unique a list (e ∷ es) true errno reply is holds failed nodes =
     ap (λ (b : Bool). b && nat_lt 0 (length (all_bytes b (e ∷ es)))) nodes ∙ some_bytes e es in
     subst (λ (b : Bool). ServedBy s (Lists unique a) (listing_calls (readdir_call a) b (e ∷ es) EndsThere) (reply.front ++ take reply.len list)) nodes
     (ends_held s l unique a list (e ∷ es) is holds errno reply failed some)
-
--- ---- by the contracts of the calls
-
-with_nodes_by : (b : Bool) (r : Outcome) → (if b then r else Err not_added.OtherKind) ≡ Ok tt → b ≡ true
-with_nodes_by true r is = refl
-with_nodes_by false r is = absurd (cc)
-
--- only a listing with nodes takes an entry with its node
-pub found_kind : (st new : state.State) (list list' : List ℕ) (e : Brought) → AddsTo st new list list' e (λ l. added_found l (length list) (length e.0.name)) (Ok added.In)
-    → FromLists st (λ l. l.with_nodes ≡ true)
-found_kind (at.Lists out l) new list list' e adds =
-    with_nodes_by l.with_nodes (placed l (length list) (length e.0.name)) (outcome_is (added_found l (length list) (length e.0.name)) added.In adds.0)
-found_kind (at.Waits out w) new list list' e adds = absurd (let told = adds.0 in cc)
-found_kind at.Free new list list' e adds = absurd (let told = adds.0 in cc)
-found_kind (at.Walking course ticket walk) new list list' e adds = absurd (let told = adds.0 in cc)
-found_kind (at.Taken out) new list list' e adds = absurd (let told = adds.0 in cc)
-found_kind (at.HasReply out reply) new list list' e adds = absurd (let told = adds.0 in cc)
-found_kind (at.Returning out) new list list' e adds = absurd (let told = adds.0 in cc)
-
--- what ended it was told how many bytes are its data
-pub ended_by : (r : Result ℕ ChainError) (w w' : Workbench) → Ends w.state w'.state r → IsAllButPlace w w' → IfOk r (λ len. IsEnded w len w')
-ended_by (Ok len) w w' ends stays = (ends, stays)
-ended_by (Err e) w w' ends stays = tt

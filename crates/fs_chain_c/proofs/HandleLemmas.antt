@@ -1,31 +1,20 @@
 -- What is done with the workbench of a handle, by what the handle holds before and after.
-use Rattle.std.proofs.Common.{◌≡◌, ℕ, List, Option, Some, None, sym, subst}
+use Rattle.std.proofs.Common.{◌≡◌, ℕ, List, Option, Some, sym, subst}
 use Rattle.fs_chain.specs.declared.workbench.Workbench.{Workbench}
 use Rattle.fs_chain_c.specs.declared.device.FsDevice.{FsDevice}
 use Rattle.fs_chain_c.specs.declared.memory.FsRegion.{FsRegion}
-use Rattle.fs_chain_c.specs.Handles.{GoesOver, MakesWorkbench, OnWorkbench, SetsWorkbench, SetsMemory}
+use Rattle.fs_chain_c.specs.Handles.{GoesOver, OnWorkbench, SetsWorkbench, SetsMemory}
 
 pub on_workbench : (Does : Workbench → Workbench → Type 0) (Nothing : Type 0) (before after : Option Workbench) (b b' : Workbench)
     → before ≡ Some b → after ≡ Some b' → Does b b' → OnWorkbench Does Nothing before after
 on_workbench Does Nothing before after b b' was is does =
     subst (λ (o : Option Workbench). OnWorkbench Does Nothing o after) (sym was) (subst (λ (o : Option Workbench). OnWorkbench Does Nothing (Some b) o) (sym is) does)
 
-pub on_none : (Does : Workbench → Workbench → Type 0) (Nothing : Type 0) (before after : Option Workbench)
-    → before ≡ None → after ≡ None → Nothing → OnWorkbench Does Nothing before after
-on_none Does Nothing before after was is nothing =
-    subst (λ (o : Option Workbench). OnWorkbench Does Nothing o after) (sym was) (subst (λ (o : Option Workbench). OnWorkbench Does Nothing None o) (sym is) nothing)
-
 -- a workbench is told its memory
 pub sets_some : (d : FsDevice) (regions : List FsRegion) (status : ℕ) (before after : Option Workbench) (b b' : Workbench)
     → before ≡ Some b → after ≡ Some b' → SetsWorkbench b d regions status b' → SetsMemory before d regions status after
 sets_some d regions status before after b b' was is sets =
     subst (λ (o : Option Workbench). SetsMemory o d regions status after) (sym was) (subst (λ (o : Option Workbench). SetsMemory (Some b) d regions status o) (sym is) sets)
-
--- a new one is, or none is made
-pub sets_none : (d : FsDevice) (regions : List FsRegion) (status : ℕ) (before after made : Option Workbench)
-    → before ≡ None → after ≡ made → MakesWorkbench d regions status made → SetsMemory before d regions status after
-sets_none d regions status before after made was is makes =
-    subst (λ (o : Option Workbench). SetsMemory o d regions status after) (sym was) (subst (λ (o : Option Workbench). SetsMemory None d regions status o) (sym is) makes)
 
 -- the same workbench is told the same
 pub goes_along : (b : Workbench) (d : FsDevice) (regions : List FsRegion) (b' b'' : Workbench) → b'' ≡ b' → GoesOver b d regions b' → GoesOver b d regions b''

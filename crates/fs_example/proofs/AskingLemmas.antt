@@ -11,7 +11,7 @@ use Rattle.server_replies.specs.WholeReplies.{reply_bytes}
 use Rattle.guest_driver.specs.Requests.{good_header, read_bytes}
 use Rattle.fs_device.specs.Step.{State, Exchange, Exchanged}
 use Rattle.fs_example.specs.Driver.{offered, reply_at}
-use Rattle.fuse_directory.specs.Directory.{Directory}
+use Rattle.fuse_files.specs.Directory.{Directory}
 use Rattle.fs_example.specs.Reading.{ReadingStep}
 use Rattle.fs_example.specs.Asking.{zeros, IsAsked, IsEntry, GetsPiece, ReadsPiece}
 

@@ -20,7 +20,7 @@ use Rattle.fs_device.specs.declared.refusal.Refusal.TheVariants.{NoPlace}
 use Rattle.fs_device.specs.Step.{State, Exchanged, Step}
 use Rattle.fs_device.specs.Run as run
 use Rattle.fs_device.specs.Run.{Turn, Told, Command, Answer, Kicked, Kicks, KickRun, Run, RunTold, Effect, IsDecided, effect}
-use Rattle.fuse_directory.specs.Directory.{Directory, DirectoryAnswers}
+use Rattle.fuse_files.specs.Directory.{Directory, DirectoryAnswers}
 use Rattle.fs_example.specs.Reading.{read_reply, wanted}
 use Rattle.fs_example.specs.GuestGets.{laid_over, GetsFile, KickGivesFile, kick_and_look, GuestGetsTheFile}
 use Rattle.fs_example.proofs.StoreLemmas.{all_keep, room_seen}

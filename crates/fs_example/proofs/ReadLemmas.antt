@@ -20,10 +20,10 @@ use Rattle.fs_device.specs.Step as step
 use Rattle.fs_device.specs.Step.{State, Calls, Exchange, Outcome, Idle, Refused, Exchanged, Step, StepOf, Exchanges, served_fault, calls_alone, answers_alone}
 use Rattle.fs_device.specs.Run.{Turn, Told, Command, Answer, RunTold}
 use Rattle.fs_device.specs.Telling.{calls_of, calls_told, IsMeant, IsServedBy, IsServed}
-use Rattle.fuse_directory.specs.declared.table.OwnedFile.{OwnedFile}
-use Rattle.fuse_directory.specs.Files.{files_of}
-use Rattle.fuse_directory.specs.declared.table.OwnedTable.{OwnedTable}
-use Rattle.fuse_directory.specs.Directory.{Answers, Directory, MayAnswer, DirectoryAnswers, file_at, bytes_at, bytes_in}
+use Rattle.fuse_files.specs.declared.owned_table.OwnedFile.{OwnedFile}
+use Rattle.fuse_files.specs.OwnedTable.{files_of}
+use Rattle.fuse_files.specs.declared.owned_table.OwnedTable.{OwnedTable}
+use Rattle.fuse_files.specs.Directory.{Answers, Directory, MayAnswer, DirectoryAnswers, file_at, bytes_at, bytes_in}
 use Rattle.fs_example.specs.Reading.{read_in_room, wanted, read_reply, GivesBytes, ReadsTrue, ReadsIntoRoom, ReadingRun}
 
 -- each call has one of its answers, its own and the others

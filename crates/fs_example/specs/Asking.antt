@@ -12,9 +12,9 @@ use Rattle.guest_driver.specs.Requests.{lookup_bytes, read_bytes}
 use Rattle.fs_device.specs.DeviceView.{state_of}
 use Rattle.fs_device.specs.Step.{State, Exchange, Exchanged}
 use Rattle.fs_example.specs.declared.monitor.Monitor.{Monitor}
-use Rattle.fuse_directory.specs.declared.table.OwnedFile.{OwnedFile}
-use Rattle.fuse_directory.specs.Files.{files_of}
-use Rattle.fuse_directory.specs.Directory.{Directory}
+use Rattle.fuse_files.specs.declared.owned_table.OwnedFile.{OwnedFile}
+use Rattle.fuse_files.specs.OwnedTable.{files_of}
+use Rattle.fuse_files.specs.Directory.{Directory}
 use Rattle.fs_example.specs.Driver.{offered, reply_at}
 use Rattle.fs_example.specs.Reading.{ReadingStep}
 

@@ -11,9 +11,9 @@ use Rattle.fs_queue.specs.Taking.{Offers, offer}
 use Rattle.fs_device.specs.Step.{State}
 use Rattle.fs_device.specs.Run as run
 use Rattle.fs_device.specs.Run.{Command, Answer, Kicked, Kick, Served, GuestRead, Run}
-use Rattle.fuse_directory.specs.declared.table.OwnedFile.{OwnedFile}
-use Rattle.fuse_directory.specs.Files.{files_of}
-use Rattle.fuse_directory.specs.Directory.{Directory, DirectoryAnswers, file_at}
+use Rattle.fuse_files.specs.declared.owned_table.OwnedFile.{OwnedFile}
+use Rattle.fuse_files.specs.OwnedTable.{files_of}
+use Rattle.fuse_files.specs.Directory.{Directory, DirectoryAnswers, file_at}
 use Rattle.fs_example.specs.Reading.{IsRead, read_reply, wanted}
 
 -- the place of a byte, whatever page a write of it marks

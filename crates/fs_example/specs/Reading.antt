@@ -12,9 +12,9 @@ use Rattle.server_replies.specs.Entries.{EIO}
 use Rattle.virtiofsd_fuse.specs.Grammar.{Meaning, IsFault, Asks, One, meaning, reply_bytes, error_bytes}
 use Rattle.fs_device.specs.Step.{State, Outcome, Idle, Refused, Exchanged, Calls, Step}
 use Rattle.fs_device.specs.Run.{Turn, Told, Command, Answer, RunTold}
-use Rattle.fuse_directory.specs.declared.table.OwnedFile.{OwnedFile}
-use Rattle.fuse_directory.specs.Files.{files_of}
-use Rattle.fuse_directory.specs.Directory.{Directory, file_at, DirectoryAnswers}
+use Rattle.fuse_files.specs.declared.owned_table.OwnedFile.{OwnedFile}
+use Rattle.fuse_files.specs.OwnedTable.{files_of}
+use Rattle.fuse_files.specs.Directory.{Directory, file_at, DirectoryAnswers}
 
 -- what a READ means: a fault, if its room has no place for the header of the reply
 abbrev pub read_in_room : (unique room : ℕ) → FileCall → Meaning

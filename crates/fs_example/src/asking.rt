@@ -5,15 +5,14 @@ ghost use Rattle.vm_memory_core.specs.Host.{shape};
 ghost use Rattle.virtiofsd_fuse.specs.Grammar.{reply_bytes};
 ghost use Rattle.fs_device.specs.Step.{State};
 ghost use Rattle.fs_example.specs.Asking.{IsAsked, IsNew, ReadsFile, chains_of, layout_of, machine_of_monitor};
-ghost use Rattle.fuse_directory.specs.Directory.{Directory};
+ghost use Rattle.fuse_files.specs.Directory.{Directory};
 
 use crate::driver::{AVAIL, DESC, QUEUE_SIZE, ROOM_LEN, USED, offer, reply};
 use crate::monitor::{Monitor, MonitorError};
 use crate::step::step_directory;
 use fs_device::{Device, LEAST_LIMIT};
 use fs_queue::{Queue, QueueLayout};
-use fuse_directory::{OwnedFile, OwnedTable};
-use fuse_files::{Files, ReadOnly};
+use fuse_files::{Files, OwnedFile, OwnedTable, ReadOnly};
 use fuse_wire::EntryOut;
 use guest_driver::replies::body;
 use guest_driver::requests::{lookup, read};

@@ -6,8 +6,7 @@ ghost use Rattle.vm_memory.specs.OneProof.{AreHeld-prop};
 
 use fs_device::{Device, DeviceError};
 use fs_queue::QueueLayoutError;
-use fuse_directory::OwnedTable;
-use fuse_files::{Files, ReadOnly};
+use fuse_files::{Files, OwnedTable, ReadOnly};
 use std::alloc::{AllocError, Global};
 use thiserror::Error;
 use vm_memory::{FromRangesError, GuestMemoryError, GuestMemoryMmap};

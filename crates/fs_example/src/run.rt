@@ -9,8 +9,7 @@ ghost use Rattle.fs_example.specs.Reading.{ReadingRun};
 
 use fs_device::laws::law_calls;
 use fs_device::{Answer, Command, Machine};
-use fuse_directory::OwnedTable;
-use fuse_files::{Files, ReadOnly};
+use fuse_files::{Files, OwnedTable, ReadOnly};
 use std::alloc::{AllocError, Global};
 use vm_memory::Iommu;
 

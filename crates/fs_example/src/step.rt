@@ -6,8 +6,7 @@ ghost use Rattle.fs_device.specs.DeviceView.{outcome_of, state_of};
 ghost use Rattle.fs_example.specs.Reading.{ReadingStep};
 
 use fs_device::{Device, DeviceError, Exchange};
-use fuse_directory::OwnedTable;
-use fuse_files::{Files, ReadOnly};
+use fuse_files::{Files, OwnedTable, ReadOnly};
 use std::alloc::Global;
 use vm_memory::GuestMemory;
 use vm_memory_core::HostBlocks;

@@ -7,8 +7,7 @@ mod guest;
 
 use crate::embedding::serve_guest;
 use crate::guest::Reader;
-use fuse_directory::{OwnedFile, OwnedTable};
-use fuse_files::{Files, ReadOnly};
+use fuse_files::{Files, OwnedFile, OwnedTable, ReadOnly};
 use std::alloc::{AllocError, Global};
 
 // The files that the guest finds.

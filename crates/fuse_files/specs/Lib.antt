@@ -1,2 +1,4 @@
+pub mod Directory
 pub mod Files
 pub mod FilesProof
+pub mod OwnedTable

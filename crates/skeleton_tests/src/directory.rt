@@ -2,8 +2,7 @@
 //! them out, in words of 32 bits.
 
 use crate::client::expect_same;
-use fuse_directory::{OwnedFile, OwnedTable};
-use fuse_files::{Files, ReadOnly};
+use fuse_files::{Files, OwnedFile, OwnedTable, ReadOnly};
 use fuse_wire::Opcode;
 use guest_driver::replies::body;
 use guest_driver::requests::header;

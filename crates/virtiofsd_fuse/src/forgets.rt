@@ -16,8 +16,8 @@ use server_requests::source::Segments;
 use server_segments::{Error, Reader, Writer};
 use std::alloc::Global;
 
-/// How many pairs one request may have: 2^20 bytes of them.
-pub const MAX_FORGETS: u32 = 65536;
+// How many pairs one request may have: 2^20 bytes of them.
+pub(crate) const MAX_FORGETS: u32 = 65536;
 
 impl<F: FileSystem> Server<F> {
     // BATCH_FORGET, by how many pairs it says.

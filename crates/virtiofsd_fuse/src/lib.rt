@@ -16,7 +16,6 @@ mod session;
 mod writes;
 
 pub use data_apart::{REPLY_FRONT, REQUEST_FRONT, writes_data};
-pub use forgets::MAX_FORGETS;
 pub use fuse_fs::{
     ChangeCalls, ChangesNothing, Context, DirEntry, DirectoryIterator, Entry, Extensions, FewCalls,
     FileNumber, FileSystem, FileSystemBase, GetxattrReply, ListxattrReply, NoEntries, OpenCalls,

@@ -157,7 +157,7 @@ impl<F: FileSystem> Server<F> {
     {
         match opcode {
             Opcode::Read => self.read(alloc, head, r, w),
-            Opcode::Write => self.write(alloc, head, r, w),
+            Opcode::Write => self.write(head, r, w),
             Opcode::Readdir => self.read_directory(alloc, head, false, r, w),
             Opcode::Readdirplus => self.read_directory(alloc, head, true, r, w),
             Opcode::BatchForget => self.batch_forget(alloc, head, r, w),

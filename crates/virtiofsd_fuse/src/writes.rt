@@ -11,13 +11,11 @@ use server_calls::writes::make_write_call;
 use server_replies::answers::reply_answer;
 use server_requests::records::read_record;
 use server_segments::{Error, Reader, Writer, ZcReader};
-use std::alloc::Global;
 
 impl<F: FileSystem> Server<F> {
     /// WRITE: the data is all that is left of the request.
     pub(crate) fn write(
         &mut self,
-        alloc: Global,
         head: &InHeader,
         mut r: Reader<'_>,
         w: &mut Writer,

@@ -1,2 +1,0 @@
-pub mod ContentsLemmas
-pub mod TableLemmas
