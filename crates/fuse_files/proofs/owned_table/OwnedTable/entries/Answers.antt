@@ -3,7 +3,7 @@ use Rattle.std.proofs.lemmas.List.{drop_all}
 use Rattle.std.specs.Global.{Global}
 use Rattle.fuse_files.specs.declared.owned_table.OwnedFile.{OwnedFile}
 use Rattle.fuse_files.specs.OwnedTable.{files_of}
-use Rattle.fuse_files.proofs.table.OwnedTable.entries.Goals as goal
+use Rattle.fuse_files.proofs.owned_table.OwnedTable.entries.Goals as goal
 
 pub returns-then-at-files-clause-files : goal.returns-then-at-files-clause-files
 returns-then-at-files-clause-files c =
