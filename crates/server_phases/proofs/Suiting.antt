@@ -41,7 +41,7 @@ back_same who (Link c o n name) answer e = ap (λ (w : Context). give_back w (en
 back_same who (Create c n name m k f u x) answer e = ap (λ (w : Context). give_back w (entry_node answer)) e
 back_same who _ answer e = refl
 
-none_back : (t : Bool) (undo : List FileCall) → undo ≡ [] → cond t undo [] ≡ []
+pub none_back : (t : Bool) (undo : List FileCall) → undo ≡ [] → cond t undo [] ≡ []
 none_back true undo e = e
 none_back false undo e = refl
 

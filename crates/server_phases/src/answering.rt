@@ -1,24 +1,20 @@
 //! Answers to the calls of requests.
 
 ghost use Rattle.std.specs.Prelude.{◌≡◌, ℕ, ◌+◌, ◌<◌, ◌≤◌, ◌^◌, ◌++◌, ◌&&◌, [], ◌∷◌, List, length, true, false, nat_lt, nat_le, option_map};
-ghost use Rattle.vm_values.specs.Fields.{spelled};
-ghost use Rattle.fuse_wire.specs.Records.{entry_out, open_out};
-ghost use Rattle.fuse_fs.specs.Calls.{FileCall, is_handle, Done, HasEntry, HasAttr, Opened, Created, Bytes, Count, Stats, Wrote, Offset};
+ghost use Rattle.fuse_fs.specs.Calls.{FileCall, is_handle, Done, Bytes};
 ghost use Rattle.fuse_values.specs.Answers.{answer_of};
 ghost use Rattle.server_replies.specs.WholeReplies.{reply_bytes, told_bytes};
 ghost use Rattle.server_calls.specs.Requests.{entry_node, give_back};
 ghost use Rattle.virtiofsd_fuse.specs.Serving.{replied, undone};
 ghost use Rattle.server_phases.specs.Answering.{TellsBytes, takes, tells_nothing, fails_never, brings_entry, back_by, forget_call, served_by, is_too_long};
 
-use crate::front::Front;
 use crate::waiting::{Awaits, Waiting};
 use bitflags::Flags;
-use fuse_fs::replies::{attr_out, getxattr_out, lseek_out, open_out, write_out};
-use fuse_fs::{Context, Entry, Timeout};
+use fuse_fs::{Context, GetxattrReply};
 use fuse_values::FileAnswer;
-use fuse_wire::{Attr, EntryOut, Kstatfs, OpenOptions, OpenOut, StatVfs, StatfsOut};
-use server_replies::replies::{OUT_HEADER_LEN, data_header};
-use vm_values::ByteValued;
+use server_replies::answers::AsFront;
+use server_replies::fronts::Front;
+use server_replies::replies::OUT_HEADER_LEN;
 
 /// What comes of a reply.
 #[derive(Drop)]
@@ -55,111 +51,27 @@ pub struct RefusedAnswer {
     pub waiting: Waiting,
 }
 
-// A reply that is an entry.
-fn entry_front(unique: u64, entry: Entry<u64>) -> Front
-    ensures { result ≡ told_bytes false unique (HasEntry entry) }
-{
-    let mut body = [0u8; 128];
-    EntryOut::from(entry).put_bytes(&mut body);
-    Front::reply(unique, &body)
-}
-
-// A reply that is attributes.
-fn attr_front(unique: u64, attr: Attr, timeout: Timeout) -> Front
-    ensures { result ≡ told_bytes false unique (HasAttr attr timeout) }
-{
-    let mut body = [0u8; 104];
-    attr_out(attr, timeout).put_bytes(&mut body);
-    Front::reply(unique, &body)
-}
-
-// A reply that is an opened file.
-fn open_front(unique: u64, handle: Option<u64>, options: OpenOptions) -> Front
-    ensures { result ≡ told_bytes false unique (Opened handle options.0) }
-{
-    let mut body = [0u8; 16];
-    open_out(handle, options).put_bytes(&mut body);
-    Front::reply(unique, &body)
-}
-
-// Writes the two records of a reply to CREATE.
-fn put_created(body: &mut [u8], entry: &EntryOut, opened: &OpenOut)
-    requires { length body.old ≡ 144 }
-    ensures { body.new ≡ spelled (entry_out entry.now) ++ spelled (open_out opened.now) }
-{
-    let (first, second) = body.split_at_mut(128);
-    entry.put_bytes(first);
-    opened.put_bytes(second);
-}
-
-// A reply that is an entry and an opened file.
-fn create_front(unique: u64, entry: Entry<u64>, handle: Option<u64>, options: OpenOptions) -> Front
-    ensures { result ≡ told_bytes false unique (Created entry handle options.0) }
-{
-    let mut body = [0u8; 144];
-    let opened = open_out(handle, options);
-    put_created(&mut body, &EntryOut::from(entry), &opened);
-    Front::reply(unique, &body)
-}
-
-// A reply that is a count of what there is.
-fn count_front(unique: u64, count: u32) -> Front
-    ensures { result ≡ told_bytes false unique (Count count) }
-{
-    let mut body = [0u8; 8];
-    getxattr_out(count).put_bytes(&mut body);
-    Front::reply(unique, &body)
-}
-
-// A reply that is the numbers of a file system.
-fn stats_front(unique: u64, stats: StatVfs) -> Front
-    ensures { result ≡ told_bytes false unique (Stats stats) }
-{
-    let mut body = [0u8; 80];
-    let st = Kstatfs::from(stats);
-    StatfsOut { st }.put_bytes(&mut body);
-    Front::reply(unique, &body)
-}
-
-// A reply that is a count of what was written.
-fn write_front(unique: u64, count: u32) -> Front
-    ensures { result ≡ told_bytes false unique (Wrote count) }
-{
-    let mut body = [0u8; 8];
-    write_out(count).put_bytes(&mut body);
-    Front::reply(unique, &body)
-}
-
-// A reply that is a place in a file.
-fn offset_front(unique: u64, offset: u64) -> Front
-    ensures { result ≡ told_bytes false unique (Offset offset) }
-{
-    let mut body = [0u8; 8];
-    lseek_out(offset).put_bytes(&mut body);
-    Front::reply(unique, &body)
-}
-
 // A reply to an answer of which the client is told, without data.
 fn told_front(unique: u64, answer: FileAnswer) -> Front
     ensures { result ≡ told_bytes false unique (answer_of [] answer) }
 {
     match answer {
         FileAnswer::Failed(error) => Front::error(unique, error),
-        FileAnswer::HasEntry(entry) => entry_front(unique, entry),
-        FileAnswer::HasAttr(attr, timeout) => attr_front(unique, attr, timeout),
-        FileAnswer::Opened { handle, options } => open_front(unique, handle, options),
+        FileAnswer::HasEntry(entry) => entry.front(unique),
+        FileAnswer::HasAttr(attr, timeout) => (attr, timeout).front(unique),
+        FileAnswer::Opened { handle, options } => (handle, options).front(unique),
         FileAnswer::Created {
             entry,
             handle,
             options,
-        } => create_front(unique, entry, handle, options),
-        FileAnswer::Count(count) => count_front(unique, count),
-        FileAnswer::Stats(stats) => stats_front(unique, stats),
-        FileAnswer::Wrote(count) => write_front(unique, count),
-        FileAnswer::Offset(offset) => offset_front(unique, offset),
-        FileAnswer::Done => Front::reply(unique, &[]),
-        FileAnswer::Bytes { .. } => Front::reply(unique, &[]),
-        FileAnswer::Wants(_) => Front::reply(unique, &[]),
+        } => (entry, handle, options).front(unique),
+        FileAnswer::Count(count) => GetxattrReply::Count(count).front(unique),
+        FileAnswer::Stats(stats) => stats.front(unique),
+        FileAnswer::Wrote(count) => count.front(unique),
+        FileAnswer::Offset(offset) => offset.front(unique),
+        FileAnswer::Done | FileAnswer::Bytes { .. } | FileAnswer::Wants(_) => {
+            Front::reply(unique, &[])
+        }
     }
 }
 
@@ -169,7 +81,7 @@ fn silent_front(unique: u64, answer: &FileAnswer) -> Front
 {
     match answer {
         FileAnswer::Failed(error) => Front::error(unique, *error),
-        _ => Front::of_parts(&[], &[]),
+        _ => Front::none(),
     }
 }
 
@@ -264,7 +176,7 @@ fn data_front(unique: u64, len: usize) -> Front
     requires { 16 + len < 2 ^ 32 }
     ensures { (bytes : List ℕ) → len ≡ length bytes → result ++ bytes ≡ reply_bytes unique bytes }
 {
-    Front::of_parts(&data_header(unique, Ok(len)), &[])
+    Front::data(unique, len)
 }
 
 // The reply to an answer that is data.
@@ -308,17 +220,7 @@ pub(crate) fn is_too_long(room: usize, answer: &FileAnswer) -> bool
 pub(crate) fn placed_alone(front: Front, room: usize) -> Answered
     ensures { (options : ℕ) (call : FileCall) → replied room (call ∷ []) options front ≡ served_by (call ∷ forget_call result.forget) options result.sent [] }
 {
-    if room < front.bytes().len() {
-        Answered {
-            sent: Sent::NoRoom,
-            forget: None,
-        }
-    } else {
-        Answered {
-            sent: Sent::Reply(front),
-            forget: None,
-        }
-    }
+    placed(front, room, None)
 }
 
 // Whether a number has 64 bits: any has.

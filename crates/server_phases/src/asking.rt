@@ -14,7 +14,6 @@ ghost use Rattle.virtiofsd_fuse.specs.Listings.{listing_of};
 ghost use Rattle.virtiofsd_fuse.specs.Serving.{Setting, setting};
 ghost use Rattle.server_phases.specs.Asking.{IsTold, IsAskedBy, HasAsker, TellsData, IsFront, BeginsRecord, told_reply};
 
-use crate::front::Front;
 use crate::waiting::{Awaits, Waiting, awaits_of};
 use bitflags::Flags;
 use fuse_fs::Context;
@@ -23,6 +22,7 @@ use fuse_values::FileCall;
 use fuse_wire::constants::{READ_LOCKOWNER, WRITE_CACHE, WRITE_KILL_PRIV, WRITE_LOCKOWNER};
 use fuse_wire::{Errno, FsOptions, Opcode};
 use server_calls::values::number_if;
+use server_replies::fronts::Front;
 use server_replies::replies::OUT_HEADER_LEN;
 use server_requests::source::{Flat, Source};
 use server_segments::Error;

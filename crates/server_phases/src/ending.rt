@@ -12,12 +12,12 @@ use crate::answering::{
     Answered, Refused, RefusedAnswer, data_answered, is_too_long, placed_alone, plain_answered,
     suits,
 };
-use crate::front::Front;
 use crate::session::Session;
 use crate::waiting::{Awaits, Waiting};
 use bitflags::Flags;
 use fuse_values::FileAnswer;
 use fuse_wire::FsOptions;
+use server_replies::fronts::Front;
 use server_replies::init::start_bytes;
 use virtiofsd_fuse::{agree, known};
 
@@ -77,7 +77,7 @@ impl Session {
                 placed_alone(Front::reply(unique, &body), room)
             }
             FileAnswer::Failed(error) => placed_alone(Front::error(unique, *error), room),
-            _ => placed_alone(Front::of_parts(&[], &[]), room),
+            _ => placed_alone(Front::none(), room),
         }
     }
 

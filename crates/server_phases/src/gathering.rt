@@ -14,14 +14,14 @@ ghost use Rattle.server_phases.specs.Waiting.{WaitsFor, first_call};
 
 use crate::answering::{Refused, RefusedAnswer};
 use crate::entries::{node_front, put_entry};
-use crate::front::Front;
 use crate::listing::{Listing, ListingReply, NotAdded};
 use crate::waiting::{Awaits, Waiting};
 use fuse_fs::{DirEntry, Entry};
 use fuse_wire::Errno;
 use server_replies::entries::dirent_len;
+use server_replies::fronts::Front;
 use server_replies::init::MAX_BUFFER_SIZE;
-use server_replies::replies::{OUT_HEADER_LEN, data_header};
+use server_replies::replies::OUT_HEADER_LEN;
 
 // How many bytes of entries are asked for: no more than a listing may have.
 fn size_asked(size: u32) -> usize
@@ -38,7 +38,7 @@ fn entries_reply(unique: u64, len: usize) -> ListingReply
     ensures len { result.len ≡ len }
 {
     ListingReply {
-        front: Front::of_parts(&data_header(unique, Ok(len)), &[]),
+        front: Front::data(unique, len),
         len,
     }
 }

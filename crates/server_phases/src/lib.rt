@@ -6,7 +6,6 @@ mod asking;
 mod dispatch;
 mod ending;
 mod entries;
-mod front;
 mod gathering;
 mod listing;
 mod rows;
@@ -15,7 +14,7 @@ mod waiting;
 
 pub use answering::{Answered, Refused, RefusedAnswer, Sent};
 pub use asking::{Asked, AskedFront};
-pub use front::Front;
 pub use listing::{Listing, ListingReply, NotAdded};
+pub use server_replies::fronts::Front;
 pub use session::Session;
 pub use waiting::{Awaits, Waiting};

@@ -2,7 +2,7 @@
 
 ghost use Rattle.std.specs.Prelude.{◌≤◌, ◌^◌};
 
-use crate::front::Front;
+use server_replies::fronts::Front;
 
 /// The entries of a READDIR or READDIRPLUS so far. They gather in a list of the caller's, the same at each call, whose front
 /// is the reply's data.

@@ -11,10 +11,10 @@ use crate::asking::{
     Asked, WRITE_IN_LEN, ask_write_row, called, entries_asked, pairs_asked, read_asked, refused,
     replied, started,
 };
-use crate::front::Front;
 use crate::session::Session;
 use fuse_in::InHeader;
 use fuse_wire::Opcode;
+use server_replies::fronts::Front;
 use server_replies::init::versions;
 use server_requests::source::Flat;
 use virtiofsd_fuse::{

@@ -1,13 +1,13 @@
 -- Replies that have room, and those that have none.
 use Rattle.std.proofs.Common.{◌≡◌, ℕ, Bool, ◌+◌, ◌<◌, ◌≤◌, List, [], ◌++◌, length, Ok, Err, refl, sym, ap, ◌∙◌, arith, length-append, drop}
-use Rattle.std.specs.Prelude.{pos, neg_ℤ}
+use Rattle.std.specs.Prelude.{◌^◌, false, true, pos, neg_ℤ}
 use Rattle.std.proofs.lemmas.Bool.{lt-ltb, le-ltb}
 use Rattle.std.proofs.lemmas.List.{length-drop}
 use Rattle.vm_values.specs.Fields.{field_bytes, spelled}
 use Rattle.fuse_wire.specs.Records.{out_header}
 use Rattle.fuse_wire.specs.declared.replies.OutHeader.{OutHeader}
-use Rattle.fuse_fs.specs.Calls.{FileAnswer, Failed}
-use Rattle.server_replies.specs.WholeReplies.{reply_bytes, error_bytes, whole_or_none, told_bytes}
+use Rattle.fuse_fs.specs.Calls.{FileAnswer, Failed, Bytes}
+use Rattle.server_replies.specs.WholeReplies.{reply_bytes, error_bytes, whole_or_none, told_bytes, told_data}
 use Rattle.server_segments.specs.declared.error.Error.TheVariants.{EncodeMessage}
 
 pub length_header : (h : OutHeader) → length (spelled (out_header h)) ≡ 16
@@ -30,24 +30,21 @@ sent_long room bytes h = rw (lt-ltb room (length bytes) h) refl
 pub sent_fits : (room : ℕ) (bytes : List ℕ) → length bytes ≤ room → whole_or_none room bytes ≡ Ok bytes
 sent_fits room bytes h = rw (le-ltb room (length bytes) h) refl
 
-pub reply_long : (room unique : ℕ) (body : List ℕ) → room < 16 + length body → whole_or_none room (reply_bytes unique body) ≡ Err EncodeMessage
-reply_long room unique body h = sent_long room (reply_bytes unique body) (rw (length_reply unique body) h)
-
-pub reply_fits : (room unique : ℕ) (body : List ℕ) → 16 + length body ≤ room → whole_or_none room (reply_bytes unique body) ≡ Ok (reply_bytes unique body)
-reply_fits room unique body h = sent_fits room (reply_bytes unique body) (rw (length_reply unique body) h)
-
 -- the reply to an answer that says an error
 pub failure_told : (silent : Bool) (unique errno : ℕ) (answer : FileAnswer) → answer ≡ Failed errno → told_bytes silent unique answer ≡ error_bytes unique errno
 failure_told silent unique errno answer e = rw e refl
 
--- a header, and a body behind it
-pub reply_put : (room unique len : ℕ) (w0 w1 w2 header body : List ℕ) → w0 ≡ [] → w1 ≡ w0 ++ header
-    → header ≡ spelled (out_header (record { len = len; error = pos 0; unique = unique })) → len ≡ 16 + length body → w2 ≡ w1 ++ body → 16 + length body ≤ room
-    → Ok w2 ≡ whole_or_none room (reply_bytes unique body)
-unfolding reply_bytes
-reply_put room unique len w0 w1 w2 header body a b c d e h =
-    let all : w2 ≡ reply_bytes unique body = rw (e, b, a, c, d) refl in
-    ap Ok all ∙ sym (reply_fits room unique body h)
+none_long : 2 ^ 32 ≤ 16 → ⊥
+none_long h = omega (arith, h)
+
+-- data whose length no header tells
+pub told_long : (room : ℕ) (silent : Bool) (unique : ℕ) (answer : FileAnswer) → room < 2 ^ 32 → 2 ^ 32 ≤ 16 + length (told_data silent answer)
+    → whole_or_none room (told_bytes silent unique answer) ≡ Err EncodeMessage
+told_long room false unique (Bytes bytes) r h =
+    let long : 2 ^ 32 ≤ 16 + length bytes = h in
+    sent_long room (reply_bytes unique bytes) (omega (arith, length_reply unique bytes, r, long))
+told_long room true unique (Bytes bytes) r h = absurd (none_long h)
+told_long room silent unique answer r h = absurd (none_long h)
 
 -- a header and a record behind it
 pub record_put : (unique len : ℕ) (front back body : List ℕ) → front ≡ spelled (out_header (record { len = len; error = pos 0; unique = unique })) → back ≡ body → len ≡ 16 + length body

@@ -37,6 +37,11 @@ abbrev pub told_bytes : (silent : Bool) → (unique : ℕ) → FileAnswer → Li
 told_bytes silent unique (Failed errno) = error_bytes unique errno
 told_bytes silent unique answer = if silent then [] else reply_bytes unique (body_bytes answer)
 
+-- what of it is data, which stands behind the front: a header, or all of a reply without data
+abbrev pub told_data : (silent : Bool) → FileAnswer → List ℕ
+told_data silent (Bytes bytes) = if silent then [] else bytes
+told_data silent _ = []
+
 -- struct fuse_init_out
 abbrev pub init_record : (readahead options max_background congestion max_write gran max_pages : ℕ) → InitOut
 init_record readahead options max_background congestion max_write gran max_pages =

@@ -1,34 +1,40 @@
 //! Answers of a file system as they are told.
 
-ghost use Rattle.std.specs.Prelude.{◌≡◌, ◌<◌, ◌^◌, ◌++◌, [], length, Ok, false};
+ghost use Rattle.std.specs.Prelude.{◌≡◌, ◌+◌, ◌<◌, ◌^◌, ◌++◌, [], length, Ok, false};
 ghost use Rattle.vm_values.specs.Fields.{spelled};
 ghost use Rattle.fuse_wire.specs.Records.{entry_out, open_out};
-ghost use Rattle.server_replies.specs.WholeReplies.{with_written, whole_or_none, told_bytes, LeavesWriter};
+ghost use Rattle.server_replies.specs.WholeReplies.{with_written, whole_or_none, told_bytes, told_data, LeavesWriter};
 ghost use Rattle.server_segments.specs.Errors.{lacks_memory};
 
-use crate::replies::{reply, reply_error, reply_record};
+use crate::fronts::{Front, MOST_DATA_LEN};
+use crate::replies::{reply_error, send};
 use fuse_fs::replies::{attr_out, getxattr_out, lseek_out, open_out, write_out};
 use fuse_fs::{Entry, FileNumber, GetxattrReply, GoodAnswer, ListxattrReply, Silence, Timeout};
 use fuse_wire::{Attr, EntryOut, Errno, Kstatfs, OpenOptions, OpenOut, StatVfs, StatfsOut};
 use server_segments::{Error, Writer};
 use vm_values::ByteValued;
 
-/// An answer as the client is told of it.
-pub trait AsReply: GoodAnswer {
-    /// Replies with a good one, whole or not at all: header and record (linux/fuse.h). Answers the reply's length in
-    /// bytes, 0 if there is none, and `EncodeMessage` if it has no room.
-    fn reply(self, w: &mut Writer, unique: u64) -> Result<usize, Error>
-        requires fresh { w.old.written ≡ [] }
-        requires room { w.old.free < 2 ^ 32 }
-        ensures sent { with_written result w.new.written ≡ whole_or_none w.old.free (told_bytes Self.silent unique (Self.said (Ok self))) }
-        ensures writer { LeavesWriter result w.old w.new }
-        ensures memory { lacks_memory result ≡ false };
+/// An answer as the client is told of a good one: the front of its reply, and the data behind it (linux/fuse.h).
+pub trait AsFront: GoodAnswer + Drop {
+    /// Front and data. The data of a reply whose length has no 32 bits can't be told.
+    fn parts(&self, unique: u64) -> (Front, &[u8])
+        ensures data { result.1.now ≡ told_data Self.silent (Self.said (Ok self.now)) }
+        ensures told { 16 + length result.1.now < 2 ^ 32 → result.0 ++ result.1.now ≡ told_bytes Self.silent unique (Self.said (Ok self.now)) };
+
+    /// The front of an answer without data, which is its reply.
+    final fn front(&self, unique: u64) -> Front
+        requires { told_data Self.silent (Self.said (Ok self.now)) ≡ [] }
+        ensures { result ≡ told_bytes Self.silent unique (Self.said (Ok self.now)) }
+    {
+        let (front, _data) = self.parts(unique);
+        front
+    }
 }
 
 /// Replies with an answer: header and record, or the error, whole or not at all. Answers the reply's length in bytes, 0
 /// if there is none, and `EncodeMessage` if it has no room.
 #[inline(always)]
-pub fn reply_answer<A: AsReply>(
+pub fn reply_answer<A: AsFront>(
     w: &mut Writer,
     unique: u64,
     answer: Result<A, Errno>,
@@ -40,96 +46,112 @@ pub fn reply_answer<A: AsReply>(
     ensures memory { lacks_memory result ≡ false }
 {
     match answer {
-        Ok(good) => good.reply(w, unique),
+        Ok(good) => {
+            let (front, data) = good.parts(unique);
+            if MOST_DATA_LEN < data.len() {
+                return Err(Error::EncodeMessage);
+            }
+            send(w, front.bytes(), data)
+        }
         Err(error) => reply_error(w, unique, error),
     }
 }
 
-impl<I: FileNumber> AsReply for Entry<I> {
-    fn reply(self, w: &mut Writer, unique: u64) -> Result<usize, Error> {
-        reply_record(w, unique, &EntryOut::from(self))
+impl<I: FileNumber> AsFront for Entry<I> {
+    #[inline(always)]
+    fn parts(&self, unique: u64) -> (Front, &[u8]) {
+        let entry = EntryOut::from(Entry { ..*self });
+        (Front::record(unique, &entry), &[])
     }
 }
 
-impl AsReply for Silence {
-    fn reply(self, w: &mut Writer, unique: u64) -> Result<usize, Error> {
-        Ok(0)
+impl AsFront for Silence {
+    #[inline(always)]
+    fn parts(&self, unique: u64) -> (Front, &[u8]) {
+        (Front::none(), &[])
     }
 }
 
-impl AsReply for () {
-    fn reply(self, w: &mut Writer, unique: u64) -> Result<usize, Error> {
-        reply(w, unique, &[])
+impl AsFront for () {
+    #[inline(always)]
+    fn parts(&self, unique: u64) -> (Front, &[u8]) {
+        (Front::reply(unique, &[]), &[])
     }
 }
 
-impl AsReply for (Attr, Timeout) {
-    fn reply(self, w: &mut Writer, unique: u64) -> Result<usize, Error> {
-        let (attr, timeout) = self;
-        reply_record(w, unique, &attr_out(attr, timeout))
+impl AsFront for (Attr, Timeout) {
+    #[inline(always)]
+    fn parts(&self, unique: u64) -> (Front, &[u8]) {
+        (Front::record(unique, &attr_out(self.0, self.1)), &[])
     }
 }
 
-impl<H: FileNumber> AsReply for (Option<H>, OpenOptions) {
-    fn reply(self, w: &mut Writer, unique: u64) -> Result<usize, Error> {
-        let (handle, options) = self;
-        reply_record(w, unique, &open_out(handle, options))
+impl<H: FileNumber> AsFront for (Option<H>, OpenOptions) {
+    #[inline(always)]
+    fn parts(&self, unique: u64) -> (Front, &[u8]) {
+        (Front::record(unique, &open_out(self.0, self.1)), &[])
     }
 }
 
-impl AsReply for StatVfs {
-    fn reply(self, w: &mut Writer, unique: u64) -> Result<usize, Error> {
-        let st = Kstatfs::from(self);
-        reply_record(w, unique, &StatfsOut { st })
+impl AsFront for StatVfs {
+    #[inline(always)]
+    fn parts(&self, unique: u64) -> (Front, &[u8]) {
+        let st = Kstatfs::from(*self);
+        (Front::record(unique, &StatfsOut { st }), &[])
     }
 }
 
-impl AsReply for u32 {
-    fn reply(self, w: &mut Writer, unique: u64) -> Result<usize, Error> {
-        reply_record(w, unique, &write_out(self))
+impl AsFront for u32 {
+    #[inline(always)]
+    fn parts(&self, unique: u64) -> (Front, &[u8]) {
+        (Front::record(unique, &write_out(*self)), &[])
     }
 }
 
-impl AsReply for u64 {
-    fn reply(self, w: &mut Writer, unique: u64) -> Result<usize, Error> {
-        reply_record(w, unique, &lseek_out(self))
+impl AsFront for u64 {
+    #[inline(always)]
+    fn parts(&self, unique: u64) -> (Front, &[u8]) {
+        (Front::record(unique, &lseek_out(*self)), &[])
     }
 }
 
-impl AsReply for Vec<u8> {
-    fn reply(self, w: &mut Writer, unique: u64) -> Result<usize, Error> {
-        reply(w, unique, &self)
+impl AsFront for Vec<u8> {
+    #[inline(always)]
+    #[tactic(auto, unfolding(crate::specs::WholeReplies::reply_bytes))]
+    fn parts(&self, unique: u64) -> (Front, &[u8]) {
+        (Front::data(unique, self.len()), self)
     }
 }
 
-impl AsReply for GetxattrReply {
-    fn reply(self, w: &mut Writer, unique: u64) -> Result<usize, Error> {
+impl AsFront for GetxattrReply {
+    #[inline(always)]
+    #[tactic(auto, unfolding(crate::specs::WholeReplies::reply_bytes))]
+    fn parts(&self, unique: u64) -> (Front, &[u8]) {
         match self {
-            GetxattrReply::Value(value) => reply(w, unique, &value),
-            GetxattrReply::Count(count) => reply_record(w, unique, &getxattr_out(count)),
+            GetxattrReply::Value(value) => (Front::data(unique, value.len()), value),
+            GetxattrReply::Count(count) => (Front::record(unique, &getxattr_out(*count)), &[]),
         }
     }
 }
 
-impl AsReply for ListxattrReply {
-    fn reply(self, w: &mut Writer, unique: u64) -> Result<usize, Error> {
+impl AsFront for ListxattrReply {
+    #[inline(always)]
+    #[tactic(auto, unfolding(crate::specs::WholeReplies::reply_bytes))]
+    fn parts(&self, unique: u64) -> (Front, &[u8]) {
         match self {
-            ListxattrReply::Names(names) => reply(w, unique, &names),
-            ListxattrReply::Count(count) => reply_record(w, unique, &getxattr_out(count)),
+            ListxattrReply::Names(names) => (Front::data(unique, names.len()), names),
+            ListxattrReply::Count(count) => (Front::record(unique, &getxattr_out(*count)), &[]),
         }
     }
 }
 
-impl<I: FileNumber, H: FileNumber> AsReply for (Entry<I>, Option<H>, OpenOptions) {
-    fn reply(self, w: &mut Writer, unique: u64) -> Result<usize, Error> {
-        let (entry, handle, options) = self;
+impl<I: FileNumber, H: FileNumber> AsFront for (Entry<I>, Option<H>, OpenOptions) {
+    #[inline(always)]
+    fn parts(&self, unique: u64) -> (Front, &[u8]) {
         let mut body = [0; CREATE_OUT_LEN];
-        put_created(
-            &mut body,
-            &EntryOut::from(entry),
-            &open_out(handle, options),
-        );
-        reply(w, unique, &body)
+        let entry = EntryOut::from(Entry { ..self.0 });
+        put_created(&mut body, &entry, &open_out(self.1, self.2));
+        (Front::reply(unique, &body), &[])
     }
 }
 

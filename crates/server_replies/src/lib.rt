@@ -3,5 +3,6 @@
 
 pub mod answers;
 pub mod entries;
+pub mod fronts;
 pub mod init;
 pub mod replies;

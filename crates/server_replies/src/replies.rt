@@ -7,6 +7,7 @@ ghost use Rattle.fuse_wire.specs.Records.{out_header};
 ghost use Rattle.server_replies.specs.WholeReplies.{reply_bytes, error_bytes, data_header, data_reply, with_written, whole_or_none, LeavesWriter};
 ghost use Rattle.server_segments.specs.Errors.{lacks_memory};
 
+use crate::fronts::Front;
 use fuse_wire::{Errno, OutHeader};
 use server_segments::{Error, Writer};
 use std::io::Write;
@@ -44,78 +45,37 @@ pub fn append(w: &mut Writer, bytes: &[u8])
     w.write_all(bytes).unwrap();
 }
 
-/// Writes a good reply, whole or not at all: header and body. Answers its length in bytes, or `EncodeMessage` if it
+/// Writes a reply, its front and the data behind it, whole or not at all. Answers its length in bytes, or `EncodeMessage` if it
 /// has no room.
-#[tactic(auto, using(crate::proofs::ReplyLemmas::reply_long, crate::proofs::ReplyLemmas::reply_fits))]
 #[inline(always)]
-pub fn reply(w: &mut Writer, unique: u64, body: &[u8]) -> Result<usize, Error>
+#[tactic(auto, using(crate::proofs::ReplyLemmas::sent_long, crate::proofs::ReplyLemmas::sent_fits))]
+pub(crate) fn send(w: &mut Writer, front: &[u8], data: &[u8]) -> Result<usize, Error>
     requires fresh { w.old.written ≡ [] }
-    requires room { w.old.free < 2 ^ 32 }
-    ensures sent { with_written result w.new.written ≡ whole_or_none w.old.free (reply_bytes unique body.now) }
+    ensures sent { with_written result w.new.written ≡ whole_or_none w.old.free (front.now ++ data.now) }
     ensures writer { LeavesWriter result w.old w.new }
     ensures memory { lacks_memory result ≡ false }
 {
     let room = w.available_bytes();
-    if room < OUT_HEADER_LEN || room - OUT_HEADER_LEN < body.len() {
+    if room < front.len() || room - front.len() < data.len() {
         return Err(Error::EncodeMessage);
     }
-    let len = OUT_HEADER_LEN + body.len();
-    append(w, &header_bytes(len as u32, 0, unique));
-    append(w, body);
-    Ok(len)
+    append(w, front);
+    if data.is_empty() {
+        return Ok(front.len());
+    }
+    append(w, data);
+    Ok(front.len() + data.len())
 }
 
-// Writes a reply that is whole, if it has room.
+/// Writes a reply that is a front alone, whole or not at all. Answers its length in bytes, or `EncodeMessage` if it has no room.
 #[inline(always)]
-#[tactic(auto, using(crate::proofs::ReplyLemmas::sent_long, crate::proofs::ReplyLemmas::sent_fits))]
-fn send(w: &mut Writer, reply: &[u8]) -> Result<usize, Error>
+pub fn reply_front(w: &mut Writer, front: &Front) -> Result<usize, Error>
     requires fresh { w.old.written ≡ [] }
-    ensures sent { with_written result w.new.written ≡ whole_or_none w.old.free reply.now }
+    ensures sent { with_written result w.new.written ≡ whole_or_none w.old.free front.now }
     ensures writer { LeavesWriter result w.old w.new }
     ensures memory { lacks_memory result ≡ false }
 {
-    if w.available_bytes() < reply.len() {
-        return Err(Error::EncodeMessage);
-    }
-    append(w, reply);
-    Ok(reply.len())
-}
-
-// The longest reply that is one record: a header, and the longest record.
-const RECORD_REPLY_LEN: usize = OUT_HEADER_LEN + 256;
-
-// Puts a good reply that is one record over these bytes.
-fn put_reply<T: ByteValued>(out: &mut [u8], unique: u64, body: &T)
-    requires { length out.old ≡ 16 + T.SIZE }
-    ensures { out.new ≡ reply_bytes unique (spelled (T.fields body.now)) }
-{
-    let len = out.len() as u32;
-    let (front, back) = out.split_at_mut(OUT_HEADER_LEN);
-    let header = OutHeader {
-        len,
-        error: 0,
-        unique,
-    };
-    header.put_bytes(front);
-    body.put_bytes(back);
-}
-
-/// Writes a good reply that is one record.
-#[inline(always)]
-pub(crate) fn reply_record<T: ByteValued>(
-    w: &mut Writer,
-    unique: u64,
-    body: &T,
-) -> Result<usize, Error>
-    requires fresh { w.old.written ≡ [] }
-    ensures sent { with_written result w.new.written ≡ whole_or_none w.old.free (reply_bytes unique (spelled (T.fields body.now))) }
-    ensures writer { LeavesWriter result w.old w.new }
-    ensures memory { lacks_memory result ≡ false }
-{
-    let len = OUT_HEADER_LEN + T::SIZE;
-    let mut buffer = [0; RECORD_REPLY_LEN];
-    put_reply(&mut buffer[..len], unique, body);
-    send(w, &buffer[..len])
+    send(w, front.bytes(), &[])
 }
 
 /// Writes an error: a header with the error's number made negative. Answers 16, or `EncodeMessage` if it has no
@@ -126,7 +86,7 @@ pub fn reply_error(w: &mut Writer, unique: u64, error: Errno) -> Result<usize, E
     ensures writer { LeavesWriter result w.old w.new }
     ensures memory { lacks_memory result ≡ false }
 {
-    send(w, &error_reply(unique, error))
+    reply_front(w, &Front::error(unique, error))
 }
 
 /// The header of the reply to a READ that had this answer, for who has put the data elsewhere; an error's reply is no

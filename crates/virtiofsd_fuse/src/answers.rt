@@ -11,7 +11,7 @@ use crate::server::Server;
 use fuse_fs::{Context, FileSystem};
 use fuse_wire::Errno;
 use server_calls::entries::{EntryAnswer, answered_node};
-use server_replies::answers::{AsReply, reply_answer};
+use server_replies::answers::{AsFront, reply_answer};
 use server_segments::{Error, Writer};
 
 impl<F: FileSystem> Server<F> {
@@ -29,7 +29,7 @@ impl<F: FileSystem> Server<F> {
 
     /// Replies with an answer that may have an entry. If the reply has no room, the entry is given back, and the
     /// answer is `EncodeMessage`.
-    pub(crate) fn reply_entry<A: AsReply + EntryAnswer<F::Inode>>(
+    pub(crate) fn reply_entry<A: AsFront + EntryAnswer<F::Inode>>(
         &mut self,
         context: Context,
         unique: u64,

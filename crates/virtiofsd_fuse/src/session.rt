@@ -12,8 +12,9 @@ use fuse_fs::FileSystem;
 use fuse_in::InHeader;
 use fuse_wire::FsOptions;
 use server_calls::session::make_init_call;
+use server_replies::fronts::Front;
 use server_replies::init::{start_bytes, versions};
-use server_replies::replies::{reply, reply_error};
+use server_replies::replies::{reply_error, reply_front};
 use server_requests::source::Segments;
 use server_segments::{Error, Reader, Writer};
 use std::alloc::Global;
@@ -57,7 +58,7 @@ impl<F: FileSystem> Server<F> {
                 let options = agree(capable, wanted);
                 self.options = options;
                 let bytes = start_bytes(self.page_size, readahead, options);
-                reply(w, head.unique, &bytes)
+                reply_front(w, &Front::reply(head.unique, &bytes))
             }
             Err(error) => reply_error(w, head.unique, error),
         }
@@ -84,7 +85,7 @@ impl<F: FileSystem> Server<F> {
         };
         match init_meaning(source) {
             InitMeaning::Start { capable, readahead } => self.start(head, capable, readahead, w),
-            InitMeaning::Versions => reply(w, head.unique, &versions()),
+            InitMeaning::Versions => reply_front(w, &Front::reply(head.unique, &versions())),
             InitMeaning::Error(error) => reply_error(w, head.unique, error),
             InitMeaning::Fault(error) => Err(error),
         }

@@ -1,7 +1,14 @@
-use Rattle.std.proofs.Common.{sym, ap, ◌∙◌}
-use Rattle.server_replies.specs.WholeReplies.{whole_or_none}
-use Rattle.server_replies.proofs.ReplyLemmas.{failure_told}
+use Rattle.std.proofs.Common.{Ok, length, arith, sym, ap, ◌∙◌}
+use Rattle.server_replies.specs.WholeReplies.{whole_or_none, told_bytes}
+use Rattle.server_replies.proofs.ReplyLemmas.{failure_told, told_long}
 use Rattle.server_replies.proofs.answers.reply_answer.Goals as goal
+
+pub returns-then-data-gt-MOST_DATA_LEN-clause-sent : goal.returns-then-data-gt-MOST_DATA_LEN-clause-sent
+returns-then-data-gt-MOST_DATA_LEN-clause-sent g c =
+    let answer = g.A.GoodAnswer.said (Ok c.in-Ok.good) in
+    let len = ap length c.parts-front.ensures.data in
+    sym (told_long c.args.w.now.free g.A.GoodAnswer.silent c.args.unique answer c.requires.room (omega (arith, len, c.if-data-gt-MOST_DATA_LEN.true)))
+    ∙ ap (λ a. whole_or_none c.args.w.now.free (told_bytes g.A.GoodAnswer.silent c.args.unique (g.A.GoodAnswer.said a))) (sym c.in-Ok.is)
 
 pub returns-in-Err-clause-sent : goal.returns-in-Err-clause-sent
 returns-in-Err-clause-sent g c =

@@ -1,7 +1,7 @@
 use Rattle.std.proofs.Common.{◌≡◌, ◌∙◌, ap, arith, length, sym}
 use Rattle.vm_values.specs.Fields.{spelled}
 use Rattle.server_replies.proofs.ReplyLemmas.{record_put}
-use Rattle.server_replies.proofs.replies.put_reply.Goals as goal
+use Rattle.server_replies.proofs.fronts.put_reply.Goals as goal
 
 pub returns : goal.returns
 returns g c =
