@@ -49,20 +49,15 @@ impl<F: FileSystem> Server<F> {
         &mut self,
         alloc: Global,
         head: &InHeader,
-        r: Reader<'_>,
+        source: Segments<'_, '_>,
         w: &mut Writer,
     ) -> Result<usize, Error>
         requires fresh { w.old.written ≡ [] }
         requires room { w.old.free < 2 ^ 32 }
-        ensures handles { RowHandles F.may self.old w.old.free head.now batch_forget_row r.entry.left result w.new.written self.new }
-        ensures rest { Leaves (row_owns (given head.now self.old.options.0 w.old.free) batch_forget_row r.entry.left) result w.old w.new self.old self.new }
+        ensures handles { RowHandles F.may self.old w.old.free head.now batch_forget_row source.entry.reader.left result w.new.written self.new }
+        ensures rest { Leaves (row_owns (given head.now self.old.options.0 w.old.free) batch_forget_row source.entry.reader.left) result w.old w.new self.old self.new }
     {
-        let mut held = Vec::new(alloc);
-        let mut source = Segments {
-            alloc,
-            reader: r,
-            held: &mut held,
-        };
+        let mut source = source;
         match forgets_meaning(&mut source) {
             ForgetsMeaning::Pairs(count) => {
                 self.forget_pairs(alloc, head, count, &mut source.reader, w)

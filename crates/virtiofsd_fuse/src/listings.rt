@@ -20,8 +20,7 @@ use server_calls::received::received_entry;
 use server_replies::entries::{is_dot, no_node, node_bytes, put_entry, reply_listing};
 use server_replies::replies::{OUT_HEADER_LEN, append, reply_error};
 use server_requests::source::Segments;
-use server_segments::{Error, Reader, Writer};
-use std::alloc::Global;
+use server_segments::{Error, Writer};
 
 impl<F: FileSystem> Server<F> {
     // Puts an entry with its node in; where it doesn't go in, the node is taken back.
@@ -154,24 +153,17 @@ impl<F: FileSystem> Server<F> {
     /// READDIR: the entries of a directory; READDIRPLUS: each with its node.
     pub(crate) fn read_directory(
         &mut self,
-        alloc: Global,
         head: &InHeader,
         with_nodes: bool,
-        r: Reader<'_>,
+        source: Segments<'_, '_>,
         w: &mut Writer,
     ) -> Result<usize, Error>
         requires fresh { w.old.written ≡ [] }
         requires room { w.old.free < 2 ^ 32 }
-        ensures handles { RowHandles F.may self.old w.old.free head.now (listing_row with_nodes) r.entry.left result w.new.written self.new }
+        ensures handles { RowHandles F.may self.old w.old.free head.now (listing_row with_nodes) source.entry.reader.left result w.new.written self.new }
         ensures rest { Leaves false result w.old w.new self.old self.new }
     {
         let room = w.available_bytes();
-        let mut held = Vec::new(alloc);
-        let source = Segments {
-            alloc,
-            reader: r,
-            held: &mut held,
-        };
         match listing_meaning(room, source) {
             ListingMeaning::List(request) => self.list(head, &request, with_nodes, w),
             ListingMeaning::Error(error) => reply_error(w, head.unique, error),

@@ -129,21 +129,15 @@ impl<F: FileSystem> Server<F> {
         &mut self,
         alloc: Global,
         head: &InHeader,
-        r: Reader<'_>,
+        source: Segments<'_, '_>,
         w: &mut Writer,
     ) -> Result<usize, Error>
         requires fresh { w.old.written ≡ [] }
         requires room { w.old.free < 2 ^ 32 }
-        ensures handles { RowHandles F.may self.old w.old.free head.now read_row r.entry.left result w.new.written self.new }
+        ensures handles { RowHandles F.may self.old w.old.free head.now read_row source.entry.reader.left result w.new.written self.new }
         ensures rest { Leaves false result w.old w.new self.old self.new }
     {
         let room = w.available_bytes();
-        let mut held = Vec::new(alloc);
-        let source = Segments {
-            alloc,
-            reader: r,
-            held: &mut held,
-        };
         match read_meaning(room, source) {
             Ok(request) => self.read_data(alloc, head, &request, w),
             Err(error) => Err(error),

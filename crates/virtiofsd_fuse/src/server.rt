@@ -114,22 +114,16 @@ impl<F: FileSystem> Server<F> {
         alloc: Global,
         opcode: Opcode,
         head: &InHeader,
-        r: Reader<'_>,
+        source: Segments<'_, '_>,
         w: &mut Writer,
     ) -> Result<usize, Error>
         requires fresh { w.old.written ≡ [] }
         requires room { w.old.free < 2 ^ 32 }
         requires single { is_single opcode ≡ true }
-        ensures handles { OpcodeHandles F.may self.old w.old.free head.now opcode r.entry.left result w.new.written self.new }
-        ensures rest { Leaves (takes_memory (given head.now self.old.options.0 w.old.free) opcode r.entry.segments r.entry.left)
+        ensures handles { OpcodeHandles F.may self.old w.old.free head.now opcode source.entry.reader.left result w.new.written self.new }
+        ensures rest { Leaves (takes_memory (given head.now self.old.options.0 w.old.free) opcode source.entry.reader.segments source.entry.reader.left)
             result w.old w.new self.old self.new }
     {
-        let mut held = Vec::new(alloc);
-        let source = Segments {
-            alloc,
-            reader: r,
-            held: &mut held,
-        };
         match row_meaning(opcode, head, self.options, source) {
             RequestMeaning::Call(call) => self.perform(alloc, head.unique, call, w),
             RequestMeaning::Error(error) => reply_error(w, head.unique, error),
@@ -155,14 +149,20 @@ impl<F: FileSystem> Server<F> {
         ensures rest { Leaves (takes_memory (given head.now self.old.options.0 w.old.free) opcode r.entry.segments r.entry.left)
             result w.old w.new self.old self.new }
     {
+        let mut held = Vec::new(alloc);
+        let source = Segments {
+            alloc,
+            reader: r,
+            held: &mut held,
+        };
         match opcode {
-            Opcode::Read => self.read(alloc, head, r, w),
-            Opcode::Write => self.write(head, r, w),
-            Opcode::Readdir => self.read_directory(alloc, head, false, r, w),
-            Opcode::Readdirplus => self.read_directory(alloc, head, true, r, w),
-            Opcode::BatchForget => self.batch_forget(alloc, head, r, w),
-            Opcode::Init => self.init(alloc, head, r, w),
-            _ => self.serve_single(alloc, opcode, head, r, w),
+            Opcode::Read => self.read(alloc, head, source, w),
+            Opcode::Write => self.write(head, source.reader, w),
+            Opcode::Readdir => self.read_directory(head, false, source, w),
+            Opcode::Readdirplus => self.read_directory(head, true, source, w),
+            Opcode::BatchForget => self.batch_forget(alloc, head, source, w),
+            Opcode::Init => self.init(head, source, w),
+            _ => self.serve_single(alloc, opcode, head, source, w),
         }
     }
 

@@ -16,8 +16,7 @@ use server_replies::fronts::Front;
 use server_replies::init::{start_bytes, versions};
 use server_replies::replies::{reply_error, reply_front};
 use server_requests::source::Segments;
-use server_segments::{Error, Reader, Writer};
-use std::alloc::Global;
+use server_segments::{Error, Writer};
 
 /// The options that are known, of these bits.
 #[tactic(auto, using(crate::proofs::Options::known_bits_are, crate::proofs::Options::known_twice))]
@@ -67,22 +66,15 @@ impl<F: FileSystem> Server<F> {
     /// INIT: the versions, and the options that are agreed from then on.
     pub(crate) fn init(
         &mut self,
-        alloc: Global,
         head: &InHeader,
-        r: Reader<'_>,
+        source: Segments<'_, '_>,
         w: &mut Writer,
     ) -> Result<usize, Error>
         requires fresh { w.old.written ≡ [] }
         requires room { w.old.free < 2 ^ 32 }
-        ensures handles { RowHandles F.may self.old w.old.free head.now init_row r.entry.left result w.new.written self.new }
+        ensures handles { RowHandles F.may self.old w.old.free head.now init_row source.entry.reader.left result w.new.written self.new }
         ensures rest { Leaves false result w.old w.new self.old self.new }
     {
-        let mut held = Vec::new(alloc);
-        let source = Segments {
-            alloc,
-            reader: r,
-            held: &mut held,
-        };
         match init_meaning(source) {
             InitMeaning::Start { capable, readahead } => self.start(head, capable, readahead, w),
             InitMeaning::Versions => reply_front(w, &Front::reply(head.unique, &versions())),

@@ -20,10 +20,10 @@ returns-in-Error-clause-handles g c =
     handles_reply g.F.FileSystemBase.may (setting c.args.self.now.page_size c.args.self.now.options.0 c.args.w.now.free) _ _ _ _ _
     (c.in-Error.ensures c.args.head.now c.args.self.now.options.0 c.args.w.now.free) c.reply_error.ensures.sent
 
-pub returns-clause-handles : goal.returns-clause-handles
-returns-clause-handles g c =
+pub returns-in-Fault-clause-handles : goal.returns-in-Fault-clause-handles
+returns-in-Fault-clause-handles g c =
     handles_refusal g.F.FileSystemBase.may (setting c.args.self.now.page_size c.args.self.now.options.0 c.args.w.now.free) _ _ _ _
     (λ other. (c.in-Fault.ensures c.args.head.now c.args.self.now.options.0 c.args.w.now.free).0)
 
-pub returns-clause-rest : goal.returns-clause-rest
-returns-clause-rest g c = (refl, λ none. (c.in-Fault.ensures c.args.head.now c.args.self.now.options.0 c.args.w.now.free).1, refl)
+pub returns-in-Fault-clause-rest : goal.returns-in-Fault-clause-rest
+returns-in-Fault-clause-rest g c = (refl, λ none. (c.in-Fault.ensures c.args.head.now c.args.self.now.options.0 c.args.w.now.free).1, refl)

@@ -24,10 +24,10 @@ returns-in-Silence-clause-handles g c =
     handles_silence g.F.FileSystemBase.may (setting c.args.self.now.page_size c.args.self.now.options.0 c.args.w.now.free) _ _ _ _
     (c.in-Silence.ensures c.args.w.now.free) c.silence.ensures c.requires.fresh
 
-pub returns-clause-handles : goal.returns-clause-handles
-returns-clause-handles g c =
+pub returns-in-Fault-clause-handles : goal.returns-in-Fault-clause-handles
+returns-in-Fault-clause-handles g c =
     handles_refusal g.F.FileSystemBase.may (setting c.args.self.now.page_size c.args.self.now.options.0 c.args.w.now.free) _ _ _ _
     (c.in-Fault.ensures c.args.w.now.free).0
 
-pub returns-clause-rest : goal.returns-clause-rest
-returns-clause-rest g c = (refl, (c.in-Fault.ensures c.args.w.now.free).1, refl)
+pub returns-in-Fault-clause-rest : goal.returns-in-Fault-clause-rest
+returns-in-Fault-clause-rest g c = (refl, (c.in-Fault.ensures c.args.w.now.free).1, refl)
