@@ -51,7 +51,7 @@ fn put(rt: &impl Abort, bytes: &mut Vec<u8>, entry: Entry) {
         .expect(rt, "memory");
 }
 
-// What a walk comes to by the bytes of some descriptors.
+// Gives a walk the bytes of these descriptors, one behind another, for the load that it waits for. Answers what it comes to.
 fn give(
     rt: &impl Abort,
     alloc: Global,

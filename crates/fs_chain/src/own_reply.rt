@@ -30,7 +30,7 @@ impl Workbench {
     /// the used index is stored. 0 is silence. In place of `ask`, for a request that the server doesn't serve, or of the answer that a call waits for, of
     /// which nothing is kept then. `begin_return` tells no front, and `len` in the used element (VIRTIO 1.2, 2.7.8).
     ///
-    /// `WrongOrder` if no chain is out whose request has no reply yet: a faulty one has none. `OtherCall` if its number is another one (`serial`).
+    /// `WrongOrder` if no chain is out, or its reply is known, as that of a faulty one is: none. `OtherCall` if its number is another one (`serial`).
     /// `LongReply` if the room is shorter, or from 2^32 bytes on.
     pub fn reply(&mut self, serial: u32, len: usize) -> Result<(), ChainError>
         ensures error { IfErr result (λ e. own_error self.old.state self.old.serial serial len ≡ Some e) }

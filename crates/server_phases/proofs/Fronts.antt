@@ -52,17 +52,17 @@ pub fault_by_front : {R : Type 0} → (s : Shape R) (front all : List ℕ) (f : 
 fault_by_front {R} s front all f e h = ap (λ (x : reading.Read R). leaving x (drop (size s.parts) all)) h ∙ sym (read_by_front s front all e)
 
 -- a request by its first bytes and the others
-whole : (front request : List ℕ) → IsFront front request → request ≡ front ++ drop (length front) request
-whole front request e = sym (ap (λ (x : List ℕ). x ++ drop (length front) request) (sym e) ∙ take-append-drop (length front) request)
+front_and_rest : (front request : List ℕ) → IsFront front request → request ≡ front ++ drop (length front) request
+front_and_rest front request e = sym (ap (λ (x : List ℕ). x ++ drop (length front) request) (sym e) ∙ take-append-drop (length front) request)
 
 pub front_begins : (n : ℕ) (front request : List ℕ) → IsFront front request → n ≤ length front → take n front ≡ take n request
-front_begins n front request e h = sym (ap (take n) (whole front request e) ∙ take-append-le n front (drop (length front) request) h)
+front_begins n front request e h = sym (ap (take n) (front_and_rest front request e) ∙ take-append-le n front (drop (length front) request) h)
 
 -- the record behind a header
 pub record_begins : (front request : List ℕ) → IsFront front request → 80 ≤ length front → BeginsRecord (drop 40 front) (drop 40 request)
 record_begins front request e h =
     let rest = drop (length front) request in
-    let behind : drop 40 request ≡ drop 40 front ++ rest = ap (drop 40) (whole front request e) ∙ drop-append-le 40 front rest (omega arith) in
+    let behind : drop 40 request ≡ drop 40 front ++ rest = ap (drop 40) (front_and_rest front request e) ∙ drop-append-le 40 front rest (omega arith) in
     let long : 40 ≤ length (drop 40 front) = rw (length-drop 40 front) (omega arith) in
     sym (ap (take 40) behind ∙ take-append-le 40 (drop 40 front) rest long)
 

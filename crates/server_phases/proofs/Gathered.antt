@@ -134,8 +134,8 @@ listed_only unique l es left room f g s =
     simp append-nil at all
 
 -- a reply that has room
-whole : (room options : ℕ) (calls : List FileCall) (reply : List ℕ) → length reply ≤ room → replied room calls options reply ≡ record { calls = calls; options = options; reply = reply; fault = None }
-whole room options calls reply f = rw (le-ltb room (length reply) f) refl
+told_whole : (room options : ℕ) (calls : List FileCall) (reply : List ℕ) → length reply ≤ room → replied room calls options reply ≡ record { calls = calls; options = options; reply = reply; fault = None }
+told_whole room options calls reply f = rw (le-ltb room (length reply) f) refl
 
 in_list : (unique len : ℕ) (list bytes : List ℕ) → len ≡ length bytes → take len list ≡ bytes → reply_bytes unique bytes ≡ data_header unique (Ok len) ++ take len list
 unfolding reply_bytes
@@ -148,12 +148,12 @@ gives_list : (room options unique len : ℕ) (calls : List FileCall) (list bytes
     → replied room calls options (reply_bytes unique bytes) ≡ by_reply calls options (data_header unique (Ok len) ++ take len list)
 gives_list room options unique len calls list bytes e t f =
     let long = length_reply unique bytes in
-    whole room options calls (reply_bytes unique bytes) (omega (arith, long, e, f)) ∙ ap (by_reply calls options) (in_list unique len list bytes e t)
+    told_whole room options calls (reply_bytes unique bytes) (omega (arith, long, e, f)) ∙ ap (by_reply calls options) (in_list unique len list bytes e t)
 
 gives_error : (room options unique errno : ℕ) (calls : List FileCall) (list : List ℕ) → 16 ≤ room
     → replied room calls options (error_bytes unique errno) ≡ by_reply calls options (error_bytes unique errno ++ take 0 list)
 gives_error room options unique errno calls list f =
-    whole room options calls (error_bytes unique errno) (omega (arith, length_error unique errno, f)) ∙ ap (by_reply calls options) (sym (append-nil (error_bytes unique errno)))
+    told_whole room options calls (error_bytes unique errno) (omega (arith, length_error unique errno, f)) ∙ ap (by_reply calls options) (sym (append-nil (error_bytes unique errno)))
 
 -- the entries so far are the reply
 pub ends : (s : Setting) (l : Listing) (command : FileCommand) (list : List ℕ) (es : List Brought) → IsListingFor l s.room command → Holds l list es
@@ -262,7 +262,7 @@ failed_told s l unique errno a calls list es is holds =
     let room : l.room ≡ s.room - 16 = is.3 in
     let place : 16 ≤ s.room = is.4 in
     let fits = l.fits in
-    whole s.room s.options (readdir_call a ∷ calls) (listing_bytes unique b bytes (Some errno))
+    told_whole s.room s.options (readdir_call a ∷ calls) (listing_bytes unique b bytes (Some errno))
     (failed_fits (b && nat_lt 0 (length bytes)) b unique errno s.room bytes refl (omega (arith, long, room, fits, place)))
     ∙ ap (λ u. by_reply (readdir_call a ∷ calls) s.options (listing_bytes u b bytes (Some errno))) (sym is.0)
     ∙ ap (λ b. by_reply (readdir_call a ∷ calls) s.options (listing_bytes l.unique b (all_bytes b es) (Some errno))) (sym is.1)

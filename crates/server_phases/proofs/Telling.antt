@@ -23,7 +23,7 @@ use Rattle.virtiofsd_fuse.proofs.Serve.{ask_of, ended_ask, ended_fault}
 use Rattle.server_phases.specs.declared.asking.Asked.{Asked}
 use Rattle.server_phases.specs.declared.asking.Asked.TheVariants as asked
 use Rattle.server_phases.specs.Asking.{IsTold, IsAskedBy, HasAsker, TellsData, told_reply}
-use Rattle.server_phases.specs.Waiting.{awaits_of, is_single}
+use Rattle.server_phases.specs.Waiting.{awaits_of, is_one_call}
 
 reply_by : (t : Bool) (page_size options room : ℕ) (reply bytes : List ℕ) → nat_lt room (length reply) ≡ t → 0 < length reply
     → IsTold (setting page_size options room) (Replies reply) bytes (cond t (asked.Fault EncodeMessage) (asked.Reply reply))
@@ -47,7 +47,7 @@ has_asker request left head a reads by = λ h more e.
     let same : head ≡ h = ap (λ (x : InHeader × List ℕ). x.0) pair in
     subst (λ (x : InHeader). IsAskedBy (context_of x) a) same by
 
-single : (c : FileCall) → is_plain c ≡ true → is_single c ≡ true
+single : (c : FileCall) → is_plain c ≡ true → is_one_call c ≡ true
 single (Init capable) e = absurd (cc)
 single (Readdir c n h s o) e = absurd (cc)
 single _ e = refl

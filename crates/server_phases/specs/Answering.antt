@@ -45,7 +45,7 @@ fails_never _ = false
 -- whether the client isn't told of a good answer
 abbrev pub tells_nothing : Awaits → Bool
 tells_nothing awaits.Forgotten = true
-tells_nothing awaits.Silence = true
+tells_nothing awaits.NoReply = true
 tells_nothing awaits.End = true
 tells_nothing _ = false
 

@@ -32,26 +32,26 @@ awaits_of (CopyFileRange c n h o n' h' o' l f) = awaits.Written
 awaits_of (Lseek c n h o w) = awaits.Offset
 awaits_of (Forget c n k) = awaits.Forgotten
 awaits_of (BatchForget c counts) = awaits.Forgotten
-awaits_of Getlk = awaits.Silence
-awaits_of Setlk = awaits.Silence
-awaits_of Setlkw = awaits.Silence
-awaits_of Bmap = awaits.Silence
-awaits_of Ioctl = awaits.Silence
-awaits_of Poll = awaits.Silence
-awaits_of NotifyReply = awaits.Silence
+awaits_of Getlk = awaits.NoReply
+awaits_of Setlk = awaits.NoReply
+awaits_of Setlkw = awaits.NoReply
+awaits_of Bmap = awaits.NoReply
+awaits_of Ioctl = awaits.NoReply
+awaits_of Poll = awaits.NoReply
+awaits_of NotifyReply = awaits.NoReply
 awaits_of Destroy = awaits.End
 awaits_of TmpFile = awaits.Failure
 awaits_of _ = awaits.Done
 
 -- the calls that requests of one call make
-abbrev pub is_single : FileCall → Bool
-is_single (Init capable) = false
-is_single (Readdir c n h s o) = false
-is_single _ = true
+abbrev pub is_one_call : FileCall → Bool
+is_one_call (Init capable) = false
+is_one_call (Readdir c n h s o) = false
+is_one_call _ = true
 
 -- a request that means this command waits so
 abbrev pub WaitsFor : Waiting → FileCommand → Type 0
-WaitsFor w (One unique call) = (w.unique ≡ unique) × (w.awaits ≡ awaits_of call) × IsFor w.context call × (is_single call ≡ true)
+WaitsFor w (One unique call) = (w.unique ≡ unique) × (w.awaits ≡ awaits_of call) × IsFor w.context call × (is_one_call call ≡ true)
 WaitsFor w (Starts unique capable readahead) =
     (w.unique ≡ unique) × (w.awaits ≡ awaits.Wish capable readahead) × (bit_and capable known_options ≡ capable)
 WaitsFor w (Lists unique l) =

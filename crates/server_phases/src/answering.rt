@@ -131,7 +131,7 @@ fn fails_never(awaits: &Awaits) -> bool
 fn tells_nothing(awaits: &Awaits) -> bool
     ensures { result ≡ tells_nothing awaits.now }
 {
-    matches!(awaits, Awaits::Forgotten | Awaits::Silence | Awaits::End)
+    matches!(awaits, Awaits::Forgotten | Awaits::NoReply | Awaits::End)
 }
 
 // Whether an entry may come.
@@ -160,7 +160,7 @@ pub(crate) fn placed(front: Front, room: usize, back: Option<(Context, u64)>) ->
 }
 
 // The reply to an answer without data.
-pub(crate) fn plain_answered(waiting: &Waiting, answer: FileAnswer) -> Answered
+pub(crate) fn answered_without_data(waiting: &Waiting, answer: FileAnswer) -> Answered
     ensures { let room = waiting.now.room in let told = told_bytes (tells_nothing waiting.now.awaits) waiting.now.unique (answer_of [] answer) in
         let back = back_by (brings_entry waiting.now.awaits) waiting.now.context (answer_of [] answer) in
         (options : ℕ) (call : FileCall) → replied room (call ∷ undone room told back) options told
@@ -279,7 +279,7 @@ fn takes_done(awaits: &Awaits) -> bool
 {
     matches!(
         awaits,
-        Awaits::Done | Awaits::Forgotten | Awaits::Silence | Awaits::End
+        Awaits::Done | Awaits::Forgotten | Awaits::NoReply | Awaits::End
     )
 }
 

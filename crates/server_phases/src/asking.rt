@@ -213,7 +213,7 @@ pub(crate) fn pairs_asked<'a>(head: &InHeader, counts: &'a [u8], room: usize) ->
 }
 
 /// The call of an INIT, whose client reads `readahead` bytes ahead.
-pub(crate) fn started<'a>(
+pub(crate) fn init_asked<'a>(
     head: &InHeader,
     capable: FsOptions,
     readahead: u32,

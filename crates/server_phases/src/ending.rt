@@ -9,7 +9,7 @@ ghost use Rattle.server_phases.specs.Answering.{Gives, TellsBytes, takes, forget
 ghost use Rattle.server_phases.specs.Waiting.{WaitsFor, first_call};
 
 use crate::answering::{
-    Answered, Refused, RefusedAnswer, data_answered, is_too_long, placed_alone, plain_answered,
+    Answered, Refused, RefusedAnswer, data_answered, is_too_long, placed_alone, answered_without_data,
     suits,
 };
 use crate::session::Session;
@@ -83,7 +83,7 @@ impl Session {
 
     // An answer without data, but INIT's.
     fn answer_single(&mut self, waiting: &Waiting, answer: FileAnswer) -> Answered
-        requires plain { data_of answer ≡ None }
+        requires without_data { data_of answer ≡ None }
         requires single { wish_of waiting.now.awaits ≡ None }
         ensures gives { (command : FileCommand) (bytes : List ℕ) → WaitsFor waiting.now command → TellsBytes bytes answer
             → takes waiting.now.awaits (answer_of bytes answer) ≡ true
@@ -91,12 +91,12 @@ impl Session {
         ensures page_size { self.new.page_size ≡ self.old.page_size }
     {
         self.options = left_options(self.options, &waiting.awaits);
-        plain_answered(waiting, answer)
+        answered_without_data(waiting, answer)
     }
 
     // An answer without data.
-    fn answer_plain(&mut self, waiting: &Waiting, answer: FileAnswer) -> Answered
-        requires plain { data_of answer ≡ None }
+    fn answer_without_data(&mut self, waiting: &Waiting, answer: FileAnswer) -> Answered
+        requires without_data { data_of answer ≡ None }
         ensures gives { (command : FileCommand) (bytes : List ℕ) → WaitsFor waiting.now command → TellsBytes bytes answer
             → takes waiting.now.awaits (answer_of bytes answer) ≡ true
             → Gives (setting self.old.page_size self.old.options.0 waiting.now.room) command bytes answer result self.new.options.0 }
@@ -126,7 +126,7 @@ impl Session {
     {
         match data_of(&answer) {
             Some(len) => data_answered(waiting.unique, waiting.room, len),
-            None => self.answer_plain(waiting, answer),
+            None => self.answer_without_data(waiting, answer),
         }
     }
 

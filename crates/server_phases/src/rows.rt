@@ -9,7 +9,7 @@ ghost use Rattle.server_phases.specs.Asking.{IsAskedBy, IsRowTold, IsTold};
 
 use crate::asking::{
     Asked, WRITE_IN_LEN, ask_write_row, called, entries_asked, pairs_asked, read_asked, refused,
-    replied, started,
+    replied, init_asked,
 };
 use crate::session::Session;
 use fuse_in::InHeader;
@@ -19,7 +19,7 @@ use server_replies::init::versions;
 use server_requests::source::Flat;
 use virtiofsd_fuse::{
     ForgetsMeaning, InitMeaning, ListingMeaning, RequestMeaning, forgets_meaning, init_meaning,
-    listing_meaning, read_meaning, row_meaning,
+    listing_meaning, read_with_room, row_meaning,
 };
 
 impl Session {
@@ -79,7 +79,7 @@ impl Session {
         ensures told { IsRowTold self.now.page_size self.now.options.0 head.now room read_row source.entry.bytes.now result }
         ensures asker { IsAskedBy (context_of head.now) result }
     {
-        match read_meaning(room, source) {
+        match read_with_room(room, source) {
             Ok(request) => read_asked(head, &request, room),
             Err(error) => Asked::Fault(error),
         }
@@ -109,7 +109,7 @@ impl Session {
         ensures asker { IsAskedBy (context_of head.now) result }
     {
         match init_meaning(source) {
-            InitMeaning::Start { capable, readahead } => started(head, capable, readahead, room),
+            InitMeaning::Start { capable, readahead } => init_asked(head, capable, readahead, room),
             InitMeaning::Versions => replied(room, Front::reply(head.unique, &versions())),
             InitMeaning::Error(error) => refused(head, error, room),
             InitMeaning::Fault(error) => Asked::Fault(error),

@@ -14,8 +14,8 @@ pub enum Awaits {
     Done,
     /// That it is done, which can't fail, and of which the client isn't told.
     Forgotten,
-    /// That it is done, of which the client isn't told.
-    Silence,
+    /// That it is done, of which the client isn't told: there is no reply.
+    NoReply,
     /// That a conversation has ended.
     End,
     /// An error, since there is no good answer.
@@ -111,7 +111,7 @@ pub(crate) fn awaits_of(call: &FileCall<'_>) -> Awaits
         | FileCall::Bmap
         | FileCall::Ioctl
         | FileCall::Poll
-        | FileCall::NotifyReply => Awaits::Silence,
+        | FileCall::NotifyReply => Awaits::NoReply,
         FileCall::Destroy => Awaits::End,
         FileCall::TmpFile => Awaits::Failure,
         FileCall::Read { room, .. } => Awaits::FileBytes { most: *room },

@@ -129,16 +129,16 @@ module _ {F : Type 0} (may : F → FileCall → FileAnswer → F → Type 0) whe
       (subst (λ (x : AfterEntry). OnErr x (Undone may undo f f_after)) is u))
 
   -- an entry without its node
-  from_plain : (l : Listing) (d : Listed) (ds : List Listed) (left room : ℕ) (f end : F) (written final : List ℕ) (error : Option ℕ) → l.with_nodes ≡ false
+  from_nodeless : (l : Listing) (d : Listed) (ds : List Listed) (left room : ℕ) (f end : F) (written final : List ℕ) (error : Option ℕ) → l.with_nodes ≡ false
       → PlacedRun may false d (no_node d) [] (list_entries l ds) left room f written final error end → ListRun may l (d ∷ ds) left room f written final error end
   unfolding list_entries
-  from_plain l d ds left room f end written final error plain p =
+  from_nodeless l d ds left room f end written final error plain p =
       record { steps = p.steps; run = p.run; bytes = p.bytes; gives = rw plain p.gives; all = p.all }
 
-  pub plain_run : (l : Listing) (d : Listed) (left room room_after : ℕ) (f f_after : F) (written written_after : List ℕ) (o : AfterEntry) → l.with_nodes ≡ false
+  pub nodeless_run : (l : Listing) (d : Listed) (left room room_after : ℕ) (f f_after : F) (written written_after : List ℕ) (o : AfterEntry) → l.with_nodes ≡ false
       → PlacedOne may false d (no_node d) [] left room f written o room_after f_after written_after → EntryRun may l d left room f written o room_after f_after written_after
-  plain_run l d left room room_after f f_after written written_after (Ok left_after) plain p = λ ds final error end rest. from_plain l d ds left room f end written final error plain (p l ds final error end rest)
-  plain_run l d left room room_after f f_after written written_after (Err error) plain p = λ ds. from_plain l d ds left room f f_after written written_after error plain (p l ds)
+  nodeless_run l d left room room_after f f_after written written_after (Ok left_after) plain p = λ ds final error end rest. from_nodeless l d ds left room f end written final error plain (p l ds final error end rest)
+  nodeless_run l d left room room_after f f_after written written_after (Err error) plain p = λ ds. from_nodeless l d ds left room f f_after written written_after error plain (p l ds)
 
   -- `.` and `..`
   from_dot : (l : Listing) (d : Listed) (ds : List Listed) (left room : ℕ) (f end : F) (written final : List ℕ) (error : Option ℕ) → l.with_nodes ≡ true → is_dot d.name ≡ true

@@ -85,8 +85,8 @@ abbrev pub record_row : {R : Type 0} → Shape R → (InHeader → R → FileCal
 record_row s call g = reading_of s >>= λ r. one g (call g.header r)
 
 -- nothing but the header
-abbrev pub plain_row : (InHeader → FileCall) → Given → Reading Meaning
-plain_row call g = one g (call g.header)
+abbrev pub header_row : (InHeader → FileCall) → Given → Reading Meaning
+header_row call g = one g (call g.header)
 
 -- one name
 abbrev pub name_row : (InHeader → List ℕ → FileCall) → Given → Reading Meaning
@@ -186,11 +186,11 @@ row g op.SetupMapping = unserved_row g
 row g op.RemoveMapping = unserved_row g
 row g op.Getattr = record_row getattr_in getattr_call g
 row g op.Setattr = record_row setattr_in setattr_call g
-row g op.Readlink = plain_row readlink_call g
+row g op.Readlink = header_row readlink_call g
 row g op.Unlink = name_row unlink_call g
 row g op.Rmdir = name_row rmdir_call g
 row g op.Open = record_row open_in open_call g
-row g op.Statfs = plain_row statfs_call g
+row g op.Statfs = header_row statfs_call g
 row g op.Release = record_row release_in release_call g
 row g op.Fsync = record_row fsync_in fsync_call g
 row g op.Removexattr = name_row removexattr_call g
@@ -198,21 +198,21 @@ row g op.Flush = record_row flush_in flush_call g
 row g op.Opendir = record_row open_in opendir_call g
 row g op.Releasedir = record_row release_in releasedir_call g
 row g op.Fsyncdir = record_row fsync_in fsyncdir_call g
-row g op.Getlk = plain_row (λ h. Getlk) g
-row g op.Setlk = plain_row (λ h. Setlk) g
-row g op.Setlkw = plain_row (λ h. Setlkw) g
+row g op.Getlk = header_row (λ h. Getlk) g
+row g op.Setlk = header_row (λ h. Setlk) g
+row g op.Setlkw = header_row (λ h. Setlkw) g
 row g op.Access = record_row access_in access_call g
 row g op.Interrupt = silent_row g
-row g op.Bmap = plain_row (λ h. Bmap) g
-row g op.Destroy = plain_row (λ h. Destroy) g
-row g op.Ioctl = plain_row (λ h. Ioctl) g
-row g op.Poll = plain_row (λ h. Poll) g
-row g op.NotifyReply = plain_row (λ h. NotifyReply) g
+row g op.Bmap = header_row (λ h. Bmap) g
+row g op.Destroy = header_row (λ h. Destroy) g
+row g op.Ioctl = header_row (λ h. Ioctl) g
+row g op.Poll = header_row (λ h. Poll) g
+row g op.NotifyReply = header_row (λ h. NotifyReply) g
 row g op.Fallocate = record_row fallocate_in fallocate_call g
 row g op.Lseek = record_row lseek_in lseek_call g
 row g op.CopyFileRange = record_row copyfilerange_in copy_file_range_call g
-row g op.Syncfs = plain_row syncfs_call g
-row g op.TmpFile = plain_row (λ h. TmpFile) g
+row g op.Syncfs = header_row syncfs_call g
+row g op.TmpFile = header_row (λ h. TmpFile) g
 row g op.Setxattr = setxattr_row g
 row g op.Getxattr = getxattr_row g
 row g op.Listxattr = listxattr_row g

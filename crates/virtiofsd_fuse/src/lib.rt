@@ -25,7 +25,7 @@ pub use fuse_fs::{
 pub use meanings::{RequestMeaning, row_meaning};
 pub use meanings_apart::{
     ForgetsMeaning, InitMeaning, ListingMeaning, forgets_meaning, init_meaning, listing_meaning,
-    read_meaning,
+    read_with_room,
 };
 pub use reads::{ReadReply, ReadRequest};
 pub use server::{MAX_REQUEST_LEN, Server, opcode_of};

@@ -2,7 +2,7 @@
 
 ghost use Rattle.std.specs.Prelude.{◌≡◌, ◌||◌, true, false};
 ghost use Rattle.server_requests.specs.Fronts.{counted_split, setxattr_len};
-ghost use Rattle.virtiofsd_fuse.specs.Grammar.{given, row, plain_row, record_row, name_row, record_name_row, two_names_row, new_name_row};
+ghost use Rattle.virtiofsd_fuse.specs.Grammar.{given, row, header_row, record_row, name_row, record_name_row, two_names_row, new_name_row};
 ghost use Rattle.virtiofsd_fuse.specs.Grammar.{symlink_row, getxattr_row, listxattr_row, setxattr_row};
 ghost use Rattle.virtiofsd_fuse.specs.RowMeanings.{RowReads, is_single};
 ghost use Rattle.virtiofsd_fuse.specs.WantOfMemory.{row_owns, takes_memory};
@@ -45,12 +45,12 @@ pub enum RequestMeaning<'a> {
 
 // Nothing but the header.
 #[inline(always)]
-fn plain_row<'a, R: PlainValue, S: Source<'a> + Drop>(
+fn header_row<'a, R: PlainValue, S: Source<'a> + Drop>(
     head: &InHeader,
     options: FsOptions,
     source: S,
 ) -> RequestMeaning<'a>
-    ensures { RowReads S.splits (λ g. false) head.now options.0 (plain_row R.call) (S.left source) result }
+    ensures { RowReads S.splits (λ g. false) head.now options.0 (header_row R.call) (S.left source) result }
 {
     RequestMeaning::Call(R::value(head))
 }
@@ -253,18 +253,18 @@ pub fn row_meaning<'a, S: Source<'a> + Drop>(
     ensures { RowReads S.splits (λ g. takes_memory g opcode (S.segments source) (S.left source)) head.now options.0 (λ g. row g opcode) (S.left source) result }
 {
     match opcode {
-        Opcode::Readlink => plain_row::<Readlink, S>(head, options, source),
-        Opcode::Statfs => plain_row::<Statfs, S>(head, options, source),
-        Opcode::Getlk => plain_row::<Getlk, S>(head, options, source),
-        Opcode::Setlk => plain_row::<Setlk, S>(head, options, source),
-        Opcode::Setlkw => plain_row::<Setlkw, S>(head, options, source),
-        Opcode::Bmap => plain_row::<Bmap, S>(head, options, source),
-        Opcode::Destroy => plain_row::<Destroy, S>(head, options, source),
-        Opcode::Ioctl => plain_row::<Ioctl, S>(head, options, source),
-        Opcode::Poll => plain_row::<Poll, S>(head, options, source),
-        Opcode::NotifyReply => plain_row::<NotifyReply, S>(head, options, source),
-        Opcode::Syncfs => plain_row::<Syncfs, S>(head, options, source),
-        Opcode::TmpFile => plain_row::<TmpFile, S>(head, options, source),
+        Opcode::Readlink => header_row::<Readlink, S>(head, options, source),
+        Opcode::Statfs => header_row::<Statfs, S>(head, options, source),
+        Opcode::Getlk => header_row::<Getlk, S>(head, options, source),
+        Opcode::Setlk => header_row::<Setlk, S>(head, options, source),
+        Opcode::Setlkw => header_row::<Setlkw, S>(head, options, source),
+        Opcode::Bmap => header_row::<Bmap, S>(head, options, source),
+        Opcode::Destroy => header_row::<Destroy, S>(head, options, source),
+        Opcode::Ioctl => header_row::<Ioctl, S>(head, options, source),
+        Opcode::Poll => header_row::<Poll, S>(head, options, source),
+        Opcode::NotifyReply => header_row::<NotifyReply, S>(head, options, source),
+        Opcode::Syncfs => header_row::<Syncfs, S>(head, options, source),
+        Opcode::TmpFile => header_row::<TmpFile, S>(head, options, source),
         Opcode::Forget => record_row::<Forget, S>(head, options, source),
         Opcode::Getattr => record_row::<Getattr, S>(head, options, source),
         Opcode::Setattr => record_row::<Setattr, S>(head, options, source),

@@ -1,5 +1,5 @@
-//! What those requests mean of which the room, a version or a count decides something, read once for both uses: READ, READDIR,
-//! READDIRPLUS, INIT and BATCH_FORGET.
+//! What requests mean of which the room, a size, a version or a count decides something, read here for both uses: READ, READDIR,
+//! READDIRPLUS, INIT, and BATCH_FORGET but for its pairs, which each use reads by itself, as it does a WRITE.
 
 ghost use Rattle.std.specs.Prelude.{ℕ, Bool, List};
 ghost use Rattle.fuse_in.specs.declared.session.InHeader.{InHeader};
@@ -18,7 +18,7 @@ use server_segments::Error;
 
 /// What a READ asks for by its record, if its reply has room for a header; else the fault.
 #[inline(always)]
-pub fn read_meaning<'a, S: Source<'a> + Drop>(room: usize, source: S) -> Result<ReadIn, Error>
+pub fn read_with_room<'a, S: Source<'a> + Drop>(room: usize, source: S) -> Result<ReadIn, Error>
     ensures { (h : InHeader) (options : ℕ) → ReadIsRead h room result (ended h.unique (read_row (given h options room) (S.left source))) }
 {
     let mut source = source;

@@ -68,7 +68,7 @@ impl<F: FileSystem> Server<F> {
             | FileCall::Ioctl
             | FileCall::Poll
             | FileCall::NotifyReply
-            | FileCall::TmpFile => self.perform_plain(unique, call, w),
+            | FileCall::TmpFile => self.perform_header(unique, call, w),
             FileCall::Forget { .. }
             | FileCall::Getattr { .. }
             | FileCall::Setattr { .. }
@@ -90,7 +90,7 @@ impl<F: FileSystem> Server<F> {
 
     // Performs a call whose request is nothing but its header.
     #[inline(always)]
-    fn perform_plain(
+    fn perform_header(
         &mut self,
         unique: u64,
         call: FileCall<'_>,

@@ -8,7 +8,7 @@ ghost use Rattle.virtiofsd_fuse.specs.Grammar.{Asks, One, meaning, read_row};
 ghost use Rattle.virtiofsd_fuse.specs.ReadApart.{is_read, read_meaning, read_request};
 ghost use Rattle.virtiofsd_fuse.specs.Serving.{RowHandles, Leaves, ServerHandles};
 
-use crate::meanings_apart::read_meaning;
+use crate::meanings_apart::read_with_room;
 use crate::server::{MAX_REQUEST_LEN, Server, opcode_of};
 use fuse_fs::{FileSystem, ZeroCopyWriter};
 use fuse_in::{InHeader, ReadIn};
@@ -138,7 +138,7 @@ impl<F: FileSystem> Server<F> {
         ensures rest { Leaves false result w.old w.new self.old self.new }
     {
         let room = w.available_bytes();
-        match read_meaning(room, source) {
+        match read_with_room(room, source) {
             Ok(request) => self.read_data(alloc, head, &request, w),
             Err(error) => Err(error),
         }

@@ -106,8 +106,8 @@ impl<F: FileSystem> Server<F> {
         &self.fs
     }
 
-    // Serves a request that asks one plain call, or none. Its code is long: inlined, it would keep that of who serves a chain from
-    // being inlined in turn.
+    // Serves a request that asks one plain call, or none (`is_single`). It isn't inlined into `handle_message` as the others are: its
+    // code is long, and with it `handle_message` would not be inlined where a chain is served.
     #[inline(never)]
     fn serve_single(
         &mut self,

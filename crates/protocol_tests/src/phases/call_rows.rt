@@ -397,7 +397,7 @@ const OTHERS: &[Row] = &[
         name: "GETLK",
         request: &["28000000 1f000000", ASKER],
         room: 16,
-        told: Told::Bare("getlk", &[], Awaits::Silence),
+        told: Told::Bare("getlk", &[], Awaits::NoReply),
     },
     Row {
         name: "TMPFILE",

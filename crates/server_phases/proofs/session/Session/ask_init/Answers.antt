@@ -3,11 +3,11 @@ use Rattle.virtiofsd_fuse.specs.Serving.{setting}
 use Rattle.server_phases.proofs.Telling.{fault_told, versions_told}
 use Rattle.server_phases.proofs.session.Session.ask_init.Goals as goal
 
-pub started-requires : goal.started-requires
-started-requires c = (c.in-Start.ensures c.args.head.now c.args.self.now.options.0 c.args.room).1
+pub init_asked-requires : goal.init_asked-requires
+init_asked-requires c = (c.in-Start.ensures c.args.head.now c.args.self.now.options.0 c.args.room).1
 
 pub returns-in-Start-clause-told : goal.returns-in-Start-clause-told
-returns-in-Start-clause-told c = c.started.ensures.told (setting c.args.self.now.page_size c.args.self.now.options.0 c.args.room) _ _ refl (c.in-Start.ensures c.args.head.now c.args.self.now.options.0 c.args.room).0
+returns-in-Start-clause-told c = c.init_asked.ensures.told (setting c.args.self.now.page_size c.args.self.now.options.0 c.args.room) _ _ refl (c.in-Start.ensures c.args.head.now c.args.self.now.options.0 c.args.room).0
 
 pub returns-in-Versions-clause-told : goal.returns-in-Versions-clause-told
 returns-in-Versions-clause-told c =

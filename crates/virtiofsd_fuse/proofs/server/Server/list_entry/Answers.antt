@@ -5,14 +5,14 @@ use Rattle.fuse_fs.specs.Answers.{listed, context_of}
 use Rattle.fuse_fs.specs.Calls.{Done}
 use Rattle.server_replies.specs.Entries.{no_node}
 use Rattle.virtiofsd_fuse.specs.Listings.{undo_call, listing_of}
-use Rattle.virtiofsd_fuse.proofs.ListingLemmas.{plain_run, dot_run, placed_one, on_error, nothing_done, nothing_undone}
+use Rattle.virtiofsd_fuse.proofs.ListingLemmas.{nodeless_run, dot_run, placed_one, on_error, nothing_done, nothing_undone}
 use Rattle.virtiofsd_fuse.proofs.server.Server.list_entry.Goals as goal
 
 pub returns-then-not-with_nodes-clause-run : goal.returns-then-not-with_nodes-clause-run
 returns-then-not-with_nodes-clause-run g c = λ request.
     let d = listed c.args.entry.now in
     let put = c.put_entry.ensures in
-    plain_run g.F.FileSystemBase.may (listing_of c.args.with_nodes c.args.head.now request) d _ _ _ _ c.args.self.now.fs _ _ c.put_entry.result (Prim.search rules)
+    nodeless_run g.F.FileSystemBase.may (listing_of c.args.with_nodes c.args.head.now request) d _ _ _ _ c.args.self.now.fs _ _ c.put_entry.result (Prim.search rules)
     (placed_one g.F.FileSystemBase.may false d (no_node d) [] _ _ _ _ c.args.self.now.fs _ _ c.put_entry.result put.outcome put.written put.free
     (nothing_done c.put_entry.result c.args.self.now.fs)
     (on_error c.put_entry.result (λ same. ap (λ (w : WriterView). w.written) same) put.same)

@@ -1,6 +1,6 @@
 use Rattle.std.proofs.Common.{refl, sym}
 use Rattle.virtiofsd_fuse.specs.Grammar.{Starts}
-use Rattle.server_phases.proofs.asking.started.Goals as goal
+use Rattle.server_phases.proofs.asking.init_asked.Goals as goal
 
 pub returns-clause-told : goal.returns-clause-told
 returns-clause-told c = λ s m bytes place asks.

@@ -2,7 +2,7 @@ use Rattle.std.proofs.Common.{refl, ap, sym, ◌∙◌}
 use Rattle.virtiofsd_fuse.specs.Grammar.{ended, given, read_asked}
 use Rattle.server_requests.specs.Reading.{and_then}
 use Rattle.virtiofsd_fuse.proofs.Rows.{read_asks, read_short, read_without_room}
-use Rattle.virtiofsd_fuse.proofs.meanings_apart.read_meaning.Goals as goal
+use Rattle.virtiofsd_fuse.proofs.meanings_apart.read_with_room.Goals as goal
 
 pub returns-in-Ok : goal.returns-in-Ok
 returns-in-Ok g c = λ h options.

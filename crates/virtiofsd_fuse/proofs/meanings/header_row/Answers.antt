@@ -1,6 +1,6 @@
 use Rattle.std.proofs.Common.{refl, ap}
 use Rattle.virtiofsd_fuse.proofs.ReadRows.{call_read, is_made}
-use Rattle.virtiofsd_fuse.proofs.meanings.plain_row.Goals as goal
+use Rattle.virtiofsd_fuse.proofs.meanings.header_row.Goals as goal
 
 pub returns : goal.returns
 returns g c = λ room.

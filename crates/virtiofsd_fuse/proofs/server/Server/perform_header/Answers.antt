@@ -3,7 +3,7 @@ use Rattle.virtiofsd_fuse.specs.Serving.{setting}
 use Rattle.virtiofsd_fuse.proofs.Rows.{silent_told}
 use Rattle.fuse_fs.specs.Calls.{Destroy, Done}
 use Rattle.virtiofsd_fuse.proofs.Serve.{handles_one}
-use Rattle.virtiofsd_fuse.proofs.server.Server.perform_plain.Goals as goal
+use Rattle.virtiofsd_fuse.proofs.server.Server.perform_header.Goals as goal
 
 pub returns-in-Readlink-clause-handles : goal.returns-in-Readlink-clause-handles
 returns-in-Readlink-clause-handles g c = rw c.in-Readlink.is (
