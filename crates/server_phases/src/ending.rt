@@ -9,8 +9,8 @@ ghost use Rattle.server_phases.specs.Answering.{Gives, TellsBytes, takes, forget
 ghost use Rattle.server_phases.specs.Waiting.{WaitsFor, first_call};
 
 use crate::answering::{
-    Answered, Refused, RefusedAnswer, data_answered, is_too_long, placed_alone, answered_without_data,
-    suits,
+    Answered, Refused, RefusedAnswer, answered_without_data, data_answered, is_too_long,
+    placed_alone, suits,
 };
 use crate::session::Session;
 use crate::waiting::{Awaits, Waiting};

@@ -8,8 +8,8 @@ ghost use Rattle.virtiofsd_fuse.specs.Serving.{setting};
 ghost use Rattle.server_phases.specs.Asking.{IsAskedBy, IsRowTold, IsTold};
 
 use crate::asking::{
-    Asked, WRITE_IN_LEN, ask_write_row, called, entries_asked, pairs_asked, read_asked, refused,
-    replied, init_asked,
+    Asked, WRITE_IN_LEN, ask_write_row, called, entries_asked, init_asked, pairs_asked, read_asked,
+    refused, replied,
 };
 use crate::session::Session;
 use fuse_in::InHeader;
