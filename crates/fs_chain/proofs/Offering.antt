@@ -46,8 +46,8 @@ comes_to law h regions limit q loaded ds (step.Chain head (Some fault)) request 
 comes_to law h regions limit q loaded ds (step.Chain head None) request runs came has =
     λ len. sym (law h regions limit q loaded request _ runs (came.1 request len) has)
 
-begins : OffersAreTheMemorys → (h : Host) (bytes request : List ℕ) (old new : Workbench) (before after : KeptQueue) (told : walked.WalkOutcome) → before.stopped ≡ None → RefusalHasEvents told old before → old.state ≡ at.Free
-    → WalksOn bytes old new before after told → HasLoaded (memory_of h old.regions) (queue_of (course_of before old.limit)) nothing request
+begins : OffersAreTheMemorys → (h : Host) (bytes request : List ℕ) (old new : Workbench) (before after : KeptQueue) (told : walked.WalkOutcome) → before.stopped ≡ None
+    → RefusalHasEvents told old before → old.state ≡ at.Free → WalksOn bytes old new before after told → HasLoaded (memory_of h old.regions) (queue_of (course_of before old.limit)) nothing request
     → TellsOffer (memory_of h old.regions) (course_of before old.limit) new told request
 begins law h bytes request old new before after told running refusal free walks has =
     let course : Course = course_of before old.limit in

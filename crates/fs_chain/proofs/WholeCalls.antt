@@ -81,14 +81,16 @@ by_call {F} may m i kq request room behind files made a bytes told out (at.Waits
     let acts_so : AnswersBy may m i (at_return kq out) out.head request room (mine (replied_of given.0)) x notice (record { acts = acts; last = last }) (after_chain m i (at_return kq out) options files) =
     subst (λ (n : ℕ). AnswersBy may m i (at_return kq out) out.head request room (mine (replied_of given.0)) x notice (record { acts = acts; last = n }) (after_chain m i (at_return kq out) options files))
     (sym back.1.0)
-    (subst (λ (l : List Act). AnswersBy may m i (at_return kq out) out.head request room (mine (replied_of given.0)) x notice (record { acts = l; last = front_len reply }) (after_chain m i (at_return kq out) options files))
+    (subst (λ (l : List Act). AnswersBy may m i (at_return kq out) out.head request room (mine (replied_of given.0)) x notice (record { acts = l; last = front_len reply })
+    (after_chain m i (at_return kq out) options files))
     (sym back.1.1) all) in
     let told_so : AnswersBy may m i (at_return kq out) out.head request room (mine told) x notice (record { acts = acts; last = last }) (after_chain m i (at_return kq out) options files) =
     subst (λ (t : Replied). AnswersBy may m i (at_return kq out) out.head request room (mine t) x notice (record { acts = acts; last = last }) (after_chain m i (at_return kq out) options files)) (sym given.1) acts_so in
     (x, refl, refl, told_so)
 by_call may m i kq request room behind files made a bytes told out (at.Lists kept l) after used flags notice acts last options room_is small keeps waits data_told given goes_back two notified run = absurd waits
 by_call may m i kq request room behind files made a bytes told out at.Free after used flags notice acts last options room_is small keeps waits data_told given goes_back two notified run = absurd waits
-by_call may m i kq request room behind files made a bytes told out (at.Walking course ticket walk) after used flags notice acts last options room_is small keeps waits data_told given goes_back two notified run = absurd waits
+by_call may m i kq request room behind files made a bytes told out (at.Walking course ticket walk) after used flags notice acts last options room_is small keeps waits data_told given goes_back two notified run =
+    absurd waits
 by_call may m i kq request room behind files made a bytes told out (at.Taken o) after used flags notice acts last options room_is small keeps waits data_told given goes_back two notified run = absurd waits
 by_call may m i kq request room behind files made a bytes told out (at.HasReply o reply) after used flags notice acts last options room_is small keeps waits data_told given goes_back two notified run = absurd waits
 by_call may m i kq request room behind files made a bytes told out (at.Returning o) after used flags notice acts last options room_is small keeps waits data_told given goes_back two notified run = absurd waits
@@ -132,8 +134,8 @@ by_none {F} may m i kq request room files out kept reply g used flags notice act
     )
 
 -- as its front says
-none_by : {F : Type 0} (may : May F) (m : State F) (i : ℕ) (kq : KeptQueue) (request room behind : List ℕ) (files : F) (out kept : Out) (reply : Reply) (f : Option (List ℕ)) (used : Stores) (flags : List ℕ) (notice : Bool)
-    (acts : List Act) (last : ℕ)
+none_by : {F : Type 0} (may : May F) (m : State F) (i : ℕ) (kq : KeptQueue) (request room behind : List ℕ) (files : F) (out kept : Out) (reply : Reply) (f : Option (List ℕ)) (used : Stores)
+    (flags : List ℕ) (notice : Bool) (acts : List Act) (last : ℕ)
     → length room ≡ out.room_len → out.room_len ≤ 2 ^ 31 → kept ≡ out → reply.behind ≡ 0 → reply.front ≡ f
     → IsTold (setting m.page_size m.options out.room_len) (meaning m.options request out.room_len) behind (asked_of f)
     → ReturnsBy kq kept reply used → last ≡ front_len reply → acts ≡ acts_of room reply [] used flags → length flags ≡ 2 → notice ≡ tells flags → files ≡ m.files

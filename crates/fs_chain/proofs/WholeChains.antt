@@ -1,13 +1,10 @@
 -- A whole chain.
-use Rattle.std.proofs.Common.{◌≡◌, ℕ, ◌≤◌, ◌^◌, Bool, true, false, List, [], ◌∷◌, ◌++◌, length, map, Option, Some, None, slice_get, refl, subst, sym, ap, ◌∙◌}
-use Rattle.std.specs.Prelude.{drop, All, unwrap_or}
-use Rattle.std.proofs.lemmas.List.Elements.{All-head, All-tail}
-use Rattle.vm_iotlb.specs.declared.permissions.Permissions.TheVariants.{Read}
-use Rattle.fs_queue.proofs.ConfinedLemmas.{only_places_count}
-use Rattle.vm_memory.specs.Memory.{Memory, memory_of, reach}
+use Rattle.std.proofs.Common.{◌≡◌, ℕ, ◌≤◌, ◌^◌, Bool, true, false, List, [], ◌∷◌, ◌++◌, length, map, Option, Some, None, refl, subst, sym, ap, ◌∙◌}
+use Rattle.std.specs.Prelude.{drop}
+use Rattle.vm_memory.specs.Memory.{Memory}
 use Rattle.fs_queue.specs.Chain.{Descriptor}
-use Rattle.fs_queue.specs.Queue.{Queue, avail_index_at, ring_entry_at}
-use Rattle.fs_queue.specs.Loads.{Load, AreEntriesOf, IsEntryOf, IsLoadOf}
+use Rattle.fs_queue.specs.Queue.{Queue}
+use Rattle.fs_queue.specs.Loads.{Load}
 use Rattle.fs_queue.specs.OfferLoads.{offer_by}
 use Rattle.fs_queue.specs.Taking.{Offer, Offers, Refuses, CannotFetch, IsRequest, readable, writable, total_len, addresses_of, after_refusal}
 use Rattle.fs_queue.specs.Taking as taking
@@ -21,7 +18,7 @@ use Rattle.fs_regions.specs.declared.course.Course.{Course}
 use Rattle.fs_regions.specs.declared.step.Step as comes
 use Rattle.fs_regions.specs.declared.step.Step.TheVariants as step
 use Rattle.fs_regions.specs.Places.{places_in}
-use Rattle.fs_regions.specs.Walks.{Loaded, queue_of, ComesTo, OffersBy, IsLost}
+use Rattle.fs_regions.specs.Walks.{Loaded, queue_of, ComesTo, OffersBy}
 use Rattle.fuse_fs.specs.Calls.{FileRun}
 use Rattle.virtiofsd_fuse.specs.Grammar.{meaning}
 use Rattle.virtiofsd_fuse.specs.Serving.{May, served, setting}
@@ -45,18 +42,15 @@ use Rattle.fs_chain.specs.Answers.{IfWaits, IsGiven}
 use Rattle.fs_chain.specs.Orders.{front_len}
 use Rattle.fs_chain.specs.Queues.{at_return, ticket_of}
 use Rattle.fs_chain.specs.Returns.{ReturnsBy}
-use Rattle.fs_chain.specs.Events.{tells_of}
-use Rattle.fs_chain.specs.Walks.{HasEvents, count, course_of, out_of, faulty_out, no_reply, told_of, state_after}
+use Rattle.fs_chain.specs.Walks.{count, course_of, out_of, faulty_out, no_reply, told_of, state_after}
 use Rattle.fs_device.specs.declared.error.DeviceError.TheVariants as device
 use Rattle.fs_device.specs.Step.{State, Exchange, Idle, Refused, Exchanged, Calls, with_queue, faulty}
 use Rattle.fs_device.specs.StepBy as act
-use Rattle.fs_device.specs.StepBy.{Act, ActsBy, AnswersBy, AreStepLoadsOf, ReturnsFaultyBy, return_acts, return_stores, Effects, FindFlags, IsOfMemory, MayStoreLast, StepBy, StepOfBy, offered_by}
-use Rattle.fs_device.proofs.StepByLemmas.{step_by_is_step}
+use Rattle.fs_device.specs.StepBy.{Act, ActsBy, AnswersBy, ReturnsFaultyBy, return_acts, return_stores, Effects, StepOfBy, offered_by}
 use Rattle.fs_chain.specs.Whole.{
   ByEntries,
   ChainBy,
   ChainIsAnsweredBy,
-  ChainIsStep,
   ChainIsStepBy,
   FaultyChainBy,
   FaultyIsAnsweredBy,
@@ -67,7 +61,6 @@ use Rattle.fs_chain.specs.Whole.{
   HasReply,
   IdleIsStepBy,
   IsBefore,
-  IsByFlags,
   IsInOrder,
   IsSession,
   LoadsOf,
@@ -107,20 +100,12 @@ abbrev request_in : walked.WalkOutcome → ℕ
 request_in (says.Chain head n r) = n
 request_in _ = 0
 
-came_is : (ds : List Descriptor) (came : comes.Step) (head n r : ℕ) → says.Chain head n r ≡ told_of ds came → (came ≡ step.Chain head None) × (n ≡ count false ds) × (r ≡ count true ds)
+pub came_is : (ds : List Descriptor) (came : comes.Step) (head n r : ℕ) → says.Chain head n r ≡ told_of ds came → (came ≡ step.Chain head None) × (n ≡ count false ds) × (r ≡ count true ds)
 came_is ds (step.Load walk) head n r e = absurd (subst IsAChain e tt)
 came_is ds step.Idle head n r e = absurd (subst IsAChain e tt)
 came_is ds (step.Refused error) head n r e = absurd (subst IsAChain e tt)
 came_is ds (step.Chain h None) head n r e = (ap (λ (x : ℕ). step.Chain x None) (sym (ap head_in e)), ap request_in e, ap room_in e)
 came_is ds (step.Chain h (Some fault)) head n r e = absurd (subst IsAChain e tt)
-
--- ---- a queue without the event index
-
-has_events : (w : Workbench) (q : KeptQueue) → IsByFlags q → HasEvents w q
-has_events w q is = rw is refl
-
-flags_tell : (q : KeptQueue) (flags : List ℕ) → IsByFlags q → tells_of q flags ≡ tells flags
-flags_tell q flags is = rw is refl
 
 -- ---- what was told of the request, and how it was answered
 
@@ -163,7 +148,8 @@ told_so may m i kq request room files s out asks.Nothing asked answered NoAnswer
     (subst (λ (p : ℕ). KeepsReply (setting p s.options.0 r) (meaning s.options.0 request r) (drop 80 request) out asked.state) (sym page) meant) in
     let back_so : FromReplied kq asked.state (λ reply s₁. (last ≡ front_len reply) × (acts ≡ acts_of room reply [] s₁ flags)) used =
     subst (λ (w : Workbench). FromReplied kq w.state (λ reply s₁. (last ≡ front_len reply) × (acts ≡ acts_of room reply [] s₁ flags)) used) has back in
-    subst (λ (o : ℕ). AnsweredSo may m i (at_return kq out) out.head request room [] notice acts last o files) (options ∙ sym (ap (λ (x : Session). x.options.0) same) ∙ sym (ap (λ (w : Workbench). w.session.options.0) has))
+    subst (λ (o : ℕ). AnsweredSo may m i (at_return kq out) out.head request room [] notice acts last o files)
+    (options ∙ sym (ap (λ (x : Session). x.options.0) same) ∙ sym (ap (λ (w : Workbench). w.session.options.0) has))
     (by_reply_kept may m i kq request room (drop 80 request) files out asked.state used flags notice acts last room_is small keeps back_so two notified run)
 told_so may m i kq request room files s out asks.Nothing asked answered (OneAnswer a bytes replied) used flags notice acts last page options room_is small meant same has back two notified run = absurd has
 told_so may m i kq request room files s out asks.Nothing asked answered (ByEntries b es ending bytes) used flags notice acts last page options room_is small meant same has back two notified run = absurd has
@@ -174,19 +160,20 @@ told_so may m i kq request room files s out (asks.Fault e) asked answered NoAnsw
     (subst (λ (p : ℕ). served (setting p s.options.0 r) (meaning s.options.0 request r) [] ≡ serving_words.no_reply [] s.options.0 (Some e)) (sym page) meant.1) in
     let back_so : FromReplied kq asked.state (λ reply s₁. (last ≡ front_len reply) × (acts ≡ acts_of room reply [] s₁ flags)) used =
     subst (λ (w : Workbench). FromReplied kq w.state (λ reply s₁. (last ≡ front_len reply) × (acts ≡ acts_of room reply [] s₁ flags)) used) has back in
-    subst (λ (o : ℕ). AnsweredSo may m i (at_return kq out) out.head request room [] notice acts last o files) (options ∙ sym (ap (λ (x : Session). x.options.0) same) ∙ sym (ap (λ (w : Workbench). w.session.options.0) has))
+    subst (λ (o : ℕ). AnsweredSo may m i (at_return kq out) out.head request room [] notice acts last o files)
+    (options ∙ sym (ap (λ (x : Session). x.options.0) same) ∙ sym (ap (λ (w : Workbench). w.session.options.0) has))
     (by_fault may m i kq request room files out asked.state e used flags notice acts last room_is small meant.0 fault back_so two notified run)
 told_so may m i kq request room files s out (asks.Fault e) asked answered (OneAnswer a bytes replied) used flags notice acts last page options room_is small meant same has back two notified run = absurd has
 told_so may m i kq request room files s out (asks.Fault e) asked answered (ByEntries b es ending bytes) used flags notice acts last page options room_is small meant same has back two notified run = absurd has
 
 -- a chain's loads, by which it is offered, and how it is answered
-chain_parts : {F : Type 0} (may : May F) (given : List (List ℕ)) (request : List ℕ) (calls : Calls) (acts : List Act) (last head i : ℕ) (notice : Bool)
+pub chain_parts : {F : Type 0} (may : May F) (given : List (List ℕ)) (request : List ℕ) (calls : Calls) (acts : List Act) (last head i : ℕ) (notice : Bool)
     (old new : Workbench) (before : KeptQueue) (s : Session) (m : State F) (files : F) (run : ChainBy given request calls acts last head notice old new before s)
-    → before.stopped ≡ None → old.limit ≤ 2 ^ 31 → IsByFlags run.back → IsSession s m → FileRun may m.files calls files
+    → before.stopped ≡ None → old.limit ≤ 2 ^ 31 → IsSession s m → FileRun may m.files calls files
     → (loaded : Loaded) × LoadsOfChain given request calls acts last head notice old new before s run loaded
     × OffersBy (places_in old.regions) old.limit (queue_of (course_of before old.limit)) loaded request (Offers head (IsRequest request (addresses_of (writable run.walked_bench.descriptors.items))))
-    × AnsweredSo may m i (queue_back before run.back) head request (addresses_of (writable run.walked_bench.descriptors.items)) calls notice acts last new.session.options.0 files
-chain_parts {F} may given request calls acts last head i notice old new before s m files run goes bound by_flags session files_run =
+    × AnsweredSo may m i (queue_back before run.back) head request (addresses_of (writable run.walked_bench.descriptors.items)) calls (tells run.returns.flags) acts last new.session.options.0 files
+chain_parts {F} may given request calls acts last head i notice old new before s m files run goes bound session files_run =
     let course = course_of before old.limit in
     let q = queue_of course in
     let ds = run.walked_bench.descriptors.items in
@@ -207,11 +194,12 @@ chain_parts {F} may given request calls acts last head i notice old new before s
     let offers = found.1 request len_is in
     let room_is : length room ≡ out.room_len = fits.1 in
     let small : out.room_len ≤ 2 ^ 31 = fits.2 in
-    let so : AnsweredSo may m i back head request room (file_calls (drop 80 request) run.made run.given) notice acts last new.session.options.0 files =
-    told_so may m i run.back request room files s out run.made run.asked_bench new run.given run.returns.stores run.returns.flags notice acts last session.0 session.1
-    room_is small asked.2 asked.4 run.replies run.returns.returns run.returns.flags_len (run.returns.notified ∙ flags_tell run.back run.returns.flags by_flags) (subst (λ (cs : Calls). FileRun may m.files cs files) run.calls_are files_run) in
-    let with_calls : AnsweredSo may m i back head request room calls notice acts last new.session.options.0 files =
-    subst (λ (cs : Calls). AnsweredSo may m i back head request room cs notice acts last new.session.options.0 files) (sym run.calls_are) so in
+    let seen = tells run.returns.flags in
+    let so : AnsweredSo may m i back head request room (file_calls (drop 80 request) run.made run.given) seen acts last new.session.options.0 files =
+    told_so may m i run.back request room files s out run.made run.asked_bench new run.given run.returns.stores run.returns.flags seen acts last session.0 session.1
+    room_is small asked.2 asked.4 run.replies run.returns.returns run.returns.flags_len refl (subst (λ (cs : Calls). FileRun may m.files cs files) run.calls_are files_run) in
+    let with_calls : AnsweredSo may m i back head request room calls seen acts last new.session.options.0 files =
+    subst (λ (cs : Calls). AnsweredSo may m i back head request room cs seen acts last new.session.options.0 files) (sym run.calls_are) so in
     (loaded, all.1, offers, with_calls)
 
 -- what loads offer is offered to the machine
@@ -225,13 +213,13 @@ offered_so m old before i loaded lost request o first by =
     subst (λ (mm : Memory). offered_by mm m.limit q l ≡ Some o) (sym first.places) (subst (λ (k : ℕ). offered_by (places_in old.regions) k q l ≡ Some o) (sym first.limit) by)
 
 pub chain_is_answered_by : {F : Type 0} (may : May F) → ChainIsAnsweredBy may
-chain_is_answered_by {F} may given request calls acts last head i notice old new before s m files run goes bound by_flags session files_run =
-    let parts = chain_parts may given request calls acts last head i notice old new before s m files run goes bound by_flags session files_run in
+chain_is_answered_by {F} may given request calls acts last head i notice old new before s m files run goes bound session files_run =
+    let parts = chain_parts may given request calls acts last head i notice old new before s m files run goes bound session files_run in
     let so = parts.3 in
     (parts.0, parts.1, parts.2, so.0, so.1, so.2, so.3)
 
 -- in order it goes back where it was taken
-answered_there : {F : Type 0} (may : May F) (m : State F) (i : ℕ) (before back : KeptQueue) (limit head : ℕ) (request room : List ℕ) (calls : Calls) (x : Exchange) (notice : Bool) (e : Effects)
+pub answered_there : {F : Type 0} (may : May F) (m : State F) (i : ℕ) (before back : KeptQueue) (limit head : ℕ) (request room : List ℕ) (calls : Calls) (x : Exchange) (notice : Bool) (e : Effects)
     (options : ℕ) (files : F) → IsInOrder before back
     → AnswersBy may m i (queue_back before back) head request room calls x notice e (after_chain m i (queue_back before back) options files)
     → AnswersBy may m i (queue_of (course_of before limit)) head request room calls x notice e (after_chain m i (queue_of (course_of before limit)) options files)
@@ -240,16 +228,17 @@ answered_there {F} may m i before back limit head request room calls x notice e 
     subst P in_order answers
 
 pub chain_is_step_by : {F : Type 0} (may : May F) → ChainIsStepBy may
-chain_is_step_by {F} may given request calls acts last head i notice old new before s m files run first by_flags in_order session files_run =
+chain_is_step_by {F} may given request calls acts last head i notice old new before s m files run first in_order session files_run =
     let q = queue_of (course_of before old.limit) in
-    let parts = chain_parts may given request calls acts last head i notice old new before s m files run first.goes first.bound by_flags session files_run in
+    let seen = tells run.returns.flags in
+    let parts = chain_parts may given request calls acts last head i notice old new before s m files run first.goes first.bound session files_run in
     let loaded = parts.0 in
     let offers = parts.2 in
     let so = parts.3 in
     let l = step_loads loaded offers.1 request in
     let e : Effects = record { acts = acts; last = last } in
     let room = addresses_of (writable run.walked_bench.descriptors.items) in
-    let there = answered_there may m i before run.back old.limit head request room calls so.0 notice e new.session.options.0 files in_order so.3 in
+    let there = answered_there may m i before run.back old.limit head request room calls so.0 seen e new.session.options.0 files in_order so.3 in
     let o = Offers head (IsRequest request room) in (
       loaded,
       parts.1,
@@ -258,7 +247,7 @@ chain_is_step_by {F} may given request calls acts last head i notice old new bef
       so.0,
       so.1,
       so.2,
-      subst (λ (mq : Option Queue). StepOfBy may m i mq l calls (Exchanged so.0 notice) (record { acts = acts; last = last }) (after_chain m i q new.session.options.0 files)) (sym first.queue)
+      subst (λ (mq : Option Queue). StepOfBy may m i mq l calls (Exchanged so.0 seen) (record { acts = acts; last = last }) (after_chain m i q new.session.options.0 files)) (sym first.queue)
           (o, offered_so m old before i loaded offers.1 request o first offers.3, there),
     )
 
@@ -302,7 +291,7 @@ refusal_is ds (step.Refused why) error e = ap (λ (x : QueueError). step.Refused
 refusal_is ds (step.Chain h None) error e = absurd (subst IsRefusal e tt)
 refusal_is ds (step.Chain h (Some fault)) error e = absurd (subst IsRefusal e tt)
 
-faulty_is : (ds : List Descriptor) (came : comes.Step) (head : ℕ) (fault : ChainFault) → says.Faulty head fault ≡ told_of ds came → came ≡ step.Chain head (Some fault)
+pub faulty_is : (ds : List Descriptor) (came : comes.Step) (head : ℕ) (fault : ChainFault) → says.Faulty head fault ≡ told_of ds came → came ≡ step.Chain head (Some fault)
 faulty_is ds (step.Load walk) head fault e = absurd (subst IsFaulty e tt)
 faulty_is ds step.Idle head fault e = absurd (subst IsFaulty e tt)
 faulty_is ds (step.Refused error) head fault e = absurd (subst IsFaulty e tt)
@@ -343,10 +332,10 @@ refused_so may m i q stop.AvailFlagsUnreachable isnt = (refl, refl, refl, refl)
 refused_so may m i q stop.DescriptorUnreachable isnt = (refl, refl, refl, refl)
 
 pub refusal_is_step_by : {F : Type 0} (may : May F) → RefusalIsStepBy may
-refusal_is_step_by {F} may given e i old new before after m first walks =
+refusal_is_step_by {F} may given e i old new before after m first events walks =
     let course = course_of before old.limit in
     let q = queue_of course in
-    let all = walk_comes given old new before after (says.Refused e) first.goes (has_events old before first.by_flags) walks in
+    let all = walk_comes given old new before after (says.Refused e) first.goes events walks in
     let loaded = all.0 in
     let came = all.2 in
     let is = refusal_is new.descriptors.items came.0 e came.1.0 in
@@ -363,7 +352,8 @@ refusal_is_step_by {F} may given e i old new before after m first walks =
     )
 
 -- it goes back with nothing
-faulty_so : {F : Type 0} (may : May F) (m : State F) (i : ℕ) (kq : KeptQueue) (course : Course) (ticket : Ticket) (head : ℕ) (fault : ChainFault) (stores : Stores) (flags : List ℕ) (acts : List Act) (last : ℕ) (notice : Bool)
+faulty_so : {F : Type 0} (may : May F) (m : State F) (i : ℕ) (kq : KeptQueue) (course : Course) (ticket : Ticket) (head : ℕ) (fault : ChainFault) (stores : Stores) (flags : List ℕ)
+    (acts : List Act) (last : ℕ) (notice : Bool)
     → length flags ≡ 2 → notice ≡ tells flags → ReturnsBy kq (faulty_out course ticket head) no_reply stores → last ≡ front_len no_reply → acts ≡ acts_of [] no_reply [] stores flags
     → ReturnsFaultyBy m i (at_position course.layout kq.returned) head fault [] (faulty head fault) notice (record { acts = acts; last = last })
     (after_chain m i (at_position course.layout kq.returned) m.options m.files)
@@ -381,11 +371,12 @@ faulty_so {F} may m i kq course ticket head fault stores flags acts last notice 
 
 -- its loads, by which it is offered, and how it goes back
 faulty_parts : {F : Type 0} (may : May F) (given : List (List ℕ)) (fault : ChainFault) (acts : List Act) (last head i : ℕ) (notice : Bool) (old : Workbench) (before : KeptQueue) (m : State F)
-    (run : FaultyChainBy given fault acts last head notice old before) → before.stopped ≡ None → IsByFlags run.back
+    (run : FaultyChainBy given fault acts last head notice old before) → before.stopped ≡ None
     → (loaded : Loaded) × LoadsOf given old run.walked_bench before run.taken (wents.On (says.Faulty head fault)) run.walks loaded
     × OffersBy (places_in old.regions) old.limit (queue_of (course_of before old.limit)) loaded [] (Offers head (CannotFetch fault))
-    × ReturnsFaultyBy m i (queue_back before run.back) head fault [] (faulty head fault) notice (record { acts = acts; last = last }) (after_chain m i (queue_back before run.back) m.options m.files)
-faulty_parts {F} may given fault acts last head i notice old before m run goes by_flags =
+    × ReturnsFaultyBy m i (queue_back before run.back) head fault [] (faulty head fault) (tells run.returns.flags) (record { acts = acts; last = last })
+    (after_chain m i (queue_back before run.back) m.options m.files)
+faulty_parts {F} may given fault acts last head i notice old before m run goes =
     let course = course_of before old.limit in
     let ticket = ticket_of before in
     let q = queue_of course in
@@ -399,24 +390,25 @@ faulty_parts {F} may given fault acts last head i notice old before m run goes b
     let state_is : run.walked_bench.state ≡ at.HasReply (faulty_out course ticket head) no_reply = came.1.1 ∙ ap (λ (c : comes.Step). state_after course ticket ds c) is in
     let back : ReturnsBy run.back (faulty_out course ticket head) no_reply run.returns.stores × ((last ≡ front_len no_reply) × (acts ≡ acts_of [] no_reply [] run.returns.stores run.returns.flags)) =
     subst (λ (st : state.State). FromReplied run.back st (λ reply s₁. (last ≡ front_len reply) × (acts ≡ acts_of [] reply [] s₁ run.returns.flags)) run.returns.stores) state_is run.returns.returns in
-    let done = faulty_so may m i run.back course ticket head fault run.returns.stores run.returns.flags acts last notice run.returns.flags_len (run.returns.notified ∙ flags_tell run.back run.returns.flags by_flags) back.0 back.1.0 back.1.1 in
+    let done = faulty_so may m i run.back course ticket head fault run.returns.stores run.returns.flags acts last (tells run.returns.flags) run.returns.flags_len refl back.0 back.1.0 back.1.1 in
     (loaded, all.1, found, done)
 
 pub faulty_is_answered_by : {F : Type 0} (may : May F) → FaultyIsAnsweredBy may
-faulty_is_answered_by {F} may given fault acts last head i notice old before m run goes by_flags =
-    let parts = faulty_parts may given fault acts last head i notice old before m run goes by_flags in
+faulty_is_answered_by {F} may given fault acts last head i notice old before m run goes =
+    let parts = faulty_parts may given fault acts last head i notice old before m run goes in
     (parts.0, parts.1, parts.2, faulty head fault, parts.3)
 
 pub faulty_is_step_by : {F : Type 0} (may : May F) → FaultyIsStepBy may
-faulty_is_step_by {F} may given fault acts last head i notice old before m first run by_flags in_order =
+faulty_is_step_by {F} may given fault acts last head i notice old before m first run in_order =
     let q = queue_of (course_of before old.limit) in
-    let parts = faulty_parts may given fault acts last head i notice old before m run first.goes by_flags in
+    let seen = tells run.returns.flags in
+    let parts = faulty_parts may given fault acts last head i notice old before m run first.goes in
     let loaded = parts.0 in
     let found = parts.2 in
     let l = step_loads loaded found.1 [] in
     let o = Offers head (CannotFetch fault) in
     let e : Effects = record { acts = acts; last = last } in
-    let P : ℕ → Type 0 = λ p. ReturnsFaultyBy m i (at_position before.layout p) head fault [] (faulty head fault) notice e (after_chain m i (at_position before.layout p) m.options m.files) in
+    let P : ℕ → Type 0 = λ p. ReturnsFaultyBy m i (at_position before.layout p) head fault [] (faulty head fault) seen e (after_chain m i (at_position before.layout p) m.options m.files) in
     let done = subst P in_order parts.3 in (
       loaded,
       parts.1,
@@ -424,79 +416,6 @@ faulty_is_step_by {F} may given fault acts last head i notice old before m first
       (found.0, found.2),
       faulty head fault,
       refl,
-      subst (λ (mq : Option Queue). StepOfBy may m i mq l [] (Exchanged (faulty head fault) notice) (record { acts = acts; last = last }) (after_chain m i q m.options m.files)) (sym first.queue)
+      subst (λ (mq : Option Queue). StepOfBy may m i mq l [] (Exchanged (faulty head fault) seen) (record { acts = acts; last = last }) (after_chain m i q m.options m.files)) (sym first.queue)
           (o, offered_so m old before i loaded found.1 [] o first found.3, done),
     )
-
--- ---- over a memory that has what was loaded
-
-abbrev room_of_offer : Option Offer → List ℕ
-room_of_offer (Some (Offers head (IsRequest request room))) = room
-room_of_offer _ = []
-
-load_is : (m : Memory) (a : ℕ) (came : Option (List ℕ)) → (came ≡ None → reach m Read a 2 ≡ false) → ((bs : List ℕ) → came ≡ Some bs → IsLoadOf m 2 (record { address = a; came = came }))
-    → IsLoadOf m 2 (record { address = a; came = came })
-load_is m a None lacks has = rw (lacks refl) refl
-load_is m a (Some bs) lacks has = has bs refl
-
-lost_is : (m : Memory) (l : Load) → IsLost m l → IsEntryOf m l
-lost_is m l lost = lost.0 ∙ (rw lost.1 refl)
-
-all_lost : (m : Memory) (ls : List Load) → All (IsLost m) ls → AreEntriesOf m ls
-all_lost m [] all = tt
-all_lost m (l ∷ ls) all = (lost_is m l (All-head (IsLost m) l ls all), all_lost m ls (All-tail (IsLost m) l ls all))
-
-both : (m : Memory) (ls lost : List Load) → AreEntriesOf m ls → AreEntriesOf m lost → AreEntriesOf m (ls ++ lost)
-both m [] lost are more = more
-both m (l ∷ ls) lost are more = (are.0, both m ls lost are.1 more)
-
-pub chain_is_step : {F : Type 0} (may : May F) → ChainIsStep may
-chain_is_step {F} may given request calls acts last head i notice old new before s m files h room run first by_flags in_order session files_run having flags room_is apart =
-    let q = queue_of (course_of before old.limit) in
-    let memory = memory_of h old.regions in
-    let rooms = addresses_of (writable run.walked_bench.descriptors.items) in
-    let parts = chain_parts may given request calls acts last head i notice old new before s m files run first.goes first.bound by_flags session files_run in
-    let loaded = parts.0 in
-    let has = having loaded parts.1 in
-    let by = parts.2 in
-    let so = parts.3 in
-    let x = so.0 in
-    let ls = loaded.entries ++ by.1 in
-    let l = step_loads loaded by.1 request in
-    let o = Offers head (IsRequest request rooms) in
-    let e : Effects = record { acts = acts; last = last } in
-    let over : State F = record m { memory = memory } in
-    let after : State F = record (after_chain m i q new.session.options.0 files) { memory = memory } in
-    let ans = answered_there may m i before run.back old.limit head request rooms calls x notice e new.session.options.0 files in_order so.3 in
-    let answers_over : AnswersBy may over i q head request rooms calls x notice e after = record {
-      given = ans.given;
-      serves = ans.serves;
-      returns = record {
-        exchange = ans.returns.exchange;
-        flags = ans.returns.flags;
-        flags_len = ans.returns.flags_len;
-        acts = ans.returns.acts;
-        state = ap (λ (st : State F). record st { memory = memory }) ans.returns.state;
-        told = ans.returns.told;
-      };
-    } in
-    let same = only_places_count memory (places_in old.regions) old.limit q loaded.index loaded.entry ls request
-    (record { element = refl; index = refl; flags = refl; chain = λ hd ds found. (refl, refl) }) in
-    let offered : offered_by memory m.limit q l ≡ Some o = subst (λ (k : ℕ). offered_by memory k q l ≡ Some o) (sym first.limit) (same ∙ by.3) in
-    let step : StepBy may over i l calls (Exchanged x notice) e after =
-    subst (λ (mq : Option Queue). StepOfBy may over i mq l calls (Exchanged x notice) e after) (sym first.queue) (o, offered, answers_over) in
-    let are : AreStepLoadsOf memory q l = record {
-      index_is = λ _. load_is memory (avail_index_at q) loaded.index by.0.0 has.index_is;
-      entry_is = λ _ asks. load_is memory (ring_entry_at q) loaded.entry (λ none. by.0.1 none asks) has.entry_is;
-      entries_are = both memory loaded.entries by.1 has.entries_are (all_lost memory by.1 by.2);
-      request_is = has.request_is;
-    } in
-    let is_q : (q' : Queue) → slice_get m.queues i ≡ Some q' → q ≡ q' = λ q' there. ap (λ (k : Option Queue). unwrap_or k q) (sym first.queue ∙ there) in
-    let of_memory : IsOfMemory over i l e = record {
-      loads = λ q' there. subst (λ (k : Queue). AreStepLoadsOf memory k l) (is_q q' there) are;
-      flags = λ q' there. subst (λ (k : Queue). FindFlags memory k acts) (is_q q' there) flags;
-      apart = λ q' hd rq rm there off.
-          subst (λ (r : List ℕ). MayStoreLast memory r last)
-          (room_is ∙ ap room_of_offer (sym offered ∙ subst (λ (k : Queue). offered_by memory m.limit k l ≡ Some (Offers hd (IsRequest rq rm))) (sym (is_q q' there)) off)) apart;
-    } in
-    (x, so.1, so.2, step_by_is_step may over i l calls (Exchanged x notice) e after of_memory step)

@@ -194,6 +194,16 @@ listing_served s m behind made b es ending bytes kept l w after st kind list_ask
     let meant : m ≡ Asks (Lists unique a) = list_asked.1 ∙ ap Asks c.2 in
     (reply, so.2, ap length bytes_are ∙ so.3, ap (λ (x : Meaning). served s x (answers_alone (listing_calls (call_of behind made) b es ending))) meant ∙ mine)
 
+-- it has its reply then, and is the chain that was asked
+pub listed_out : (s : Setting) (m : Meaning) (behind : List ℕ) (made : made_call.FileCall) (b : Bool) (es : List Brought) (ending : Ending) (bytes : List ℕ) (out : Out) (w after : Workbench)
+    → KeepsCall s m behind made out w.state → IsListedBy w b es ending bytes after → (reply : Reply) × (after.state ≡ at.HasReply out reply)
+listed_out s m behind made b es ending bytes out w after keeps is =
+    let lists = from_lists w.state (λ l. l.with_nodes ≡ b) is.kind in
+    let kept_so : KeepsCall s m behind made out (at.Lists lists.0 lists.1) = subst (λ (x : state.State). KeepsCall s m behind made out x) lists.2 keeps in
+    let so = listing_served s m behind made b es ending bytes lists.0 lists.1 w after lists.2 lists.3 kept_so.1 is in
+    let reply : Reply = record { front = Some so.0.front; behind = so.0.len } in
+    (reply, so.1 ∙ ap (λ (o : Out). at.HasReply o reply) kept_so.0)
+
 -- a chain whose listing was answered
 pub by_listing : {F : Type 0} (may : May F) (m : State F) (i : ℕ) (kq : KeptQueue) (request room behind : List ℕ) (files : F) (made : made_call.FileCall) (b : Bool) (es : List Brought)
     (ending : Ending) (bytes : List ℕ) (out : Out) (w after : Workbench) (used : Stores) (flags : List ℕ) (notice : Bool) (acts : List Act) (last : ℕ)

@@ -21,13 +21,14 @@ use Rattle.fs_chain.specs.declared.state.Ticket.{Ticket}
 use Rattle.fs_chain.specs.declared.walking.WalkOutcome as walked
 use Rattle.fs_chain.specs.declared.walking.WalkOutcome.TheVariants as says
 use Rattle.fs_chain.specs.declared.workbench.Workbench.{Workbench}
-use Rattle.fs_chain.specs.Walks.{WalksOn, WalksFrom, Begins, BeginsOn, BeginsUnless, BeginsWhere, GoesOn, GoesOnUnless, HasEvents, Keeps, RefusalHasEvents, course_of, queue_after}
+use Rattle.fs_chain.specs.Events.{event_fault}
+use Rattle.fs_chain.specs.Walks.{WalksOn, WalksFrom, Begins, BeginsOn, BeginsUnless, BeginsWhere, GoesOn, GoesOnUnless, HasEvents, IsAllButPart, Keeps, RefusalHasEvents, course_of, queue_after}
 use Rattle.fs_chain.specs.declared.loads.Went as went
 use Rattle.fs_chain.specs.declared.loads.Went.TheVariants as wents
 use Rattle.fs_chain.specs.Loads.{GoesSo, came, whole}
 use Rattle.fs_chain.specs.Orders.{IfWalking, load_len}
 use Rattle.fs_chain.specs.Queues.{ticket_of}
-use Rattle.fs_chain.specs.Whole.{AddsSo, BeginsBy, IsWalked, LoadsOf, WalksBy, WantedHasAPlace, WantsBytes}
+use Rattle.fs_chain.specs.Whole.{AddsSo, BeginsBy, EventFaultRefuses, IsWalked, LoadsOf, WalksBy, WantedHasAPlace, WantsBytes}
 use Rattle.fs_queue.specs.Chain.{Descriptor}
 use Rattle.fs_chain.proofs.Steps.{begun_has_events}
 
@@ -249,6 +250,27 @@ wanted_has_a_place given old new before after told goes walks wants lacks =
     let lost : is_some (place old.regions (asked_by w.walk + came new)) ≡ false =
     ap is_some (subst (λ (r : List Region). place r (asked_by w.walk + came new) ≡ None) w.regions (none w.few)) in
     true≢false (sym some ∙ lost)
+
+-- ---- where the event index has no place
+
+no_fault : (e : QueueError) → None ≡ Some e → ⊥
+no_fault e is = cc
+
+-- the first call is refused
+first_refused : (e : QueueError) (old new : Workbench) (before after : KeptQueue) (told : went.Went) → before.stopped ≡ None → event_fault (places_in old.regions) before ≡ Some e
+    → BeginsBy old new before after told → (told ≡ wents.On (says.Refused e)) × IsAllButPart old new × (new.part.items ≡ []) × (after ≡ record before { stopped = Some e })
+first_refused e old new before after wents.Part goes fault by = absurd (begins_whole old before new after by.0 by.1)
+first_refused e old new before after (wents.On told) goes fault by =
+    let unless = begun old new before after told goes by in
+    let refused : BeginsWhere (Some e) old new before after told = subst (λ (f : Option QueueError). BeginsWhere f old new before after told) fault unless in
+    (ap (λ (x : walked.WalkOutcome). wents.On x) refused.0, refused.1, by.1.1, refused.2)
+
+pub event_fault_refuses : EventFaultRefuses
+event_fault_refuses [] e old new before after told goes fault walks =
+    let refused = first_refused e old new before after told goes fault walks in
+    (refused.0, refl, refl, refused.1, refused.2, refused.3)
+event_fault_refuses (bs ∷ given) e old new before after told goes fault walks =
+    absurd (no_fault e (sym (walk_has_events given old walks.0 before walks.1 walks.2 goes (wants_unrefused old before walks.2 walks.4) walks.3) ∙ fault))
 
 -- ---- by the contract of walk, call by call
 

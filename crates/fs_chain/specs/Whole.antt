@@ -1,15 +1,16 @@
--- A whole chain by the calls of a handle, from its walk to its return, for a guest that writes meanwhile (VIRTIO 1.2, 2.7.5 to 2.7.8). Of queues with the event index all
--- is left out but that what a walk wants has a place.
+-- A whole chain by the calls of a handle, from its walk to its return, for a guest that writes meanwhile (VIRTIO 1.2, 2.7.5 to 2.7.8). The plain machine has no event
+-- index: its step takes the two bytes that are seen after the stores for its flags. What the driver of a queue with the event index is told by them is said beside it.
 use Rattle.std.specs.Prelude.{false, All, ◌≡◌, ◌≤◌, ◌^◌, ℕ, Bool, List, [], ◌∷◌, ◌++◌, length, map, drop, Option, Some, None, slice_get}
 use Rattle.vm_memory_core.specs.Host.{Host, changed_at}
-use Rattle.vm_memory.specs.Memory.{memory_of}
+use Rattle.vm_memory.specs.Memory.{Memory, bytes, memory_of}
 use Rattle.fs_queue.specs.declared.fault.ChainFault.{ChainFault}
 use Rattle.fs_queue.specs.declared.fault.QueueError.{QueueError}
+use Rattle.fs_queue.specs.declared.layout.QueueLayout.{QueueLayout}
 use Rattle.fs_queue.specs.Queue.{Queue}
 use Rattle.fs_queue.specs.Chain.{Descriptor}
 use Rattle.fs_queue.specs.Loads.{Load}
 use Rattle.fs_queue.specs.Taking.{Offers, CannotFetch, IsRequest, writable, addresses_of, after_refusal}
-use Rattle.fs_queue.specs.Returning.{advanced}
+use Rattle.fs_queue.specs.Returning.{advanced, tells, wants_notice}
 use Rattle.fs_queue.specs.ReturningView.{stores_of}
 use Rattle.fs_queue.specs.WalkingView.{at_position}
 use Rattle.fs_regions.specs.Places.{places_in}
@@ -42,11 +43,11 @@ use Rattle.fs_chain.specs.declared.loads.Went.TheVariants as wents
 use Rattle.fs_chain.specs.declared.workbench.Workbench.{Workbench}
 use Rattle.fs_chain.specs.Answers.{IfWaits, IsGiven, IsWaiting}
 use Rattle.fs_chain.specs.Asking.{TellsMeaning}
-use Rattle.fs_chain.specs.Events.{tells_of}
+use Rattle.fs_chain.specs.Events.{event_fault, seen_at, tells_of}
 use Rattle.fs_chain.specs.Orders.{front_len}
 use Rattle.fs_chain.specs.Returns.{ReturnsBy}
 use Rattle.fs_chain.specs.Loads.{GoesSo, HasNoPlace, came, whole}
-use Rattle.fs_chain.specs.Walks.{course_of, told_of}
+use Rattle.fs_chain.specs.Walks.{HasEvents, IsAllButPart, course_of, told_of}
 use Rattle.fs_chain.specs.WholeListings.{Ending, IsListedBy, listing_calls}
 use Rattle.fs_device.specs.declared.error.DeviceError.TheVariants as device
 use Rattle.fs_device.specs.Step.{State, Exchange, Idle, Refused, Exchanged, Calls, Step, with_queue}
@@ -156,13 +157,13 @@ front_if (Some front) behind = front ++ behind
 abbrev pub reply_bytes : Reply → (behind : List ℕ) → List ℕ
 reply_bytes reply behind = front_if reply.front behind
 
--- what the caller stores and loads for a return: the data over the room, the front over its begin, the element's two halves and the index, and then the flags
--- (2.7.8 and 2.7.7); a chain without a reply stores none in its room
+-- what the caller stores and loads for a return: the data over the room, the front over its begin, the element's two halves and the index, and then the two bytes that are
+-- seen: flags, or used_event (2.7.8 and 2.7.7); a chain without a reply stores none in its room
 abbrev pub acts_of : (room : List ℕ) → Reply → (behind : List ℕ) → Stores → (flags : List ℕ) → List Act
 acts_of room reply behind s flags =
     map act.Stores (reply_stores room (reply_bytes reply behind) (front_len reply) ++ stores_of s.used) ++ act.LoadsFlags flags ∷ []
 
--- a chain goes back by what its caller stores and loads, and this is told of the flags that were loaded
+-- a chain goes back by what its caller stores and loads, and this is told of the two bytes that were loaded
 pub record GoesBackBy (back : KeptQueue) (room : List ℕ) (behind : List ℕ) (from : state.State) (acts : List Act) (last : ℕ) (notice : Bool) : Type 0 where
   pub stores : Stores
   pub flags : List ℕ
@@ -173,7 +174,7 @@ pub record GoesBackBy (back : KeptQueue) (room : List ℕ) (behind : List ℕ) (
 -- ---- the whole
 
 -- a chain from its walk to its return, without a refusal between: the calls of the walk, the request as it was loaded, the call and its answer, the stores and
--- the flags; limit, regions and position are those of its beginning, and `back` is the queue as the return finds it: other chains may have been taken and have gone
+-- the two bytes that are seen; limit, regions and position are those of its beginning, and `back` is the queue as the return finds it: other chains may have been taken and have gone
 -- back meanwhile
 pub record ChainBy (given_bytes : List (List ℕ)) (request : List ℕ) (calls : Calls) (acts : List Act) (last : ℕ) (head : ℕ) (notice : Bool)
     (old new : Workbench) (before : KeptQueue) (s : Session) : Type 0 where
@@ -208,14 +209,13 @@ queue_back before back = at_position before.layout back.returned
 abbrev pub IsInOrder : (before back : KeptQueue) → Type 0
 IsInOrder before back = back.returned ≡ before.position
 
--- the driver is told by the available flags: the plain machine has no event index
+-- the driver is told by the available flags, as that of the plain machine
 abbrev pub IsByFlags : KeptQueue → Type 0
 IsByFlags q = q.event_index ≡ false
 
 -- the state of the plain machine before: its memory's places are the regions', its queue is the kept one, which isn't stopped, and the limit is one
 pub record IsBefore {F : Type 0} (old : Workbench) (before : KeptQueue) (i : ℕ) (m : State F) : Type 0 where
   pub goes : before.stopped ≡ None
-  pub by_flags : IsByFlags before
   pub places : m.memory ≡ places_in old.regions
   pub limit : m.limit ≡ old.limit
   pub bound : old.limit ≤ 2 ^ 31
@@ -249,32 +249,40 @@ IdleIsStepBy {F} may =
     (loaded : Loaded) × LoadsOf given old new before after (wents.On says.Idle) walks loaded
     × (lost : List Load) × LackPlaces old before loaded lost × StepBy may m i (step_loads loaded lost []) [] Idle no_effects m
 
--- a walk that is refused is the plain machine's refused step, which stops the queue
+-- a walk that is refused is the plain machine's refused step, which stops the queue, if the event index has its places
 abbrev pub RefusalIsStepBy : {F : Type 0} → May F → Type 0
 RefusalIsStepBy {F} may =
-    (given : List (List ℕ)) (e : QueueError) (i : ℕ) (old new : Workbench) (before after : KeptQueue) (m : State F) → IsBefore old before i m →
+    (given : List (List ℕ)) (e : QueueError) (i : ℕ) (old new : Workbench) (before after : KeptQueue) (m : State F) → IsBefore old before i m → HasEvents old before →
     (walks : WalksBy given old new before after (wents.On (says.Refused e))) → let q = queue_of (course_of before old.limit) in
     (loaded : Loaded) × LoadsOf given old new before after (wents.On (says.Refused e)) walks loaded
     × (lost : List Load) × LackPlaces old before loaded lost × StepBy may m i (step_loads loaded lost []) [] (Refused (device.Queue e)) no_effects (with_queue m i (after_refusal q e))
+
+-- without them a walk is refused by its first call, whatever waits: no byte is loaded of it and none stored, the handle stays as it was, and the queue is stopped
+abbrev pub EventFaultRefuses : Type 0
+EventFaultRefuses =
+    (given : List (List ℕ)) (e : QueueError) (old new : Workbench) (before after : KeptQueue) (told : went.Went) → before.stopped ≡ None →
+    event_fault (places_in old.regions) before ≡ Some e → (walks : WalksBy given old new before after told) →
+    (told ≡ wents.On (says.Refused e)) × (given ≡ []) × LoadsOf given old new before after told walks nothing × IsAllButPart old new × (new.part.items ≡ [])
+    × (after ≡ record before { stopped = Some e })
 
 -- a faulty chain is the plain machine's step that gives it back with nothing
 abbrev pub FaultyIsStepBy : {F : Type 0} → May F → Type 0
 FaultyIsStepBy {F} may =
     (given : List (List ℕ)) (fault : ChainFault) (acts : List Act) (last head i : ℕ) (notice : Bool) (old : Workbench) (before : KeptQueue) (m : State F) →
-    IsBefore old before i m → (run : FaultyChainBy given fault acts last head notice old before) → IsByFlags run.back → IsInOrder before run.back →
+    IsBefore old before i m → (run : FaultyChainBy given fault acts last head notice old before) → IsInOrder before run.back →
     (loaded : Loaded) × LoadsOf given old run.walked_bench before run.taken (wents.On (says.Faulty head fault)) run.walks loaded
     × (lost : List Load) × LackPlaces old before loaded lost × (x : Exchange) × (x.head ≡ head)
-    × StepBy may m i (step_loads loaded lost []) [] (Exchanged x notice) (record { acts = acts; last = last })
+    × StepBy may m i (step_loads loaded lost []) [] (Exchanged x (tells run.returns.flags)) (record { acts = acts; last = last })
     (after_chain m i (queue_of (course_of before old.limit)) m.options m.files)
 
 -- whichever chains of its queue go back before it, a faulty chain goes back with nothing where it does
 abbrev pub FaultyIsAnsweredBy : {F : Type 0} → May F → Type 0
 FaultyIsAnsweredBy {F} may =
     (given : List (List ℕ)) (fault : ChainFault) (acts : List Act) (last head i : ℕ) (notice : Bool) (old : Workbench) (before : KeptQueue) (m : State F) →
-    (run : FaultyChainBy given fault acts last head notice old before) → before.stopped ≡ None → IsByFlags run.back → let q = queue_back before run.back in
+    (run : FaultyChainBy given fault acts last head notice old before) → before.stopped ≡ None → let q = queue_back before run.back in
     (loaded : Loaded) × LoadsOf given old run.walked_bench before run.taken (wents.On (says.Faulty head fault)) run.walks loaded
     × OffersBy (places_in old.regions) old.limit (queue_of (course_of before old.limit)) loaded [] (Offers head (CannotFetch fault)) × (x : Exchange)
-    × ReturnsFaultyBy m i q head fault [] x notice (record { acts = acts; last = last }) (after_chain m i q m.options m.files)
+    × ReturnsFaultyBy m i q head fault [] x (tells run.returns.flags) (record { acts = acts; last = last }) (after_chain m i q m.options m.files)
 
 -- these loads came of the calls of a chain's walk
 abbrev pub LoadsOfChain : (given : List (List ℕ)) (request : List ℕ) (calls : Calls) (acts : List Act) (last head : ℕ) (notice : Bool) (old new : Workbench) (before : KeptQueue) (s : Session)
@@ -288,34 +296,54 @@ abbrev pub ChainIsAnsweredBy : {F : Type 0} → May F → Type 0
 ChainIsAnsweredBy {F} may =
     (given : List (List ℕ)) (request : List ℕ) (calls : Calls) (acts : List Act) (last head i : ℕ) (notice : Bool)
     (old new : Workbench) (before : KeptQueue) (s : Session) (m : State F) (files : F) →
-    (run : ChainBy given request calls acts last head notice old new before s) → before.stopped ≡ None → old.limit ≤ 2 ^ 31 → IsByFlags run.back → IsSession s m → FileRun may m.files calls files →
+    (run : ChainBy given request calls acts last head notice old new before s) → before.stopped ≡ None → old.limit ≤ 2 ^ 31 → IsSession s m → FileRun may m.files calls files →
     let room = addresses_of (writable run.walked_bench.descriptors.items) in let q = queue_back before run.back in
     (loaded : Loaded) × LoadsOfChain given request calls acts last head notice old new before s run loaded
     × OffersBy (places_in old.regions) old.limit (queue_of (course_of before old.limit)) loaded request (Offers head (IsRequest request room))
     × (x : Exchange) × (x.head ≡ head) × (x.request ≡ request)
-    × AnswersBy may m i q head request room calls x notice (record { acts = acts; last = last }) (after_chain m i q new.session.options.0 files)
+    × AnswersBy may m i q head request room calls x (tells run.returns.flags) (record { acts = acts; last = last }) (after_chain m i q new.session.options.0 files)
 
 -- if it goes back in order, the calls told, the reply and the stores of a chain are those of the plain machine's step by what was loaded
 abbrev pub ChainIsStepBy : {F : Type 0} → May F → Type 0
 ChainIsStepBy {F} may =
     (given : List (List ℕ)) (request : List ℕ) (calls : Calls) (acts : List Act) (last head i : ℕ) (notice : Bool)
     (old new : Workbench) (before : KeptQueue) (s : Session) (m : State F) (files : F) →
-    (run : ChainBy given request calls acts last head notice old new before s) → IsBefore old before i m → IsByFlags run.back → IsInOrder before run.back → IsSession s m → FileRun may m.files calls files →
+    (run : ChainBy given request calls acts last head notice old new before s) → IsBefore old before i m → IsInOrder before run.back → IsSession s m → FileRun may m.files calls files →
     (loaded : Loaded) × LoadsOfChain given request calls acts last head notice old new before s run loaded
     × (lost : List Load) × LackPlaces old before loaded lost × (x : Exchange) × (x.head ≡ head) × (x.request ≡ request)
-    × StepBy may m i (step_loads loaded lost request) calls (Exchanged x notice) (record { acts = acts; last = last })
+    × StepBy may m i (step_loads loaded lost request) calls (Exchanged x (tells run.returns.flags)) (record { acts = acts; last = last })
     (after_chain m i (queue_of (course_of before old.limit)) new.session.options.0 files)
 
--- and over some memory: if one has all that was loaded (then no byte was loaded as two), the flags as they are after the stores, and the front's bytes apart, it is
--- the plain machine's step over that memory, which is left with the stores in it
+-- the two bytes that were loaded for a return stand at used_event, and tell whether they name the position where it goes back; without the event index they are the
+-- available flags, and tell what the plain machine tells by them
+pub record IsToldBySeen (layout : QueueLayout) (back : KeptQueue) (s : Stores) (seen : List ℕ) (notice : Bool) : Type 0 where
+  pub place : s.seen_at ≡ seen_at back.event_index layout
+  pub told : notice ≡ tells_of back seen
+  pub by_flags : IsByFlags back → notice ≡ tells seen
+
+-- so it is of each chain, whichever chains of its queue go back before it
+pub record ReturnsAreToldBySeen : Type 0 where
+  pub of_chain : (given : List (List ℕ)) (request : List ℕ) (calls : Calls) (acts : List Act) (last head : ℕ) (notice : Bool) (old new : Workbench) (before : KeptQueue) (s : Session)
+      → before.stopped ≡ None → (run : ChainBy given request calls acts last head notice old new before s) → IsToldBySeen before.layout run.back run.returns.stores run.returns.flags notice
+  pub of_faulty : (given : List (List ℕ)) (fault : ChainFault) (acts : List Act) (last head : ℕ) (notice : Bool) (old : Workbench) (before : KeptQueue)
+      → before.stopped ≡ None → (run : FaultyChainBy given fault acts last head notice old before) → IsToldBySeen before.layout run.back run.returns.stores run.returns.flags notice
+
+-- if the load of the two bytes finds what memory has at this place by then, the driver is told by what it has there after the stores; without the event index so is that of
+-- the plain machine, by the flags
+pub record IsToldByMemory (m left : Memory) (q : Queue) (back : KeptQueue) (place : ℕ) (acts : List Act) (notice : Bool) : Type 0 where
+  pub told : FindFlags m (record q { avail = place }) acts → notice ≡ tells_of back (bytes left place 2)
+  pub by_flags : IsByFlags back → FindFlags m q acts → notice ≡ wants_notice left q
+
+-- and over some memory: if one has all that was loaded before (then no byte was loaded as two), and the front's bytes apart, it is the plain machine's step over that
+-- memory, which is left with the stores in it; the machine tells by its flags, and the handle by the two bytes that it sees
 abbrev pub ChainIsStep : {F : Type 0} → May F → Type 0
 ChainIsStep {F} may =
     (given : List (List ℕ)) (request : List ℕ) (calls : Calls) (acts : List Act) (last head i : ℕ) (notice : Bool)
     (old new : Workbench) (before : KeptQueue) (s : Session) (m : State F) (files : F) (h : Host) (room : List ℕ) →
-    let q = queue_of (course_of before old.limit) in let memory = memory_of h old.regions in
-    (run : ChainBy given request calls acts last head notice old new before s) → IsBefore old before i m → IsByFlags run.back → IsInOrder before run.back → IsSession s m → FileRun may m.files calls files →
+    let q = queue_of (course_of before old.limit) in let memory = memory_of h old.regions in let left = after_stores memory (stores_among acts) in
+    (run : ChainBy given request calls acts last head notice old new before s) → IsBefore old before i m → IsInOrder before run.back → IsSession s m → FileRun may m.files calls files →
     ((loaded : Loaded) → LoadsOfChain given request calls acts last head notice old new before s run loaded → HasLoaded memory q loaded request) →
-    FindFlags memory q acts → room ≡ addresses_of (writable run.walked_bench.descriptors.items) → MayStoreLast memory room last →
+    room ≡ addresses_of (writable run.walked_bench.descriptors.items) → MayStoreLast memory room last →
     (x : Exchange) × (x.head ≡ head) × (x.request ≡ request)
-    × Step may (record m { memory = memory }) i calls (Exchanged x notice)
-    (record (after_chain m i q new.session.options.0 files) { memory = after_stores memory (stores_among acts) })
+    × Step may (record m { memory = memory }) i calls (Exchanged x (wants_notice left q)) (record (after_chain m i q new.session.options.0 files) { memory = left })
+    × IsToldByMemory memory left q run.back (seen_at run.back.event_index before.layout) acts notice
