@@ -17,7 +17,7 @@ use Rattle.virtiofsd_fuse.specs.Serving.{May}
 use Rattle.fs_device.specs.Step.{State, Exchange, Exchanged, Calls}
 use Rattle.fs_device.specs.StepBy.{StepOfBy, ExchangesBy, Effects, AnswersBy, ReturnsFaultyBy, return_acts, return_stores, reply_stores, offered_by}
 use Rattle.fs_live.specs.Several.{LiveQueue}
-use Rattle.fs_live.specs.Live.{Phase, Faulty, Fetched, Asked, OutChain, LiveState, LiveEvent, Walks, Asks, Answers, Returns, Sleeps, Begins, Happens, LiveRun, WalksIn, GoesBackWith, new_chain, fault_of, room_of, calls_in, serving}
+use Rattle.fs_live.specs.Live.{Phase, Faulty, Fetched, Asked, OutChain, LiveState, LiveEvent, Walks, Declines, Asks, Answers, Returns, Sleeps, Begins, Happens, LiveRun, WalksIn, GoesBackWith, new_chain, fault_of, room_of, calls_in, serving}
 use Rattle.fs_live.specs.Runs.{ReturnedIsStepBy, IsAskedIn, after_alone, chain_loads}
 
 -- ---- lists of chains
@@ -85,6 +85,7 @@ asked_walked places limit c request options calls good whole h =
 
 keeps : {F : Type 0} (may : May F) (s after : LiveState F) (e : LiveEvent) → Happens may s e after → AllWalked s → AllWalked after
 keeps may s after (Walks i loaded ds came) h all = walk_keeps s after i h.w loaded ds came h.walks all
+keeps {F} may s after (Declines i e) h all = subst (λ (k : LiveState F). AllWalked k) (sym h.state) all
 keeps {F} may s after (Asks c request told) h all =
     let P = Walked s.places s.limit in
     let parts = one_walked s h.before h.behind c h.out all in

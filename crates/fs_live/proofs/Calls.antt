@@ -7,7 +7,7 @@ use Rattle.fs_regions.specs.Walks.{Loaded}
 use Rattle.fuse_fs.specs.Calls.{FileRun}
 use Rattle.virtiofsd_fuse.specs.Serving.{May}
 use Rattle.fs_live.specs.Several.{LiveQueue}
-use Rattle.fs_live.specs.Live.{LiveState, LiveEvent, Walks, Asks, Answers, Returns, Sleeps, Begins, Happens, WalksIn, calls_among}
+use Rattle.fs_live.specs.Live.{LiveState, LiveEvent, Walks, Declines, Asks, Answers, Returns, Sleeps, Begins, Happens, WalksIn, calls_among}
 use Rattle.fs_live.specs.Runs.{CallsAreARun}
 
 walk_files : {F : Type 0} (s after : LiveState F) (i : ℕ) (w : LiveQueue) (loaded : Loaded) (ds : List Descriptor) (came : comes.Step) → WalksIn s i w loaded ds came after → after.files ≡ s.files
@@ -19,6 +19,7 @@ walk_files {F} s after i w loaded ds (step.Chain head fault) h = ap (λ (k : Liv
 one_event : {F : Type 0} (may : May F) (s mid : LiveState F) (end : F) (e : LiveEvent) (es : List LiveEvent) → Happens may s e mid → FileRun may mid.files (calls_among es) end
     → FileRun may s.files (calls_among (e ∷ es)) end
 one_event {F} may s mid end (Walks i loaded ds came) es h run = subst (λ (f : F). FileRun may f (calls_among es) end) (walk_files s mid i h.w loaded ds came h.walks) run
+one_event {F} may s mid end (Declines i e) es h run = subst (λ (f : F). FileRun may f (calls_among es) end) (ap (λ (k : LiveState F). k.files) h.state) run
 one_event {F} may s mid end (Asks c request told) es h run = subst (λ (f : F). FileRun may f (calls_among es) end) (ap (λ (k : LiveState F). k.files) h.state) run
 one_event {F} may s mid end (Answers c call answer) es h run =
     let is : mid.files ≡ h.files = ap (λ (k : LiveState F). k.files) h.state in

@@ -1,19 +1,22 @@
 -- What calls of handles give a run.
-use Rattle.std.proofs.Common.{◌≡◌, ℕ, List, [], ◌∷◌, ◌++◌, length, Option, Some, None, slice_get, refl, subst, sym, ap, ◌∙◌}
-use Rattle.std.specs.Prelude.{drop, is_some, IsTrue}
+use Rattle.std.proofs.Common.{◌≡◌, ℕ, Bool, List, [], ◌∷◌, ◌++◌, length, Option, Some, None, slice_get, refl, subst, sym, ap, ◌∙◌, arith}
+use Rattle.std.specs.Prelude.{drop, false, if◌then◌else◌, is_some, IsTrue, not, true, unwrap_or}
+use Rattle.std.specs.Int.{w16, to_le_bytes}
 use Rattle.std.specs.List.{AllByRecursion}
-use Rattle.vm_memory.specs.Memory.{Memory}
+use Rattle.vm_iotlb.specs.declared.permissions.Permissions.TheVariants.{Read, Write}
+use Rattle.vm_memory.specs.Memory.{Memory, reach}
 use Rattle.fs_queue.specs.Chain.{Descriptor}
-use Rattle.fs_queue.specs.Queue.{Queue}
+use Rattle.fs_queue.specs.Queue.{Queue, with_stop}
 use Rattle.fs_queue.specs.Returning.{Store, stores_after_reply, tells}
 use Rattle.fs_queue.specs.ReturningView.{stores_of}
-use Rattle.fs_queue.specs.Taking.{after_refusal}
+use Rattle.fs_queue.specs.Taking.{Refuses, after_refusal, stops_queue}
 use Rattle.fs_queue.specs.WalkingView.{at_position}
 use Rattle.fs_queue.specs.declared.fault.QueueError.{QueueError}
+use Rattle.fs_queue.specs.declared.fault.QueueError.TheVariants as stop
 use Rattle.fs_regions.specs.declared.step.Step as comes
 use Rattle.fs_regions.specs.declared.step.Step.TheVariants as step
 use Rattle.fs_regions.specs.Places.{places_in}
-use Rattle.fs_regions.specs.Walks.{Loaded, ComesTo, FetchesBy, queue_of}
+use Rattle.fs_regions.specs.Walks.{Loaded, ComesTo, FetchesBy, OffersBy, queue_of}
 use Rattle.fuse_fs.specs.Calls.{FileCall, FileRun, suits}
 use Rattle.fuse_values.specs.Answers.{answer_of}
 use Rattle.fuse_values.specs.Values.{call_of}
@@ -30,9 +33,13 @@ use Rattle.virtiofsd_fuse.specs.Grammar.{FileCommand, Meaning, meaning, Asks, On
 use Rattle.virtiofsd_fuse.specs.Serving.{Setting, May, Served, served, setting}
 use Rattle.fs_chain.specs.Answers.{CanBeGiven, IfWaits, IsGiven, IsWaiting}
 use Rattle.fs_chain.specs.Asking.{KeepsCall, KeepsReply, TellsMeaning, asked_of}
-use Rattle.fs_chain.specs.Walks.{course_of, out_of, queue_after, told_of}
-use Rattle.fs_chain.specs.Orders.{front_len}
-use Rattle.fs_chain.specs.Whole.{FromReplied, FromTaken, data_behind, file_calls, reply_bytes}
+use Rattle.fs_chain.specs.Events.{event_fault}
+use Rattle.fs_chain.specs.Events as chain_events
+use Rattle.fs_chain.specs.Walks.{Begins, BeginsUnless, BeginsWhere, WalksFrom, WalksOn, course_of, faulty_out, no_reply, out_of, queue_after, state_after, told_of}
+use Rattle.fs_chain.specs.Loads.{GoesSo, whole}
+use Rattle.fs_chain.specs.Orders.{front_len, load_len}
+use Rattle.fs_chain.specs.Returns.{ReturnsBy}
+use Rattle.fs_chain.specs.Whole.{BeginsBy, ByEntries, FromReplied, FromTaken, Given, HasReply, NoAnswer, OneAnswer, WalksBy, WantsBytes, data_behind, file_calls, reply_bytes}
 use Rattle.fs_chain.specs.Whole.{acts_of as acts_by}
 use Rattle.fs_chain.specs.declared.answering.Replied.{Replied}
 use Rattle.fs_chain.specs.declared.asking.Told as told
@@ -42,54 +49,80 @@ use Rattle.fs_chain.specs.declared.returning.Stores.{Stores}
 use Rattle.fs_chain.specs.declared.state.Out.{Out}
 use Rattle.fs_chain.specs.declared.state.State as state
 use Rattle.fs_chain.specs.declared.state.State.TheVariants as at
+use Rattle.fs_chain.specs.declared.loads.Went as went
+use Rattle.fs_chain.specs.declared.loads.Went.TheVariants as wents
 use Rattle.fs_chain.specs.declared.walking.WalkOutcome as walked
+use Rattle.fs_chain.specs.declared.walking.WalkOutcome.TheVariants as says
+use Rattle.fs_chain.specs.declared.workbench.Workbench.{Workbench}
 use Rattle.fs_chain.proofs.WholeChains.{told_so}
 use Rattle.fs_chain.proofs.WholeOffers.{fits_limit}
 use Rattle.fs_chain.proofs.WholeWalks.{walk_comes}
-use Rattle.vm_memory_core.specs.Host.{changed_at}
-use Rattle.fs_chain.specs.Queues.{at_return}
-use Rattle.fs_device.specs.Step.{Calls, EachSuits, Exchange, State, answers_alone, calls_alone, served_exchange}
+use Rattle.fs_chain.specs.Queues.{at_return, ticket_of}
+use Rattle.fs_device.specs.Step.{Calls, EachSuits, Exchange, State, answers_alone, calls_alone, faulty, served_exchange}
 use Rattle.fs_device.specs.StepBy as act
 use Rattle.fs_device.specs.StepBy.{Act, reply_stores, return_acts}
 use Rattle.fs_live.specs.Several.{LiveQueue, may_take, returning}
 use Rattle.fs_live.specs.Several as several
-use Rattle.fs_live.specs.Live.{Asked, LiveState, Phase, WalksIn, after_take, fault_of, new_chain, room_in, room_of, with_live, GoesBackWith}
-use Rattle.fs_live.specs.Handles.{HandleAnswers, HandleAsks, HandleReturns, HandleWalks, IsDone, IsTold, LeavesQueue, calls_told, live_of}
+use Rattle.fs_live.specs.Live.{LiveState, Phase, WalksIn, after_walk, fault_of, room_in, room_of, why_declined, with_live, GoesBackWith}
+use Rattle.fs_live.specs.Handles.{
+  HandleAnswers,
+  HandleAsks,
+  HandleBegins,
+  HandleCalls,
+  HandleDeclines,
+  HandleFaulty,
+  HandleReturns,
+  HandleSleeps,
+  HandleWalks,
+  IsDone,
+  IsHeld,
+  IsTold,
+  calls_told,
+  live_of,
+}
 use Rattle.fs_live.proofs.Alone.{AllWalked, one_walked, run_keeps, Walked}
-use Rattle.fs_live.proofs.Queues.{there_same}
+use Rattle.fs_live.proofs.EachCall.{each_waits}
+use Rattle.fs_live.proofs.Listed.{AreServed, list_all_served, one_served}
+use Rattle.fs_live.proofs.Queues.{none_some, same_some, there_same}
+use Rattle.fs_live.proofs.Refusals.{refusal_stops}
 
 -- ---- walks
 
--- what a walk came to is an event, which leaves the queue so
-abbrev WalkEvent : {F : Type 0} → LiveState F → ℕ → KeptQueue → KeptQueue → Loaded → List Descriptor → comes.Step → walked.WalkOutcome → Type 0
-WalkEvent {F} s i before after loaded ds came told = (next : LiveState F) × WalksIn s i (live_of before) loaded ds came next × LeavesQueue told (slice_get next.queues i) after
+-- what a walk came to is an event, which leaves the queue so, and the handle has its chain
+abbrev WalkEvent : {F : Type 0} → LiveState F → ℕ → KeptQueue → KeptQueue → Loaded → List Descriptor → comes.Step → Type 0
+WalkEvent {F} s i before after loaded ds came =
+    WalksIn s i (live_of before) loaded ds came (after_walk s i (live_of before) loaded ds came) × (slice_get (after_walk s i (live_of before) loaded ds came).queues i ≡ Some (live_of after))
 
-event_of : {F : Type 0} (s : LiveState F) (i : ℕ) (before after : KeptQueue) (loaded : Loaded) (ds : List Descriptor) (came : comes.Step) (told : walked.WalkOutcome) → slice_get s.queues i ≡ Some (live_of before)
-    → IsTrue (may_take (live_of before)) → told ≡ told_of ds came → after ≡ queue_after before came → IsDone told → ComesTo s.places s.limit (live_of before).queue loaded ds came
-    → WalkEvent s i before after loaded ds came told
-event_of s i before after loaded ds (step.Load walk) told there may is left done comes = absurd (subst IsDone is done)
-event_of s i before after loaded ds step.Idle told there may is left done comes = (
-  s,
-  (comes, refl),
-  subst (λ (k : walked.WalkOutcome). LeavesQueue k (slice_get s.queues i) after) (sym is) (there ∙ ap (λ (q : KeptQueue). Some (live_of q)) (sym left)),
+stopped_by : (q : KeptQueue) (after : KeptQueue) (e : QueueError) → stops_queue e ≡ true → after ≡ record q { stopped = Some e }
+    → Some (record (live_of q) { queue = after_refusal (live_of q).queue e }) ≡ Some (live_of after)
+stopped_by q after e stops left =
+    ap (λ (b : Bool). Some (record (live_of q) { queue = if b then with_stop (live_of q).queue else (live_of q).queue })) stops ∙ ap (λ (k : KeptQueue). Some (live_of k)) (sym left)
+
+event_of : {F : Type 0} (s : LiveState F) (i : ℕ) (before after : KeptQueue) (loaded : Loaded) (ds : List Descriptor) (came : comes.Step) → slice_get s.queues i ≡ Some (live_of before)
+    → IsTrue (may_take (live_of before)) → after ≡ queue_after before came → IsDone (told_of ds came) → (live_of before).queue ≡ queue_of (course_of before 0)
+    → ComesTo s.places s.limit (live_of before).queue loaded ds came → WalkEvent s i before after loaded ds came
+event_of s i before after loaded ds (step.Load walk) there may left done goes comes = absurd done
+event_of s i before after loaded ds step.Idle there may left done goes comes = ((comes, refl), there ∙ ap (λ (q : KeptQueue). Some (live_of q)) (sym left))
+event_of s i before after loaded ds (step.Refused e) there may left done goes comes =
+    let w = record (live_of before) { queue = after_refusal (live_of before).queue e } in
+    let stops = refusal_stops s.places s.limit (course_of before 0) loaded e (subst (λ (q : Queue). OffersBy s.places s.limit q loaded [] (Refuses e)) goes comes) in
+    ((comes, refl), there_same s.queues i i (λ _. w) (live_of before) refl there ∙ stopped_by before after e stops left)
+event_of s i before after loaded ds (step.Chain head None) there may left done goes comes = (
+  (comes, may, refl),
+  there_same s.queues i i (λ _. several.took (live_of before)) (live_of before) refl there ∙ ap (λ (q : KeptQueue). Some (live_of q)) (sym left),
 )
-event_of s i before after loaded ds (step.Refused e) told there may is left done comes =
-    let next = with_live s i (record (live_of before) { queue = after_refusal (live_of before).queue e }) in
-    (next, (comes, refl), subst (λ (k : walked.WalkOutcome). LeavesQueue k (slice_get next.queues i) after) (sym is) tt)
-event_of s i before after loaded ds (step.Chain head None) told there may is left done comes =
-    let next = after_take s i (live_of before) (new_chain s i (live_of before) loaded ds head None) in (
-      next,
-      (comes, may, refl),
-      subst (λ (k : walked.WalkOutcome). LeavesQueue k (slice_get next.queues i) after) (sym is)
-          (there_same s.queues i i (λ _. several.took (live_of before)) (live_of before) refl there ∙ ap (λ (q : KeptQueue). Some (live_of q)) (sym left)),
-    )
-event_of s i before after loaded ds (step.Chain head (Some fault)) told there may is left done comes =
-    let next = after_take s i (live_of before) (new_chain s i (live_of before) loaded ds head (Some fault)) in (
-      next,
-      (comes, may, refl),
-      subst (λ (k : walked.WalkOutcome). LeavesQueue k (slice_get next.queues i) after) (sym is)
-          (there_same s.queues i i (λ _. several.took (live_of before)) (live_of before) refl there ∙ ap (λ (q : KeptQueue). Some (live_of q)) (sym left)),
-    )
+event_of s i before after loaded ds (step.Chain head (Some fault)) there may left done goes comes = (
+  (comes, may, refl),
+  there_same s.queues i i (λ _. several.took (live_of before)) (live_of before) refl there ∙ ap (λ (q : KeptQueue). Some (live_of q)) (sym left),
+)
+
+held_by : {F : Type 0} (s : LiveState F) (i : ℕ) (before : KeptQueue) (loaded : Loaded) (came : comes.Step) (w : Workbench) → (live_of before).queue ≡ queue_of (course_of before s.limit)
+    → w.state ≡ state_after (course_of before s.limit) (ticket_of before) w.descriptors.items came → IsHeld s i (live_of before) loaded came w
+held_by s i before loaded (step.Load walk) w goes is = tt
+held_by s i before loaded step.Idle w goes is = tt
+held_by s i before loaded (step.Refused e) w goes is = tt
+held_by s i before loaded (step.Chain head None) w goes is = record { kept = before; ticket = ticket_of before; taken = goes; state = is }
+held_by s i before loaded (step.Chain head (Some why)) w goes is = record { kept = before; ticket = ticket_of before; taken = goes; state = is }
 
 pub handle_walks : {F : Type 0} (may : May F) → HandleWalks may
 handle_walks {F} may s i given old new before after told there places limit goes refusal room walks done =
@@ -104,8 +137,88 @@ handle_walks {F} may s i given old new before after told there places limit goes
     subst (λ (k : Memory). ComesTo k s.limit (live_of before).queue loaded ds came) (sym places)
     (subst (λ (n : ℕ). ComesTo (places_in old.regions) n (live_of before).queue loaded ds came) (sym limit)
     (subst (λ (k : Queue). ComesTo (places_in old.regions) old.limit k loaded ds came) (sym queue) made.2.2)) in
-    let event = event_of s i before after loaded ds came told there room keeps.0 keeps.2 done so in
-    (loaded, made.1, came, keeps.0, event.0, record { w = live_of before; there = there; walks = event.1 }, event.2)
+    let state_is : new.state ≡ state_after (course_of before s.limit) (ticket_of before) ds came =
+    keeps.1 ∙ ap (λ (n : ℕ). state_after (course_of before n) (ticket_of before) ds came) (sym limit) in
+    let event = event_of s i before after loaded ds came there room keeps.2 (subst IsDone keeps.0 done) queue so in
+    (loaded, made.1, came, keeps.0, record { w = live_of before; there = there; walks = event.0 }, event.1, held_by s i before loaded came new queue state_is)
+
+-- ---- walks without a load
+
+-- the first call of a walk gives no bytes
+no_load : (w : Workbench) → w.state ≡ at.Free → load_len w.state ≡ 0
+no_load w free = ap load_len free
+
+whole_of_none : (w : Workbench) → w.state ≡ at.Free → whole w [] ≡ []
+whole_of_none w free = rw (no_load w free) refl
+
+begins_whole : (old : Workbench) (before : KeptQueue) (new : Workbench) (after : KeptQueue) → old.state ≡ at.Free → GoesSo old before [] wents.Part new after → ⊥
+begins_whole old before new after free call = let none = no_load old free in let few = call.1 in omega (arith, none, few)
+
+begun : (old new : Workbench) (before after : KeptQueue) (told : walked.WalkOutcome) → BeginsBy old new before after (wents.On told) → Begins old new before after told
+begun old new before after told by =
+    let walks : WalksOn [] old new before after told = subst (λ (bs : List ℕ). WalksOn bs old new before after told) (whole_of_none old by.0) by.1.4 in
+    subst (λ (s : state.State). WalksFrom s [] old new before after told) by.0 walks
+
+-- it is refused by this, and the queue is as a refusal leaves it
+abbrev IsDeclined : went.Went → (e : QueueError) → (before after : KeptQueue) → Type 0
+IsDeclined wents.Part e before after = ⊥
+IsDeclined (wents.On told) e before after = (told ≡ says.Refused e) × (Some (record (live_of before) { queue = after_refusal (live_of before).queue e }) ≡ Some (live_of after))
+
+-- the event index's places stop it
+lacks_stop : (index used avail : Bool) (e : QueueError)
+    → (if not index then None else if not used then Some stop.AvailFlagsUnreachable else if not avail then Some stop.UsedUnreachable else None) ≡ Some e → stops_queue e ≡ true
+lacks_stop false used avail e is = absurd (none_some e is)
+lacks_stop true false avail e is = ap (λ (x : Option QueueError). stops_queue (unwrap_or x stop.UsedUnreachable)) (sym is)
+lacks_stop true true false e is = ap (λ (x : Option QueueError). stops_queue (unwrap_or x stop.UsedUnreachable)) (sym is)
+lacks_stop true true true e is = absurd (none_some e is)
+
+declined_there : (old new : Workbench) (before after : KeptQueue) (told : walked.WalkOutcome) (e : QueueError) (fault : Option QueueError) → fault ≡ Some e → stops_queue e ≡ true
+    → BeginsWhere fault old new before after told → IsDeclined (wents.On told) e before after
+declined_there old new before after told e None is stops begins = absurd (none_some e is)
+declined_there old new before after told e (Some d) is stops begins =
+    let same : d ≡ e = same_some d e is in
+    (begins.0 ∙ ap (λ (k : QueueError). says.Refused k) same, stopped_by before after e stops (begins.2 ∙ ap (λ (k : QueueError). record before { stopped = Some k }) same))
+
+declined_by : (old new : Workbench) (before after : KeptQueue) (told : walked.WalkOutcome) (e : QueueError) (stopped : Option QueueError) → before.stopped ≡ stopped
+    → (if is_some stopped then Some stop.Stopped else event_fault (places_in old.regions) before) ≡ Some e → BeginsUnless stopped old new before after told → IsDeclined (wents.On told) e before after
+declined_by old new before after told e (Some why) is lacks begins =
+    let same : stop.Stopped ≡ e = same_some stop.Stopped e lacks in (
+      begins.0 ∙ ap (λ (k : QueueError). says.Refused k) same,
+      ap (λ (k : QueueError). Some (record (live_of before) { queue = after_refusal (live_of before).queue k })) (sym same) ∙ ap (λ (q : KeptQueue). Some (live_of q)) (sym begins.2),
+    )
+declined_by old new before after told e None is lacks begins =
+    let m = places_in old.regions in
+    let stops = lacks_stop before.event_index (reach m Read (chain_events.used_event_at before.layout) 2) (reach m Write (chain_events.avail_event_at before.layout) 2) e lacks in
+    declined_there old new before after told e (event_fault m before) lacks stops begins
+
+declined_first : (old new : Workbench) (before after : KeptQueue) (told : went.Went) (e : QueueError) → why_declined (places_in old.regions) (live_of before) ≡ Some e
+    → BeginsBy old new before after told → IsDeclined told e before after
+declined_first old new before after wents.Part e why by = begins_whole old before new after by.0 by.1
+declined_first old new before after (wents.On told) e why by = declined_by old new before after told e before.stopped refl why (begun old new before after told by)
+
+wants_none : (told : went.Went) (e : QueueError) (before after : KeptQueue) → IsDeclined told e before after → WantsBytes told → ⊥
+wants_none wents.Part e before after declined wants = declined
+wants_none (wents.On told) e before after declined wants = subst (λ (k : walked.WalkOutcome). WantsBytes (wents.On k)) declined.0 wants
+
+-- so no call is behind the first one
+declined_walk : (given : List (List ℕ)) (old new : Workbench) (before after : KeptQueue) (told : went.Went) (e : QueueError) → why_declined (places_in old.regions) (live_of before) ≡ Some e
+    → WalksBy given old new before after told → (given ≡ []) × IsDeclined told e before after
+declined_walk [] old new before after told e why walks = (refl, declined_first old new before after told e why walks)
+declined_walk (bs ∷ given) old new before after told e why walks =
+    let earlier = declined_walk given old walks.0 before walks.1 walks.2 e why walks.3 in
+    absurd (wants_none walks.2 e before walks.1 earlier.1 walks.4)
+
+pub handle_declines : {F : Type 0} (may : May F) → HandleDeclines may
+handle_declines {F} may s i given old new before after told e there places why walks =
+    let there_why : why_declined (places_in old.regions) (live_of before) ≡ Some e = subst (λ (m : Memory). why_declined m (live_of before) ≡ Some e) places why in
+    let so = declined_walk given old new before after (wents.On told) e there_why walks in
+    let w = record (live_of before) { queue = after_refusal (live_of before).queue e } in (
+      so.1.0,
+      so.0,
+      with_live s i w,
+      record { w = live_of before; there = there; why = why; state = refl },
+      there_same s.queues i i (λ _. w) (live_of before) refl there ∙ so.1.1,
+    )
 
 -- ---- asking
 
@@ -166,10 +279,7 @@ handle_asks {F} may s c before behind w w' session request front made reached sm
     let told_so_far : calls_told (drop 80 request) made ≡ (served (setting s.page_size s.options n) (meaning s.options request n) []).calls =
     told_calls (setting s.page_size s.options o.room_len) (meaning s.options request o.room_len) (drop 80 request) o made w'.state is tells
     ∙ ap (λ (k : ℕ). (served (setting s.page_size s.options k) (meaning s.options request k) []).calls) (sym room) in (
-      (
-        record s { outs = before ++ record c { phase = Asked request s.options [] } ∷ behind },
-        record { before = before; behind = behind; out = out; fresh = fresh; whole = sym by.0 ∙ fits.0; tells = told_so_far; state = refl },
-      ),
+      record { before = before; behind = behind; out = out; fresh = fresh; whole = sym by.0 ∙ fits.0; tells = told_so_far; state = refl },
       record {
         out = o;
         head = refl;
@@ -225,32 +335,67 @@ handle_answers {F} may s c before behind w w' request options made a bytes told 
     (subst (λ (p : ℕ). IfWaits w.state (λ kept u. IsGiven (setting p w.session.options.0 u.room) u a kept left told w'.state)) kept.session.0 answered.3) in
     let keeps : KeepsCall (setting s.page_size options n) (meaning options request n) (drop 80 request) made kept.out w.state =
     subst (λ (k : ℕ). KeepsCall (setting s.page_size options k) (meaning options request k) (drop 80 request) made kept.out w.state) (sym kept.room) kept.tells in
-    let parts = answered_by s.page_size options n left request bytes made a told kept.out w.state w'.state keeps answered.0 answered.1 given can in
-    let call = call_of (drop 80 request) made in
-    let answer = answer_of bytes a in (
-      (
-        record s {
-          outs = before ++ record c { phase = Asked request options ((call, answer) ∷ []) } ∷ behind;
-          options = (served (setting s.page_size s.options n) (meaning options request n) (answer ∷ [])).options;
-          files = files;
-        },
-        record {
-          before = before;
-          behind = behind;
-          out = is_out;
-          request = request;
-          options = options;
-          calls = [];
-          asked = asked;
-          waits = parts.0;
-          is_one = parts.1;
-          files = files;
-          may_so = so;
-          state = refl;
-        },
-      ),
+    let parts = answered_by s.page_size options n left request bytes made a told kept.out w.state w'.state keeps answered.0 answered.1 given can in (
+      record {
+        before = before;
+        behind = behind;
+        out = is_out;
+        request = request;
+        options = options;
+        calls = [];
+        asked = asked;
+        waits = parts.0;
+        is_one = parts.1;
+        files = files;
+        may_so = so;
+        state = refl;
+      },
       sym parts.2,
     )
+
+-- what is served of a request by the calls of a chain that has its reply
+all_served : (page_size options n : ℕ) (m : Meaning) (behind : List ℕ) (made : told.Told) (given : Given) (out : Out) (w w' : Workbench)
+    → (w.session.page_size ≡ page_size) × (w.session.options.0 ≡ options) → TellsMeaning (setting page_size options n) m behind out made w.state → HasReply made w given w'
+    → AreServed (setting page_size options n) m (file_calls behind made given)
+all_served page_size options n m behind (asks.Call made) (OneAnswer a bytes replied) out w w' session tells has =
+    let left = w'.session.options.0 in
+    let given : IfWaits w.state (λ kept u. IsGiven (setting page_size options u.room) u a kept left replied w'.state) =
+    subst (λ (o : ℕ). IfWaits w.state (λ kept u. IsGiven (setting page_size o u.room) u a kept left replied w'.state)) session.1
+    (subst (λ (p : ℕ). IfWaits w.state (λ kept u. IsGiven (setting p w.session.options.0 u.room) u a kept left replied w'.state)) session.0 has.3) in
+    one_served page_size options n left m behind bytes made a replied out w.state w'.state tells has.0 has.1 given
+all_served page_size options n m behind (asks.Call made) (ByEntries b es ending bytes) out w w' session tells has =
+    list_all_served (setting page_size options n) m behind bytes made b es ending out w w' tells has
+all_served page_size options n m behind (asks.Call made) NoAnswer out w w' session tells has = absurd has
+all_served page_size options n m behind (asks.More k) given out w w' session tells has = absurd has
+all_served page_size options n m behind asks.Nothing NoAnswer out w w' session tells has = sym (told_calls (setting page_size options n) m behind out asks.Nothing w.state tt tells)
+all_served page_size options n m behind asks.Nothing (OneAnswer a bytes replied) out w w' session tells has = absurd has
+all_served page_size options n m behind asks.Nothing (ByEntries b es ending bytes) out w w' session tells has = absurd has
+all_served page_size options n m behind (asks.Fault e) NoAnswer out w w' session tells has = sym (told_calls (setting page_size options n) m behind out (asks.Fault e) w.state tt tells)
+all_served page_size options n m behind (asks.Fault e) (OneAnswer a bytes replied) out w w' session tells has = absurd has
+all_served page_size options n m behind (asks.Fault e) (ByEntries b es ending bytes) out w w' session tells has = absurd has
+
+pub handle_calls : {F : Type 0} (may : May F) → HandleCalls may
+handle_calls {F} may s c before behind w w' request options made given earlier later call answer files is_out asked kept has calls_are fits so =
+    let n = length (room_of c) in
+    let tells : TellsMeaning (setting s.page_size options n) (meaning options request n) (drop 80 request) kept.out made w.state =
+    subst (λ (k : ℕ). TellsMeaning (setting s.page_size options k) (meaning options request k) (drop 80 request) kept.out made w.state) (sym kept.room) kept.tells in
+    let all = all_served s.page_size options n (meaning options request n) (drop 80 request) made given kept.out w w' kept.session tells has in
+    let split : AreServed (setting s.page_size options n) (meaning options request n) (earlier ++ (call, answer) ∷ later) =
+    subst (λ (calls : Calls). AreServed (setting s.page_size options n) (meaning options request n) calls) calls_are all in
+    record {
+      before = before;
+      behind = behind;
+      out = is_out;
+      request = request;
+      options = options;
+      calls = earlier;
+      asked = asked;
+      waits = each_waits (setting s.page_size options n) (meaning options request n) earlier later call answer split;
+      is_one = fits;
+      files = files;
+      may_so = so;
+      state = refl;
+    }
 
 -- ---- the return
 
@@ -317,13 +462,11 @@ handle_returns {F} may s c before behind w w' kept request options made given ac
     let acts_are : acts ≡ return_acts (reply_stores room x.reply last ++ used) flags =
     first_acts ∙ ap (λ (f : List ℕ). return_acts made_stores f) found
     ∙ ap (λ (l : List ℕ). return_acts (reply_stores room l last ++ stores_after_reply (at_return kept o) o.head (length answer.given.reply)) flags) reply
-    ∙ ap (λ (u : List Store). return_acts (reply_stores room x.reply last ++ u) flags) stores in
-    let next : LiveState F = record s { queues = changed_at s.queues c.queue (λ _. several.gave (live_of kept)); outs = before ++ behind } in (
+    ∙ ap (λ (u : List Store). return_acts (reply_stores room x.reply last ++ u) flags) stores in (
       x,
       used,
       flags,
       acts_are,
-      next,
       record {
         before = before;
         behind = behind;
@@ -338,3 +481,67 @@ handle_returns {F} may s c before behind w w' kept request options made given ac
       },
       there_same s.queues c.queue c.queue (λ _. several.gave (live_of kept)) (live_of kept) refl there,
     )
+
+-- a faulty chain
+
+pub handle_faulty : {F : Type 0} (may : May F) → HandleFaulty may
+handle_faulty {F} may s c before behind w kept why acts last notice out there taken phase held back =
+    let course = course_of held.kept s.limit in
+    let flags = back.flags in
+    let x = faulty c.head why in
+    let by : ReturnsBy kept (faulty_out course held.ticket c.head) no_reply back.stores × ((last ≡ front_len no_reply) × (acts ≡ acts_by [] no_reply [] back.stores flags)) =
+    subst (λ (st : state.State). FromReplied kept st (λ reply s₁. (last ≡ front_len reply) × (acts ≡ acts_by [] reply [] s₁ flags)) back.stores) held.state back.returns in
+    let q = returning (live_of kept) in
+    let used = stores_after_reply q c.head 0 in
+    let laid : queue_of course ≡ at_position kept.layout c.taken.position = sym held.taken ∙ taken in
+    let stored : stores_of back.stores.used ≡ used =
+    by.0.1 ∙ ap (λ (k : Queue). stores_after_reply (record k { position = kept.returned }) c.head 0) laid in
+    let done : acts ≡ return_acts (reply_stores [] [] last ++ used) flags =
+    by.1.1 ∙ ap (λ (u : List Store). return_acts u flags) stored ∙ sym (ap (λ (n : ℕ). return_acts (reply_stores [] [] n ++ used) flags) by.1.0) in
+    let acts_are : acts ≡ return_acts (reply_stores (room_of c) [] last ++ used) flags =
+    done ∙ ap (λ (p : Phase). return_acts (reply_stores (room_in p c.descriptors) [] last ++ used) flags) (sym phase) in
+    let goes : GoesBackWith s.page_size c c.phase x = subst (λ (p : Phase). GoesBackWith s.page_size c p x) (sym phase) refl in (
+      x,
+      used,
+      flags,
+      acts_are,
+      record {
+        before = before;
+        behind = behind;
+        out = out;
+        w = live_of kept;
+        there = there;
+        goes = goes;
+        used_is = refl;
+        two = back.flags_len;
+        told = back.notified;
+        state = refl;
+      },
+      there_same s.queues c.queue c.queue (λ _. several.gave (live_of kept)) (live_of kept) refl there,
+    )
+
+-- ---- queues
+
+not_stored : (event wanted : Bool) (one other : Store) → (if event then (if wanted then Some one else None) else Some other) ≡ None → (event ≡ true) × (wanted ≡ false)
+not_stored true true one other is = absurd (none_some one (sym is))
+not_stored true false one other is = (refl, refl)
+not_stored false wanted one other is = absurd (none_some other (sym is))
+
+pub handle_sleeps : {F : Type 0} (may : May F) → HandleSleeps may
+handle_sleeps may s i kept wanted (Some store) there is = record { w = live_of kept; there = there; wanted = wanted; stores = sym is; state = refl }
+handle_sleeps may s i kept wanted None there is =
+    let event : Store = record { address = chain_events.avail_event_at kept.layout; bytes = to_le_bytes w16 kept.position } in
+    let flags : Store = record { address = kept.layout.used; bytes = to_le_bytes w16 (if wanted then 0 else 1) } in
+    not_stored kept.event_index wanted event flags (sym is)
+
+pub handle_begins : {F : Type 0} (may : May F) → HandleBegins may
+handle_begins {F} may s i kept after layout position most_out event_index there is none = (
+  record {
+    old = live_of kept;
+    there = there;
+    both = ap (λ (q : KeptQueue). q.returned) is ∙ sym (ap (λ (q : KeptQueue). q.position) is);
+    none_waits = none;
+    state = refl;
+  },
+  there_same s.queues i i (λ _. live_of after) (live_of kept) refl there,
+)

@@ -1,10 +1,13 @@
 pub mod Alone
 pub mod Calls
+pub mod EachCall
 pub mod Handles
 pub mod InitBesideRun
+pub mod Listed
 pub mod Options
 pub mod OverlapRun
 pub mod Queues
+pub mod Refusals
 pub mod RewrittenRun
 pub mod Serial
 pub mod SeveralRuns

@@ -15,7 +15,7 @@ use Rattle.virtiofsd_fuse.specs.Serving.{May}
 use Rattle.fs_live.specs.Several.{LiveQueue, Ticket, Event, RunsOver, may_take, took, gave, returning}
 use Rattle.fs_live.specs.Several as several
 use Rattle.fs_live.proofs.SeveralRuns.{once, used_in_order}
-use Rattle.fs_live.specs.Live.{OutChain, Asked, LiveState, LiveEvent, Walks, Asks, Answers, Returns, Sleeps, Begins, Happens, LiveRun, WalksIn, new_chain, serving, room_of}
+use Rattle.fs_live.specs.Live.{OutChain, LiveState, LiveEvent, Walks, Declines, Asks, Answers, Returns, Sleeps, Begins, Happens, LiveRun, WalksIn, after_answer, after_asking, after_beginning, asked_chain, new_chain}
 use Rattle.fs_live.specs.Runs.{RunsOnQueue, OncePerLiveChain, LiveUsedInOrder, NotAnew, event_on, events_on, tickets_on, going}
 
 -- ---- queues in their places
@@ -206,26 +206,24 @@ module _ (i : ℕ) where
 
   carries : {F : Type 0} (may : May F) (s mid : LiveState F) (w : LiveQueue) (e : LiveEvent) → slice_get s.queues i ≡ Some w → NotAnew i e → Happens may s e mid → Carries s mid w (event_on i e)
   carries may s mid w (Walks j loaded ds came) there anew h = walks s mid j w h.w loaded ds came there h.there h.walks
+  carries {F} may s mid w (Declines j e) there anew h =
+      subst (λ (k : LiveState F). Carries s k w []) (sym h.state) (refuses s j w h.w (j == i) (stops_queue e) refl there h.there)
   carries {F} may s mid w (Asks c request told) there anew h =
       subst (λ (k : LiveState F). Carries s k w []) (sym h.state)
-      (stays s (record s { outs = h.before ++ record c { phase = Asked request s.options [] } ∷ h.behind }) w w there refl
-      (goes_on h.before h.behind c (record c { phase = Asked request s.options [] }) (c.queue == i) refl refl refl ∙ sym (ap (λ (l : List OutChain). tickets_on i l) h.out)))
+      (stays s (after_asking s h.before h.behind c request) w w there refl
+      (goes_on h.before h.behind c (asked_chain c request s.options []) (c.queue == i) refl refl refl ∙ sym (ap (λ (l : List OutChain). tickets_on i l) h.out)))
   carries {F} may s mid w (Answers c call answer) there anew h =
+      let calls = h.calls ++ (call, answer) ∷ [] in
       subst (λ (k : LiveState F). Carries s k w []) (sym h.state)
-      (stays s (record s {
-        outs = h.before ++ record c { phase = Asked h.request h.options (h.calls ++ (call, answer) ∷ []) } ∷ h.behind;
-        options = (serving s.page_size h.options s.options h.request (room_of c) (h.calls ++ (call, answer) ∷ [])).options;
-        files = h.files;
-      }) w w there refl
-      (goes_on h.before h.behind c (record c { phase = Asked h.request h.options (h.calls ++ (call, answer) ∷ []) }) (c.queue == i) refl refl refl
-      ∙ sym (ap (λ (l : List OutChain). tickets_on i l) h.out)))
+      (stays s (after_answer s h.before h.behind c h.request h.options calls h.files) w w there refl
+      (goes_on h.before h.behind c (asked_chain c h.request h.options calls) (c.queue == i) refl refl refl ∙ sym (ap (λ (l : List OutChain). tickets_on i l) h.out)))
   carries {F} may s mid w (Returns c x notice last used seen) there anew h =
       subst (λ (k : LiveState F). Carries s k w (event_on i (Returns c x notice last used seen))) (sym h.state)
       (returns s h.before h.behind c w h.w (c.queue == i) (length x.reply) used refl there h.there h.out h.used_is)
   carries {F} may s mid w (Sleeps j store) there anew h = subst (λ (k : LiveState F). Carries s k w []) (sym h.state) (stays s s w w there refl refl)
   carries {F} may s mid w (Begins j v) there anew h =
       let apart = apart_of j i (not_true (j == i) anew) in
-      subst (λ (k : LiveState F). Carries s k w []) (sym h.state) (stays s (record s { queues = changed_at s.queues j (λ _. v); outs = filter (λ c. not (c.queue == j)) s.outs }) w w
+      subst (λ (k : LiveState F). Carries s k w []) (sym h.state) (stays s (after_beginning s j v) w w
       (there_other s.queues j i (λ _. v) apart ∙ there) refl (dropped j s.outs apart))
 
   pub runs_on : {F : Type 0} (may : May F) (s after : LiveState F) (es : List LiveEvent) (w : LiveQueue) → slice_get s.queues i ≡ Some w → AllByRecursion (NotAnew i) es → LiveRun may s es after →

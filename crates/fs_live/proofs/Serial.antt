@@ -25,7 +25,7 @@ use Rattle.fs_device.specs.Run.{KickRun}
 use Rattle.fs_device.specs.Step.{State, Exchange, Exchanged, Step, Calls, answers_alone}
 use Rattle.fs_device.specs.StepBy.{Act, Effects, StepBy, StepOfBy, ExchangesBy, AreStepLoadsOf, IsOfMemory, FindFlags, MayStoreLast, after_stores, stores_among, offered_by, reply_stores, return_acts}
 use Rattle.fs_device.proofs.StepByLemmas.{step_by_is_step}
-use Rattle.fs_live.specs.Live.{Phase, Faulty, Fetched, Asked, OutChain, LiveState, LiveEvent, Walks, Asks, Answers, Returns, Sleeps, Begins, Happens, LiveRun, WalksSo, AsksSo, AnswersSo, ReturnsSo, calls_in, fault_of, new_chain, after_take, room_of, serving, acts_of, GoesBackWith}
+use Rattle.fs_live.specs.Live.{Phase, Faulty, Fetched, Asked, OutChain, LiveState, LiveEvent, Walks, Declines, Asks, Answers, Returns, Sleeps, Begins, Happens, LiveRun, WalksSo, AsksSo, AnswersSo, ReturnsSo, calls_in, fault_of, new_chain, after_take, room_of, serving, acts_of, GoesBackWith}
 use Rattle.fs_live.specs.Runs.{IsAskedIn, options_left, after_alone, chain_loads, request_in}
 use Rattle.fs_live.specs.Several.{LiveQueue, took, gave, returning, wants}
 use Rattle.fs_live.specs.Serial.{IsAtRest, SingleIsStep, SerialIsKick, return_in, IsOfChain, plain}
@@ -156,6 +156,7 @@ between_alone may s queues c k after (Asks d request told ∷ es) back of a run 
 between_alone may s queues c k after (Answers d call answer ∷ es) back of a run =
     between_alone may s queues c run.0 after es back of.1 (answers_alone_too may s queues c k run.0 d call answer a run.1) run.2
 between_alone may s queues c k after (Walks i l ds came ∷ es) back of a run = absurd of.0
+between_alone may s queues c k after (Declines i e ∷ es) back of a run = absurd of.0
 between_alone may s queues c k after (Returns d x notice last used seen ∷ es) back of a run = absurd of.0
 between_alone may s queues c k after (Sleeps i store ∷ es) back of a run = absurd of.0
 between_alone may s queues c k after (Begins i w ∷ es) back of a run = absurd of.0

@@ -13,7 +13,7 @@ use Rattle.virtiofsd_fuse.specs.Serving.{May}
 use Rattle.fs_device.specs.StepBy.{reply_stores, return_acts, stores_among}
 use Rattle.fs_device.proofs.StepByLemmas.{reply_writes}
 use Rattle.fs_live.specs.Several.{LiveQueue, avail_event_at, returning, sleep_store}
-use Rattle.fs_live.specs.Live.{OutChain, LiveState, LiveEvent, Walks, Asks, Answers, Returns, Sleeps, Begins, Happens, ReturnsSo, SleepsSo, acts_of, room_of}
+use Rattle.fs_live.specs.Live.{OutChain, LiveState, LiveEvent, Walks, Declines, Asks, Answers, Returns, Sleeps, Begins, Happens, ReturnsSo, SleepsSo, acts_of, room_of}
 use Rattle.fs_live.specs.Runs.{StoresStayThere, StoresThere, queue_addresses, sleep_addresses}
 
 abbrev AllThere : List ℕ → List (ℕ × ℕ) → Type 0
@@ -86,6 +86,7 @@ sleep_there q returned most_out false false = two_there q.used 1
 
 one_event : {F : Type 0} (may : May F) (s mid : LiveState F) (e : LiveEvent) → Happens may s e mid → StoresThere s e
 one_event may s mid (Walks i loaded ds came) h = (tt, tt)
+one_event may s mid (Declines i e) h = (tt, tt)
 one_event may s mid (Asks c request told) h = (tt, tt)
 one_event may s mid (Answers c call answer) h = (tt, tt)
 one_event may s mid (Returns c x notice last used seen) h =

@@ -1,11 +1,16 @@
 -- What calls of handles, each with its chain, give a run, whatever other chains are out.
-use Rattle.std.specs.Prelude.{◌≡◌, ◌⊎◌, ◌≤◌, ◌^◌, ℕ, Bool, IsTrue, List, [], ◌∷◌, ◌++◌, length, drop, is_some, Option, Some, None, slice_get}
+use Rattle.std.specs.Prelude.{◌≡◌, ◌⊎◌, ◌≤◌, ◌^◌, ℕ, Bool, true, false, IsTrue, List, [], ◌∷◌, ◌++◌, length, drop, is_some, Option, Some, None, slice_get, option_map}
+use Rattle.std.specs.List.{AllByRecursion}
+use Rattle.fs_queue.specs.declared.fault.ChainFault.{ChainFault}
+use Rattle.fs_queue.specs.declared.fault.QueueError.{QueueError}
+use Rattle.fs_queue.specs.declared.layout.QueueLayout.{QueueLayout}
 use Rattle.fs_queue.specs.Returning.{Store}
 use Rattle.fs_queue.specs.WalkingView.{at_position}
 use Rattle.fs_regions.specs.declared.step.Step as comes
+use Rattle.fs_regions.specs.declared.step.Step.TheVariants as step
 use Rattle.fs_regions.specs.Places.{places_in}
 use Rattle.fs_regions.specs.Walks.{Loaded, queue_of}
-use Rattle.fuse_fs.specs.Calls.{FileCall, FileAnswer}
+use Rattle.fuse_fs.specs.Calls.{FileCall, FileAnswer, suits}
 use Rattle.fuse_values.specs.Answers.{answer_of}
 use Rattle.fuse_values.specs.Values.{call_of}
 use Rattle.fuse_values.specs.declared.answer.FileAnswer as made_answer
@@ -15,12 +20,14 @@ use Rattle.virtiofsd_fuse.specs.Serving.{May, served, setting}
 use Rattle.server_phases.specs.declared.session.Session.{Session}
 use Rattle.fs_chain.specs.Answers.{CanBeGiven, IfWaits}
 use Rattle.fs_chain.specs.Asking.{TellsMeaning}
-use Rattle.fs_chain.specs.Queues.{gave}
-use Rattle.fs_chain.specs.Walks.{RefusalHasEvents, course_of, out_of, told_of}
+use Rattle.fs_chain.specs.Events.{kick_store, store_of}
+use Rattle.fs_chain.specs.Queues.{begun_anew, gave}
+use Rattle.fs_chain.specs.Walks.{RefusalHasEvents, course_of, faulty_out, no_reply, out_of, told_of}
 use Rattle.fs_chain.specs.Whole.{Given, GoesBackBy, HasReply, IsAnsweredBy, IsAskedBy, LoadsOf, WalksBy, data_behind, file_calls}
 use Rattle.fs_chain.specs.declared.answering.Replied.{Replied}
 use Rattle.fs_chain.specs.declared.asking.Told as told
 use Rattle.fs_chain.specs.declared.asking.Told.TheVariants as asks
+use Rattle.fs_chain.specs.declared.event_index.KickStore.{KickStore}
 use Rattle.fs_chain.specs.declared.loads.Went.TheVariants as wents
 use Rattle.fs_chain.specs.declared.queue.KeptQueue.{KeptQueue}
 use Rattle.fs_chain.specs.declared.state.Out.{Out}
@@ -29,10 +36,11 @@ use Rattle.fs_chain.specs.declared.state.Ticket.{Ticket}
 use Rattle.fs_chain.specs.declared.walking.WalkOutcome as walked
 use Rattle.fs_chain.specs.declared.walking.WalkOutcome.TheVariants as says
 use Rattle.fs_chain.specs.declared.workbench.Workbench.{Workbench}
-use Rattle.fs_device.specs.Step.{EachSuits, Exchange}
+use Rattle.fs_device.specs.Step.{Calls, EachSuits, Exchange}
 use Rattle.fs_device.specs.StepBy.{Act}
 use Rattle.fs_live.specs.Several.{LiveQueue, may_take}
-use Rattle.fs_live.specs.Live.{Answers, Asked, Asks, Fetched, Happens, LiveRun, LiveState, LiveEvent, OutChain, Returns, Walks, acts_of, room_of, serving}
+use Rattle.fs_live.specs.Live.{Answers, Asked, Asks, Begins, Declines, Faulty, Fetched, LiveEvent, LiveRun, LiveState, OutChain, Returns, Sleeps, Walks}
+use Rattle.fs_live.specs.Live.{Happens, NoneWaits, acts_of, after_answer, after_asking, after_beginning, after_giving, after_walk, asked_chain, new_chain, room_of, serving, why_declined}
 
 -- a kept queue, as a run has it
 abbrev pub live_of : KeptQueue → LiveQueue
@@ -43,24 +51,51 @@ live_of q = record {
   event_index = q.event_index;
 }
 
+-- ---- walks
+
 -- a walk asks for no load more
 abbrev pub IsDone : walked.WalkOutcome → Type 0
 IsDone (says.Load n) = ⊥
 IsDone _ = Unit {0}
 
--- a queue is then as the calls left it; a refusal stops it
-abbrev pub LeavesQueue : walked.WalkOutcome → Option LiveQueue → KeptQueue → Type 0
-LeavesQueue (says.Refused e) found after = Unit {0}
-LeavesQueue _ found after = found ≡ Some (live_of after)
+-- a chain of a run by this limit, as the handle has it that walked it
+pub record IsOut (limit : ℕ) (c : OutChain) (w : Workbench) : Type 0 where
+  pub kept : KeptQueue
+  pub ticket : Ticket
+  pub taken : c.taken ≡ queue_of (course_of kept limit)
+  pub state : w.state ≡ at.Taken (out_of (course_of kept limit) ticket c.head c.descriptors)
 
--- a walk by calls of a handle is the event of a walk by all its loads
+-- a faulty one
+pub record IsFaultyOut (limit : ℕ) (c : OutChain) (w : Workbench) : Type 0 where
+  pub kept : KeptQueue
+  pub ticket : Ticket
+  pub taken : c.taken ≡ queue_of (course_of kept limit)
+  pub state : w.state ≡ at.HasReply (faulty_out (course_of kept limit) ticket c.head) no_reply
+
+-- the handle has the chain to which its walk came
+abbrev pub IsHeld : {F : Type 0} → LiveState F → (i : ℕ) → LiveQueue → Loaded → comes.Step → Workbench → Type 0
+IsHeld s i q loaded (step.Chain head None) w = IsOut s.limit (new_chain s i q loaded w.descriptors.items head None) w
+IsHeld s i q loaded (step.Chain head (Some why)) w = IsFaultyOut s.limit (new_chain s i q loaded w.descriptors.items head (Some why)) w
+IsHeld s i q loaded _ w = Unit {0}
+
+-- a walk by calls of the handle, of a queue that isn't stopped, is the event of a walk by all its loads; the queue is then as the calls left it: a refusal has stopped it
 abbrev pub HandleWalks : {F : Type 0} → May F → Type 0
 HandleWalks {F} may =
     (s : LiveState F) (i : ℕ) (given : List (List ℕ)) (old new : Workbench) (before after : KeptQueue) (told : walked.WalkOutcome) →
     slice_get s.queues i ≡ Some (live_of before) → s.places ≡ places_in old.regions → s.limit ≡ old.limit → before.stopped ≡ None → RefusalHasEvents told old before → IsTrue (may_take (live_of before)) →
     (walks : WalksBy given old new before after (wents.On told)) → IsDone told →
     (loaded : Loaded) × LoadsOf given old new before after (wents.On told) walks loaded × (came : comes.Step) × (told ≡ told_of new.descriptors.items came)
-    × (next : LiveState F) × Happens may s (Walks i loaded new.descriptors.items came) next × LeavesQueue told (slice_get next.queues i) after
+    × Happens may s (Walks i loaded new.descriptors.items came) (after_walk s i (live_of before) loaded new.descriptors.items came)
+    × (slice_get (after_walk s i (live_of before) loaded new.descriptors.items came).queues i ≡ Some (live_of after)) × IsHeld s i (live_of before) loaded came new
+
+-- a walk of a queue that is stopped, or whose event index has no place, is refused by its first call: no load was made
+abbrev pub HandleDeclines : {F : Type 0} → May F → Type 0
+HandleDeclines {F} may =
+    (s : LiveState F) (i : ℕ) (given : List (List ℕ)) (old new : Workbench) (before after : KeptQueue) (told : walked.WalkOutcome) (e : QueueError) →
+    slice_get s.queues i ≡ Some (live_of before) → s.places ≡ places_in old.regions → why_declined s.places (live_of before) ≡ Some e → WalksBy given old new before after (wents.On told) →
+    (told ≡ says.Refused e) × (given ≡ []) × (next : LiveState F) × Happens may s (Declines i e) next × (slice_get next.queues i ≡ Some (live_of after))
+
+-- ---- askings and answers
 
 -- what is told of a request, as the calls of a run: none, or the one that waits
 abbrev pub calls_told : (behind : List ℕ) → told.Told → List FileCall
@@ -75,13 +110,6 @@ IsTold _ = Unit {0}
 -- a state that a run comes to, from one of which no chain is out
 abbrev pub IsReached : {F : Type 0} → May F → LiveState F → Type 0
 IsReached {F} may s = (start : LiveState F) × (es : List LiveEvent) × (start.outs ≡ []) × LiveRun may start es s
-
--- a chain of a run, as the handle has it that walked it
-pub record IsOut {F : Type 0} (s : LiveState F) (c : OutChain) (w : Workbench) : Type 0 where
-  pub kept : KeptQueue
-  pub ticket : Ticket
-  pub taken : c.taken ≡ queue_of (course_of kept s.limit)
-  pub state : w.state ≡ at.Taken (out_of (course_of kept s.limit) ticket c.head c.descriptors)
 
 -- a session, as a run has it
 abbrev pub IsSessionOf : {F : Type 0} → LiveState F → Session → Type 0
@@ -101,9 +129,9 @@ pub record IsKept (page_size options : ℕ) (request : List ℕ) (c : OutChain) 
 abbrev pub HandleAsks : {F : Type 0} → May F → Type 0
 HandleAsks {F} may =
     (s : LiveState F) (c : OutChain) (before behind : List OutChain) (w w' : Workbench) (session : Session) (request front : List ℕ) (made : told.Told) → IsReached may s → s.limit ≤ 2 ^ 31 →
-    s.outs ≡ before ++ c ∷ behind → c.phase ≡ Fetched → IsOut s c w → IsSessionOf s session → IsAskedBy w session request front made w' → IsTold made →
-    ((next : LiveState F) × Happens may s (Asks c request (calls_told (drop 80 request) made)) next)
-    × IsKept s.page_size s.options request (record c { phase = Asked request s.options [] }) made w'
+    s.outs ≡ before ++ c ∷ behind → c.phase ≡ Fetched → IsOut s.limit c w → IsSessionOf s session → IsAskedBy w session request front made w' → IsTold made →
+    Happens may s (Asks c request (calls_told (drop 80 request) made)) (after_asking s before behind c request)
+    × IsKept s.page_size s.options request (asked_chain c request s.options []) made w'
 
 -- a call that a handle answers is the event of answering; the handle's session then has the options that the chain leaves by itself
 abbrev pub HandleAnswers : {F : Type 0} → May F → Type 0
@@ -113,7 +141,17 @@ HandleAnswers {F} may =
     IsAnsweredBy w a bytes told w' → IfWaits w.state (λ out waiting. CanBeGiven waiting a) → may s.files (call_of (drop 80 request) made) (answer_of bytes a) files →
     let call = call_of (drop 80 request) made in
     let answer = answer_of bytes a in
-    ((next : LiveState F) × Happens may s (Answers c call answer) next) × (w'.session.options.0 ≡ (serving s.page_size options options request (room_of c) ((call, answer) ∷ [])).options)
+    Happens may s (Answers c call answer) (after_answer s before behind c request options ((call, answer) ∷ []) files)
+    × (w'.session.options.0 ≡ (serving s.page_size options options request (room_of c) ((call, answer) ∷ [])).options)
+
+-- so is each call of a chain, whichever came before it: the reading of a directory and the look-ups of the entries that are brought to the listing, and the FORGET of an entry of which the guest
+-- isn't told
+abbrev pub HandleCalls : {F : Type 0} → May F → Type 0
+HandleCalls {F} may =
+    (s : LiveState F) (c : OutChain) (before behind : List OutChain) (w w' : Workbench) (request : List ℕ) (options : ℕ) (made : told.Told) (given : Given) (earlier later : Calls) (call : FileCall)
+    (answer : FileAnswer) (files : F) → s.outs ≡ before ++ c ∷ behind → c.phase ≡ Asked request options earlier → IsKept s.page_size options request c made w → HasReply made w given w' →
+    file_calls (drop 80 request) made given ≡ earlier ++ (call, answer) ∷ later → IsTrue (suits call answer) → may s.files call answer files →
+    Happens may s (Answers c call answer) (after_answer s before behind c request options (earlier ++ (call, answer) ∷ []) files)
 
 -- the options of the session after an answer: unless it changes them, those of this moment stay, and not those of the asking
 abbrev pub OptionsStay : Type 0
@@ -122,12 +160,45 @@ OptionsStay =
     (((served (setting page_size now room) m answers).options ≡ now) × ((served (setting page_size asked room) m answers).options ≡ asked))
     ⊎ ((served (setting page_size now room) m answers).options ≡ (served (setting page_size asked room) m answers).options)
 
+-- ---- returns
+
+-- what was stored and loaded for a chain is the event of its return, at the position where its queue's next one goes back
+abbrev pub IsReturn : {F : Type 0} → May F → LiveState F → (before behind : List OutChain) → OutChain → KeptQueue → List Act → (last : ℕ) → (notice : Bool) → Type 0
+IsReturn {F} may s before behind c kept acts last notice =
+    (x : Exchange) × (used : List Store) × (seen : List ℕ) × (acts ≡ acts_of (Returns c x notice last used seen))
+    × Happens may s (Returns c x notice last used seen) (after_giving s before behind c (live_of kept))
+    × (slice_get (after_giving s before behind c (live_of kept)).queues c.queue ≡ Some (live_of (gave kept)))
+
 -- a chain whose calls were answered and that a handle returns is the event of its return, whichever chains of its queue were taken and went back meanwhile
 abbrev pub HandleReturns : {F : Type 0} → May F → Type 0
 HandleReturns {F} may =
     (s : LiveState F) (c : OutChain) (before behind : List OutChain) (w w' : Workbench) (kept : KeptQueue) (request : List ℕ) (options : ℕ) (made : told.Told) (given : Given) (acts : List Act) (last : ℕ)
     (notice : Bool) → s.outs ≡ before ++ c ∷ behind → slice_get s.queues c.queue ≡ Some (live_of kept) → c.taken ≡ queue_of (course_of (record kept { position = c.taken.position }) 0) →
     c.phase ≡ Asked request options (file_calls (drop 80 request) made given) → EachSuits (file_calls (drop 80 request) made given) → IsKept s.page_size options request c made w →
-    HasReply made w given w' → GoesBackBy kept (room_of c) (data_behind given) w'.state acts last notice →
-    (x : Exchange) × (used : List Store) × (seen : List ℕ) × (acts ≡ acts_of (Returns c x notice last used seen)) × (next : LiveState F) × Happens may s (Returns c x notice last used seen) next
-    × (slice_get next.queues c.queue ≡ Some (live_of (gave kept)))
+    HasReply made w given w' → GoesBackBy kept (room_of c) (data_behind given) w'.state acts last notice → IsReturn may s before behind c kept acts last notice
+
+-- so is the return of a faulty chain, with nothing
+abbrev pub HandleFaulty : {F : Type 0} → May F → Type 0
+HandleFaulty {F} may =
+    (s : LiveState F) (c : OutChain) (before behind : List OutChain) (w : Workbench) (kept : KeptQueue) (why : ChainFault) (acts : List Act) (last : ℕ) (notice : Bool) →
+    s.outs ≡ before ++ c ∷ behind → slice_get s.queues c.queue ≡ Some (live_of kept) → c.taken ≡ queue_of (course_of (record kept { position = c.taken.position }) 0) → c.phase ≡ Faulty why →
+    IsFaultyOut s.limit c w → GoesBackBy kept [] [] w.state acts last notice → IsReturn may s before behind c kept acts last notice
+
+-- ---- queues
+
+-- what is stored to be told of the next chain or of none is the event before a sleep; that nothing is stored is the event index's answer where none is wanted
+abbrev pub IsSleep : {F : Type 0} → May F → LiveState F → (i : ℕ) → KeptQueue → (wanted : Bool) → Option KickStore → Type 0
+IsSleep may s i kept wanted (Some store) = Happens may s (Sleeps i (store_of store)) s
+IsSleep may s i kept wanted None = (kept.event_index ≡ true) × (wanted ≡ false)
+
+abbrev pub HandleSleeps : {F : Type 0} → May F → Type 0
+HandleSleeps {F} may =
+    (s : LiveState F) (i : ℕ) (kept : KeptQueue) (wanted : Bool) (store : Option KickStore) → slice_get s.queues i ≡ Some (live_of kept) → option_map store_of store ≡ kick_store kept wanted →
+    IsSleep may s i kept wanted store
+
+-- a queue that a call begins anew is the event of its beginning, once no call of its chains waits; how many may be out, and the event index, may be others from then on
+abbrev pub HandleBegins : {F : Type 0} → May F → Type 0
+HandleBegins {F} may =
+    (s : LiveState F) (i : ℕ) (kept after : KeptQueue) (layout : QueueLayout) (position most_out : ℕ) (event_index : Bool) → slice_get s.queues i ≡ Some (live_of kept) →
+    after ≡ record (begun_anew kept layout position) { most_out = most_out; event_index = event_index } → AllByRecursion (λ c. NoneWaits s.page_size i c c.phase) s.outs →
+    Happens may s (Begins i (live_of after)) (after_beginning s i (live_of after)) × (slice_get (after_beginning s i (live_of after)).queues i ≡ Some (live_of after))

@@ -1,9 +1,12 @@
 -- A run of chains that are out of several queues at once, in the order in which things happen, for a guest that writes meanwhile (VIRTIO 1.2, 2.7).
-use Rattle.std.specs.Prelude.{◌≡◌, ℕ, Bool, not, ◌==◌, IsTrue, List, [], ◌∷◌, ◌++◌, length, filter, Option, Some, None, slice_get}
+use Rattle.std.specs.Prelude.{◌≡◌, ℕ, Bool, not, ◌==◌, IsTrue, List, [], ◌∷◌, ◌++◌, length, filter, Option, Some, None, slice_get, if◌then◌else◌}
 use Rattle.std.specs.List.{AllByRecursion}
+use Rattle.vm_iotlb.specs.declared.permissions.Permissions.TheVariants.{Read, Write}
 use Rattle.vm_memory_core.specs.Host.{changed_at}
-use Rattle.vm_memory.specs.Memory.{Memory}
+use Rattle.vm_memory.specs.Memory.{Memory, reach}
 use Rattle.fs_queue.specs.declared.fault.ChainFault.{ChainFault}
+use Rattle.fs_queue.specs.declared.fault.QueueError.{QueueError}
+use Rattle.fs_queue.specs.declared.fault.QueueError.TheVariants.{AvailFlagsUnreachable, Stopped, UsedUnreachable}
 use Rattle.fs_queue.specs.Chain.{Descriptor}
 use Rattle.fs_queue.specs.Queue.{Queue}
 use Rattle.fs_queue.specs.Taking.{Idle, Refuses, addresses_of, readable, writable, total_len, after_refusal}
@@ -16,7 +19,7 @@ use Rattle.virtiofsd_fuse.specs.Grammar.{meaning}
 use Rattle.virtiofsd_fuse.specs.Serving.{May, Served, served, setting}
 use Rattle.fs_device.specs.Step.{Exchange, Calls, answers_alone, calls_alone, faulty, served_exchange}
 use Rattle.fs_device.specs.StepBy.{Act, Stores, reply_stores, return_acts}
-use Rattle.fs_live.specs.Several.{LiveQueue, gave, may_take, returning, sleep_store, took, wants}
+use Rattle.fs_live.specs.Several.{LiveQueue, avail_event_at, gave, may_take, returning, sleep_store, took, used_event_at, wants}
 
 -- ---- states
 
@@ -45,6 +48,10 @@ abbrev pub room_in : Phase → List Descriptor → List ℕ
 room_in (Faulty why) ds = []
 room_in _ ds = addresses_of (writable ds)
 
+-- a chain that was asked by this request, in these options, with these calls
+abbrev pub asked_chain : OutChain → (request : List ℕ) → (options : ℕ) → Calls → OutChain
+asked_chain c request options calls = record c { phase = Asked request options calls }
+
 -- of a chain's room
 abbrev pub room_of : OutChain → List ℕ
 room_of c = room_in c.phase c.descriptors
@@ -71,6 +78,8 @@ pub record LiveState (F : Type 0) : Type 0 where
 pub data LiveEvent : Type 0 where
   -- a walk through what waits in queue i came to this by these loads, with these descriptors
   Walks : (i : ℕ) → Loaded → List Descriptor → comes.Step → LiveEvent
+  -- queue i was refused to a walk by this, before anything was loaded
+  Declines : (i : ℕ) → QueueError → LiveEvent
   -- a chain that is out was asked by this request: the call that is told first, or none
   Asks : OutChain → (request : List ℕ) → (told : List FileCall) → LiveEvent
   -- its call was answered
@@ -115,11 +124,37 @@ WalksIn s i w loaded ds (step.Refused e) after =
 WalksIn s i w loaded ds (step.Chain head fault) after =
     FetchesBy s.places s.limit w.queue loaded ds head fault × IsTrue (may_take w) × (after ≡ after_take s i w (new_chain s i w loaded ds head fault))
 
+-- the state after a walk
+abbrev pub after_walk : {F : Type 0} → LiveState F → ℕ → LiveQueue → Loaded → List Descriptor → comes.Step → LiveState F
+after_walk s i w loaded ds (step.Refused e) = with_live s i (record w { queue = after_refusal w.queue e })
+after_walk s i w loaded ds (step.Chain head fault) = after_take s i w (new_chain s i w loaded ds head fault)
+after_walk s i w loaded ds _ = s
+
 -- on a queue that there is
 pub record WalksSo {F : Type 0} (s : LiveState F) (i : ℕ) (loaded : Loaded) (ds : List Descriptor) (came : comes.Step) (after : LiveState F) : Type 0 where
   pub w : LiveQueue
   pub there : slice_get s.queues i ≡ Some w
   pub walks : WalksIn s i w loaded ds came after
+
+-- why a queue is walked by no load: it is stopped, or it has the event index, and used_event or avail_event has no place
+abbrev pub why_declined : Memory → LiveQueue → Option QueueError
+why_declined m w =
+    if w.queue.stopped then Some Stopped
+    else if not w.event_index then None
+    else if not (reach m Read (used_event_at w.queue) 2) then Some AvailFlagsUnreachable
+    else if not (reach m Write (avail_event_at w.queue) 2) then Some UsedUnreachable
+    else None
+
+-- a walk of a queue is refused so
+pub record DeclinesSo {F : Type 0} (s : LiveState F) (i : ℕ) (e : QueueError) (after : LiveState F) : Type 0 where
+  pub w : LiveQueue
+  pub there : slice_get s.queues i ≡ Some w
+  pub why : why_declined s.places w ≡ Some e
+  pub state : after ≡ with_live s i (record w { queue = after_refusal w.queue e })
+
+-- the state after an asking
+abbrev pub after_asking : {F : Type 0} → LiveState F → (before behind : List OutChain) → OutChain → (request : List ℕ) → LiveState F
+after_asking s before behind c request = record s { outs = before ++ asked_chain c request s.options [] ∷ behind }
 
 -- a chain that is out is asked, in the options of this moment
 pub record AsksSo {F : Type 0} (s : LiveState F) (c : OutChain) (request : List ℕ) (told : List FileCall) (after : LiveState F) : Type 0 where
@@ -129,7 +164,15 @@ pub record AsksSo {F : Type 0} (s : LiveState F) (c : OutChain) (request : List 
   pub fresh : c.phase ≡ Fetched
   pub whole : length request ≡ total_len (readable c.descriptors)
   pub tells : told ≡ (serving s.page_size s.options s.options request (room_of c) []).calls
-  pub state : after ≡ record s { outs = before ++ record c { phase = Asked request s.options [] } ∷ behind }
+  pub state : after ≡ after_asking s before behind c request
+
+-- the state after the answers of these calls, the last of which was answered now
+abbrev pub after_answer : {F : Type 0} → LiveState F → (before behind : List OutChain) → OutChain → (request : List ℕ) → (options : ℕ) → Calls → F → LiveState F
+after_answer s before behind c request options calls files = record s {
+  outs = before ++ asked_chain c request options calls ∷ behind;
+  options = (serving s.page_size options s.options request (room_of c) calls).options;
+  files = files;
+}
 
 -- its call is answered, as the file system may by now: the call is the one that waits behind those that were answered; an answer of INIT or DESTROY changes the session's options
 pub record AnswersSo {F : Type 0} (may : May F) (s : LiveState F) (c : OutChain) (call : FileCall) (answer : FileAnswer) (after : LiveState F) : Type 0 where
@@ -144,11 +187,7 @@ pub record AnswersSo {F : Type 0} (may : May F) (s : LiveState F) (c : OutChain)
   pub is_one : IsTrue (suits call answer)
   pub files : F
   pub may_so : may s.files call answer files
-  pub state : after ≡ record s {
-    outs = before ++ record c { phase = Asked request options (calls ++ (call, answer) ∷ []) } ∷ behind;
-    options = (serving s.page_size options s.options request (room_of c) (calls ++ (call, answer) ∷ [])).options;
-    files = files;
-  }
+  pub state : after ≡ after_answer s before behind c request options (calls ++ (call, answer) ∷ []) files
 
 -- with what a chain goes back: nothing, if it is at fault; the reply, once no call waits
 abbrev pub GoesBackWith : (page_size : ℕ) → OutChain → Phase → Exchange → Type 0
@@ -156,6 +195,10 @@ GoesBackWith page_size c (Faulty why) x = x ≡ faulty c.head why
 GoesBackWith page_size c Fetched x = ⊥
 GoesBackWith page_size c (Asked request options calls) x =
     let given = serving page_size options options request (room_of c) calls in (given.calls ≡ calls_alone calls) × (x ≡ served_exchange c.head request given)
+
+-- the state after a return
+abbrev pub after_giving : {F : Type 0} → LiveState F → (before behind : List OutChain) → OutChain → LiveQueue → LiveState F
+after_giving s before behind c w = record s { queues = changed_at s.queues c.queue (λ _. gave w); outs = before ++ behind }
 
 -- a chain goes back, at the queue's next used position, whichever was taken first
 pub record ReturnsSo {F : Type 0} (s : LiveState F) (c : OutChain) (x : Exchange) (notice : Bool) (last : ℕ) (used : List Store) (seen : List ℕ) (after : LiveState F) : Type 0 where
@@ -168,7 +211,7 @@ pub record ReturnsSo {F : Type 0} (s : LiveState F) (c : OutChain) (x : Exchange
   pub used_is : used ≡ stores_after_reply (returning w) c.head (length x.reply)
   pub two : length seen ≡ 2
   pub told : notice ≡ wants w seen
-  pub state : after ≡ record s { queues = changed_at s.queues c.queue (λ _. gave w); outs = before ++ behind }
+  pub state : after ≡ after_giving s before behind c w
 
 -- the device asks to be told of the next chain, or of none
 pub record SleepsSo {F : Type 0} (s : LiveState F) (i : ℕ) (store : Store) (after : LiveState F) : Type 0 where
@@ -183,17 +226,22 @@ abbrev pub NoneWaits : (page_size i : ℕ) → OutChain → Phase → Type 0
 NoneWaits page_size i c (Asked request options calls) = c.queue ≡ i → (serving page_size options options request (room_of c) calls).calls ≡ calls_alone calls
 NoneWaits page_size i c _ = Unit {0}
 
+-- the state after a beginning
+abbrev pub after_beginning : {F : Type 0} → LiveState F → ℕ → LiveQueue → LiveState F
+after_beginning s i w = record s { queues = changed_at s.queues i (λ _. w); outs = filter (λ c. not (c.queue == i)) s.outs }
+
 -- a queue is begun anew once each call of its chains was answered: they are out no more
 pub record BeginsSo {F : Type 0} (s : LiveState F) (i : ℕ) (w : LiveQueue) (after : LiveState F) : Type 0 where
   pub old : LiveQueue
   pub there : slice_get s.queues i ≡ Some old
   pub both : w.returned ≡ w.queue.position
   pub none_waits : AllByRecursion (λ c. NoneWaits s.page_size i c c.phase) s.outs
-  pub state : after ≡ record s { queues = changed_at s.queues i (λ _. w); outs = filter (λ c. not (c.queue == i)) s.outs }
+  pub state : after ≡ after_beginning s i w
 
 -- an event leads from a state to a state
 abbrev pub Happens : {F : Type 0} → May F → LiveState F → LiveEvent → LiveState F → Type 0
 Happens may s (Walks i loaded ds came) after = WalksSo s i loaded ds came after
+Happens may s (Declines i e) after = DeclinesSo s i e after
 Happens may s (Asks c request told) after = AsksSo s c request told after
 Happens may s (Answers c call answer) after = AnswersSo may s c call answer after
 Happens may s (Returns c x notice last used seen) after = ReturnsSo s c x notice last used seen after

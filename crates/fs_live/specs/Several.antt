@@ -113,7 +113,10 @@ KeepsOrder = (w : LiveQueue) (es : List Event) → w.returned ≡ w.queue.positi
 
 -- ---- VIRTIO_F_EVENT_IDX (2.7.7.2, 2.7.10)
 
--- the device's avail_event stands behind the used ring
+-- the driver's used_event stands behind the available ring, the device's avail_event behind the used ring
+abbrev pub used_event_at : Queue → ℕ
+used_event_at q = q.avail + 4 + 2 * q.size
+
 abbrev pub avail_event_at : Queue → ℕ
 avail_event_at q = q.used + 4 + 8 * q.size
 

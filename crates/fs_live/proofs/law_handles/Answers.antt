@@ -1,9 +1,12 @@
-use Rattle.fs_live.proofs.Handles.{handle_answers, handle_asks, handle_returns, handle_walks}
+use Rattle.fs_live.proofs.Handles.{handle_answers, handle_asks, handle_begins, handle_calls, handle_declines, handle_faulty, handle_returns, handle_sleeps, handle_walks}
 use Rattle.fs_live.proofs.Options.{options_stay}
 use Rattle.fs_live.proofs.law_handles.Goals as goal
 
 pub returns-clause-walks : goal.returns-clause-walks
 returns-clause-walks g c = handle_walks g.F.FileSystemBase.may
+
+pub returns-clause-declines : goal.returns-clause-declines
+returns-clause-declines g c = handle_declines g.F.FileSystemBase.may
 
 pub returns-clause-asks : goal.returns-clause-asks
 returns-clause-asks g c = handle_asks g.F.FileSystemBase.may
@@ -11,8 +14,20 @@ returns-clause-asks g c = handle_asks g.F.FileSystemBase.may
 pub returns-clause-answers : goal.returns-clause-answers
 returns-clause-answers g c = handle_answers _
 
+pub returns-clause-calls : goal.returns-clause-calls
+returns-clause-calls g c = handle_calls g.F.FileSystemBase.may
+
 pub returns-clause-returns : goal.returns-clause-returns
 returns-clause-returns g c = handle_returns g.F.FileSystemBase.may
+
+pub returns-clause-faulty : goal.returns-clause-faulty
+returns-clause-faulty g c = handle_faulty g.F.FileSystemBase.may
+
+pub returns-clause-sleeps : goal.returns-clause-sleeps
+returns-clause-sleeps g c = handle_sleeps g.F.FileSystemBase.may
+
+pub returns-clause-begins : goal.returns-clause-begins
+returns-clause-begins g c = handle_begins g.F.FileSystemBase.may
 
 pub returns-clause-options : goal.returns-clause-options
 returns-clause-options g c = options_stay
