@@ -1,7 +1,8 @@
 -- A chain that is walked, asked, answered and returned, call by call.
-use Rattle.std.proofs.Common.{◌≡◌, ℕ, List, length, Some, None, Result, Ok, Err, IfOk, OnOk, refl, subst, sym, ap, ◌∙◌, arith}
+use Rattle.std.proofs.Common.{◌≡◌, ℕ, Bool, List, length, Some, None, Result, Ok, Err, IfOk, OnOk, refl, subst, sym, ap, ◌∙◌, arith}
 use Rattle.std.proofs.lemmas.List.{take_all}
 use Rattle.fs_queue.specs.Chain.{Descriptor}
+use Rattle.fs_queue.specs.declared.layout.QueueLayout.{QueueLayout}
 use Rattle.fs_regions.specs.declared.course.Course.{Course}
 use Rattle.fs_regions.specs.declared.step.Step as comes
 use Rattle.fs_regions.specs.declared.step.Step.TheVariants as step
@@ -18,12 +19,12 @@ use Rattle.fs_chain.specs.declared.walking.WalkOutcome as walked
 use Rattle.fs_chain.specs.declared.walking.WalkOutcome.TheVariants as says
 use Rattle.fs_chain.specs.declared.workbench.Workbench.{Workbench}
 use Rattle.fs_chain.specs.Asking.{IfTaken}
-use Rattle.fs_chain.specs.Events.{tells_of}
+use Rattle.fs_chain.specs.Events.{seen_at, tells_of}
 use Rattle.fs_chain.specs.Orders.{front_len, return_error}
 use Rattle.fs_chain.specs.Queues.{ticket_of}
 use Rattle.fs_chain.specs.Returns.{IfHasReply, ReturnsBy}
-use Rattle.fs_chain.specs.Walks.{course_of, queue_after, state_after, told_of}
-use Rattle.fs_chain.specs.Whole.{FromTaken, GoesBackBy, IsByFlags, IsWalked, acts_of}
+use Rattle.fs_chain.specs.Walks.{RefusalHasEvents, course_of, queue_after, state_after, told_of}
+use Rattle.fs_chain.specs.Whole.{FromTaken, GoesBackBy, IsByFlags, IsToldBySeen, IsWalked, acts_of}
 use Rattle.fs_chain.proofs.WholeWalks.{walk_comes}
 
 abbrev IsAChain : walked.WalkOutcome → Type 0
@@ -56,12 +57,25 @@ stays_there q step.Idle = (refl, refl)
 stays_there q (step.Refused e) = (refl, refl)
 stays_there q (step.Chain head fault) = (refl, refl)
 
+pub queue_keeps : (old new : Workbench) (before after : KeptQueue) (told : walked.WalkOutcome) → before.stopped ≡ None → RefusalHasEvents told old before → IsWalked old new before after (wents.On told) →
+    (after.returned ≡ before.returned) × (after.event_index ≡ before.event_index)
+queue_keeps old new before after told goes events walked =
+    let came = walk_comes walked.0 old new before after told goes events walked.1 in
+    let there = stays_there before came.2.0 in
+    (ap (λ (q : KeptQueue). q.returned) came.2.1.2 ∙ there.0, ap (λ (q : KeptQueue). q.event_index) came.2.1.2 ∙ there.1)
+
 pub queue_stays : (old new : Workbench) (before after : KeptQueue) (head n r : ℕ) → before.stopped ≡ None → IsByFlags before → IsWalked old new before after (wents.On (says.Chain head n r)) →
     (after.returned ≡ before.returned) × IsByFlags after
 queue_stays old new before after head n r goes by_flags walked =
-    let came = walk_comes walked.0 old new before after (says.Chain head n r) goes tt walked.1 in
-    let there = stays_there before came.2.0 in
-    (ap (λ (q : KeptQueue). q.returned) came.2.1.2 ∙ there.0, ap (λ (q : KeptQueue). q.event_index) came.2.1.2 ∙ there.1 ∙ by_flags)
+    let keeps = queue_keeps old new before after (says.Chain head n r) goes tt walked in
+    (keeps.0, keeps.1 ∙ by_flags)
+
+-- so the two bytes that are seen stand where they did, and tell the same
+pub told_before : (layout : QueueLayout) (before back : KeptQueue) (s : Stores) (seen : List ℕ) (notice : Bool) → back.returned ≡ before.returned → back.event_index ≡ before.event_index →
+    IsToldBySeen layout back s seen notice → (notice ≡ tells_of before seen) × (s.seen_at ≡ seen_at before.event_index layout)
+told_before layout before back s seen notice returned event_index told =
+    let same : tells_of back seen ≡ tells_of before seen = rw event_index (rw returned refl) in
+    (told.told ∙ same, told.place ∙ ap (λ (e : Bool). seen_at e layout) event_index)
 
 -- of a chain that is out, both
 pub both_taken : (st : state.State) (P Q : Out → Type 0) → FromTaken st P → IfTaken st Q → FromTaken st (λ out. P out × Q out)
@@ -96,6 +110,19 @@ goes_back (at.Taken out) q len s flags room behind can two back = absurd (cc)
 goes_back (at.Waits out w) q len s flags room behind can two back = absurd (cc)
 goes_back (at.Lists out l) q len s flags room behind can two back = absurd (cc)
 goes_back (at.Returning out) q len s flags room behind can two back = absurd (cc)
+
+-- these two bytes were loaded there
+pub goes_back_by : (st : state.State) (q : KeptQueue) (len : ℕ) (s : Stores) (flags room behind : List ℕ) → return_error st q len ≡ None → length flags ≡ 2 →
+    IfHasReply st (λ out reply. ReturnsBy q out reply s) →
+    (acts : List Act) × (last : ℕ) × (back : GoesBackBy q room behind st acts last (tells_of q flags)) × (back.flags ≡ flags) × (back.stores.seen_at ≡ s.seen_at)
+goes_back_by (at.HasReply out reply) q len s flags room behind can two back =
+    (acts_of room reply behind s flags, front_len reply, record { stores = s; flags = flags; flags_len = two; returns = (back, (refl, refl)); notified = refl }, refl, refl)
+goes_back_by at.Free q len s flags room behind can two back = absurd (cc)
+goes_back_by (at.Walking course ticket walk) q len s flags room behind can two back = absurd (cc)
+goes_back_by (at.Taken out) q len s flags room behind can two back = absurd (cc)
+goes_back_by (at.Waits out w) q len s flags room behind can two back = absurd (cc)
+goes_back_by (at.Lists out l) q len s flags room behind can two back = absurd (cc)
+goes_back_by (at.Returning out) q len s flags room behind can two back = absurd (cc)
 
 pub if_ok : {A E : Type 0} (r : Result A E) (P Q : A → Type 0) → ((a : A) → P a → Q a) → IfOk r P → IfOk r Q
 if_ok (Ok a) P Q more p = more a p

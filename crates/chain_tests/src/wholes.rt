@@ -1,6 +1,6 @@
 //! What calls of a handle come to from a walk's beginning on is a step of the plain machine.
 
-ghost use Rattle.std.specs.Prelude.{◌≡◌, ℕ, List, [], length, None, Ok, IfOk, OnOk, false, true};
+ghost use Rattle.std.specs.Prelude.{◌≡◌, ℕ, List, [], length, None, Some, Ok, IfOk, OnOk, false, true};
 ghost use Rattle.fuse_fs.specs.Calls.{FileRun};
 ghost use Rattle.server_phases.specs.Answering.{TellsBytes};
 ghost use Rattle.fs_device.specs.Step.{Calls, Exchange, Exchanged, State, Idle, Refused, with_queue};
@@ -8,8 +8,10 @@ ghost use Rattle.fs_device.specs.StepBy.{Act, Effects, StepBy, StepLoads};
 ghost use Rattle.fs_device.specs.declared.error.DeviceError.TheVariants as device;
 ghost use Rattle.fs_queue.specs.Taking.{after_refusal};
 ghost use Rattle.fs_queue.specs.declared.fault.QueueError.{QueueError};
+ghost use Rattle.fs_regions.specs.Places.{places_in};
 ghost use Rattle.fs_regions.specs.Walks.{queue_of};
-ghost use Rattle.fs_chain.specs.Walks.{course_of};
+ghost use Rattle.fs_chain.specs.Events.{event_fault};
+ghost use Rattle.fs_chain.specs.Walks.{HasEvents, course_of};
 ghost use Rattle.fs_chain.specs.Whole.{FromTaken, Given, GoesBackBy, HasReply, IsAskedBy, IsBefore, IsSession, IsWalked, WantsBytes, after_chain, data_behind, no_effects};
 ghost use Rattle.fs_chain.specs.declared.asking.Told as told;
 ghost use Rattle.fs_chain.specs.declared.state.State.TheVariants as at;
@@ -31,9 +33,9 @@ fn wants_bytes(told: &Went) -> bool
     matches!(told, Went::Part | Went::On(WalkOutcome::Load(_)))
 }
 
-// A walk by these bytes, a call for each, as long as it wants some.
+/// A walk by these bytes, a call for each, as long as it wants some.
 #[tactic(auto, using(fs_chain::proofs::WholeWalks::begins_by, fs_chain::proofs::WholeWalks::goes_on_by))]
-fn walk_by(
+pub fn walk_by(
     workbench: &mut Workbench,
     queue: &mut KeptQueue,
     given: &[&[u8]],
@@ -51,8 +53,9 @@ fn walk_by(
     Ok(told)
 }
 
-// A walk that finds nothing is an idle step, and one that is refused a step that stops the queue.
-fn look<F: FileSystem>(
+/// A walk that finds nothing is an idle step, and one that is refused a step that stops the queue, if its event index has places; without them it is
+/// refused by that, whatever waits, and stops it too.
+pub fn look<F: FileSystem>(
     workbench: &mut Workbench,
     queue: &mut KeptQueue,
     given: &[&[u8]],
@@ -60,8 +63,10 @@ fn look<F: FileSystem>(
     requires free { workbench.old.state ≡ at.Free }
     ensures idle { result ≡ Ok (Went.On WalkOutcome.Idle) → (i : ℕ) (m : State F) → IsBefore workbench.old queue.old i m
         → (l : StepLoads) × StepBy F.may m i l [] Idle no_effects m }
-    ensures refused { (e : QueueError) (i : ℕ) (m : State F) → result ≡ Ok (Went.On (WalkOutcome.Refused e)) → IsBefore workbench.old queue.old i m
+    ensures refused { (e : QueueError) (i : ℕ) (m : State F) → result ≡ Ok (Went.On (WalkOutcome.Refused e)) → IsBefore workbench.old queue.old i m → HasEvents workbench.old queue.old
         → (l : StepLoads) × StepBy F.may m i l [] (Refused (device.Queue e)) no_effects (with_queue m i (after_refusal (queue_of (course_of queue.old workbench.old.limit)) e)) }
+    ensures unplaced { IfOk result (λ told. (e : QueueError) → queue.old.stopped ≡ None → event_fault (places_in workbench.old.regions) queue.old ≡ Some e
+        → (told ≡ Went.On (WalkOutcome.Refused e)) × (queue.new ≡ record queue.old { stopped = Some e })) }
 {
     law_chains::<F>();
     walk_by(workbench, queue, given)
@@ -88,8 +93,8 @@ pub fn walk_chain(
     }
 }
 
-// A chain is asked by its whole request, and its call, if there is one, is answered.
-fn reply(
+/// A chain is asked by its whole request, and its call, if there is one, is answered.
+pub fn reply(
     workbench: &mut Workbench,
     session: Session,
     request: &[u8],

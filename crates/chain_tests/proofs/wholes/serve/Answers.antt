@@ -1,4 +1,4 @@
-use Rattle.std.proofs.Common.{◌≡◌, length, refl, sym, subst, ◌∙◌, arith}
+use Rattle.std.proofs.Common.{◌≡◌, Bool, length, refl, sym, subst, ◌∙◌, arith}
 use Rattle.std.specs.Prelude.{drop}
 use Rattle.std.proofs.lemmas.Bool.Decides.{nat_tests}
 use Rattle.fs_queue.specs.Taking.{addresses_of, writable}
@@ -57,13 +57,16 @@ returns g c =
                   back = back_queue;
                   returns = goes.2;
                 } in
-                let law = c.law_chains.ensures.served walked.0 request calls goes.0 goes.1 head i notice old new before c.args.session m files run first stays.1 in_order session files_run in (
+                let law = c.law_chains.ensures.served walked.0 request calls goes.0 goes.1 head i notice old new before c.args.session m files run first in_order session files_run in
+                let told = c.law_chains.ensures.told.of_chain walked.0 request calls goes.0 goes.1 head notice old new before c.args.session c.requires.goes run in (
                   step_loads law.0 law.2 request,
                   law.4,
                   record { acts = goes.0; last = goes.1 },
                   law.6,
                   subst (λ (s : Session). StepBy g.F.FileSystemBase.may m i (step_loads law.0 law.2 request) calls (Exchanged law.4 notice) (record { acts = goes.0; last = goes.1 })
-                      (after_chain m i q s.options.0 files)) (sym session_is) law.7,
+                      (after_chain m i q s.options.0 files)) (sym session_is)
+                      (subst (λ (n : Bool). StepBy g.F.FileSystemBase.may m i (step_loads law.0 law.2 request) calls (Exchanged law.4 n) (record { acts = goes.0; last = goes.1 })
+                      (after_chain m i q new.session.options.0 files)) (sym (told.by_flags stays.1)) law.7),
                 ),
           ))
           c.give_back.ensures.back c.give_back.ensures.session;
