@@ -22,6 +22,8 @@ mod regions;
 #[cfg(test)]
 mod returns;
 #[cfg(test)]
+mod seen;
+#[cfg(test)]
 mod serials;
 #[cfg(test)]
 mod several;
