@@ -1,3 +1,4 @@
 pub mod Ended
 pub mod Served
+pub mod ServedBeside
 pub mod TakenTwo

@@ -16,8 +16,8 @@ use fs_chain::{ChainError, KeptQueue, WalkOutcome, Went, Workbench};
 use fs_live::{law_handles, law_runs};
 use fuse_fs::FileSystem;
 
-// A walk through a queue of which one more chain may be out comes to a chain: its head, and how many bytes its request and its room have.
-fn take_one(
+/// A walk through a queue of which one more chain may be out comes to a chain: its head, and how many bytes its request and its room have.
+pub fn take_one(
     workbench: &mut Workbench,
     queue: &mut KeptQueue,
     given: &[&[u8]],

@@ -1,0 +1,286 @@
+-- A chain that is walked, asked, answered and returned by a handle, as a run beside whatever other chains are out.
+use Rattle.std.proofs.Common.{◌≡◌, ℕ, ◌≤◌, ◌^◌, Bool, List, [], ◌∷◌, ◌++◌, append-nil, append_assoc, length, Some, None, slice_get, inl, inr, refl, subst, sym, ap, ◌∙◌}
+use Rattle.std.specs.Prelude.{◌⊎◌, drop, false, IfSome, is_some, IsTrue, Option, option_map}
+use Rattle.std.specs.List.{AllByRecursion}
+use Rattle.vm_memory_core.specs.Host.{changed_at}
+use Rattle.fs_queue.specs.Chain.{Descriptor}
+use Rattle.fs_queue.specs.Queue.{Queue}
+use Rattle.fs_queue.specs.declared.fault.ChainFault.{ChainFault}
+use Rattle.fs_queue.specs.declared.fault.QueueError.{QueueError}
+use Rattle.fs_queue.specs.WalkingView.{at_position}
+use Rattle.fs_regions.specs.Places.{places_in}
+use Rattle.fs_regions.specs.Walks.{Loaded, queue_of}
+use Rattle.fs_regions.specs.declared.step.Step as comes
+use Rattle.fs_regions.specs.declared.step.Step.TheVariants as step
+use Rattle.fuse_fs.specs.Calls.{FileCall, FileAnswer, FileRun, suits}
+use Rattle.virtiofsd_fuse.specs.Serving.{May}
+use Rattle.server_phases.specs.declared.session.Session.{Session}
+use Rattle.fs_chain.specs.Events.{kick_store, store_of}
+use Rattle.fs_chain.specs.Queues.{gave}
+use Rattle.fs_chain.specs.Walks.{course_of, told_of}
+use Rattle.fs_chain.specs.Whole.{Given, GoesBackBy, HasReply, IsAskedBy, IsWalked, data_behind, file_calls}
+use Rattle.fs_chain.specs.declared.asking.Told as told
+use Rattle.fs_chain.specs.declared.asking.Told.TheVariants as asks
+use Rattle.fs_chain.specs.declared.event_index.KickStore.{KickStore}
+use Rattle.fs_chain.specs.declared.loads.Went.TheVariants as wents
+use Rattle.fs_chain.specs.declared.queue.KeptQueue.{KeptQueue}
+use Rattle.fs_chain.specs.declared.walking.WalkOutcome as walked
+use Rattle.fs_chain.specs.declared.walking.WalkOutcome.TheVariants as says
+use Rattle.fs_chain.specs.declared.workbench.Workbench.{Workbench}
+use Rattle.fs_device.specs.Step.{Calls, EachSuits}
+use Rattle.fs_device.specs.StepBy.{Act}
+use Rattle.fs_live.specs.Handles.{HandleAsks, HandleCalls, HandleFaulty, HandleReturns, HandleSleeps, HandleWalks, IsFaultyOut, IsHeld, IsKept, IsOut, IsReached, IsSessionOf, IsTold, calls_told, live_of}
+use Rattle.fs_live.specs.Live.{
+  Answers,
+  Asks,
+  Begins,
+  Declines,
+  Happens,
+  LiveEvent,
+  LiveRun,
+  LiveState,
+  OutChain,
+  Returns,
+  Sleeps,
+  Walks,
+  after_answer,
+  after_asking,
+  after_giving,
+  after_walk,
+  asked_chain,
+  calls_among,
+  new_chain,
+  room_of,
+}
+use Rattle.fs_live.specs.Runs.{EachStoresThere, NotAnew, StoresStayThere}
+use Rattle.fs_live.specs.Several.{LiveQueue, may_take, took}
+use Rattle.fs_live.proofs.Alone.{all_both}
+use Rattle.fs_live.proofs.Queues.{same_some, there_same}
+
+-- ---- runs
+
+module _ {F : Type 0} (may : May F) where
+  pub run_more : (s mid after : LiveState F) (es : List LiveEvent) (e : LiveEvent) → LiveRun may s es mid → Happens may mid e after → LiveRun may s (es ++ e ∷ []) after
+  run_more s mid after [] e run happens = (after, subst (λ (k : LiveState F). Happens may k e after) run happens, refl)
+  run_more s mid after (x ∷ es) e run happens = (run.0, run.1, run_more run.0 mid after es e run.2 happens)
+
+  pub reached_by : (s mid : LiveState F) (e : LiveEvent) → IsReached may s → Happens may s e mid → IsReached may mid
+  reached_by s mid e reached happens = (reached.0, reached.1 ++ e ∷ [], reached.2, run_more reached.0 s mid reached.1 e reached.3 happens)
+
+calls_behind : (e : LiveEvent) (es fs : List LiveEvent) → calls_among (es ++ fs) ≡ calls_among es ++ calls_among fs → calls_among (e ∷ (es ++ fs)) ≡ calls_among (e ∷ es) ++ calls_among fs
+calls_behind (Walks i loaded ds came) es fs is = is
+calls_behind (Declines i e) es fs is = is
+calls_behind (Asks c request told) es fs is = is
+calls_behind (Answers c call answer) es fs is = ap (λ (calls : Calls). (call, answer) ∷ calls) is
+calls_behind (Returns c x notice last used seen) es fs is = is
+calls_behind (Sleeps i store) es fs is = is
+calls_behind (Begins i w) es fs is = is
+
+calls_of_both : (es fs : List LiveEvent) → calls_among (es ++ fs) ≡ calls_among es ++ calls_among fs
+calls_of_both [] fs = refl
+calls_of_both (e ∷ es) fs = calls_behind e es fs (calls_of_both es fs)
+
+-- ---- the walk
+
+abbrev IsAChain : walked.WalkOutcome → Type 0
+IsAChain (says.Chain head n r) = Unit {0}
+IsAChain _ = ⊥
+
+abbrev head_in : walked.WalkOutcome → ℕ
+head_in (says.Chain head n r) = head
+head_in _ = 0
+
+chain_is : (ds : List Descriptor) (came : comes.Step) (head n r : ℕ) → says.Chain head n r ≡ told_of ds came → came ≡ step.Chain head None
+chain_is ds (step.Load walk) head n r is = absurd (subst IsAChain is tt)
+chain_is ds step.Idle head n r is = absurd (subst IsAChain is tt)
+chain_is ds (step.Refused e) head n r is = absurd (subst IsAChain is tt)
+chain_is ds (step.Chain h None) head n r is = ap (λ (x : ℕ). step.Chain x None) (sym (ap head_in is))
+chain_is ds (step.Chain h (Some fault)) head n r is = absurd (subst IsAChain is tt)
+
+-- a chain that was taken is of the queue's layout still
+pub taken_of : (before after : KeptQueue) → before.stopped ≡ None → took (live_of before) ≡ live_of after
+    → (live_of before).queue ≡ queue_of (course_of (record after { position = (live_of before).queue.position }) 0)
+taken_of before after goes is =
+    let q : (live_of before).queue ≡ at_position before.layout before.position =
+    ap (λ (x : Option QueueError). record (at_position before.layout before.position) { stopped = is_some x }) goes in
+    q ∙ ap (λ (k : LiveQueue). record (k.queue) { position = before.position; stopped = false }) is
+
+-- ---- the calls
+
+each_suits : {F : Type 0} (may : May F) (files files' : F) (calls : Calls) → FileRun may files calls files' → EachSuits calls
+each_suits may files files' [] run = tt
+each_suits may files files' (step ∷ calls) run = (run.1, each_suits may run.0 files' calls run.3)
+
+-- what was asked is told, where there is a reply to it
+pub told_with_reply : (made : told.Told) (w w' : Workbench) (given : Given) → HasReply made w given w' → IsTold made
+told_with_reply (asks.Call made) w w' given has = tt
+told_with_reply (asks.More n) w w' given has = absurd has
+told_with_reply asks.Nothing w w' given has = tt
+told_with_reply (asks.Fault e) w w' given has = tt
+
+kept_on : (page_size options : ℕ) (request : List ℕ) (c : OutChain) (earlier more : Calls) (made : told.Told) (w : Workbench)
+    → IsKept page_size options request (asked_chain c request options earlier) made w → IsKept page_size options request (asked_chain c request options more) made w
+kept_on page_size options request c earlier more made w kept =
+    record { out = kept.out; head = kept.head; taken = kept.taken; room = kept.room; small = kept.small; tells = kept.tells; session = kept.session }
+
+-- the calls of a chain are answered one after another
+record AllAnswered {F : Type 0} (may : May F) (s : LiveState F) (before behind : List OutChain) (c : OutChain) (later : Calls) : Type 0 where
+  pub es : List LiveEvent
+  pub end : LiveState F
+  pub run : LiveRun may s es end
+  pub outs : end.outs ≡ before ++ c ∷ behind
+  pub queues_are : end.queues ≡ s.queues
+  pub page_size : end.page_size ≡ s.page_size
+  pub calls : calls_among es ≡ later
+  pub anew : (i : ℕ) → AllByRecursion (NotAnew i) es
+
+module _ {F : Type 0} (may : May F) (law : HandleCalls may) (w w' : Workbench) (request : List ℕ) (options : ℕ) (made : told.Told) (given : Given) (has : HasReply made w given w') where
+  abbrev all : Calls
+  all = file_calls (drop 80 request) made given
+
+  answered_all : (s : LiveState F) (c : OutChain) (before behind : List OutChain) (earlier later : Calls) (files : F) → s.outs ≡ before ++ asked_chain c request options earlier ∷ behind
+      → IsKept s.page_size options request (asked_chain c request options earlier) made w → all ≡ earlier ++ later → FileRun may s.files later files
+      → AllAnswered may s before behind (asked_chain c request options all) later
+  answered_all s c before behind earlier [] files out kept calls_are run = record {
+    es = [];
+    end = s;
+    run = refl;
+    outs = out ∙ ap (λ (calls : Calls). before ++ asked_chain c request options calls ∷ behind) (sym (calls_are ∙ append-nil earlier));
+    queues_are = refl;
+    page_size = refl;
+    calls = refl;
+    anew = λ i. tt;
+  }
+  answered_all s c before behind earlier ((call, answer) ∷ later) files out kept calls_are run =
+      let d = asked_chain c request options earlier in
+      let more : Calls = earlier ++ (call, answer) ∷ [] in
+      let next : LiveState F = after_answer s before behind d request options more run.0 in
+      let happens : Happens may s (Answers d call answer) next = law s d before behind w w' request options made given earlier later call answer run.0 out refl kept has calls_are run.1 run.2 in
+      let rest = answered_all next c before behind more later files refl (kept_on s.page_size options request c earlier more made w kept)
+      (calls_are ∙ sym (append_assoc earlier ((call, answer) ∷ []) later)) run.3 in
+      record {
+        es = Answers d call answer ∷ rest.es;
+        end = rest.end;
+        run = (next, happens, rest.run);
+        outs = rest.outs;
+        queues_are = rest.queues_are;
+        page_size = rest.page_size;
+        calls = ap (λ (calls : Calls). (call, answer) ∷ calls) rest.calls;
+        anew = λ i. (tt, rest.anew i);
+      }
+
+-- ---- the whole chain
+
+-- these calls are answered and the chain goes back, whatever other chains are out: a run, which begins no queue anew
+pub record IsServed {F : Type 0} (may : May F) (s : LiveState F) (i : ℕ) (after : KeptQueue) (calls : Calls) : Type 0 where
+  pub es : List LiveEvent
+  pub end : LiveState F
+  pub run : LiveRun may s es end
+  pub calls_are : calls_among es ≡ calls
+  pub outs : end.outs ≡ s.outs
+  pub there : slice_get end.queues i ≡ Some (live_of (gave after))
+  pub anew : AllByRecursion (NotAnew i) es
+
+module _ {F : Type 0} (may : May F) (walks_law : HandleWalks may) (asks_law : HandleAsks may) (calls_law : HandleCalls may) (returns_law : HandleReturns may) (old one two three : Workbench)
+    (before after : KeptQueue) (head n r : ℕ) (session : Session) (request : List ℕ) (made : told.Told) (given : Given) (notice : Bool) (goes : before.stopped ≡ None)
+    (room : IsTrue (may_take (live_of before))) (walks : IsWalked old one before after (wents.On (says.Chain head n r))) (asked : IsAskedBy one session request request made two)
+    (has : HasReply made two given three) (back : (room behind : List ℕ) → (acts : List Act) × (last : ℕ) × GoesBackBy after room behind three.state acts last notice) where
+  pub served_beside : (s : LiveState F) (i : ℕ) (files : F) → IsReached may s → slice_get s.queues i ≡ Some (live_of before) → s.places ≡ places_in old.regions → s.limit ≡ old.limit
+      → s.limit ≤ 2 ^ 31 → IsSessionOf s session → FileRun may s.files (file_calls (drop 80 request) made given) files → IsServed may s i after (file_calls (drop 80 request) made given)
+  served_beside s i files reached there places limit small in_session run =
+      let q = live_of before in
+      let calls = file_calls (drop 80 request) made given in
+      let ds = one.descriptors.items in
+      let walk = walks_law s i walks.0 old one before after (says.Chain head n r) there places limit goes tt room walks.1 tt in
+      let loaded = walk.0 in
+      let is = chain_is ds walk.2 head n r walk.3 in
+      let c : OutChain = new_chain s i q loaded ds head None in
+      let s₁ : LiveState F = after_walk s i q loaded ds (step.Chain head None) in
+      let first : Happens may s (Walks i loaded ds (step.Chain head None)) s₁ =
+      subst (λ (k : comes.Step). Happens may s (Walks i loaded ds k) (after_walk s i q loaded ds k)) is walk.4 in
+      let there₁ : slice_get s₁.queues i ≡ Some (live_of after) = subst (λ (k : comes.Step). slice_get (after_walk s i q loaded ds k).queues i ≡ Some (live_of after)) is walk.5 in
+      let held : IsOut s.limit c one = subst (λ (k : comes.Step). IsHeld s i q loaded k one) is walk.6 in
+      let asking = asks_law s₁ c s.outs [] one two session request request made (reached_by may s s₁ (Walks i loaded ds (step.Chain head None)) reached first) small refl refl held in_session asked
+      (told_with_reply made two three given has) in
+      let s₂ : LiveState F = after_asking s₁ s.outs [] c request in
+      let kept : IsKept s₂.page_size s.options request (asked_chain c request s.options []) made two = asking.1 in
+      let ans = answered_all may calls_law two three request s.options made given has s₂ c s.outs [] [] calls files refl kept refl run in
+      let d : OutChain = asked_chain c request s.options calls in
+      let taken_is : took q ≡ live_of after = same_some (took q) (live_of after) (sym (there_same s.queues i i (λ _. took q) q refl there) ∙ there₁) in
+      let goes_back = back (room_of d) (data_behind given) in
+      let there₃ : slice_get ans.end.queues i ≡ Some (live_of after) = ap (λ (l : List LiveQueue). slice_get l i) ans.queues_are ∙ there₁ in
+      let kept₃ : IsKept ans.end.page_size s.options request d made two =
+      subst (λ (p : ℕ). IsKept p s.options request d made two) (sym ans.page_size) (kept_on s.page_size s.options request c [] calls made two kept) in
+      let returned = returns_law ans.end d s.outs [] two three after request s.options made given goes_back.0 goes_back.1 notice ans.outs there₃ (taken_of before after goes taken_is) refl
+      (each_suits may s.files files calls run) kept₃ has goes_back.2 in
+      let last = Returns d returned.0 notice goes_back.1 returned.1 returned.2 in
+      let s₄ : LiveState F = after_giving ans.end s.outs [] d (live_of after) in
+      record {
+        es = Walks i loaded ds (step.Chain head None) ∷ Asks c request (calls_told (drop 80 request) made) ∷ (ans.es ++ last ∷ []);
+        end = s₄;
+        run = (s₁, first, (s₂, asking.0, run_more may s₂ ans.end s₄ ans.es last ans.run returned.4));
+        calls_are = calls_of_both ans.es (last ∷ []) ∙ append-nil (calls_among ans.es) ∙ ans.calls;
+        outs = append-nil s.outs;
+        there = returned.5;
+        anew = (tt, (tt, all_both (NotAnew i) ans.es (last ∷ []) (ans.anew i) (tt, tt)));
+      }
+
+-- ---- one event
+
+-- the options after an answer: those of this moment, or those that the handle's session has
+pub options_after : (now now' asked asked' left : ℕ) → left ≡ asked' → ((now' ≡ now) × (asked' ≡ asked)) ⊎ (now' ≡ asked') → ((now' ≡ now) × (left ≡ asked)) ⊎ (now' ≡ left)
+options_after now now' asked asked' left is (inl stays) = inl (stays.0, is ∙ stays.1)
+options_after now now' asked asked' left is (inr same) = inr (same ∙ sym is)
+
+-- what is stored before a sleep
+pub sleep_is : {F : Type 0} (may : May F) (q : KeptQueue) (wanted : Bool) (told : Option KickStore) → HandleSleeps may → StoresStayThere may → option_map store_of told ≡ kick_store q wanted
+    → IfSome told (λ store. (s : LiveState F) (i : ℕ) → slice_get s.queues i ≡ Some (live_of q)
+    → (run : LiveRun may s (Sleeps i (store_of store) ∷ []) s) × EachStoresThere may s (Sleeps i (store_of store) ∷ []) s run)
+sleep_is may q wanted None law stores is = tt
+sleep_is {F} may q wanted (Some store) law stores is = λ s i there.
+    let run : LiveRun may s (Sleeps i (store_of store) ∷ []) s = (s, law s i q wanted (Some store) there is, refl) in
+    (run, stores s s (Sleeps i (store_of store) ∷ []) run)
+
+-- a faulty chain that is walked and goes back
+abbrev IsFaulty : walked.WalkOutcome → Type 0
+IsFaulty (says.Faulty head fault) = Unit {0}
+IsFaulty _ = ⊥
+
+abbrev faulty_head : walked.WalkOutcome → ℕ
+faulty_head (says.Faulty head fault) = head
+faulty_head _ = 0
+
+abbrev fault_in : ChainFault → walked.WalkOutcome → ChainFault
+fault_in f (says.Faulty head fault) = fault
+fault_in f _ = f
+
+faulty_is : (ds : List Descriptor) (came : comes.Step) (head : ℕ) (fault : ChainFault) → says.Faulty head fault ≡ told_of ds came → came ≡ step.Chain head (Some fault)
+faulty_is ds (step.Load walk) head fault is = absurd (subst IsFaulty is tt)
+faulty_is ds step.Idle head fault is = absurd (subst IsFaulty is tt)
+faulty_is ds (step.Refused e) head fault is = absurd (subst IsFaulty is tt)
+faulty_is ds (step.Chain h None) head fault is = absurd (subst IsFaulty is tt)
+faulty_is ds (step.Chain h (Some why)) head fault is =
+    ap (λ (x : ℕ). step.Chain x (Some why)) (sym (ap faulty_head is)) ∙ ap (λ (x : ChainFault). step.Chain head (Some x)) (sym (ap (λ (w : walked.WalkOutcome). fault_in fault w) is))
+
+pub faulty_beside : {F : Type 0} (may : May F) (walks_law : HandleWalks may) (faulty_law : HandleFaulty may) (old one : Workbench) (before after : KeptQueue) (head : ℕ) (fault : ChainFault)
+    (notice : Bool) → before.stopped ≡ None → IsTrue (may_take (live_of before)) → IsWalked old one before after (wents.On (says.Faulty head fault))
+    → ((room behind : List ℕ) → (acts : List Act) × (last : ℕ) × GoesBackBy after room behind one.state acts last notice) → (s : LiveState F) (i : ℕ) → slice_get s.queues i ≡ Some (live_of before)
+    → s.places ≡ places_in old.regions → s.limit ≡ old.limit
+    → (es : List LiveEvent) × (end : LiveState F) × LiveRun may s es end × (calls_among es ≡ []) × (end.outs ≡ s.outs)
+faulty_beside {F} may walks_law faulty_law old one before after head fault notice goes room walks back s i there places limit =
+    let q = live_of before in
+    let ds = one.descriptors.items in
+    let walk = walks_law s i walks.0 old one before after (says.Faulty head fault) there places limit goes tt room walks.1 tt in
+    let loaded = walk.0 in
+    let is = faulty_is ds walk.2 head fault walk.3 in
+    let came = step.Chain head (Some fault) in
+    let c : OutChain = new_chain s i q loaded ds head (Some fault) in
+    let s₁ : LiveState F = after_walk s i q loaded ds came in
+    let first : Happens may s (Walks i loaded ds came) s₁ = subst (λ (k : comes.Step). Happens may s (Walks i loaded ds k) (after_walk s i q loaded ds k)) is walk.4 in
+    let there₁ : slice_get s₁.queues i ≡ Some (live_of after) = subst (λ (k : comes.Step). slice_get (after_walk s i q loaded ds k).queues i ≡ Some (live_of after)) is walk.5 in
+    let held : IsFaultyOut s.limit c one = subst (λ (k : comes.Step). IsHeld s i q loaded k one) is walk.6 in
+    let taken_is : took q ≡ live_of after = same_some (took q) (live_of after) (sym (there_same s.queues i i (λ _. took q) q refl there) ∙ there₁) in
+    let goes_back = back [] [] in
+    let returned = faulty_law s₁ c s.outs [] one after fault goes_back.0 goes_back.1 notice refl there₁ (taken_of before after goes taken_is) refl held goes_back.2 in
+    let s₂ : LiveState F = after_giving s₁ s.outs [] c (live_of after) in
+    (Walks i loaded ds came ∷ Returns c returned.0 notice goes_back.1 returned.1 returned.2 ∷ [], s₂, (s₁, first, (s₂, returned.4, refl)), refl, append-nil s.outs)
