@@ -71,6 +71,8 @@ alone() {
     THREADS=4 try checks sleeps "${SLEEPS:-500000}"
     EVENT_INDEX=1 try checks sleeps "${SLEEPS:-500000}"
     THREADS=4 EVENT_INDEX=1 try checks sleeps "${SLEEPS:-500000}"
+    try checks pauses "${PAUSES:-2000}"
+    THREADS=4 EVENT_INDEX=1 try checks pauses "${PAUSES:-2000}"
     EVENT_INDEX=1 try checks rings
     THREADS=4 EVENT_INDEX=1 try checks pool
     try hostile guest "$SECONDS_EACH"
