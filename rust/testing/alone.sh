@@ -49,7 +49,7 @@ compile() {
 
 alone() {
     SECONDS_EACH=${SECONDS_EACH:-60}
-    compile checks checks.c escape.c front.c
+    compile checks checks.c escape.c wild.c front.c
     compile hostile hostile.c front.c
     compile state state.c front.c
     rm -rf "$work/starts"
@@ -57,6 +57,7 @@ alone() {
     timeout 300 python3 "$here/testing/starts.py" "$DAEMON" "$work/starts" || failure "starts"
     try checks escape
     try checks groups
+    try checks wild "$SECONDS_EACH"
     try checks readonly
     diff <(echo file) "$work/yard/share/file" || failure "readonly: a file changed"
     try checks log

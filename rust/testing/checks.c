@@ -452,6 +452,8 @@ static void run(const char *what, const char *dir, unsigned count) {
         pool(dir);
     else if (!strcmp(what, "groups"))
         groups(dir);
+    else if (!strcmp(what, "wild"))
+        wild(count);
     else
         die("no such check: %s", what);
 }
@@ -459,12 +461,15 @@ static void run(const char *what, const char *dir, unsigned count) {
 /* Options of the daemon, for what wants some. */
 static const char *const *options_for(const char *what) {
     static const char *const only_read[] = {"--readonly", NULL}, *const tagged[] = {"--tag", "shared", NULL};
+    /* Where the daemon isn't the first process of a namespace, a signal that nobody thought of ends it. */
+    static const char *const chroot[] = {"--sandbox", "chroot", NULL};
     if (!strcmp(what, "readonly")) return only_read;
+    if (!strcmp(what, "wild")) return chroot;
     return strcmp(what, "config") ? NULL : tagged;
 }
 
 int main(int argc, char **argv) {
-    if (argc < 4) die("usage: checks DAEMON DIR escape|readonly|sleeps|pauses|log|rings|config|memory|two|slow|pool|groups [N]");
+    if (argc < 4) die("usage: checks DAEMON DIR escape|readonly|sleeps|pauses|log|rings|config|memory|two|slow|pool|groups|wild [N]");
     const char *what = argv[3], *dir = argv[2];
     front_begin(&front, argv[1], dir, options_for(what));
     if (!strcmp(what, "log")) front.features |= 1ull << 26;

@@ -71,12 +71,13 @@ extern "C" fn end_for_lost_memory(_signal: libc::c_int) {
     }
 }
 
-/// As the first process of its namespace the daemon would be deaf to the first three signals without a handler.
-fn end_by_signals() {
+/// As the first process of its namespace the daemon would be deaf to the first three signals without a handler. A guest that writes more than
+/// a file may have (RLIMIT_FSIZE) is answered EFBIG.
+fn handle_signals() {
     let end = end as *const () as libc::sighandler_t;
     let lost = end_for_lost_memory as *const () as libc::sighandler_t;
-    let handlers = [(libc::SIGHUP, end), (libc::SIGINT, end), (libc::SIGTERM, end), (libc::SIGBUS, lost)];
-    for (signal, handler) in handlers {
+    let ended = [libc::SIGHUP, libc::SIGINT, libc::SIGTERM].map(|signal| (signal, end));
+    for (signal, handler) in ended.into_iter().chain([(libc::SIGBUS, lost), (libc::SIGXFSZ, libc::SIG_IGN)]) {
         // SAFETY: the handlers do nothing but what a handler may.
         unsafe { libc::signal(signal, handler) };
     }
@@ -124,7 +125,7 @@ fn config(options: Options, sandbox: &mut Sandbox, descriptors: u64) -> Config {
 
 /// Does all that these options say, and returns when the front-end is gone.
 pub fn run(mut options: Options) -> Result<(), Failure> {
-    end_by_signals();
+    handle_signals();
     let descriptors = setup_rlimit_nofile(options.rlimit_nofile).map_err(|why| format!("--rlimit-nofile: {why}"))?;
     let shared_dir = options.shared_dir.take().ok_or("--shared-dir is wanted")?;
     let (uid_map, gid_map) = (std::mem::take(&mut options.uid_map), std::mem::take(&mut options.gid_map));

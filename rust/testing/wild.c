@@ -1,0 +1,132 @@
+/* A guest's root that asks in order and for anything: real nodes, open files and names of all kinds, and numbers at their ends. Each request
+ * is answered, and the daemon lives; alone.sh sees that nothing beside the directory changed, and that nothing panicked. */
+#define _GNU_SOURCE
+#include "chance.h"
+#include "checks.h"
+#include <linux/fuse.h>
+#include <stdio.h>
+#include <string.h>
+#include <sys/stat.h>
+#include <time.h>
+
+enum { NODES = 48, FILES = 24, NAMES = 20, PLAIN = 5, FORMS = 40, LONG = 300 };
+
+static uint64_t nodes[NODES] = {ROOT}, files[FILES], file_nodes[FILES];
+
+/* How an opcode's record looks: its length, where an open file's number stands in it, where a node's, and how many names are behind. */
+struct form {
+    uint32_t opcode;
+    uint8_t len, names;
+    int8_t file, node;
+};
+
+static const struct form forms[FORMS] = {
+    {FUSE_LOOKUP, 0, 1, -1, -1},       {FUSE_LOOKUP, 0, 1, -1, -1},      {FUSE_FORGET, 8, 0, -1, -1},      {FUSE_GETATTR, 16, 0, 8, -1},
+    {FUSE_SETATTR, 88, 0, 8, -1},      {FUSE_SETATTR, 88, 0, 8, -1},     {FUSE_READLINK, 0, 0, -1, -1},    {FUSE_SYMLINK, 0, 2, -1, -1},
+    {FUSE_MKNOD, 16, 1, -1, -1},       {FUSE_MKDIR, 8, 1, -1, -1},       {FUSE_UNLINK, 0, 1, -1, -1},      {FUSE_RMDIR, 0, 1, -1, -1},
+    {FUSE_RENAME, 8, 2, -1, 0},        {FUSE_RENAME2, 16, 2, -1, 0},     {FUSE_LINK, 8, 1, -1, 0},         {FUSE_OPEN, 8, 0, -1, -1},
+    {FUSE_OPEN, 8, 0, -1, -1},         {FUSE_READ, 40, 0, 0, -1},        {FUSE_READ, 40, 0, 0, -1},        {FUSE_WRITE, 40, 2, 0, -1},
+    {FUSE_STATFS, 0, 0, -1, -1},       {FUSE_RELEASE, 24, 0, 0, -1},     {FUSE_FSYNC, 16, 0, 0, -1},       {FUSE_SETXATTR, 8, 2, -1, -1},
+    {FUSE_SETXATTR, 8, 2, -1, -1},     {FUSE_GETXATTR, 8, 1, -1, -1},    {FUSE_LISTXATTR, 8, 0, -1, -1},   {FUSE_REMOVEXATTR, 0, 1, -1, -1},
+    {FUSE_FLUSH, 24, 0, 0, -1},        {FUSE_OPENDIR, 8, 0, -1, -1},     {FUSE_READDIR, 40, 0, 0, -1},     {FUSE_READDIRPLUS, 40, 0, 0, -1},
+    {FUSE_RELEASEDIR, 24, 0, 0, -1},   {FUSE_FSYNCDIR, 16, 0, 0, -1},    {FUSE_ACCESS, 8, 0, -1, -1},      {FUSE_CREATE, 16, 1, -1, -1},
+    {FUSE_FALLOCATE, 32, 0, 0, -1},    {FUSE_LSEEK, 24, 0, 0, -1},       {FUSE_COPY_FILE_RANGE, 56, 0, 0, 16}, {FUSE_SYNCFS, 8, 0, -1, -1}};
+
+static const char *const names[NAMES] = {"file",     "dir",    "other",       "a",      "b",
+                                         "\xff\xfe", "..",     "a/b",         "",       "out",
+                                         "user.a",   "user.",  "user.\xff\xfe", "pipe", "security.capability",
+                                         "up",       "shared", "trusted.a",   "absolute", "system.posix_acl_access"};
+
+static size_t put_name(uint8_t *at) {
+    char long_name[LONG + 1];
+    size_t len = (size_t)ONE_OF(1, 100, 254, 255, 256, LONG);
+    memset(long_name, 'n', len);
+    long_name[len] = 0;
+    const char *name = below(12) == 0 ? long_name : names[below(below(3) ? PLAIN : NAMES)];
+    memcpy(at, name, strlen(name) + 1);
+    return strlen(name) + 1;
+}
+
+static uint64_t some_number(void) {
+    return ONE_OF(0, 0, 0, 1, 2, 3, 4096, 4095, 8, 0x8000, 0100644, 0040755, 0x10000, 1ull << below(64), INT64_MAX, INT64_MIN, UINT64_MAX, chance(),
+                  below(64), below(1 << 20));
+}
+
+/* A record: some of its words are ends of 64 bits, others of 32. */
+static void put_record(uint8_t *at, size_t len) {
+    for (size_t k = 0; k < len; k += 8) {
+        uint64_t whole = some_number(), halves = (uint32_t)some_number() | some_number() << 32;
+        memcpy(at + k, below(2) ? &whole : &halves, 8);
+    }
+}
+
+/* One request; its node comes to `node`. */
+static size_t put_request(const struct form *form, uint8_t *at, uint64_t *node) {
+    uint64_t file = below(FILES), other = nodes[below(NODES)];
+    size_t len = form->len;
+    *node = below(2) ? ROOT : other;
+    put_record(at, len);
+    if (form->file >= 0) {
+        memcpy(at + form->file, &files[file], 8);
+        if (below(16)) *node = file_nodes[file];
+    }
+    if (form->opcode == FUSE_GETATTR && below(2)) memset(at, 0, 4);
+    if (form->opcode == FUSE_SETATTR && below(2)) at[0] &= (uint8_t)~FATTR_FH;
+    if (form->node >= 0) memcpy(at + form->node, &other, 8);
+    if (form->opcode == FUSE_COPY_FILE_RANGE) memcpy(at + 24, &files[below(FILES)], 8);
+    if (form->opcode == FUSE_OPEN && below(2)) *node = other, memset(at, 0, 8), at[0] = (uint8_t)below(3);
+    if (form->opcode == FUSE_CREATE && below(2)) memset(at, 0, 16), at[0] = (uint8_t)below(3), at[5] = 1;
+    if (form->opcode == FUSE_FORGET && below(2)) memset(at, 0, 8), at[0] = 1;
+    if (form->opcode == FUSE_FALLOCATE && below(2)) memset(at + 8, 0, 24), at[9] = at[18] = 1;
+    for (unsigned k = 0; k < form->names; k++) {
+        size_t more = put_name(at + len);
+        uint32_t size = (uint32_t)more;
+        if (k == 1 && form->opcode == FUSE_SETXATTR && below(8)) memcpy(at, &size, 4);
+        if (k == 0 && form->opcode == FUSE_WRITE && below(8)) memcpy(at + 16, &size, 4);
+        len += more;
+    }
+    return len;
+}
+
+/* What a reply gives the guest to hold. */
+static void keep(uint32_t opcode, uint64_t node) {
+    unsigned file = (unsigned)below(FILES);
+    switch (opcode) {
+    case FUSE_CREATE: memcpy(&files[file], reply.data + sizeof(struct fuse_entry_out), 8), memcpy(&file_nodes[file], reply.data, 8); break;
+    case FUSE_OPEN:
+    case FUSE_OPENDIR: memcpy(&files[file], reply.data, 8), file_nodes[file] = node; return;
+    case FUSE_LOOKUP:
+    case FUSE_MKNOD:
+    case FUSE_MKDIR:
+    case FUSE_SYMLINK: break;
+    default: return;
+    }
+    if (reply.len >= 8) memcpy(&nodes[1 + below(NODES - 1)], reply.data, 8);
+}
+
+void wild(unsigned seconds) {
+    static uint8_t body[4096];
+    struct fuse_getattr_in getattr_in = {0};
+    uint64_t asked = 0, done = 0, node, seed = (uint64_t)time(NULL);
+    chance_begin(seed * 0x9e3779b97f4a7c15u | 1);
+    for (time_t end = time(NULL) + seconds; time(NULL) < end; asked++) {
+        const struct form *form = &forms[below(FORMS)];
+        if (below(3000) == 0) begin_session(&front);
+        size_t len = put_request(form, body, &node);
+        if (form->opcode == FUSE_FORGET) {
+            if (node == ROOT) continue; /* it would ask for nothing any more until the next INIT */
+            front_send(&front, 1, FUSE_FORGET, node, body, len, 0);
+            if (!front_wait(&front, 1, 20000)) die("FORGET isn't answered");
+            continue;
+        }
+        front_ask(&front, 1, form->opcode, node, body, len, &reply);
+        if (reply.error) continue;
+        done++;
+        keep(form->opcode, node);
+    }
+    begin_session(&front);
+    front_ask(&front, 1, FUSE_GETATTR, ROOT, &getattr_in, sizeof getattr_in, &reply);
+    expect("an orderly GETATTR", reply.error, 0);
+    printf("a wild guest (%llu): %llu requests, of which %llu were done\n", (unsigned long long)seed, (unsigned long long)asked,
+           (unsigned long long)done);
+}
