@@ -1,9 +1,10 @@
-/* A guest's root that asks in order and for anything: real nodes, open files and names of all kinds, and numbers at their ends. Each request
- * is answered, and the daemon lives; alone.sh sees that nothing beside the directory changed, and that nothing panicked. */
+/* A guest's root that asks in order and for anything, by two queues: real nodes, open files and names of all kinds, and numbers at their
+ * ends. Each request is answered, and the daemon lives; alone.sh sees that nothing beside the directory changed, and that nothing panicked. */
 #define _GNU_SOURCE
 #include "chance.h"
 #include "checks.h"
 #include <linux/fuse.h>
+#include <pthread.h>
 #include <stdio.h>
 #include <string.h>
 #include <sys/stat.h>
@@ -11,7 +12,9 @@
 
 enum { NODES = 48, FILES = 24, NAMES = 20, PLAIN = 5, FORMS = 40, LONG = 300 };
 
-static uint64_t nodes[NODES] = {ROOT}, files[FILES], file_nodes[FILES];
+/* What a thread of the guest holds. */
+static _Thread_local uint64_t nodes[NODES] = {ROOT}, files[FILES], file_nodes[FILES];
+static _Thread_local struct reply answer;
 
 /* How an opcode's record looks: its length, where an open file's number stands in it, where a node's, and how many names are behind. */
 struct form {
@@ -77,7 +80,9 @@ static size_t put_request(const struct form *form, uint8_t *at, uint64_t *node) 
     if (form->opcode == FUSE_OPEN && below(2)) *node = other, memset(at, 0, 8), at[0] = (uint8_t)below(3);
     if (form->opcode == FUSE_CREATE && below(2)) memset(at, 0, 16), at[0] = (uint8_t)below(3), at[5] = 1;
     if (form->opcode == FUSE_FORGET && below(2)) memset(at, 0, 8), at[0] = 1;
-    if (form->opcode == FUSE_FALLOCATE && below(2)) memset(at + 8, 0, 24), at[9] = at[18] = 1;
+    /* Places are anywhere, and lengths fill no disk: FALLOC_FL_KEEP_SIZE is bounded by no limit of files. */
+    if (form->opcode == FUSE_FALLOCATE) memset(at + 18, 0, 6);
+    if (form->opcode == FUSE_COPY_FILE_RANGE) memset(at + 42, 0, 6);
     for (unsigned k = 0; k < form->names; k++) {
         size_t more = put_name(at + len);
         uint32_t size = (uint32_t)more;
@@ -92,41 +97,63 @@ static size_t put_request(const struct form *form, uint8_t *at, uint64_t *node) 
 static void keep(uint32_t opcode, uint64_t node) {
     unsigned file = (unsigned)below(FILES);
     switch (opcode) {
-    case FUSE_CREATE: memcpy(&files[file], reply.data + sizeof(struct fuse_entry_out), 8), memcpy(&file_nodes[file], reply.data, 8); break;
+    case FUSE_CREATE: memcpy(&files[file], answer.data + sizeof(struct fuse_entry_out), 8), memcpy(&file_nodes[file], answer.data, 8); break;
     case FUSE_OPEN:
-    case FUSE_OPENDIR: memcpy(&files[file], reply.data, 8), file_nodes[file] = node; return;
+    case FUSE_OPENDIR: memcpy(&files[file], answer.data, 8), file_nodes[file] = node; return;
     case FUSE_LOOKUP:
     case FUSE_MKNOD:
     case FUSE_MKDIR:
     case FUSE_SYMLINK: break;
     default: return;
     }
-    if (reply.len >= 8) memcpy(&nodes[1 + below(NODES - 1)], reply.data, 8);
+    if (answer.len >= 8) memcpy(&nodes[1 + below(NODES - 1)], answer.data, 8);
+}
+
+/* Asks once; whether it was done. */
+static bool ask_one(size_t ring) {
+    static _Thread_local uint8_t body[4096];
+    const struct form *form = &forms[below(FORMS)];
+    uint64_t node;
+    size_t len = put_request(form, body, &node);
+    if (form->opcode == FUSE_FORGET) {
+        if (node == ROOT) return false; /* it could ask for nothing any more until the next INIT */
+        front_send(&front, ring, FUSE_FORGET, node, body, len, 0);
+        if (!front_wait(&front, ring, 20000)) die("FORGET isn't answered");
+        return true;
+    }
+    front_ask(&front, ring, form->opcode, node, body, len, &answer);
+    if (answer.error) return false;
+    keep(form->opcode, node);
+    return true;
+}
+
+static uint64_t seed;
+
+static void *ask_until_over(void *counts) {
+    size_t ring = 2;
+    chance_begin(seed ^ ring);
+    for (uint64_t *count = counts; !over; count[0]++) count[1] += ask_one(ring);
+    return NULL;
 }
 
 void wild(unsigned seconds) {
-    static uint8_t body[4096];
     struct fuse_getattr_in getattr_in = {0};
-    uint64_t asked = 0, done = 0, node, seed = (uint64_t)time(NULL);
-    chance_begin(seed * 0x9e3779b97f4a7c15u | 1);
-    for (time_t end = time(NULL) + seconds; time(NULL) < end; asked++) {
-        const struct form *form = &forms[below(FORMS)];
+    uint64_t counts[2][2] = {{0}};
+    pthread_t other;
+    seed = (uint64_t)time(NULL) * 0x9e3779b97f4a7c15u | 1;
+    chance_begin(seed);
+    front_start_ring(&front, 2, 0);
+    pthread_create(&other, NULL, ask_until_over, counts[1]);
+    for (time_t end = time(NULL) + seconds; time(NULL) < end; counts[0][0]++) {
         if (below(3000) == 0) begin_session(&front);
-        size_t len = put_request(form, body, &node);
-        if (form->opcode == FUSE_FORGET) {
-            if (node == ROOT) continue; /* it would ask for nothing any more until the next INIT */
-            front_send(&front, 1, FUSE_FORGET, node, body, len, 0);
-            if (!front_wait(&front, 1, 20000)) die("FORGET isn't answered");
-            continue;
-        }
-        front_ask(&front, 1, form->opcode, node, body, len, &reply);
-        if (reply.error) continue;
-        done++;
-        keep(form->opcode, node);
+        counts[0][1] += ask_one(1);
     }
+    over = true;
+    pthread_join(other, NULL);
     begin_session(&front);
     front_ask(&front, 1, FUSE_GETATTR, ROOT, &getattr_in, sizeof getattr_in, &reply);
     expect("an orderly GETATTR", reply.error, 0);
-    printf("a wild guest (%llu): %llu requests, of which %llu were done\n", (unsigned long long)seed, (unsigned long long)asked,
-           (unsigned long long)done);
+    printf("a wild guest (%#llx): %llu and %llu requests, of which %llu and %llu were done\n", (unsigned long long)seed,
+           (unsigned long long)counts[0][0], (unsigned long long)counts[1][0], (unsigned long long)counts[0][1],
+           (unsigned long long)counts[1][1]);
 }
