@@ -39,9 +39,9 @@ void check(const char *what, bool holds) {
 
 /* ------------------------------------------------------------- no notification is lost */
 
-/* A driver that sleeps as soon as it may, beside a device that is as fast as it can be: so often, or until it is over. */
-static _Atomic uint64_t slept;
+static _Atomic uint64_t slept; /* how often the driver has */
 
+/* A driver that sleeps as soon as it may, beside a device that is as fast as it can be: so often, or until it is over. */
 static void sleep_on(size_t ring, uint64_t wanted) {
     struct fuse_in_header head = {.len = 56, .opcode = FUSE_GETATTR, .unique = 1, .nodeid = ROOT};
     struct front_ring *r = &front.rings[ring];

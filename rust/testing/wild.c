@@ -7,7 +7,6 @@
 #include <pthread.h>
 #include <stdio.h>
 #include <string.h>
-#include <sys/stat.h>
 #include <time.h>
 
 enum { NODES = 48, FILES = 24, NAMES = 20, PLAIN = 5, FORMS = 40, LONG = 300 };
