@@ -3,8 +3,12 @@
 # A directory to serve, with links that lead out of it, beside a file that nobody may reach.
 make_yard() {
     local yard=$work/yard dir=$work/yard/share
+    ! mountpoint -q "$dir" || umount "$dir"
     rm -rf "$yard"
-    mkdir -p "$dir/dir" "$dir/race"
+    mkdir -p "$dir"
+    # Who asks for anything, as for room that no limit bounds, fills no disk.
+    case $1 in wild | guest) mount -t tmpfs -o size=64m,nr_inodes=8k "$1" "$dir" ;; esac
+    mkdir "$dir/dir" "$dir/race"
     echo secret > "$yard/secret"
     echo file > "$dir/file"
     echo slow > "$dir/slow"
@@ -28,7 +32,7 @@ snapshot() {
 # EVENT_INDEX=1 the driver takes VIRTIO_F_EVENT_IDX.
 try() {
     local program=$1 what=$2 status=0
-    make_yard
+    make_yard "$what"
     (
         ulimit -f 65536
         exec timeout $((SECONDS_EACH + 600)) "$work/$program" "$DAEMON" "$work/yard/share" "${@:2}"
@@ -37,6 +41,7 @@ try() {
     ! grep -a -E 'FAILED|panicked' "$work/$program-$what.errors" || failure "$program $what"
     [ $status = 0 ] || failure "$program $what: it ended with $status: $(tail -n 3 "$work/$program-$what.errors")"
     snapshot | cmp - "$work/yard.before" || failure "$program $what: a file outside the directory changed"
+    ! mountpoint -q "$work/yard/share" || umount "$work/yard/share"
     echo "$program $what: done"
 }
 
@@ -49,7 +54,7 @@ compile() {
 
 alone() {
     SECONDS_EACH=${SECONDS_EACH:-60}
-    compile checks checks.c escape.c front.c
+    compile checks checks.c escape.c wild.c front.c
     compile hostile hostile.c front.c
     compile state state.c front.c
     rm -rf "$work/starts"
@@ -57,6 +62,7 @@ alone() {
     timeout 300 python3 "$here/testing/starts.py" "$DAEMON" "$work/starts" || failure "starts"
     try checks escape
     try checks groups
+    try checks wild "$SECONDS_EACH"
     try checks readonly
     diff <(echo file) "$work/yard/share/file" || failure "readonly: a file changed"
     try checks log
@@ -71,6 +77,8 @@ alone() {
     THREADS=4 try checks sleeps "${SLEEPS:-500000}"
     EVENT_INDEX=1 try checks sleeps "${SLEEPS:-500000}"
     THREADS=4 EVENT_INDEX=1 try checks sleeps "${SLEEPS:-500000}"
+    try checks pauses "${PAUSES:-2000}"
+    THREADS=4 EVENT_INDEX=1 try checks pauses "${PAUSES:-2000}"
     EVENT_INDEX=1 try checks rings
     THREADS=4 EVENT_INDEX=1 try checks pool
     try hostile guest "$SECONDS_EACH"

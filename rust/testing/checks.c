@@ -39,27 +39,67 @@ void check(const char *what, bool holds) {
 
 /* ------------------------------------------------------------- no notification is lost */
 
-/* A driver that sleeps as soon as it may, beside a device that is as fast as it can be. */
-static void sleeps(uint64_t wanted) {
+static _Atomic uint64_t slept; /* how often the driver has */
+
+/* A driver that sleeps as soon as it may, beside a device that is as fast as it can be: so often, or until it is over. */
+static void sleep_on(size_t ring, uint64_t wanted) {
     struct fuse_in_header head = {.len = 56, .opcode = FUSE_GETATTR, .unique = 1, .nodeid = ROOT};
-    struct front_ring *r = &front.rings[1];
-    uint64_t seed = 1, slept = 0, chains = 0;
+    struct front_ring *r = &front.rings[ring];
+    uint64_t seed = 1, chains = 0;
     for (unsigned k = 0; k < RING_SIZE; k += 2) {
-        uint64_t at = request_at(1) + 64 * k, room = room_at(1) + 256 * k;
+        uint64_t at = request_at(ring) + 64 * k, room = room_at(ring) + 256 * k;
         memcpy(front_at(&front, at), &head, sizeof head);
-        put_descriptor(&front, desc_at(1), k, at, 56, 1, k + 1);
-        put_descriptor(&front, desc_at(1), k + 1, room, 120, 2, 0);
+        put_descriptor(&front, desc_at(ring), k, at, 56, 1, k + 1);
+        put_descriptor(&front, desc_at(ring), k + 1, room, 120, 2, 0);
     }
-    while (slept < wanted) {
+    for (; slept < wanted && !over; slept++) {
         seed = seed * 6364136223846793005u + 1442695040888963407u;
         for (unsigned k = 0; k <= seed >> 62; k++, chains++)
-            front_offer(&front, 1, (uint16_t)(2 * r->offered % RING_SIZE));
-        front_kick(&front, 1);
+            front_offer(&front, ring, (uint16_t)(2 * r->offered % RING_SIZE));
+        front_kick(&front, ring);
         for (volatile unsigned wait = seed >> 40 & 255; wait > 0;) wait = wait - 1;
-        if (!front_wait(&front, 1, 20000)) die("a notification is lost after %llu sleeps", (unsigned long long)slept);
-        slept++;
+        if (!front_wait(&front, ring, 20000)) die("a notification is lost after %llu sleeps", (unsigned long long)slept);
     }
     printf("%llu sleeps, %llu chains: none lost\n", (unsigned long long)slept, (unsigned long long)chains);
+}
+
+static void *sleep_until_over(void *none) {
+    sleep_on(2, UINT64_MAX);
+    return none;
+}
+
+/* After this the driver still sleeps and wakes: twice, since it may have been about to. */
+static void goes_on(const char *what) {
+    uint64_t before = slept;
+    for (unsigned tries = 0; slept < before + 2; tries++) {
+        if (tries == 200000) die("the driver isn't told any more after %s", what);
+        usleep(100);
+    }
+}
+
+/* The ring of such a driver stops and goes on, is disabled and enabled, and its memory is told anew, while the driver kicks. */
+static void pauses(unsigned rounds) {
+    uint32_t enable[2] = {2, 0};
+    pthread_t driver;
+    front_start_ring(&front, 2, 0);
+    pthread_create(&driver, NULL, sleep_until_over, NULL);
+    for (unsigned k = 0; k < rounds; k++) {
+        uint16_t position = front_stop_ring(&front, 2);
+        usleep(k % 3 * 50);
+        front_start_ring(&front, 2, position);
+        goes_on("a stop");
+        for (enable[1] = 0; enable[1] < 2; enable[1]++) {
+            check("SET_VRING_ENABLE", front_tell(&front, SET_VRING_ENABLE, enable, sizeof enable, NULL, 0) == 0);
+            usleep(k % 5 * 50);
+        }
+        goes_on("a disabling");
+        front_set_memory(&front);
+        goes_on("a memory");
+    }
+    over = true;
+    pthread_join(driver, NULL);
+    check("the position", front_stop_ring(&front, 2) == front.rings[2].offered);
+    printf("pauses: %u of each kind beside it\n", rounds);
 }
 
 /* ------------------------------------------------------------- the log of pages */
@@ -393,7 +433,9 @@ static void run(const char *what, const char *dir, unsigned count) {
     else if (!strcmp(what, "readonly"))
         readonly();
     else if (!strcmp(what, "sleeps"))
-        sleeps(count);
+        sleep_on(1, count);
+    else if (!strcmp(what, "pauses"))
+        pauses(count);
     else if (!strcmp(what, "log"))
         dirty_pages();
     else if (!strcmp(what, "rings"))
@@ -410,6 +452,8 @@ static void run(const char *what, const char *dir, unsigned count) {
         pool(dir);
     else if (!strcmp(what, "groups"))
         groups(dir);
+    else if (!strcmp(what, "wild"))
+        wild(count);
     else
         die("no such check: %s", what);
 }
@@ -417,12 +461,15 @@ static void run(const char *what, const char *dir, unsigned count) {
 /* Options of the daemon, for what wants some. */
 static const char *const *options_for(const char *what) {
     static const char *const only_read[] = {"--readonly", NULL}, *const tagged[] = {"--tag", "shared", NULL};
+    /* Where the daemon isn't the first process of a namespace, a signal that nobody thought of ends it. */
+    static const char *const chroot[] = {"--sandbox", "chroot", NULL};
     if (!strcmp(what, "readonly")) return only_read;
+    if (!strcmp(what, "wild")) return chroot;
     return strcmp(what, "config") ? NULL : tagged;
 }
 
 int main(int argc, char **argv) {
-    if (argc < 4) die("usage: checks DAEMON DIR escape|readonly|sleeps|log|rings|config|memory|two|slow|pool|groups [N]");
+    if (argc < 4) die("usage: checks DAEMON DIR escape|readonly|sleeps|pauses|log|rings|config|memory|two|slow|pool|groups|wild [N]");
     const char *what = argv[3], *dir = argv[2];
     front_begin(&front, argv[1], dir, options_for(what));
     if (!strcmp(what, "log")) front.features |= 1ull << 26;

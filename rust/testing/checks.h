@@ -18,4 +18,7 @@ void check(const char *what, bool holds);
 void escape(const char *dir);
 void readonly(void);
 
+/* In wild.c: a guest's root that asks for anything. */
+void wild(unsigned seconds);
+
 #endif

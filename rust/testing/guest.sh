@@ -44,7 +44,7 @@ take_module() {
     *.xz) "$busybox" xz -dc "$file" > "$work/root/mod/$1.ko" ;;
     *) cp "$file" "$work/root/mod/$1.ko" ;;
     esac
-    for name in $("$busybox" modinfo -F depends "$work/root/mod/$1.ko" | tr ',' ' '); do take_module "$name"; done
+    for name in $(tr '\0' '\n' < "$work/root/mod/$1.ko" | sed -n 's/^depends=//p' | tr ',' ' '); do take_module "$name"; done
     echo "$1" >> "$work/root/mod/order"
 }
 

@@ -30,7 +30,7 @@ impl Log {
         let pages = 8 * self.map.size() as u64;
         for page in first / PAGE..(last / PAGE + 1).min(pages) {
             if let Ok(byte) = bits.get_atomic_ref::<AtomicU8>((page / 8) as usize) {
-                byte.fetch_or(1 << (page % 8), Ordering::Relaxed);
+                byte.fetch_or(1 << (page % 8), Ordering::Release); // who sees the mark sees what was written
             }
         }
     }

@@ -110,7 +110,7 @@ impl<F: Served> Server for Bench<F> {
         let adapter = Adapter { fs: &core.fs, memory };
         let mut answer = || self.worker.answer(&core.device, &adapter, &**memory);
         let answered = catch_unwind(AssertUnwindSafe(&mut answer)).or_else(|_| {
-            error!("queue {}: a call panicked, and is answered EIO", self.index);
+            debug!("queue {}: a call panicked, and is answered EIO", self.index); // start::log tells the panic
             catch_unwind(AssertUnwindSafe(&mut answer))
         });
         if let Ok(Err(status)) = answered {

@@ -5,9 +5,11 @@ use crate::options::{Handles, Options};
 use crate::serve::{Bench, Core, Served};
 use crate::socket::Socket;
 use crate::state;
-use log::{debug, info, warn};
+use log::{debug, error, info, warn};
 use std::error::Error;
 use std::fs::File;
+use std::panic::PanicHookInfo;
+use std::sync::atomic::{AtomicU32, Ordering};
 use std::sync::{Arc, Mutex};
 use std::thread;
 use std::time::Duration;
@@ -26,9 +28,21 @@ type Failure = Box<dyn Error>;
 const OWN_DESCRIPTORS: u64 = 512;
 const DAY: Duration = Duration::from_secs(24 * 60 * 60);
 
+/// So many panics are told: a guest that finds one may have it as often as it likes, and is to fill no log.
+const PANICS_TOLD: u32 = 100;
+
+fn tell_panic(panic: &PanicHookInfo<'_>) {
+    static PANICS: AtomicU32 = AtomicU32::new(0);
+    match PANICS.fetch_add(1, Ordering::Relaxed) {
+        0..PANICS_TOLD => error!("{}: {panic}", thread::current().name().unwrap_or("a thread")),
+        PANICS_TOLD => error!("more panics aren't told"),
+        _ => {}
+    }
+}
+
 /// Has messages go where the options say, a panic's too: a backtrace would want system calls that the filter refuses.
 pub fn log(options: &Options) -> Result<(), Failure> {
-    std::panic::set_hook(Box::new(|panic| log::error!("{panic}")));
+    std::panic::set_hook(Box::new(tell_panic));
     if options.syslog {
         let process = "pitskhomu-virtiofsd".into();
         let format = Formatter3164 { facility: Facility::LOG_DAEMON, hostname: None, process, pid: std::process::id() };
@@ -57,12 +71,13 @@ extern "C" fn end_for_lost_memory(_signal: libc::c_int) {
     }
 }
 
-/// As the first process of its namespace the daemon would be deaf to the first three signals without a handler.
-fn end_by_signals() {
+/// As the first process of its namespace the daemon would be deaf to the first three signals without a handler. A guest that writes more than
+/// a file may have (RLIMIT_FSIZE) is answered EFBIG.
+fn handle_signals() {
     let end = end as *const () as libc::sighandler_t;
     let lost = end_for_lost_memory as *const () as libc::sighandler_t;
-    let handlers = [(libc::SIGHUP, end), (libc::SIGINT, end), (libc::SIGTERM, end), (libc::SIGBUS, lost)];
-    for (signal, handler) in handlers {
+    let ended = [libc::SIGHUP, libc::SIGINT, libc::SIGTERM].map(|signal| (signal, end));
+    for (signal, handler) in ended.into_iter().chain([(libc::SIGBUS, lost), (libc::SIGXFSZ, libc::SIG_IGN)]) {
         // SAFETY: the handlers do nothing but what a handler may.
         unsafe { libc::signal(signal, handler) };
     }
@@ -110,7 +125,7 @@ fn config(options: Options, sandbox: &mut Sandbox, descriptors: u64) -> Config {
 
 /// Does all that these options say, and returns when the front-end is gone.
 pub fn run(mut options: Options) -> Result<(), Failure> {
-    end_by_signals();
+    handle_signals();
     let descriptors = setup_rlimit_nofile(options.rlimit_nofile).map_err(|why| format!("--rlimit-nofile: {why}"))?;
     let shared_dir = options.shared_dir.take().ok_or("--shared-dir is wanted")?;
     let (uid_map, gid_map) = (std::mem::take(&mut options.uid_map), std::mem::take(&mut options.gid_map));
@@ -191,7 +206,7 @@ fn start_thread<F: Served>(core: Arc<Core<F>>, index: usize) -> Result<(), Failu
         // virtiofsd changes a thread's working directory for extended attributes.
         // SAFETY: no memory is touched.
         if unsafe { libc::unshare(libc::CLONE_FS) } != 0 {
-            log::error!("queue {index} isn't served: unshare(CLONE_FS): {}", std::io::Error::last_os_error());
+            error!("queue {index} isn't served: unshare(CLONE_FS): {}", std::io::Error::last_os_error());
             return;
         }
         core.rings[index].run(&mut bench, || core.memory());

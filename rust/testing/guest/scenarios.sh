@@ -11,6 +11,18 @@ drop() { echo 3 > /proc/sys/vm/drop_caches; }
 sum_of() { sha256sum | sed 's/ .*//'; }
 names() { (cd "$1" && find . | sort | sed 's/^/NAME /'); }
 sums() { (cd "$1" && find . -type f | sort | while read -r f; do echo "SUM $(sha256sum "$f")"; done); }
+# The driver goes and comes back: as a module, or from its device where it is a part of the kernel itself.
+reload() {
+    local at=/sys/bus/virtio/drivers/virtiofs device
+    device=$(basename $at/virtio*)
+    if [ -e /mod/virtiofs.ko ]; then
+        run rmmod virtiofs
+        run insmod /mod/virtiofs.ko
+    else
+        run "echo $device > $at/unbind"
+        run "echo $device > $at/bind"
+    fi
+}
 kilobytes() { sed -n 's/MemTotal: *\([0-9]*\).*/\1/p' /proc/meminfo; }
 
 # Bytes by chance are written in three ways, and read back when no cache has them. The host sums the files. (A file that is made
@@ -61,8 +73,7 @@ scenario_whole() {
     run ask stat 10000 /mnt/files/m1
     echo "BIG $(dd if=/mnt/files/big bs=1M 2> /tmp/dd | sum_of)"
     run umount /mnt
-    run rmmod virtiofs
-    run insmod /mod/virtiofs.ko
+    reload
     mount_it
     echo "AGAIN $(sum_of < /mnt/files/m8)"
     run umount /mnt
@@ -104,7 +115,7 @@ scenario_reboot() {
     run umount /mnt
 }
 
-# The module goes and comes back, and so does the device in the middle of reading, mounted as it is.
+# The driver goes and comes back, and so does the device in the middle of reading, mounted as it is.
 scenario_unbind() {
     local at=/sys/bus/virtio/drivers/virtiofs device
     device=$(basename $at/virtio*)
@@ -112,8 +123,7 @@ scenario_unbind() {
         mount_it
         echo "READER $(sum_of < /mnt/files/m8)"
         run umount /mnt
-        run rmmod virtiofs
-        run insmod /mod/virtiofs.ko
+        reload
     done
     mount_it
     dd if=/mnt/files/big of=/dev/null bs=1M 2> /tmp/dd &
