@@ -396,7 +396,7 @@ struct pk_queue {
 
 /* Begins a queue at a position (SET_VRING_BASE, 0 after a reset), by the parts that you set: no chain is out of it, and it isn't stopped. pk_walk, pk_return,
  * pk_returned and pk_drop refuse what it had from then on (PK_OTHER_QUEUE; rule 8), unless it is begun anew 2^32 times. Make the store of pk_ask_kicks(.., 1)
- * then, and its barrier: a device of before may have left the used flag by which the driver doesn't kick.
+ * then, and its barrier: without event_index a device of before may have left the used flag by which the driver doesn't kick (with it the driver looks at avail_event).
  * Errors: PK_BAD_ARGUMENT (the numbers that you set are no queue's); then nothing is done. */
 uint32_t pk_queue_begin(struct pk_queue *queue, uint16_t position) PK_CHECK PK_NONNULL;
 
