@@ -78,8 +78,8 @@
  * WHAT IS PROVED. Each function, whenever its arguments are what their types say, returns, doesn't panic, reads and writes only what it is
  * lent, and does what its contract in the crate fs_chain_c says, in the terms of the crate fs_chain: the load that is asked for, the
  * call that a request means, the reply that an answer gives, the stores of a return. Of a chain from its walk to its return fs_chain's law_chains says more,
- * and of several chains that are out at once the laws of fs_live.
- * TRIED ALONE is this: that pk_chain_free frees all; that the stores of pk_return have a place (PK_NO_PLACE); that the calls of a walk are no more loads than
+ * and of several chains that are out at once the laws of fs_live: over the same regions each store of pk_return has a place then (law_runs).
+ * TRIED ALONE is this: that pk_chain_free frees all; that the calls of a walk are no more loads than
  * the walk behind them makes (fs_queue's law_any_loads: 2 * size + 6); that the bytes of a span are the name's (proved is where it stands, and its length); which
  * of two errors comes first, of pk_chain_set_memory and pk_save; a chain whose calls several threads make; and what is written out here in C.
  *

@@ -1,15 +1,17 @@
 //! Chains of the worked runs, each by itself.
 
-ghost use Rattle.std.specs.Prelude.{[], ◌∷◌, List, true};
+ghost use Rattle.std.specs.Prelude.{◌≡◌, [], ◌∷◌, List, Some, slice_get, true};
 ghost use Rattle.fs_queue.specs.Loads.{Load};
 ghost use Rattle.fuse_fs.specs.Calls.{Destroy, Done, Failed, FileRun, Wants};
+ghost use Rattle.fs_device.specs.Examples.{blank};
 ghost use Rattle.fs_device.specs.Step.{Exchanged, State};
 ghost use Rattle.fs_device.specs.StepBy.{Effects, StepBy};
 ghost use Rattle.fs_live.specs.InitBeside as init;
 ghost use Rattle.fs_live.specs.Live.{LiveState};
 ghost use Rattle.fs_live.specs.Overlap.{first_answered, first_exchange};
 ghost use Rattle.fs_live.specs.Rewritten as rewritten;
-ghost use Rattle.fs_live.specs.Runs.{IsBefore, after_alone, chain_loads};
+ghost use Rattle.fs_live.specs.Runs.{IsBefore, ReturnHasPlaces, after_alone, chain_loads};
+ghost use Rattle.fs_live.specs.Several.{LiveQueue};
 
 use call_log::CallLog;
 use fs_live::{law_examples, law_runs};
@@ -20,6 +22,14 @@ fn overlapped<F: FileSystem>()
     ensures { (before after : F) → F.may before Destroy Done after → (now : LiveState F)
         × ((m : State F) (files : F) → IsBefore now first_answered m → FileRun F.may m.files ((Destroy, Done) ∷ []) files
         → (lost : List Load) × (e : Effects) × StepBy F.may m 0 (chain_loads first_answered lost) ((Destroy, Done) ∷ []) (Exchanged first_exchange true) e (after_alone m first_answered files)) }
+{
+    law_examples::<F>();
+    law_runs::<F, F>();
+}
+
+// Where it goes back there are places, though another one that was taken later went back before.
+fn placed<F: FileSystem>()
+    ensures { (before after : F) → F.may before Destroy Done after → (now : LiveState F) × (w : LiveQueue) × (slice_get now.queues 0 ≡ Some w) × ReturnHasPlaces blank w first_answered }
 {
     law_examples::<F>();
     law_runs::<F, F>();
@@ -50,6 +60,7 @@ fn asked_before<F: FileSystem>()
 #[test]
 fn chains_of_the_worked_runs_are_steps() {
     overlapped::<CallLog>();
+    placed::<CallLog>();
     kept::<CallLog>();
     asked_before::<CallLog>();
 }

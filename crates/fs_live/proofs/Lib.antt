@@ -5,7 +5,9 @@ pub mod Handles
 pub mod InitBesideRun
 pub mod Listed
 pub mod Options
+pub mod Offered
 pub mod OverlapRun
+pub mod Placed
 pub mod Queues
 pub mod Refusals
 pub mod RewrittenRun

@@ -54,14 +54,14 @@ not_both b t f = subst (λ (k : Bool). Holds k) (sym t ∙ f) tt
 self : (n : ℕ) → (n == n) ≡ true
 self n = eq-eqb n n refl
 
-apart_of : (j i : ℕ) → (j == i) ≡ false → j ≡ i → ⊥
+pub apart_of : (j i : ℕ) → (j == i) ≡ false → j ≡ i → ⊥
 apart_of j i other same = not_both (i == i) (self i) (subst (λ (k : ℕ). (k == i) ≡ false) same other)
 
 module _ (i : ℕ) where
   abbrev ticket_of : OutChain → Ticket
   ticket_of c = (c.taken.position, c.head)
 
-  one_ticket : (c : OutChain) (cs : List OutChain) (b : Bool) → (c.queue == i) ≡ b → tickets_on i (c ∷ cs) ≡ (if b then ticket_of c ∷ tickets_on i cs else tickets_on i cs)
+  pub one_ticket : (c : OutChain) (cs : List OutChain) (b : Bool) → (c.queue == i) ≡ b → tickets_on i (c ∷ cs) ≡ (if b then ticket_of c ∷ tickets_on i cs else tickets_on i cs)
   one_ticket c cs true is = rw is refl
   one_ticket c cs false is = rw is refl
 
@@ -71,12 +71,12 @@ module _ (i : ℕ) where
       one_ticket c (xs ++ ys) true is ∙ ap (λ (l : List Ticket). ticket_of c ∷ l) more ∙ sym (ap (λ (l : List Ticket). l ++ tickets_on i ys) (one_ticket c xs true is))
   ticket_and c xs ys false is more = one_ticket c (xs ++ ys) false is ∙ more ∙ sym (ap (λ (l : List Ticket). l ++ tickets_on i ys) (one_ticket c xs false is))
 
-  tickets-append : (xs ys : List OutChain) → tickets_on i (xs ++ ys) ≡ tickets_on i xs ++ tickets_on i ys
+  pub tickets-append : (xs ys : List OutChain) → tickets_on i (xs ++ ys) ≡ tickets_on i xs ++ tickets_on i ys
   tickets-append [] ys = refl
   tickets-append (c ∷ xs) ys = ticket_and c xs ys (c.queue == i) refl (tickets-append xs ys)
 
   -- a chain that goes on keeps its ticket
-  goes_on : (before behind : List OutChain) (c d : OutChain) (b : Bool) → (c.queue == i) ≡ b → d.queue ≡ c.queue → ticket_of d ≡ ticket_of c
+  pub goes_on : (before behind : List OutChain) (c d : OutChain) (b : Bool) → (c.queue == i) ≡ b → d.queue ≡ c.queue → ticket_of d ≡ ticket_of c
       → tickets_on i (before ++ d ∷ behind) ≡ tickets_on i (before ++ c ∷ behind)
   goes_on before behind c d true is same ticket =
       let is_d : (d.queue == i) ≡ true = ap (λ (n : ℕ). n == i) same ∙ is in
@@ -106,7 +106,7 @@ module _ (i : ℕ) where
       ap (λ (l : List OutChain). tickets_on i l) (kept_not (λ c. not (c.queue == j)) c cs true (ap not other))
       ∙ one_ticket c (filter (λ c. not (c.queue == j)) cs) false is ∙ more ∙ sym (one_ticket c cs false is)
 
-  dropped : (j : ℕ) (cs : List OutChain) → (j ≡ i → ⊥) → tickets_on i (filter (λ c. not (c.queue == j)) cs) ≡ tickets_on i cs
+  pub dropped : (j : ℕ) (cs : List OutChain) → (j ≡ i → ⊥) → tickets_on i (filter (λ c. not (c.queue == j)) cs) ≡ tickets_on i cs
   dropped j [] apart = refl
   dropped j (c ∷ cs) apart = one_dropped j c cs (c.queue == i) (c.queue == j) apart refl refl (dropped j cs apart)
 

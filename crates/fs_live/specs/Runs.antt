@@ -1,8 +1,9 @@
 -- What holds of each run.
-use Rattle.std.specs.Prelude.{◌≡◌, ℕ, Bool, true, false, ◌==◌, List, [], ◌∷◌, ◌++◌, length, map, filter, flat_map, IsPermutation, Option, Some, None, slice_get, if◌then◌else◌}
-use Rattle.std.specs.List.{AllByRecursion, Contains}
+use Rattle.std.specs.Prelude.{◌≡◌, ℕ, Bool, true, false, ◌==◌, List, [], ◌∷◌, ◌++◌, length, map, filter, flat_map, is_some, IsPermutation, Option, Some, None, slice_get, if◌then◌else◌}
+use Rattle.std.specs.List.{AllByRecursion, Contains, list_all}
+use Rattle.vm_iotlb.specs.declared.permissions.Permissions.TheVariants.{Read, Write}
 use Rattle.vm_memory_core.specs.Host.{changed_at}
-use Rattle.vm_memory.specs.Memory.{addresses}
+use Rattle.vm_memory.specs.Memory.{Memory, addresses, location, reach}
 use Rattle.fs_queue.specs.Loads.{Load}
 use Rattle.fs_queue.specs.Queue.{element_at, index_at}
 use Rattle.fs_queue.specs.Returning.{Store, writes_of, tells, advanced}
@@ -11,7 +12,7 @@ use Rattle.fuse_fs.specs.Calls.{FileRun}
 use Rattle.virtiofsd_fuse.specs.Serving.{May}
 use Rattle.fs_device.specs.Step.{State, Exchange, Exchanged}
 use Rattle.fs_device.specs.StepBy.{StepLoads, StepBy, return_acts, return_stores, stores_among}
-use Rattle.fs_live.specs.Several.{LiveQueue, Ticket, Event, RunsOver, UsedFrom, heads_taken, heads_returned, returns_among, returning, avail_event_at}
+use Rattle.fs_live.specs.Several.{LiveQueue, Ticket, Event, RunsOver, UsedFrom, heads_taken, heads_returned, returns_among, returning, avail_event_at, used_event_at}
 use Rattle.fs_live.specs.Several as several
 use Rattle.fs_live.specs.Live.{Phase, Asked, OutChain, LiveState, LiveEvent, Walks, Returns, Sleeps, Begins, Happens, LiveRun, acts_of, calls_among, calls_in, room_of, serving}
 
@@ -105,6 +106,46 @@ EachStoresThere may s (e ∷ es) after run = StoresThere s e × EachStoresThere 
 -- so it is in each run
 abbrev pub StoresStayThere : {F : Type 0} → May F → Type 0
 StoresStayThere {F} may = (s after : LiveState F) (es : List LiveEvent) (run : LiveRun may s es after) → EachStoresThere may s es after run
+
+-- ---- places
+
+-- with the event index used_event has a place to be read
+abbrev pub HasUsedEvent : Memory → LiveQueue → Type 0
+HasUsedEvent m w = w.event_index ≡ true → reach m Read (used_event_at w.queue) 2 ≡ true
+
+-- whether each address of a room has a place to be written
+abbrev pub has_places : Memory → (room : List ℕ) → Bool
+has_places m room = list_all (λ a. is_some (location m Write a)) room
+
+-- what a return stores at the queue's next used position has places to be written: used element, used index and the chain's room; and the two bytes that tell have one to be read: the
+-- available flags, with the event index used_event besides
+pub record ReturnHasPlaces (m : Memory) (w : LiveQueue) (c : OutChain) : Type 0 where
+  pub element : reach m Write (element_at (returning w)) 8 ≡ true
+  pub index : reach m Write (index_at (returning w)) 2 ≡ true
+  pub flags : reach m Read w.queue.avail 2 ≡ true
+  pub used_event : HasUsedEvent m w
+  pub room : has_places m (room_of c) ≡ true
+
+-- a chain is taken where used_event has a place, if the queue has the event index: a walk elsewhere is declined
+abbrev pub TakesSo : {F : Type 0} → LiveState F → LiveEvent → Type 0
+TakesSo s (Walks i loaded ds (step.Chain head fault)) = (w : LiveQueue) → slice_get s.queues i ≡ Some w → HasUsedEvent s.places w
+TakesSo s _ = Unit {0}
+
+-- so is each of a run
+abbrev pub EachTakesSo : {F : Type 0} → (may : May F) → (s : LiveState F) → (es : List LiveEvent) → (after : LiveState F) → LiveRun may s es after → Type 0
+EachTakesSo may s [] after run = Unit {0}
+EachTakesSo may s (e ∷ es) after run = TakesSo s e × EachTakesSo may run.0 es after run.2
+
+-- where the next chain is taken the next one goes back
+abbrev pub IsEven : LiveQueue → Type 0
+IsEven w = w.returned ≡ w.queue.position
+
+-- from no chain out on, whichever chains go back first and whatever the guest writes, each return has places
+abbrev pub ReturnsHavePlaces : {F : Type 0} → May F → Type 0
+ReturnsHavePlaces {F} may =
+    (s now after : LiveState F) (es : List LiveEvent) (c : OutChain) (x : Exchange) (notice : Bool) (last : ℕ) (used : List Store) (seen : List ℕ) →
+    s.outs ≡ [] → AllByRecursion IsEven s.queues → (run : LiveRun may s es now) → EachTakesSo may s es now run → Happens may now (Returns c x notice last used seen) after →
+    (w : LiveQueue) × (slice_get now.queues c.queue ≡ Some w) × ReturnHasPlaces s.places w c
 
 -- ---- one queue of a run
 

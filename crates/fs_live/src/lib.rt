@@ -5,7 +5,7 @@ ghost use Rattle.fs_live.specs.Handles.{HandleAnswers, HandleAsks, HandleBegins,
 ghost use Rattle.fs_live.specs.InitBeside.{InitBeside};
 ghost use Rattle.fs_live.specs.Overlap.{Overlap};
 ghost use Rattle.fs_live.specs.Rewritten.{Rewritten};
-ghost use Rattle.fs_live.specs.Runs.{CallsAreARun, LiveUsedInOrder, OncePerLiveChain, ReturnedIsStepBy, RunsOnQueue, StoresStayThere};
+ghost use Rattle.fs_live.specs.Runs.{CallsAreARun, LiveUsedInOrder, OncePerLiveChain, ReturnedIsStepBy, ReturnsHavePlaces, RunsOnQueue, StoresStayThere};
 ghost use Rattle.fs_live.specs.Serial.{SingleIsStep, SerialIsKick};
 ghost use Rattle.fs_live.specs.Several.{ByEvent, KeepsOrder, OncePerChain, OneAtATime, UsedInOrder};
 
@@ -22,11 +22,12 @@ pub fn law_queues()
 {}
 
 /// What holds of a run of several chains, whatever the guest writes meanwhile: the calls are a run of the file system; each chain that goes back is by
-/// itself the plain machine's step by its loads; stores stay where they may be; and each queue's chains are taken and go back as on one queue alone.
+/// itself the plain machine's step by its loads; stores stay where they may be, and those of a return have places; and each queue's chains are taken and go back as on one queue alone.
 pub fn law_runs<F: FileSystem, G: FileSystem>()
     ensures calls { CallsAreARun F.may }
     ensures step { ReturnedIsStepBy F.may G.may }
     ensures stores { StoresStayThere F.may }
+    ensures places { ReturnsHavePlaces F.may }
     ensures queue { RunsOnQueue F.may }
     ensures once { OncePerLiveChain F.may }
     ensures used { LiveUsedInOrder F.may }

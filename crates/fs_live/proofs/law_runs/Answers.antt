@@ -1,5 +1,6 @@
 use Rattle.fs_live.proofs.Calls.{calls_are_a_run}
 use Rattle.fs_live.proofs.Alone.{returned_is_step_by}
+use Rattle.fs_live.proofs.Placed.{returns_have_places}
 use Rattle.fs_live.proofs.Stored.{stores_stay_there}
 use Rattle.fs_live.proofs.Queues.{runs_on_queue, once_per_live_chain, live_used_in_order}
 use Rattle.fs_live.proofs.law_runs.Goals as goal
@@ -12,6 +13,9 @@ returns-clause-step g c = returned_is_step_by _ _
 
 pub returns-clause-stores : goal.returns-clause-stores
 returns-clause-stores g c = stores_stay_there _
+
+pub returns-clause-places : goal.returns-clause-places
+returns-clause-places g c = returns_have_places _
 
 pub returns-clause-queue : goal.returns-clause-queue
 returns-clause-queue g c = runs_on_queue _
