@@ -79,8 +79,7 @@
  * lent, and does what its contract in the crate fs_chain_c says, in the terms of the crate fs_chain: the load that is asked for, the
  * call that a request means, the reply that an answer gives, the stores of a return. Of a chain from its walk to its return fs_chain's law_chains says more,
  * and of several chains that are out at once the laws of fs_live: over the same regions each store of pk_return has a place then (law_runs).
- * TRIED ALONE is this: that pk_chain_free frees all; that the calls of a walk are no more loads than
- * the walk behind them makes (fs_queue's law_any_loads: 2 * size + 6); that the bytes of a span are the name's (proved is where it stands, and its length); which
+ * TRIED ALONE is this: that pk_chain_free frees all; that the bytes of a span are the name's (proved is where it stands, and its length); which
  * of two errors comes first, of pk_chain_set_memory and pk_save; a chain whose calls several threads make; and what is written out here in C.
  *
  * THREADS. What a call takes as const may be read by several calls at a time; what it takes otherwise is that call's alone. So a
@@ -438,7 +437,7 @@ struct pk_step {
 };
 
 /* Takes the next chain of a queue. At first `loaded` has length 0; as long as it answers PK_LOAD, load and call again with these
- * bytes. A walk ends after at most 2 * size + 6 loads, whatever the guest writes. A queue that another chain's walk stopped meanwhile refuses: PK_STOPPED.
+ * bytes. A walk ends after at most size + 4 loads, whatever the guest writes (law_handles of fs_live; a part of a load is none). A queue that another chain's walk stopped meanwhile refuses: PK_STOPPED.
  * PK_DONE: the chain is out of the queue, its windows stay as they are until it is returned, dropped or abandoned. PK_IDLE, a refusal
  * from 1 to 8: the chain is free. A chain whose walk has begun isn't out yet: pk_drop ends it, and so does a refusal. An entry that goes over the
  * end of a region (the next one begins there) is loaded in two parts, by two calls; a caller who has it whole may give it whole, unless a part of it was given.

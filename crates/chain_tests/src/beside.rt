@@ -1,6 +1,6 @@
 //! What calls of a handle are in a run, beside whatever other chains are out and a guest that writes.
 
-ghost use Rattle.std.specs.Prelude.{◌≡◌, ◌≤◌, ◌^◌, ◌⊎◌, ℕ, [], ◌∷◌, ◌++◌, drop, IsTrue, IfOk, IfSome, List, None, Ok, OnOk, Some, slice_get};
+ghost use Rattle.std.specs.Prelude.{◌≡◌, ◌≤◌, ◌+◌, ◌^◌, ◌⊎◌, ℕ, [], ◌∷◌, ◌++◌, drop, IsTrue, IfOk, IfSome, List, None, Ok, OnOk, Some, slice_get};
 ghost use Rattle.std.specs.List.{AllByRecursion};
 ghost use Rattle.fs_queue.specs.declared.fault.QueueError.{QueueError};
 ghost use Rattle.fs_regions.specs.Places.{places_in};
@@ -11,11 +11,11 @@ ghost use Rattle.fuse_values.specs.declared.call.FileCall as value;
 ghost use Rattle.server_phases.specs.Answering.{TellsBytes};
 ghost use Rattle.fs_chain.specs.Events.{store_of};
 ghost use Rattle.fs_chain.specs.Walks.{HasEvents};
-ghost use Rattle.fs_chain.specs.Whole.{IsWalked};
+ghost use Rattle.fs_chain.specs.Whole.{IsWalked, WalksBy};
 ghost use Rattle.fs_chain.specs.declared.asking.Told.TheVariants as asks;
 ghost use Rattle.fs_chain.specs.declared.state.State.TheVariants as at;
 ghost use Rattle.fs_device.specs.Step.{Calls};
-ghost use Rattle.fs_live.specs.Handles.{IsKept, IsReached, IsSessionOf, live_of};
+ghost use Rattle.fs_live.specs.Handles.{IsKept, IsReached, IsSessionOf, live_of, load_count};
 ghost use Rattle.fs_live.specs.Live.{Answers, Asked, Begins, Declines, Happens, LiveEvent, LiveRun, LiveState, NoneWaits, OutChain, Sleeps, calls_among, why_declined};
 ghost use Rattle.fs_live.specs.Runs.{EachStoresThere, events_on, going, tickets_on};
 ghost use Rattle.fs_live.specs.Several.{LiveQueue, RunsOver, UsedFrom, may_take, returns_among};
@@ -100,6 +100,21 @@ fn walk_to_end(
         Went::On(told) => Ok(told),
         Went::Part => Err(ChainError::BadArgument),
     }
+}
+
+// A walk to its end was given few loads, whatever they found.
+fn walk_in_few_loads<F: FileSystem>(
+    workbench: &mut Workbench,
+    queue: &mut KeptQueue,
+    given: &[&[u8]],
+) -> Result<WalkOutcome, ChainError>
+    requires free { workbench.old.state ≡ at.Free }
+    requires goes { queue.old.stopped ≡ None }
+    ensures few { IfOk result (λ told. (loads : List (List ℕ)) × (walks : WalksBy loads workbench.old workbench.new queue.old queue.new (Went.On told))
+        × (load_count loads workbench.old workbench.new queue.old queue.new (Went.On told) walks ≤ queue.old.layout.size + 4)) }
+{
+    law_handles::<F>();
+    walk_to_end(workbench, queue, given)
 }
 
 // A walk that is refused by what it loaded, or by the queue, leaves the queue of the run as it leaves the kept one.
@@ -207,6 +222,16 @@ fn a_refusal_by_loads_is_an_event(rt: HostRuntime) {
     let refused = WalkOutcome::Refused(QueueError::HeadOutOfTable);
     expect_same(&rt, told, Ok(refused));
     expect_same(&rt, queue.stopped, Some(QueueError::HeadOutOfTable));
+}
+
+#[test]
+fn a_walk_is_given_few_loads(rt: HostRuntime) {
+    let mut workbench = workbench(&rt, rt.alloc());
+    let mut queue = queue(&rt);
+    let loads = &[[0, 0].as_slice(), [4, 0].as_slice()];
+    let told = walk_in_few_loads::<CallLog>(&mut workbench, &mut queue, loads);
+    let refused = WalkOutcome::Refused(QueueError::HeadOutOfTable);
+    expect_same(&rt, told, Ok(refused));
 }
 
 #[test]

@@ -4,6 +4,7 @@ pub mod EachCall
 pub mod Handles
 pub mod InitBesideRun
 pub mod Listed
+pub mod Loads
 pub mod Options
 pub mod Offered
 pub mod OverlapRun

@@ -1,5 +1,5 @@
 -- What calls of handles, each with its chain, give a run, whatever other chains are out.
-use Rattle.std.specs.Prelude.{◌≡◌, ◌⊎◌, ◌≤◌, ◌^◌, ℕ, Bool, true, false, IsTrue, List, [], ◌∷◌, ◌++◌, length, drop, is_some, Option, Some, None, slice_get, option_map}
+use Rattle.std.specs.Prelude.{◌≡◌, ◌⊎◌, ◌≤◌, ◌+◌, ◌^◌, ℕ, suc, Bool, true, false, IsTrue, List, [], ◌∷◌, ◌++◌, length, drop, is_some, Option, Some, None, slice_get, option_map}
 use Rattle.std.specs.List.{AllByRecursion}
 use Rattle.fs_queue.specs.declared.fault.ChainFault.{ChainFault}
 use Rattle.fs_queue.specs.declared.fault.QueueError.{QueueError}
@@ -28,6 +28,7 @@ use Rattle.fs_chain.specs.declared.answering.Replied.{Replied}
 use Rattle.fs_chain.specs.declared.asking.Told as told
 use Rattle.fs_chain.specs.declared.asking.Told.TheVariants as asks
 use Rattle.fs_chain.specs.declared.event_index.KickStore.{KickStore}
+use Rattle.fs_chain.specs.declared.loads.Went as went
 use Rattle.fs_chain.specs.declared.loads.Went.TheVariants as wents
 use Rattle.fs_chain.specs.declared.queue.KeptQueue.{KeptQueue}
 use Rattle.fs_chain.specs.declared.state.Out.{Out}
@@ -87,6 +88,22 @@ HandleWalks {F} may =
     (loaded : Loaded) × LoadsOf given old new before after (wents.On told) walks loaded × (came : comes.Step) × (told ≡ told_of new.descriptors.items came)
     × Happens may s (Walks i loaded new.descriptors.items came) (after_walk s i (live_of before) loaded new.descriptors.items came)
     × (slice_get (after_walk s i (live_of before) loaded new.descriptors.items came).queues i ≡ Some (live_of after)) × IsHeld s i (live_of before) loaded came new
+
+-- one load more, if a call wasn't given only a part of it
+abbrev pub counted : went.Went → ℕ → ℕ
+counted wents.Part n = n
+counted (wents.On told) n = suc n
+
+-- how many loads the calls of a walk were given
+abbrev pub load_count : (given : List (List ℕ)) (old new : Workbench) (before after : KeptQueue) (told : went.Went) → WalksBy given old new before after told → ℕ
+load_count [] old new before after told walks = 0
+load_count (bs ∷ given) old new before after told walks = counted told (load_count given old walks.0 before walks.1 walks.2 walks.3)
+
+-- whatever the guest writes meanwhile, they are few, of a walk too that hasn't ended: the index, the ring's entry, and at most size + 2 of tables
+abbrev pub HandleLoads : Type 0
+HandleLoads =
+    (given : List (List ℕ)) (old new : Workbench) (before after : KeptQueue) (told : went.Went) → before.stopped ≡ None → (walks : WalksBy given old new before after told) →
+    load_count given old new before after told walks ≤ before.layout.size + 4
 
 -- a walk of a queue that is stopped, or whose event index has no place, is refused by its first call: no load was made
 abbrev pub HandleDeclines : {F : Type 0} → May F → Type 0

@@ -1,9 +1,13 @@
 use Rattle.fs_live.proofs.Handles.{handle_answers, handle_asks, handle_begins, handle_calls, handle_declines, handle_faulty, handle_returns, handle_sleeps, handle_walks}
+use Rattle.fs_live.proofs.Loads.{handle_loads}
 use Rattle.fs_live.proofs.Options.{options_stay}
 use Rattle.fs_live.proofs.law_handles.Goals as goal
 
 pub returns-clause-walks : goal.returns-clause-walks
 returns-clause-walks g c = handle_walks g.F.FileSystemBase.may
+
+pub returns-clause-loads : goal.returns-clause-loads
+returns-clause-loads g c = handle_loads
 
 pub returns-clause-declines : goal.returns-clause-declines
 returns-clause-declines g c = handle_declines g.F.FileSystemBase.may
