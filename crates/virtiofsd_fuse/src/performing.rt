@@ -28,6 +28,22 @@ fn numbered_if<H: FileNumber>(handle: Option<u64>) -> Option<H>
     }
 }
 
+// A match over calls. A row of a call on a node: its fields besides, how its answer is received, the file system's method with what it
+// is given besides; and behind the rows other arms.
+macro_rules! performed {
+    ($server:ident, $unique:ident, $w:ident, $call:expr, {
+        $($name:ident { $($field:ident),* } $received:ident $method:ident($($given:expr),*);)*
+    } $($arm:tt)*) => {
+        match $call {
+            $(FileCall::$name { context, node, $($field),* } => {
+                let answer = $received($server.fs.$method(context, F::Inode::numbered(node), $($given),*));
+                reply_answer($w, $unique, answer)
+            })*
+            $($arm)*
+        }
+    };
+}
+
 impl<F: FileSystem> Server<F> {
     /// Performs the one call that a request asks. What the file system owns of it takes memory, before the call.
     #[inline(always)]
@@ -102,33 +118,24 @@ impl<F: FileSystem> Server<F> {
         ensures handles { ServerHandles F.may self.old w.old.free (Asks (One unique (call_of [] call.entry))) result w.new.written self.new }
         ensures rest { Leaves false result w.old w.new self.old self.new }
     {
-        match call {
-            FileCall::Readlink { context, node } => {
-                let answer = received(self.fs.readlink(context, F::Inode::numbered(node)));
-                reply_answer(w, unique, answer)
-            }
-            FileCall::Statfs { context, node } => {
-                let answer = received(self.fs.statfs(context, F::Inode::numbered(node)));
-                reply_answer(w, unique, answer)
-            }
-            FileCall::Syncfs { context, node } => {
-                let answer = received(self.fs.syncfs(context, F::Inode::numbered(node)));
-                reply_answer(w, unique, answer)
-            }
-            FileCall::Destroy => {
-                self.destroy();
-                silence()
-            }
-            FileCall::Getlk => reply_answer(w, unique, silent(self.fs.getlk())),
-            FileCall::Setlk => reply_answer(w, unique, silent(self.fs.setlk())),
-            FileCall::Setlkw => reply_answer(w, unique, silent(self.fs.setlkw())),
-            FileCall::Bmap => reply_answer(w, unique, silent(self.fs.bmap())),
-            FileCall::Ioctl => reply_answer(w, unique, silent(self.fs.ioctl())),
-            FileCall::Poll => reply_answer(w, unique, silent(self.fs.poll())),
-            FileCall::NotifyReply => reply_answer(w, unique, silent(self.fs.notify_reply())),
-            FileCall::TmpFile => reply_answer(w, unique, received(Err::<(), _>(self.fs.tmpfile()))),
-            _ => unreachable!(),
+        performed!(self, unique, w, call, {
+            Readlink {} received readlink();
+            Statfs {} received statfs();
+            Syncfs {} received syncfs();
         }
+        FileCall::Destroy => {
+            self.destroy();
+            silence()
+        }
+        FileCall::Getlk => reply_answer(w, unique, silent(self.fs.getlk())),
+        FileCall::Setlk => reply_answer(w, unique, silent(self.fs.setlk())),
+        FileCall::Setlkw => reply_answer(w, unique, silent(self.fs.setlkw())),
+        FileCall::Bmap => reply_answer(w, unique, silent(self.fs.bmap())),
+        FileCall::Ioctl => reply_answer(w, unique, silent(self.fs.ioctl())),
+        FileCall::Poll => reply_answer(w, unique, silent(self.fs.poll())),
+        FileCall::NotifyReply => reply_answer(w, unique, silent(self.fs.notify_reply())),
+        FileCall::TmpFile => reply_answer(w, unique, received(Err::<(), _>(self.fs.tmpfile()))),
+        _ => unreachable!())
     }
 
     // Performs a call whose request is one record.
@@ -145,85 +152,19 @@ impl<F: FileSystem> Server<F> {
         ensures handles { ServerHandles F.may self.old w.old.free (Asks (One unique (call_of [] call.entry))) result w.new.written self.new }
         ensures rest { Leaves false result w.old w.new self.old self.new }
     {
-        match call {
-            FileCall::Forget {
-                context,
-                node,
-                count,
-            } => {
-                self.fs.forget(context, F::Inode::numbered(node), count);
-                silence()
-            }
-            FileCall::Getattr {
-                context,
-                node,
-                handle,
-            } => {
-                let answer = received(
-                    self.fs
-                        .getattr(context, F::Inode::numbered(node), numbered_if(handle)),
-                );
-                reply_answer(w, unique, answer)
-            }
-            FileCall::Setattr {
-                context,
-                node,
-                attr,
-                handle,
-                valid,
-            } => {
-                let answer = received(
-                    self.fs.setattr(
-                        context,
-                        F::Inode::numbered(node),
-                        attr,
-                        numbered_if(handle),
-                        valid,
-                    ),
-                );
-                reply_answer(w, unique, answer)
-            }
-            FileCall::Access {
-                context,
-                node,
-                mask,
-            } => {
-                let answer = received(self.fs.access(context, F::Inode::numbered(node), mask));
-                reply_answer(w, unique, answer)
-            }
-            FileCall::Listxattr {
-                context,
-                node,
-                size,
-            } => {
-                let answer = received_names(
-                    self.fs.listxattr(context, F::Inode::numbered(node), size),
-                );
-                reply_answer(w, unique, answer)
-            }
-            FileCall::Open {
-                context,
-                node,
-                kill,
-                flags,
-            } => {
-                let answer = received_opened(
-                    self.fs.open(context, F::Inode::numbered(node), kill, flags),
-                );
-                reply_answer(w, unique, answer)
-            }
-            FileCall::Opendir {
-                context,
-                node,
-                flags,
-            } => {
-                let answer = received_opened(
-                    self.fs.opendir(context, F::Inode::numbered(node), flags),
-                );
-                reply_answer(w, unique, answer)
-            }
-            _ => self.perform_file(unique, call, w),
+        performed!(self, unique, w, call, {
+            Getattr { handle } received getattr(numbered_if(handle));
+            Setattr { attr, handle, valid } received setattr(attr, numbered_if(handle), valid);
+            Access { mask } received access(mask);
+            Listxattr { size } received_names listxattr(size);
+            Open { kill, flags } received_opened open(kill, flags);
+            Opendir { flags } received_opened opendir(flags);
         }
+        FileCall::Forget { context, node, count } => {
+            self.fs.forget(context, F::Inode::numbered(node), count);
+            silence()
+        }
+        _ => self.perform_file(unique, call, w))
     }
 
     // Performs a call on an open file or directory whose request is one record.
@@ -240,158 +181,17 @@ impl<F: FileSystem> Server<F> {
         ensures handles { ServerHandles F.may self.old w.old.free (Asks (One unique (call_of [] call.entry))) result w.new.written self.new }
         ensures rest { Leaves false result w.old w.new self.old self.new }
     {
-        match call {
-            FileCall::Release {
-                context,
-                node,
-                flags,
-                handle,
-                flush,
-                unlock,
-                owner,
-            } => {
-                let answer = received(
-                    self.fs.release(
-                        context,
-                        F::Inode::numbered(node),
-                        flags,
-                        F::Handle::numbered(handle),
-                        flush,
-                        unlock,
-                        owner,
-                    ),
-                );
-                reply_answer(w, unique, answer)
-            }
-            FileCall::Releasedir {
-                context,
-                node,
-                flags,
-                handle,
-            } => {
-                let answer = received(
-                    self.fs.releasedir(
-                        context,
-                        F::Inode::numbered(node),
-                        flags,
-                        F::Handle::numbered(handle),
-                    ),
-                );
-                reply_answer(w, unique, answer)
-            }
-            FileCall::Fsync {
-                context,
-                node,
-                data_only,
-                handle,
-            } => {
-                let answer = received(
-                    self.fs.fsync(
-                        context,
-                        F::Inode::numbered(node),
-                        data_only,
-                        F::Handle::numbered(handle),
-                    ),
-                );
-                reply_answer(w, unique, answer)
-            }
-            FileCall::Fsyncdir {
-                context,
-                node,
-                data_only,
-                handle,
-            } => {
-                let answer = received(
-                    self.fs.fsyncdir(
-                        context,
-                        F::Inode::numbered(node),
-                        data_only,
-                        F::Handle::numbered(handle),
-                    ),
-                );
-                reply_answer(w, unique, answer)
-            }
-            FileCall::Flush {
-                context,
-                node,
-                handle,
-                owner,
-            } => {
-                let answer = received(
-                    self.fs.flush(
-                        context,
-                        F::Inode::numbered(node),
-                        F::Handle::numbered(handle),
-                        owner,
-                    ),
-                );
-                reply_answer(w, unique, answer)
-            }
-            FileCall::Fallocate {
-                context,
-                node,
-                handle,
-                mode,
-                offset,
-                len,
-            } => {
-                let answer = received(
-                    self.fs.fallocate(
-                        context,
-                        F::Inode::numbered(node),
-                        F::Handle::numbered(handle),
-                        mode,
-                        offset,
-                        len,
-                    ),
-                );
-                reply_answer(w, unique, answer)
-            }
-            FileCall::Lseek {
-                context,
-                node,
-                handle,
-                offset,
-                whence,
-            } => {
-                let answer = received_offset(
-                    self.fs.lseek(
-                        context,
-                        F::Inode::numbered(node),
-                        F::Handle::numbered(handle),
-                        offset,
-                        whence,
-                    ),
-                );
-                reply_answer(w, unique, answer)
-            }
-            FileCall::CopyFileRange {
-                context,
-                node,
-                handle,
-                offset,
-                node_out,
-                handle_out,
-                offset_out,
-                len,
-                flags,
-            } => {
-                let answer = received_count(
-                    self.fs.copyfilerange(
-                        context,
-                        F::Inode::numbered(node),
-                        F::Handle::numbered(handle),
-                        offset,
-                        F::Inode::numbered(node_out),
-                        F::Handle::numbered(handle_out),
-                        offset_out,
-                        len,
-                        flags,
-                    ),
-                );
-                reply_answer(w, unique, answer)
-            }
-            _ => unreachable!(),
+        performed!(self, unique, w, call, {
+            Release { flags, handle, flush, unlock, owner } received release(flags, F::Handle::numbered(handle), flush, unlock, owner);
+            Releasedir { flags, handle } received releasedir(flags, F::Handle::numbered(handle));
+            Fsync { data_only, handle } received fsync(data_only, F::Handle::numbered(handle));
+            Fsyncdir { data_only, handle } received fsyncdir(data_only, F::Handle::numbered(handle));
+            Flush { handle, owner } received flush(F::Handle::numbered(handle), owner);
+            Fallocate { handle, mode, offset, len } received fallocate(F::Handle::numbered(handle), mode, offset, len);
+            Lseek { handle, offset, whence } received_offset lseek(F::Handle::numbered(handle), offset, whence);
+            CopyFileRange { handle, offset, node_out, handle_out, offset_out, len, flags } received_count
+                copyfilerange(F::Handle::numbered(handle), offset, F::Inode::numbered(node_out), F::Handle::numbered(handle_out), offset_out, len, flags);
         }
+        _ => unreachable!())
     }
 }

@@ -16,6 +16,43 @@ use server_requests::extensions::owned_extensions;
 use server_segments::{Error, Writer};
 use std::alloc::Global;
 
+// A match over calls, of which the first may have an entry. A row: the call's fields besides who asks, how its answer is received, and the
+// file system's method with what it is given besides.
+macro_rules! performed {
+    ($server:ident, $unique:ident, $w:ident, $call:expr,
+        entries { $($name:ident { $($field:ident),* } $received:ident $method:ident($($given:expr),*);)* }
+        others { $($other:ident { $($part:ident),* } $came:ident $asked:ident($($told:expr),*);)* }) => {
+        match $call {
+            $(FileCall::$name { context, $($field),* } => {
+                let answer = $received($server.fs.$method(context, $($given),*));
+                $server.reply_entry(context, $unique, answer, $w)
+            })*
+            $(FileCall::$other { context, $($part),* } => {
+                let answer = $came($server.fs.$asked(context, $($told),*));
+                reply_answer($w, $unique, answer)
+            })*
+            _ => unreachable!(),
+        }
+    };
+}
+
+// The same of calls that make a node, which are given extensions of their own.
+macro_rules! made {
+    ($server:ident, $alloc:ident, $unique:ident, $w:ident, $call:expr,
+        { $($name:ident { $($field:ident),* } $received:ident $method:ident($($given:expr),*);)* }) => {
+        match $call {
+            $(FileCall::$name { context, $($field,)* extra } => match owned_extensions($alloc, extra) {
+                Ok(extensions) => {
+                    let answer = $received($server.fs.$method(context, $($given,)* extensions));
+                    $server.reply_entry(context, $unique, answer, $w)
+                }
+                Err(error) => Err(error),
+            },)*
+            _ => unreachable!(),
+        }
+    };
+}
+
 impl<F: FileSystem> Server<F> {
     /// Performs a call whose request is one name.
     #[inline(always)]
@@ -31,43 +68,13 @@ impl<F: FileSystem> Server<F> {
         ensures handles { ServerHandles F.may self.old w.old.free (Asks (One unique (call_of [] call.entry))) result w.new.written self.new }
         ensures rest { Leaves false result w.old w.new self.old self.new }
     {
-        match call {
-            FileCall::Lookup {
-                context,
-                node,
-                name,
-            } => {
-                let answer = received_entry(
-                    self.fs.lookup(context, F::Inode::numbered(node), name),
-                );
-                self.reply_entry(context, unique, answer, w)
-            }
-            FileCall::Unlink {
-                context,
-                node,
-                name,
-            } => {
-                let answer = received(self.fs.unlink(context, F::Inode::numbered(node), name));
-                reply_answer(w, unique, answer)
-            }
-            FileCall::Rmdir {
-                context,
-                node,
-                name,
-            } => {
-                let answer = received(self.fs.rmdir(context, F::Inode::numbered(node), name));
-                reply_answer(w, unique, answer)
-            }
-            FileCall::Removexattr {
-                context,
-                node,
-                name,
-            } => {
-                let answer = received(self.fs.removexattr(context, F::Inode::numbered(node), name));
-                reply_answer(w, unique, answer)
-            }
-            _ => unreachable!(),
-        }
+        performed!(self, unique, w, call, entries {
+            Lookup { node, name } received_entry lookup(F::Inode::numbered(node), name);
+        } others {
+            Unlink { node, name } received unlink(F::Inode::numbered(node), name);
+            Rmdir { node, name } received rmdir(F::Inode::numbered(node), name);
+            Removexattr { node, name } received removexattr(F::Inode::numbered(node), name);
+        })
     }
 
     /// Performs a call whose request is one record with names, or with a name and a value.
@@ -84,70 +91,13 @@ impl<F: FileSystem> Server<F> {
         ensures handles { ServerHandles F.may self.old w.old.free (Asks (One unique (call_of [] call.entry))) result w.new.written self.new }
         ensures rest { Leaves false result w.old w.new self.old self.new }
     {
-        match call {
-            FileCall::Link {
-                context,
-                old_node,
-                node,
-                name,
-            } => {
-                let answer = received_entry(
-                    self.fs.link(
-                        context,
-                        F::Inode::numbered(old_node),
-                        F::Inode::numbered(node),
-                        name,
-                    ),
-                );
-                self.reply_entry(context, unique, answer, w)
-            }
-            FileCall::Rename {
-                context,
-                node,
-                old,
-                new_dir,
-                new,
-                flags,
-            } => {
-                let answer = received(
-                    self.fs.rename(
-                        context,
-                        F::Inode::numbered(node),
-                        old,
-                        F::Inode::numbered(new_dir),
-                        new,
-                        flags,
-                    ),
-                );
-                reply_answer(w, unique, answer)
-            }
-            FileCall::Setxattr {
-                context,
-                node,
-                name,
-                value,
-                flags,
-                extra,
-            } => {
-                let answer = received(
-                    self.fs.setxattr(context, F::Inode::numbered(node), name, value, flags, extra),
-                );
-                reply_answer(w, unique, answer)
-            }
-            FileCall::Getxattr {
-                context,
-                node,
-                name,
-                size,
-            } => {
-                let answer = received_value(
-                    self.fs
-                        .getxattr(context, F::Inode::numbered(node), name, size),
-                );
-                reply_answer(w, unique, answer)
-            }
-            _ => unreachable!(),
-        }
+        performed!(self, unique, w, call, entries {
+            Link { old_node, node, name } received_entry link(F::Inode::numbered(old_node), F::Inode::numbered(node), name);
+        } others {
+            Rename { node, old, new_dir, new, flags } received rename(F::Inode::numbered(node), old, F::Inode::numbered(new_dir), new, flags);
+            Setxattr { node, name, value, flags, extra } received setxattr(F::Inode::numbered(node), name, value, flags, extra);
+            Getxattr { node, name, size } received_value getxattr(F::Inode::numbered(node), name, size);
+        })
     }
 
     /// Performs a call that makes a node. What the file system owns of it takes memory, before any call.
@@ -165,99 +115,11 @@ impl<F: FileSystem> Server<F> {
         ensures handles { ServerHandles F.may self.old w.old.free (Asks (One unique (call_of [] call.entry))) result w.new.written self.new }
         ensures rest { Leaves (owns_memory (call_of [] call.entry)) result w.old w.new self.old self.new }
     {
-        match call {
-            FileCall::Symlink {
-                context,
-                link,
-                node,
-                name,
-                extra,
-            } => match owned_extensions(alloc, extra) {
-                Ok(extensions) => {
-                    let answer = received_entry(
-                        self.fs
-                            .symlink(context, link, F::Inode::numbered(node), name, extensions),
-                    );
-                    self.reply_entry(context, unique, answer, w)
-                }
-                Err(error) => Err(error),
-            },
-            FileCall::Mknod {
-                context,
-                node,
-                name,
-                mode,
-                rdev,
-                umask,
-                extra,
-            } => match owned_extensions(alloc, extra) {
-                Ok(extensions) => {
-                    let answer = received_entry(
-                        self.fs.mknod(
-                            context,
-                            F::Inode::numbered(node),
-                            name,
-                            mode,
-                            rdev,
-                            umask,
-                            extensions,
-                        ),
-                    );
-                    self.reply_entry(context, unique, answer, w)
-                }
-                Err(error) => Err(error),
-            },
-            FileCall::Mkdir {
-                context,
-                node,
-                name,
-                mode,
-                umask,
-                extra,
-            } => match owned_extensions(alloc, extra) {
-                Ok(extensions) => {
-                    let answer = received_entry(
-                        self.fs.mkdir(
-                            context,
-                            F::Inode::numbered(node),
-                            name,
-                            mode,
-                            umask,
-                            extensions,
-                        ),
-                    );
-                    self.reply_entry(context, unique, answer, w)
-                }
-                Err(error) => Err(error),
-            },
-            FileCall::Create {
-                context,
-                node,
-                name,
-                mode,
-                kill,
-                flags,
-                umask,
-                extra,
-            } => match owned_extensions(alloc, extra) {
-                Ok(extensions) => {
-                    let answer = received_file(
-                        self.fs.create(
-                            context,
-                            F::Inode::numbered(node),
-                            name,
-                            mode,
-                            kill,
-                            flags,
-                            umask,
-                            extensions,
-                        ),
-                    );
-                    self.reply_entry(context, unique, answer, w)
-                }
-                Err(error) => Err(error),
-            },
-            _ => unreachable!(),
-        }
+        made!(self, alloc, unique, w, call, {
+            Symlink { link, node, name } received_entry symlink(link, F::Inode::numbered(node), name);
+            Mknod { node, name, mode, rdev, umask } received_entry mknod(F::Inode::numbered(node), name, mode, rdev, umask);
+            Mkdir { node, name, mode, umask } received_entry mkdir(F::Inode::numbered(node), name, mode, umask);
+            Create { node, name, mode, kill, flags, umask } received_file create(F::Inode::numbered(node), name, mode, kill, flags, umask);
+        })
     }
 }
