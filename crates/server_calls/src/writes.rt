@@ -1,8 +1,9 @@
 //! WRITE: what is written to an open file.
 
 ghost use Rattle.std.specs.Prelude.{◌≡◌, ◌<◌, ◌^◌, IfOk, IfErr};
+ghost use Rattle.vm_values.specs.Bits.{has_bit};
 ghost use Rattle.fuse_fs.specs.Answers.{written_answer};
-ghost use Rattle.server_calls.specs.Requests.{write_call};
+ghost use Rattle.server_calls.specs.Requests.{if_set, write_call};
 
 use crate::received::received_count;
 use crate::values::number_if;
@@ -10,6 +11,32 @@ use fuse_fs::{Context, FileNumber, FileSystem, ZeroCopyReader};
 use fuse_in::{InHeader, WriteIn};
 use fuse_wire::Errno;
 use fuse_wire::constants::{WRITE_CACHE, WRITE_KILL_PRIV, WRITE_LOCKOWNER};
+
+/// What the flags of a WRITE's record say (`write_flags` of `struct fuse_write_in`).
+#[derive(Clone, Copy)]
+pub struct WriteFlags {
+    /// Who holds the locks, if that is told.
+    pub owner: Option<u64>,
+    /// The page cache writes late.
+    pub delayed: bool,
+    /// Set-id bits are dropped.
+    pub kill: bool,
+}
+
+/// What the flags of a WRITE's record say.
+#[inline(always)]
+pub fn write_flags(request: &WriteIn) -> WriteFlags
+    ensures owner { result.owner ≡ if_set (has_bit request.now.write_flags 1) request.now.lock_owner }
+    ensures delayed { result.delayed ≡ has_bit request.now.write_flags 0 }
+    ensures kill { result.kill ≡ has_bit request.now.write_flags 2 }
+{
+    let flags = request.write_flags;
+    WriteFlags {
+        owner: number_if(flags & WRITE_LOCKOWNER != 0, request.lock_owner),
+        delayed: flags & WRITE_CACHE != 0,
+        kill: flags & WRITE_KILL_PRIV != 0,
+    }
+}
 
 /// WRITE (`struct fuse_write_in`): a file is written with what a reader has left. Answers how many bytes, or the file
 /// system's errno, from 1 to 4095.
@@ -23,8 +50,7 @@ pub fn make_write_call<F: FileSystem, R: ZeroCopyReader>(
     ensures errno { IfErr result (λ e. (0 < e) × (e < 4096)) }
     ensures count { IfOk result (λ n. n < 2 ^ 32) }
 {
-    let delayed_write = request.write_flags & WRITE_CACHE != 0;
-    let kill_priv = request.write_flags & WRITE_KILL_PRIV != 0;
+    let told = write_flags(request);
     received_count(fs.write(
         Context::from(*head),
         F::Inode::numbered(head.nodeid),
@@ -32,12 +58,9 @@ pub fn make_write_call<F: FileSystem, R: ZeroCopyReader>(
         from,
         request.size,
         request.offset,
-        number_if(
-            request.write_flags & WRITE_LOCKOWNER != 0,
-            request.lock_owner,
-        ),
-        delayed_write,
-        kill_priv,
+        told.owner,
+        told.delayed,
+        told.kill,
         request.flags,
     ))
 }

@@ -19,9 +19,10 @@ use bitflags::Flags;
 use fuse_fs::Context;
 use fuse_in::{InHeader, ReadIn, WriteIn};
 use fuse_values::FileCall;
-use fuse_wire::constants::{READ_LOCKOWNER, WRITE_CACHE, WRITE_KILL_PRIV, WRITE_LOCKOWNER};
+use fuse_wire::constants::READ_LOCKOWNER;
 use fuse_wire::{Errno, FsOptions, Opcode};
 use server_calls::values::number_if;
+use server_calls::writes::write_flags;
 use server_replies::fronts::Front;
 use server_replies::replies::OUT_HEADER_LEN;
 use server_requests::source::{Flat, Source};
@@ -163,6 +164,7 @@ fn write_value<'a>(head: &InHeader, request: &WriteIn, len: usize) -> FileCall<'
     ensures call { (bytes : List ℕ) → call_of bytes result ≡ write_call head.now request.now bytes }
     ensures data_apart { (bytes : List ℕ) → len ≡ length bytes → TellsData bytes result }
 {
+    let told = write_flags(request);
     FileCall::Write {
         context: Context::from(*head),
         node: head.nodeid,
@@ -170,12 +172,9 @@ fn write_value<'a>(head: &InHeader, request: &WriteIn, len: usize) -> FileCall<'
         len,
         size: request.size,
         offset: request.offset,
-        owner: number_if(
-            request.write_flags & WRITE_LOCKOWNER != 0,
-            request.lock_owner,
-        ),
-        delayed: request.write_flags & WRITE_CACHE != 0,
-        kill: request.write_flags & WRITE_KILL_PRIV != 0,
+        owner: told.owner,
+        delayed: told.delayed,
+        kill: told.kill,
         flags: request.flags,
     }
 }
