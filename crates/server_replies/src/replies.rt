@@ -45,26 +45,26 @@ pub fn append(w: &mut Writer, bytes: &[u8])
     w.write_all(bytes).unwrap();
 }
 
-/// Writes a reply, its front and the data behind it, whole or not at all. Answers its length in bytes, or `EncodeMessage` if it
+/// Writes a reply, its front and the bytes behind it, whole or not at all. Answers its length in bytes, or `EncodeMessage` if it
 /// has no room.
 #[inline(always)]
 #[tactic(auto, using(crate::proofs::ReplyLemmas::sent_long, crate::proofs::ReplyLemmas::sent_fits))]
-pub(crate) fn send(w: &mut Writer, front: &[u8], data: &[u8]) -> Result<usize, Error>
+pub(crate) fn send(w: &mut Writer, front: &[u8], behind: &[u8]) -> Result<usize, Error>
     requires fresh { w.old.written ≡ [] }
-    ensures sent { with_written result w.new.written ≡ whole_or_none w.old.free (front.now ++ data.now) }
+    ensures sent { with_written result w.new.written ≡ whole_or_none w.old.free (front.now ++ behind.now) }
     ensures writer { LeavesWriter result w.old w.new }
     ensures memory { lacks_memory result ≡ false }
 {
     let room = w.available_bytes();
-    if room < front.len() || room - front.len() < data.len() {
+    if room < front.len() || room - front.len() < behind.len() {
         return Err(Error::EncodeMessage);
     }
     append(w, front);
-    if data.is_empty() {
+    if behind.is_empty() {
         return Ok(front.len());
     }
-    append(w, data);
-    Ok(front.len() + data.len())
+    append(w, behind);
+    Ok(front.len() + behind.len())
 }
 
 /// Writes a reply that is a front alone, whole or not at all. Answers its length in bytes, or `EncodeMessage` if it has no room.
