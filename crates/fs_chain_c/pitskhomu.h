@@ -80,7 +80,7 @@
  * call that a request means, the reply that an answer gives, the stores of a return. Of a chain from its walk to its return fs_chain's law_chains says more,
  * and of several chains that are out at once the laws of fs_live: over the same regions each store of pk_return has a place then (law_runs).
  * TRIED ALONE is this: that pk_chain_free frees all; that the bytes of a span are the name's (proved is where it stands, and its length); which
- * of two errors comes first, of pk_chain_set_memory and pk_save; a chain whose calls several threads make; and what is written out here in C.
+ * of two errors comes first, of pk_save; a chain whose calls several threads make; and what is written out here in C.
  *
  * THREADS. What a call takes as const may be read by several calls at a time; what it takes otherwise is that call's alone. So a
  * thread with a chain and a queue of its own needs no lock but round `device`: many pk_ask, or one pk_reply_init. The library keeps nothing of a thread's: a chain
@@ -417,7 +417,8 @@ struct pk_chain {
 
 /* Over which memory the chain's next walks go: up to PK_REGIONS_MAX regions that don't overlap, none empty, ends up to 2^64, in any
  * order; and the device's limit. They are copied. Call it first, and after each change of the memory table, for each chain.
- * Errors: PK_BAD_ARGUMENT, PK_OUT_OF_MEMORY, PK_CHAIN_OUT (also if a walk has begun); then the regions stay as they were. */
+ * Errors: PK_BAD_ARGUMENT (the device's numbers are none, or the regions are no memory), PK_OUT_OF_MEMORY, PK_CHAIN_OUT (also if a walk has begun); then the
+ * regions stay as they were. */
 uint32_t pk_chain_set_memory(struct pk_chain *chain, const struct pk_device *device, const struct pk_region *regions,
                          size_t region_count) PK_CHECK PK_NONNULL PK_READS(3, 4);
 

@@ -41,10 +41,11 @@ GoesOver b d regions b' =
     (memory_error b.state d.limit ≡ None) × IsDevice d × IsMemory regions b'.regions × (b'.limit ≡ d.limit)
     × (b'.state ≡ b.state) × (b'.part ≡ b.part) × (b'.session ≡ b.session) × (b'.serial ≡ b.serial) × (b'.list_len ≡ b.list_len)
 
--- why they don't: the device's numbers are none, the regions are no memory, or a chain is walked or out
+-- why they don't, in this order: the device's numbers are none, the regions are no memory, or a chain is walked or out
 abbrev pub RefusesMemory : Workbench → FsDevice → List FsRegion → ChainError → Type 0
 RefusesMemory b d regions e =
-    ((e ≡ BadArgument) × (IsDevice d → ⊥)) ⊎ (IsDevice d × IsNoMemory regions e) ⊎ (memory_error b.state d.limit ≡ Some e)
+    ((e ≡ BadArgument) × (IsDevice d → ⊥)) ⊎ (IsDevice d × IsNoMemory regions e)
+    ⊎ (IsDevice d × ((memory : List Region) × IsMemory regions memory) × (memory_error b.state d.limit ≡ Some e))
 
 -- a workbench is told its memory, or nothing is done
 abbrev pub SetsWorkbench : Workbench → FsDevice → List FsRegion → (status : ℕ) → Workbench → Type 0

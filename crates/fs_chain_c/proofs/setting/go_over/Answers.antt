@@ -1,5 +1,10 @@
 use Rattle.std.proofs.Common.{rules, refl, inl}
+use Rattle.fs_chain_c.proofs.HandleLemmas.{state_refuses}
 use Rattle.fs_chain_c.proofs.setting.go_over.Goals as goal
 
 pub returns-then-not-is_lawful-clause-refused : goal.returns-then-not-is_lawful-clause-refused
 returns-then-not-is_lawful-clause-refused c = inl (refl, search rules)
+
+pub returns-in-Ok-clause-refused : goal.returns-in-Ok-clause-refused
+returns-in-Ok-clause-refused c =
+    state_refuses c.args.workbench.now c.args.device.now c.args.regions.now _ c.set_memory.result (search rules) c.in-Ok.ensures.ok c.set_memory.ensures.error
