@@ -1,11 +1,15 @@
--- A record has a place of 2080 bytes, which it never fills.
-use Rattle.std.proofs.Common.{◌≡◌, ℕ, ◌+◌, ◌*◌, ◌<◌, ◌≤◌, Bool, true, List, [], ◌∷◌, ◌++◌, length, arith, refl, ap}
+-- A record has a place of 2080 bytes, which it never fills; and which queue is the first that it can't have.
+use Rattle.std.proofs.Common.{◌≡◌, ℕ, zero, suc, ◌+◌, ◌*◌, ◌<◌, ◌≤◌, All, Bool, true, List, [], ◌∷◌, ◌++◌, drop, get_or, length, take, arith, refl, ap, sym}
 use Rattle.std.proofs.lemmas.List.{length-append}
 use Rattle.std.specs.List.{flat_map}
 use Rattle.vm_values.specs.Fields.{spelled, field_bytes}
 use Rattle.fs_queue.specs.Queue.{Queue}
-use Rattle.fs_record.specs.Fields.{head_fields, limit_fields}
+use Rattle.fs_record.specs.Fields.{head_fields}
 use Rattle.fs_record.specs.Record.{Second, end_bytes, head_of, queue_bytes, record_bytes}
+use Rattle.fs_chain.specs.declared.error.ChainError.{ChainError}
+use Rattle.fs_chain_c.specs.declared.queue.FsQueue.{FsQueue}
+use Rattle.fs_chain_c.specs.Queues.{IsQueue}
+use Rattle.fs_chain_c.specs.Records.{HasNoneOut, RefusesQueue, RefusesQueues}
 
 head_length : (page_size limit options count : ℕ) → length (spelled (head_fields (head_of (Second page_size limit) options count))) ≡ 24
 unfolding field_bytes
@@ -44,3 +48,22 @@ never_full page_size limit options qs has part rest full few known is cut more s
     let parts = ap length cut in
     let sum = length-append part rest in
     let all = ap length same in omega (arith, few, long, whole, parts, sum, more, all)
+
+-- what stands before a queue of some, it, and what stands behind it
+parted : (qs : List FsQueue) (k : ℕ) (q : FsQueue) → k < length qs → q ≡ get_or qs k q → qs ≡ take k qs ++ q ∷ drop (suc k) qs
+parted [] k q within is = absurd (omega (arith, within))
+parted (p ∷ qs) zero q within is = ap (λ (x : FsQueue). x ∷ qs) (sym is)
+parted (p ∷ qs) (suc k) q within is = ap (λ (l : List FsQueue). p ∷ l) (parted qs k q (omega (arith, within)) is)
+
+-- one that is refused is the first, if those before it aren't
+pub first_refused : (qs : List FsQueue) (k : ℕ) (q : FsQueue) (e : ChainError) → k < length qs → q ≡ get_or qs k q → All IsQueue (take k qs) → All HasNoneOut (take k qs)
+    → RefusesQueue q e → RefusesQueues qs e
+first_refused qs k q e within is are none_out why = record {
+  before = take k qs;
+  queue = q;
+  after = drop (suc k) qs;
+  parts = parted qs k q within is;
+  are = are;
+  none_out = none_out;
+  why = why;
+}

@@ -1,5 +1,5 @@
 -- The record of a device and its queues, as C has them.
-use Rattle.std.specs.Prelude.{◌≡◌, ◌==◌, ◌≤◌, ◌<◌, ◌+◌, ◌%◌, ◌^◌, ◌++◌, [], ◌∷◌, ℕ, false, not, List, All, map, length, drop, Option, Some, None, if◌then◌else◌}
+use Rattle.std.specs.Prelude.{◌≡◌, ◌⊎◌, ◌==◌, ◌≤◌, ◌<◌, ◌+◌, ◌%◌, ◌^◌, ◌++◌, [], ◌∷◌, ℕ, false, not, List, All, map, length, drop, Option, Some, None, if◌then◌else◌}
 use Rattle.memory_requests.specs.Refused.{RoomWasRefused}
 use Rattle.fs_queue.specs.Queue.{Queue, resumed}
 use Rattle.fs_record.specs.Numbers.{restore_error_number}
@@ -24,22 +24,43 @@ HasNoneOut q = chains_out q ≡ 0
 
 -- ---- a record is saved
 
--- what may have a record: a device with known options, and 1 to 64 queues
+-- which device may have a record, and with how many queues: one with known options, and 1 to 64
+abbrev pub CanSaveSome : FsDevice → (count : ℕ) → Type 0
+CanSaveSome d n = IsDevice d × HasKnownBits d.options × (1 ≤ n) × (n ≤ 64)
+
+-- what may have one: these, if their numbers are queues'
 abbrev pub CanSave : FsDevice → List FsQueue → Type 0
 CanSave d qs = IsDevice d × HasKnownBits d.options × (1 ≤ length qs) × (length qs ≤ 64) × All IsQueue qs
+
+-- why a record can't have a queue: its numbers are none; or they are, and a chain is out of it
+abbrev pub RefusesQueue : FsQueue → ChainError → Type 0
+RefusesQueue q BadArgument = IsQueue q → ⊥
+RefusesQueue q ChainOut = IsQueue q × (HasNoneOut q → ⊥)
+RefusesQueue q _ = ⊥
+
+-- why it can't have some queues: of the first that it can't have
+pub record RefusesQueues (qs : List FsQueue) (e : ChainError) : Type 0 where
+  pub before : List FsQueue
+  pub queue : FsQueue
+  pub after : List FsQueue
+  pub parts : qs ≡ before ++ queue ∷ after
+  pub are : All IsQueue before
+  pub none_out : All HasNoneOut before
+  pub why : RefusesQueue queue e
 
 -- the bytes of the record, of version 2
 abbrev pub bytes_of : FsDevice → List FsQueue → List ℕ
 bytes_of d qs = record_bytes (Second d.page_size d.limit) d.options (map queue_of qs)
 
--- the record stands at the front of a buffer, or why not
+-- the record stands at the front of a buffer, or why not: device, options and count are looked at first, then each queue in order, then memory, and the buffer last
 abbrev pub SavesSo : FsDevice → List FsQueue → (buffer : List ℕ) → Option ChainError → (len : ℕ) → (buffer' : List ℕ) → Type 0
 SavesSo d qs buffer None len buffer' =
     CanSave d qs × All HasNoneOut qs × (len ≡ length (bytes_of d qs)) × (buffer' ≡ bytes_of d qs ++ drop len buffer)
 SavesSo d qs buffer (Some ShortBuffer) len buffer' =
     CanSave d qs × All HasNoneOut qs × (len ≡ length (bytes_of d qs)) × (length buffer < len) × (buffer' ≡ buffer)
-SavesSo d qs buffer (Some BadArgument) len buffer' = (CanSave d qs → ⊥) × (len ≡ 0) × (buffer' ≡ buffer)
-SavesSo d qs buffer (Some ChainOut) len buffer' = (All HasNoneOut qs → ⊥) × (len ≡ 0) × (buffer' ≡ buffer)
+SavesSo d qs buffer (Some BadArgument) len buffer' =
+    ((CanSaveSome d (length qs) → ⊥) ⊎ (CanSaveSome d (length qs) × RefusesQueues qs BadArgument)) × (len ≡ 0) × (buffer' ≡ buffer)
+SavesSo d qs buffer (Some ChainOut) len buffer' = CanSaveSome d (length qs) × RefusesQueues qs ChainOut × (len ≡ 0) × (buffer' ≡ buffer)
 SavesSo d qs buffer (Some OutOfMemory) len buffer' = CanSave d qs × All HasNoneOut qs × RoomWasRefused (length qs) × (len ≡ 0) × (buffer' ≡ buffer)
 SavesSo d qs buffer (Some _) len buffer' = ⊥
 

@@ -5,7 +5,7 @@ ghost use Rattle.fs_chain.specs.declared.error.ChainError.TheVariants.{BadArgume
 ghost use Rattle.memory_requests.specs.Refused.{RoomWasRefused};
 ghost use Rattle.fs_record.specs.Record.{HasKnownBits};
 ghost use Rattle.fs_chain_c.specs.Queues.{IsQueue};
-ghost use Rattle.fs_chain_c.specs.Records.{HasNoneOut, Restores, Saves, SavesSo, numbers_over, queue_of, restored_over, saved_status};
+ghost use Rattle.fs_chain_c.specs.Records.{HasNoneOut, RefusesQueue, RefusesQueues, Restores, Saves, SavesSo, numbers_over, queue_of, restored_over, saved_status};
 
 use crate::device::FsDevice;
 use crate::queue::FsQueue;
@@ -32,6 +32,7 @@ fn queue_of(queue: &FsQueue) -> Result<Queue, ChainError>
     ensures bad { result ≡ Err BadArgument → IsQueue queue.now → ⊥ }
     ensures out { result ≡ Err ChainOut → HasNoneOut queue.now → ⊥ }
     ensures err { IfErr result (λ e. (e ≡ BadArgument) ⊎ (e ≡ ChainOut)) }
+    ensures why { IfErr result (RefusesQueue queue.now) }
 {
     let Some(kept) = queue.kept() else {
         return Err(ChainError::BadArgument);
@@ -46,9 +47,8 @@ fn queue_of(queue: &FsQueue) -> Result<Queue, ChainError>
 fn check_queues(queues: &[FsQueue]) -> Result<(), ChainError>
     ensures are { OnOk result (All IsQueue queues.now) }
     ensures none_out { OnOk result (All HasNoneOut queues.now) }
-    ensures bad { result ≡ Err BadArgument → All IsQueue queues.now → ⊥ }
-    ensures out { result ≡ Err ChainOut → All HasNoneOut queues.now → ⊥ }
     ensures err { IfErr result (λ e. (e ≡ BadArgument) ⊎ (e ≡ ChainOut)) }
+    ensures why { IfErr result (RefusesQueues queues.now) }
 {
     for queue in queues {
         if let Err(error) = queue_of(queue) {
