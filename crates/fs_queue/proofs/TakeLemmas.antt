@@ -2,8 +2,7 @@
 use mathlib.Core.Bool.{beq}
 use Rattle.std.proofs.Common.{◌≡◌, ℕ, Bool, true, false, ◌+◌, ◌^◌, ◌<◌, ◌≤◌, ◌&&◌, ◌||◌, ◌++◌, not, nat_lt, List, [], ◌∷◌, drop, map, filter, length, refl, ap, sym}
 use Rattle.std.proofs.Common.{◌∙◌, arith, suc, Option, Some, None, append-nil, append_assoc, length-append}
-use Rattle.std.specs.Prelude.{if◌then◌else◌, is_some, Result, Ok, Err, IsOk, IfOk, IfNone}
-use Rattle.std.specs.declared.alloc.AllocError.{AllocError}
+use Rattle.std.specs.Prelude.{if◌then◌else◌, is_some, Ok}
 use Rattle.std.specs.List.{list_all, flat_map}
 use Rattle.std.specs.Option.{option_map, option_and_then}
 use Rattle.std.proofs.lemmas.List.{map-append, drop_all}
@@ -18,13 +17,12 @@ use Rattle.vm_iotlb.specs.declared.permissions.Permissions.TheVariants.{Read, Wr
 use Rattle.vm_memory_core.specs.Window.{byte_in}
 use Rattle.vm_memory.specs.Memory.{Memory, addresses, located, location, after, reach, byte, bytes}
 use Rattle.fs_queue.specs.declared.chain.Chain.{Chain}
-use Rattle.fs_queue.specs.declared.fault.ChainFault.{ChainFault}
-use Rattle.fs_queue.specs.declared.fault.ChainFault.TheVariants.{RequestUnreachable, RoomUnreachable}
+use Rattle.fs_queue.specs.declared.fault.ChainFault.TheVariants.{OverLimit, RequestUnreachable, RoomUnreachable}
 use Rattle.fs_queue.specs.WalkingView.{AllEndIn64Bits}
-use Rattle.fs_queue.specs.Taking.{readable, writable, total_len, all_reach, request_and_room, IsRequest, CannotFetch, of_direction, addresses_of}
+use Rattle.fs_queue.specs.Taking.{readable, writable, total_len, all_reach, request_and_room, chain_fault, IsRequest, of_direction, addresses_of}
 use Rattle.fs_queue.specs.Queue.{Queue, element_at, index_at}
 use Rattle.fs_queue.specs.Chain.{Descriptor, is_writable, IsChain}
-use Rattle.fs_queue.specs.Windows.{used_addresses, unreachable, unreachable_of, room_places, HoldsChain, HoldsWindows, ChainLiesIn, unless_faulty}
+use Rattle.fs_queue.specs.Windows.{used_addresses, room_places, HoldsChain, HoldsWindows}
 use Rattle.vm_memory.proofs.Places.{Where, addresses-append, length-addresses, located-append, after-after, bytes-located}
 use Rattle.vm_memory.proofs.RangeLemmas.{all_located}
 
@@ -199,110 +197,48 @@ length-addresses_of (d ∷ ds) =
     let front = length-addresses d.len d.addr in
     length-append (addresses d.addr d.len) (addresses_of ds) ∙ omega (arith, front, rest, all)
 
-not_above : (n limit : ℕ) → n ≤ limit → nat_lt limit n ≡ false
-not_above n limit h = grind (arith, nat_tests)
+-- by whether the places of a direction were found
+pub found_all : (m : Memory) (access : Permissions) (ds : List Descriptor) (found : Bool) (ps : List Place) → AllEndIn64Bits ds →
+    located (location m access) (addresses_of ds) ≡ (if found then Some ps else None) → all_reach m access ds ≡ found
+found_all m access ds true ps all e = all_reach-located m access ds all ∙ ap is_some e
+found_all m access ds false ps all e = all_reach-located m access ds all ∙ ap is_some e
 
-within_limit : (limit a b : ℕ) → a ≤ limit → b ≤ limit → (nat_lt limit a || nat_lt limit b) ≡ false
-within_limit limit a b h k = rw (not_above a limit h, not_above b limit k)
+by_tests : (over r w : Bool) → true ≡ not (is_some (if over then Some OverLimit else if not r then Some RequestUnreachable else if not w then Some RoomUnreachable else None)) →
+    (over ≡ false) × (r ≡ true) × (w ≡ true)
+by_tests true r w none = absurd (cc)
+by_tests false false w none = absurd (cc)
+by_tests false true false none = absurd (cc)
+by_tests false true true none = (refl, refl, refl)
 
-pub request_unreachable : (m : Memory) (limit : ℕ) (ds : List Descriptor) → AllEndIn64Bits ds → total_len (readable ds) ≤ limit → total_len (writable ds) ≤ limit →
-    None ≡ located (location m Read) (addresses_of (readable ds)) → request_and_room m limit ds ≡ CannotFetch RequestUnreachable
-request_unreachable m limit ds all a b lost =
-    let r : all_reach m Read (readable ds) ≡ false = all_reach-located m Read (readable ds) (fits_filter (λ d. not (is_writable d)) ds all) ∙ ap is_some (sym lost) in
-    rw (within_limit limit (total_len (readable ds)) (total_len (writable ds)) a b, r)
+-- what a chain without a fault passed
+no_fault : (m : Memory) (limit : ℕ) (ds : List Descriptor) → true ≡ not (is_some (chain_fault m limit ds)) →
+    ((nat_lt limit (total_len (readable ds)) || nat_lt limit (total_len (writable ds))) ≡ false) × (all_reach m Read (readable ds) ≡ true) × (all_reach m Write (writable ds) ≡ true)
+no_fault m limit ds none = by_tests (nat_lt limit (total_len (readable ds)) || nat_lt limit (total_len (writable ds))) (all_reach m Read (readable ds)) (all_reach m Write (writable ds)) none
 
-pub room_unreachable : (m : Memory) (limit : ℕ) (ds : List Descriptor) (ps : List Place) → AllEndIn64Bits ds → total_len (readable ds) ≤ limit → total_len (writable ds) ≤ limit →
-    Some ps ≡ located (location m Read) (addresses_of (readable ds)) → None ≡ located (location m Write) (addresses_of (writable ds)) → request_and_room m limit ds ≡ CannotFetch RoomUnreachable
-room_unreachable m limit ds ps all a b found lost =
-    let r : all_reach m Read (readable ds) ≡ true = all_reach-located m Read (readable ds) (fits_filter (λ d. not (is_writable d)) ds all) ∙ ap is_some (sym found) in
-    let w : all_reach m Write (writable ds) ≡ false = all_reach-located m Write (writable ds) (fits_filter is_writable ds all) ∙ ap is_some (sym lost) in
-    rw (within_limit limit (total_len (readable ds)) (total_len (writable ds)) a b, r, w)
-
-pub fetched_all : (m : Memory) (limit : ℕ) (ds : List Descriptor) (ps qs : List Place) → AllEndIn64Bits ds → total_len (readable ds) ≤ limit → total_len (writable ds) ≤ limit →
-    Some ps ≡ located (location m Read) (addresses_of (readable ds)) → Some qs ≡ located (location m Write) (addresses_of (writable ds)) →
-    request_and_room m limit ds ≡ IsRequest (map (byte_in m.host) ps) (addresses_of (writable ds))
-fetched_all m limit ds ps qs all a b found room =
-    let r : all_reach m Read (readable ds) ≡ true = all_reach-located m Read (readable ds) (fits_filter (λ d. not (is_writable d)) ds all) ∙ ap is_some (sym found) in
-    let w : all_reach m Write (writable ds) ≡ true = all_reach-located m Write (writable ds) (fits_filter is_writable ds all) ∙ ap is_some (sym room) in
+fetched_all : (m : Memory) (limit : ℕ) (ds : List Descriptor) (ps : List Place) → true ≡ not (is_some (chain_fault m limit ds)) →
+    located (location m Read) (addresses_of (readable ds)) ≡ Some ps → request_and_room m limit ds ≡ IsRequest (map (byte_in m.host) ps) (addresses_of (writable ds))
+fetched_all m limit ds ps none found =
     let request : flat_map (λ d. bytes m d.addr d.len) (readable ds) ≡ map (byte_in m.host) ps =
-    bytes-addresses_of m (readable ds) ∙ bytes-located (addresses_of (readable ds)) m ps (sym found) in
-    rw (within_limit limit (total_len (readable ds)) (total_len (writable ds)) a b, r, w) (ap (λ (x : List ℕ). IsRequest x (addresses_of (writable ds))) request)
+    bytes-addresses_of m (readable ds) ∙ bytes-located (addresses_of (readable ds)) m ps found in
+    let passed = no_fault m limit ds none in
+    rw (passed.0, passed.1, passed.2) (ap (λ (x : List ℕ). IsRequest x (addresses_of (writable ds))) request)
 
 -- how many places a direction has
 pub length-direction : (f : Where) (ds : List Descriptor) (ps : List Place) → Some ps ≡ located f (addresses_of ds) → length ps ≡ total_len ds
 length-direction f ds ps e = length-located (addresses_of ds) f ps (sym e) ∙ length-addresses_of ds
 
-missing : (m : Memory) (limit : ℕ) (ds : List Descriptor) (fault : ChainFault) (r w : Option (List Place)) → AllEndIn64Bits ds → total_len (readable ds) ≤ limit → total_len (writable ds) ≤ limit →
-    r ≡ located (location m Read) (addresses_of (readable ds)) → w ≡ located (location m Write) (addresses_of (writable ds)) → Some fault ≡ unreachable r w →
-    request_and_room m limit ds ≡ CannotFetch fault
-missing m limit ds fault None w all a b er ew e =
-    let same : fault ≡ RequestUnreachable = cc in
-    request_unreachable m limit ds all a b er ∙ ap CannotFetch (sym same)
-missing m limit ds fault (Some ps) None all a b er ew e =
-    let same : fault ≡ RoomUnreachable = cc in
-    room_unreachable m limit ds ps all a b er ew ∙ ap CannotFetch (sym same)
-missing m limit ds fault (Some ps) (Some qs) all a b er ew e = absurd (cc)
+-- what is fetched of a chain that has its windows and no fault
+pub holds_fetched : (m : Memory) (limit : ℕ) (ds : List Descriptor) (head : ℕ) (c : Chain) → true ≡ not (is_some (chain_fault m limit ds)) → HoldsWindows m head (Ok c) (IsChain ds) →
+    HoldsChain m (request_and_room m limit ds) (Ok c)
+holds_fetched m limit ds head c none h = rw (fetched_all m limit ds _ none h.1) (refl, h.2)
 
--- which part of a chain can't be fetched, by what has no place
-pub cannot_fetch : (m : Memory) (limit : ℕ) (ds : List Descriptor) (fault : ChainFault) → AllEndIn64Bits ds → total_len (readable ds) ≤ limit → total_len (writable ds) ≤ limit →
-    Some fault ≡ unreachable_of m ds → request_and_room m limit ds ≡ CannotFetch fault
-cannot_fetch m limit ds fault all a b e =
-    missing m limit ds fault (located (location m Read) (addresses_of (readable ds))) (located (location m Write) (addresses_of (writable ds))) all a b refl refl e
+at_most : (limit n : ℕ) (other : Bool) → (other || nat_lt limit n) ≡ false → n ≤ limit
+at_most limit n true e = absurd (cc)
+at_most limit n false e = grind (arith, nat_tests)
 
--- what is fetched of a chain that has its windows
-pub holds_fetched : (m : Memory) (limit : ℕ) (ds : List Descriptor) (head : ℕ) (chain : Result Chain ChainFault) → AllEndIn64Bits ds → total_len (readable ds) ≤ limit →
-    total_len (writable ds) ≤ limit →
-    IsOk chain → HoldsWindows m head chain (IsChain ds) → HoldsChain m (request_and_room m limit ds) chain
-holds_fetched m limit ds head (Ok c) all a b ok h = rw (fetched_all m limit ds _ _ all a b (sym h.1) (sym h.2)) (refl, h.2)
-holds_fetched m limit ds head (Err fault) all a b ok h = absurd (cc)
-
-pub room_within : (m : Memory) (limit : ℕ) (ds : List Descriptor) (head : ℕ) (chain : Result Chain ChainFault) → total_len (writable ds) ≤ limit → IsOk chain →
-    HoldsWindows m head chain (IsChain ds) → room_places chain ≤ limit
-room_within m limit ds head (Ok c) b ok h =
+pub room_within : (m : Memory) (limit : ℕ) (ds : List Descriptor) (head : ℕ) (c : Chain) → true ≡ not (is_some (chain_fault m limit ds)) → HoldsWindows m head (Ok c) (IsChain ds) →
+    room_places (Ok c) ≤ limit
+room_within m limit ds head c none h =
     let w = length-direction (location m Write) (writable ds) _ (sym h.2) in
-    omega (arith, w)
-room_within m limit ds head (Err fault) b ok h = absurd (cc)
-
--- ---- by what filling a chain answers
-
-filled_fetched : (m : Memory) (limit : ℕ) (ds : List Descriptor) (head : ℕ) (c : Chain) (fault : Option ChainFault) → AllEndIn64Bits ds →
-    total_len (readable ds) ≤ limit → total_len (writable ds) ≤ limit →
-    fault ≡ unreachable_of m ds → IfNone fault (HoldsWindows m head (Ok c) (IsChain ds)) → HoldsChain m (request_and_room m limit ds) (unless_faulty fault c)
-filled_fetched m limit ds head c None all a b is h = holds_fetched m limit ds head (Ok c) all a b refl h
-filled_fetched m limit ds head c (Some fault) all a b is h = rw (cannot_fetch m limit ds fault all a b is) refl
-
-pub fetched : (m : Memory) (limit : ℕ) (ds : List Descriptor) (head : ℕ) (c : Chain) (r : Result (Option ChainFault) AllocError) → AllEndIn64Bits ds →
-    total_len (readable ds) ≤ limit → total_len (writable ds) ≤ limit →
-    IfOk r (λ fault. fault ≡ unreachable_of m ds) → IfOk r (λ fault. IfNone fault (HoldsWindows m head (Ok c) (IsChain ds))) →
-    IfOk r (λ fault. HoldsChain m (request_and_room m limit ds) (unless_faulty fault c))
-fetched m limit ds head c (Ok fault) all a b is h = filled_fetched m limit ds head c fault all a b is h
-fetched m limit ds head c (Err e) all a b is h = tt
-
-filled_short : (m : Memory) (limit : ℕ) (ds : List Descriptor) (head : ℕ) (c : Chain) (fault : Option ChainFault) → total_len (writable ds) ≤ limit →
-    IfNone fault (HoldsWindows m head (Ok c) (IsChain ds)) → room_places (unless_faulty fault c) ≤ limit
-filled_short m limit ds head c None b h = room_within m limit ds head (Ok c) b refl h
-filled_short m limit ds head c (Some fault) b h = omega arith
-
-pub short : (m : Memory) (limit : ℕ) (ds : List Descriptor) (head : ℕ) (c : Chain) (r : Result (Option ChainFault) AllocError) → total_len (writable ds) ≤ limit →
-    IfOk r (λ fault. IfNone fault (HoldsWindows m head (Ok c) (IsChain ds))) → IfOk r (λ fault. room_places (unless_faulty fault c) ≤ limit)
-short m limit ds head c (Ok fault) b h = filled_short m limit ds head c fault b h
-short m limit ds head c (Err e) b h = tt
-
-filled_windows : (m : Memory) (ds : List Descriptor) (head : ℕ) (c : Chain) (fault : Option ChainFault) → IfNone fault (HoldsWindows m head (Ok c) (IsChain ds)) →
-    HoldsWindows m head (unless_faulty fault c) (IsChain ds)
-filled_windows m ds head c None h = h
-filled_windows m ds head c (Some fault) h = tt
-
-pub has_windows : (m : Memory) (ds : List Descriptor) (head : ℕ) (c : Chain) (r : Result (Option ChainFault) AllocError) → IfOk r (λ fault. IfNone fault (HoldsWindows m head (Ok c) (IsChain ds))) →
-    IfOk r (λ fault. HoldsWindows m head (unless_faulty fault c) (IsChain ds))
-has_windows m ds head c (Ok fault) h = filled_windows m ds head c fault h
-has_windows m ds head c (Err e) h = tt
-
-filled_lies : (lengths : List ℕ) (c : Chain) (fault : Option ChainFault) → IfNone fault (ChainLiesIn lengths (Ok c)) → ChainLiesIn lengths (unless_faulty fault c)
-filled_lies lengths c None h = h
-filled_lies lengths c (Some fault) h = tt
-
-pub lies : (lengths : List ℕ) (c : Chain) (r : Result (Option ChainFault) AllocError) → IfOk r (λ fault. IfNone fault (ChainLiesIn lengths (Ok c))) →
-    IfOk r (λ fault. ChainLiesIn lengths (unless_faulty fault c))
-lies lengths c (Ok fault) h = filled_lies lengths c fault h
-lies lengths c (Err e) h = tt
+    let most = at_most limit (total_len (writable ds)) (nat_lt limit (total_len (readable ds))) (no_fault m limit ds none).0 in
+    omega (arith, w, most)

@@ -4,7 +4,7 @@ use Rattle.std.specs.Int.{w16}
 pub use Rattle.vm_values.specs.Bits.{has_bit}
 use Rattle.vm_memory.specs.Memory.{Memory, number}
 
--- where a queue's parts are, how many of its chains were returned, modulo 2^16, and whether it stopped
+-- where a queue's parts are, its position and whether it stopped. The position is how many chains were taken, modulo 2^16; for a return it is how many went back, which is the same where one is taken at a time
 pub record Queue : Type 0 where
   pub size : ℕ
   pub desc : ℕ
@@ -13,11 +13,11 @@ pub record Queue : Type 0 where
   pub position : ℕ
   pub stopped : Bool
 
--- a queue of this layout of which no chain was returned
+-- a queue of this layout of which no chain was taken
 abbrev pub fresh : (size desc avail used : ℕ) → Queue
 fresh size desc avail used = record { size = size; desc = desc; avail = avail; used = used; position = 0; stopped = false }
 
--- a queue of this layout of which so many chains were returned, and which is stopped or not
+-- a queue of this layout at this position, which is stopped or not
 abbrev pub resumed : (size desc avail used position : ℕ) → (stopped : Bool) → Queue
 resumed size desc avail used position stopped = record { size = size; desc = desc; avail = avail; used = used; position = position; stopped = stopped }
 
@@ -29,7 +29,7 @@ with_stop q = record q { stopped = true }
 abbrev pub avail_index_at : Queue → ℕ
 avail_index_at q = q.avail + 2
 
--- how many chains the driver has made available that were not returned
+-- how many chains the driver has made available that were not taken
 abbrev pub waiting : Memory → Queue → ℕ
 waiting m q = (number m w16 (avail_index_at q) + (2 ^ 16 - q.position)) % 2 ^ 16
 

@@ -56,6 +56,14 @@ request_and_room m limit ds =
     else if not (all_reach m Write (writable ds)) then CannotFetch RoomUnreachable
     else IsRequest (flat_map (λ d. bytes m d.addr d.len) (readable ds)) (flat_map (λ d. addresses d.addr d.len) (writable ds))
 
+-- why that can't be fetched, if it can't
+abbrev pub chain_fault : Memory → (limit : ℕ) → List Descriptor → Option ChainFault
+chain_fault m limit ds =
+    if nat_lt limit (total_len (readable ds)) || nat_lt limit (total_len (writable ds)) then Some OverLimit
+    else if not (all_reach m Read (readable ds)) then Some RequestUnreachable
+    else if not (all_reach m Write (writable ds)) then Some RoomUnreachable
+    else None
+
 -- what a queue offers: nothing, a refusal, or a chain's head with its request and room
 pub data Offer : Type 0 where
   Idle : Offer

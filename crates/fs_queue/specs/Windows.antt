@@ -5,7 +5,6 @@ use Rattle.vm_memory_core.specs.Host.{Place}
 use Rattle.vm_memory_core.specs.Window.{places, AllLieIn, byte_in}
 use Rattle.vm_memory.specs.Memory.{Memory, addresses, location, located}
 use Rattle.fs_queue.specs.declared.fault.ChainFault.{ChainFault}
-use Rattle.fs_queue.specs.declared.fault.ChainFault.TheVariants.{RequestUnreachable, RoomUnreachable}
 use Rattle.fs_queue.specs.declared.fault.QueueError.{QueueError}
 use Rattle.fs_queue.specs.declared.fault.QueueError.TheVariants as stop
 use Rattle.fs_queue.specs.declared.chain.Chain.{Chain}
@@ -140,16 +139,6 @@ abbrev pub IsEmptyUnlessTaken : Result Bool QueueError → Taken → Type 0
 IsEmptyUnlessTaken (Ok true) t = Unit {0}
 IsEmptyUnlessTaken (Ok false) t = IsEmpty t
 IsEmptyUnlessTaken (Err e) t = IsEmpty t
-
--- which of two lists of places is missing, that of a request or that of a room
-abbrev pub unreachable : (readable writable : Option (List Place)) → Option ChainFault
-unreachable None writable = Some RequestUnreachable
-unreachable (Some readable) None = Some RoomUnreachable
-unreachable (Some readable) (Some writable) = None
-
--- that of the windows of some descriptors, if one is
-abbrev pub unreachable_of : Memory → List Descriptor → Option ChainFault
-unreachable_of m ds = unreachable (located (location m Read) (addresses_of (readable ds))) (located (location m Write) (addresses_of (writable ds)))
 
 -- a chain without a window
 abbrev pub HasNoWindows : Chain → Type 0

@@ -1,13 +1,13 @@
-//! Which addresses have places, and what a return needs of them.
+//! Which addresses have places, and what a chain and its return need of them.
 
-ghost use Rattle.std.specs.Prelude.{◌≡◌, ◌+◌, ◌<◌, ◌^◌};
-ghost use Rattle.vm_iotlb.specs.declared.permissions.Permissions.TheVariants.{Read};
-ghost use Rattle.vm_memory.specs.Memory.{Memory, reach};
-ghost use Rattle.fs_queue.specs.Taking.{return_fault};
+ghost use Rattle.std.specs.Prelude.{◌≡◌, ◌-◌, ◌^◌, [], ◌∷◌, min};
+ghost use Rattle.vm_memory.specs.Memory.{reach};
+ghost use Rattle.fs_queue.specs.Taking.{all_reach, access_of, chain_fault, of_direction, return_fault, total_len};
 ghost use Rattle.fs_queue.specs.WalkingView.{at_position};
 
 use crate::access::reaches;
-use crate::fault::QueueError;
+use crate::descriptor::Descriptor;
+use crate::fault::{ChainFault, QueueError};
 use crate::layout::QueueLayout;
 use std::alloc::Global;
 use vm_memory::GuestMemory;
@@ -20,9 +20,8 @@ pub trait Places {
     // the memory whose places these are
     ghost places: { Self → Memory };
 
-    /// Whether each of some addresses that follow one another has a place, for an access.
+    /// Whether each of some addresses that follow one another has a place, for an access. None of them has one if they end past 2^64 - 1.
     fn has_places(&self, addr: u64, len: usize, access: Permissions) -> bool
-        requires { addr + len < 2 ^ 64 }
         ensures { result ≡ reach (places self.now) access addr len };
 }
 
@@ -38,7 +37,7 @@ impl<'a, M: GuestMemory, H: HostBlocks> Places for HostPlaces<'a, M, H> {
     ghost places = { λ p. M.memory p.mem.now (H.host p.host.now) };
 
     fn has_places(&self, addr: u64, len: usize, access: Permissions) -> bool {
-        reaches(self.alloc, self.host, self.mem, addr, len, access)
+        len as u64 <= u64::MAX - addr && reaches(self.alloc, self.host, self.mem, addr, len, access)
     }
 }
 
@@ -55,6 +54,81 @@ pub fn return_fault<P: Places>(places: &P, layout: QueueLayout, position: u16) -
     }
     if !places.has_places(layout.avail(), 2, Permissions::Read) {
         return Some(QueueError::AvailFlagsUnreachable);
+    }
+    None
+}
+
+/// How many bytes the descriptors of a chain have in one direction: those that the device writes, or those that it reads.
+/// The answer is 2^64 - 1 if there are more. A chain with more than its limit in one of them is `OverLimit`.
+pub fn count_bytes(descriptors: &[Descriptor], write_only: bool) -> u64
+    ensures { result ≡ min (total_len (of_direction write_only descriptors.now)) (2 ^ 64 - 1) }
+{
+    let mut sum = 0u64;
+    for descriptor in descriptors {
+        if descriptor.is_write_only() == write_only {
+            sum = sum.saturating_add(u64::from(descriptor.len));
+        }
+    }
+    sum
+}
+
+// The access that the device needs to the descriptors of one direction.
+#[inline]
+pub(crate) fn access_of(write_only: bool) -> Permissions
+    ensures { result ≡ access_of write_only }
+{
+    if write_only {
+        Permissions::Write
+    } else {
+        Permissions::Read
+    }
+}
+
+// Whether all bytes of a descriptor have places, if it is of this direction.
+fn has_descriptor<P: Places>(places: &P, descriptor: &Descriptor, write_only: bool) -> bool
+    ensures { result ≡ all_reach (P.places places.now) (access_of write_only) (of_direction write_only (descriptor.now ∷ [])) }
+{
+    if descriptor.is_write_only() == write_only {
+        places.has_places(
+            descriptor.addr,
+            descriptor.len as usize,
+            access_of(write_only),
+        )
+    } else {
+        true
+    }
+}
+
+// Whether all bytes of one direction of a chain have places.
+fn has_bytes<P: Places>(places: &P, descriptors: &[Descriptor], write_only: bool) -> bool
+    ensures { result ≡ all_reach (P.places places.now) (access_of write_only) (of_direction write_only descriptors.now) }
+{
+    for descriptor in descriptors {
+        if !has_descriptor(places, descriptor, write_only) {
+            return false;
+        }
+    }
+    true
+}
+
+/// Why the request or the room of a chain can't be fetched: `OverLimit` if one of them has more than `limit` bytes, then `RequestUnreachable`,
+/// then `RoomUnreachable`; none if both can (VIRTIO 1.2, 2.7.5).
+pub fn chain_fault<P: Places>(
+    places: &P,
+    limit: u32,
+    descriptors: &[Descriptor],
+) -> Option<ChainFault>
+    ensures { result ≡ chain_fault (P.places places.now) limit descriptors.now }
+{
+    let limit = u64::from(limit);
+    if count_bytes(descriptors, false) > limit || count_bytes(descriptors, true) > limit {
+        return Some(ChainFault::OverLimit);
+    }
+    if !has_bytes(places, descriptors, false) {
+        return Some(ChainFault::RequestUnreachable);
+    }
+    if !has_bytes(places, descriptors, true) {
+        return Some(ChainFault::RoomUnreachable);
     }
     None
 }

@@ -1,18 +1,18 @@
 //! What is taken of a chain: windows with its request and its room, and those of its return (VIRTIO 1.2, 2.7.5 to
 //! 2.7.8).
 
-ghost use Rattle.std.specs.Prelude.{ℕ, ◌≡◌, ◌+◌, ◌-◌, ◌<◌, ◌≤◌, ◌^◌, ◌++◌, List, []};
-ghost use Rattle.std.specs.Prelude.{min, false, true, None, Some, Ok, if◌then◌else◌};
+ghost use Rattle.std.specs.Prelude.{ℕ, ◌≡◌, ◌+◌, ◌<◌, ◌≤◌, ◌^◌, ◌++◌, ◌&&◌, List, []};
+ghost use Rattle.std.specs.Prelude.{false, true, not, is_some, None, Some, Ok, if◌then◌else◌};
 ghost use Rattle.std.specs.Prelude.{IfErr, IfNone, IfOk, IfSome, IsTrue, OnErr};
 ghost use Rattle.vm_iotlb.specs.declared.permissions.Permissions.TheVariants.{Read, Write};
 ghost use Rattle.vm_memory_core.specs.Host.{lengths};
 ghost use Rattle.vm_memory_core.specs.Window.{places, AllLieIn};
 ghost use Rattle.vm_memory.specs.Memory.{addresses, after, located, location};
 ghost use Rattle.fs_queue.specs.WalkingView.{AllEndIn64Bits, at_position};
-ghost use Rattle.fs_queue.specs.Taking.{total_len, request_and_room, stops_queue, of_direction, access_of, addresses_of};
+ghost use Rattle.fs_queue.specs.Taking.{request_and_room, chain_fault, stops_queue, all_reach, of_direction, access_of, addresses_of};
 ghost use Rattle.fs_queue.specs.Windows.{used_addresses, return_places_of};
 ghost use Rattle.fs_queue.specs.Windows.{missing_of, return_places_at, room_places, ReturnWindowsLieIn, ChainLiesIn, TakenLiesIn};
-ghost use Rattle.fs_queue.specs.Windows.{HoldsChain, HoldsWindows, HasItsWindows, HasNoReturnWindows, HasNoWindows, IsEmpty, Takes, taken_if, unless_faulty, unreachable_of};
+ghost use Rattle.fs_queue.specs.Windows.{HoldsChain, HoldsWindows, HasItsWindows, HasNoReturnWindows, HasNoWindows, IsEmpty, Takes, taken_if, unless_faulty};
 ghost use Rattle.fs_queue.specs.Windows.{HoldsFound, KeepsLimit, RefusesFound, RefusesHeld};
 ghost use Rattle.fs_queue.specs.Chain.{IsChain, chain, first_visit};
 ghost use Rattle.fs_queue.specs.Loads.{ahead_at};
@@ -25,7 +25,7 @@ use crate::chain_walk::{Progress, Walked};
 use crate::descriptor::{Descriptor, Descriptors};
 use crate::fault::{ChainFault, QueueError};
 use crate::layout::QueueLayout;
-use crate::places::{HostPlaces, return_fault};
+use crate::places::{HostPlaces, access_of, chain_fault, count_bytes, return_fault};
 use crate::walk::Walk;
 use std::alloc::{AllocError, Global};
 use vm_memory::GuestMemory;
@@ -146,32 +146,6 @@ pub fn add_return_windows<M: GuestMemory, H: HostBlocks>(
     }
 }
 
-/// How many bytes the descriptors of a chain have in one direction: those that the device writes, or those that it reads.
-/// The answer is 2^64 - 1 if there are more. A chain with more than its limit in one of them is `OverLimit`.
-pub fn count_bytes(descriptors: &[Descriptor], write_only: bool) -> u64
-    ensures { result ≡ min (total_len (of_direction write_only descriptors.now)) (2 ^ 64 - 1) }
-{
-    let mut sum = 0u64;
-    for descriptor in descriptors {
-        if descriptor.is_write_only() == write_only {
-            sum = sum.saturating_add(u64::from(descriptor.len));
-        }
-    }
-    sum
-}
-
-// The access that the device needs to the descriptors of one direction.
-#[inline]
-fn access_of(write_only: bool) -> Permissions
-    ensures { result ≡ access_of write_only }
-{
-    if write_only {
-        Permissions::Write
-    } else {
-        Permissions::Read
-    }
-}
-
 // Addresses that follow one another.
 #[derive(Clone, Copy, Debug)]
 struct AddressRange {
@@ -244,8 +218,8 @@ fn add_direction<M: GuestMemory, H: HostBlocks>(
     add_windows(alloc, host, mem, range.start, range.len, access, windows)
 }
 
-// Adds to two empty lists the windows of a request and of its room, or answers which of them has an address that can't be reached:
-// `RequestUnreachable`, then `RoomUnreachable`. An error is a failed allocation.
+// Adds to two empty lists the windows of a request and of its room, or answers false if one of their addresses can't be reached.
+// An error is a failed allocation.
 #[inline(always)]
 fn add_chain<M: GuestMemory, H: HostBlocks>(
     alloc: Global,
@@ -254,32 +228,34 @@ fn add_chain<M: GuestMemory, H: HostBlocks>(
     descriptors: &[Descriptor],
     readable: &mut Windows,
     writable: &mut Windows,
-) -> Result<Option<ChainFault>, AllocError>
+) -> Result<bool, AllocError>
     requires fits { AllEndIn64Bits descriptors.now }
     requires held { M.IsHeld mem.now (H.host host.now) }
     requires no_readable { readable.old.items ≡ [] }
     requires no_writable { writable.old.items ≡ [] }
-    ensures fault { IfOk result (λ fault. fault ≡ unreachable_of (M.memory mem.now (H.host host.now)) descriptors.now) }
+    ensures found { let m = M.memory mem.now (H.host host.now) in
+        IfOk result (λ found. found ≡
+        (all_reach m Read (of_direction false descriptors.now) && all_reach m Write (of_direction true descriptors.now))) }
     ensures readable { let m = M.memory mem.now (H.host host.now) in
-        IfOk result (λ fault. IfNone fault
-        (located (location m Read) (addresses_of (of_direction false descriptors.now)) ≡ Some (places readable.new.items))) }
+        IfOk result (λ found. IsTrue found
+        → located (location m Read) (addresses_of (of_direction false descriptors.now)) ≡ Some (places readable.new.items)) }
     ensures writable { let m = M.memory mem.now (H.host host.now) in
-        IfOk result (λ fault. IfNone fault
-        (located (location m Write) (addresses_of (of_direction true descriptors.now)) ≡ Some (places writable.new.items))) }
-    ensures readable_lie { IfOk result (λ fault. IfNone fault (AllLieIn (lengths (H.host host.now)) readable.new.items)) }
-    ensures writable_lie { IfOk result (λ fault. IfNone fault (AllLieIn (lengths (H.host host.now)) writable.new.items)) }
+        IfOk result (λ found. IsTrue found
+        → located (location m Write) (addresses_of (of_direction true descriptors.now)) ≡ Some (places writable.new.items)) }
+    ensures readable_lie { IfOk result (λ found. IsTrue found → AllLieIn (lengths (H.host host.now)) readable.new.items) }
+    ensures writable_lie { IfOk result (λ found. IsTrue found → AllLieIn (lengths (H.host host.now)) writable.new.items) }
 {
     if !add_direction(alloc, host, mem, descriptors, false, readable)? {
-        return Ok(Some(ChainFault::RequestUnreachable));
+        return Ok(false);
     }
     if !add_direction(alloc, host, mem, descriptors, true, writable)? {
-        return Ok(Some(ChainFault::RoomUnreachable));
+        return Ok(false);
     }
-    Ok(None)
+    Ok(true)
 }
 
-// Fills a chain without windows, or answers which part of it has an address that can't be reached. An error is a failed allocation.
-// Then the chain still has no windows.
+// Fills a chain without windows, or answers false if it has a fault: more bytes than a limit, or an address that can't be reached.
+// An error is a failed allocation, of a chain that keeps the limit. At both the chain still has no windows.
 #[inline(always)]
 fn fill_chain<M: GuestMemory, H: HostBlocks>(
     alloc: Global,
@@ -287,22 +263,24 @@ fn fill_chain<M: GuestMemory, H: HostBlocks>(
     mem: &M,
     head: u16,
     descriptors: &[Descriptor],
-    request_len: usize,
-    room_len: usize,
+    limit: u32,
     chain: &mut Chain,
-) -> Result<Option<ChainFault>, AllocError>
+) -> Result<bool, AllocError>
     requires fits { AllEndIn64Bits descriptors.now }
     requires held { M.IsHeld mem.now (H.host host.now) }
-    requires request_len { request_len ≡ total_len (of_direction false descriptors.now) }
-    requires room_len { room_len ≡ total_len (of_direction true descriptors.now) }
-    requires short { room_len < 2 ^ 32 }
     requires no_windows { HasNoWindows chain.old }
-    ensures fault { IfOk result (λ fault. fault ≡ unreachable_of (M.memory mem.now (H.host host.now)) descriptors.now) }
-    ensures windows { IfOk result (λ fault. IfNone fault (HoldsWindows (M.memory mem.now (H.host host.now)) head (Ok chain.new) (IsChain descriptors.now))) }
-    ensures lie { IfOk result (λ fault. IfNone fault (ChainLiesIn (lengths (H.host host.now)) (Ok chain.new))) }
-    ensures faulty_is_empty { IfOk result (λ fault. IfSome fault (λ why. HasNoWindows chain.new)) }
+    ensures filled { IfOk result (λ filled. filled ≡ not (is_some (chain_fault (M.memory mem.now (H.host host.now)) limit descriptors.now))) }
+    ensures windows { IfOk result (λ filled. IsTrue filled → HoldsWindows (M.memory mem.now (H.host host.now)) head (Ok chain.new) (IsChain descriptors.now)) }
+    ensures lie { IfOk result (λ filled. IsTrue filled → ChainLiesIn (lengths (H.host host.now)) (Ok chain.new)) }
+    ensures faulty_is_empty { IfOk result (λ filled. filled ≡ false → HasNoWindows chain.new) }
     ensures failed_is_empty { OnErr result (HasNoWindows chain.new) }
+    ensures memory { OnErr result (KeepsLimit limit descriptors.now) }
 {
+    let request_len = count_bytes(descriptors, false);
+    let room_len = count_bytes(descriptors, true);
+    if request_len > u64::from(limit) || room_len > u64::from(limit) {
+        return Ok(false);
+    }
     match add_chain(
         alloc,
         host,
@@ -311,16 +289,16 @@ fn fill_chain<M: GuestMemory, H: HostBlocks>(
         &mut chain.readable,
         &mut chain.writable,
     ) {
-        Ok(None) => {
+        Ok(true) => {
             chain.head = head;
-            chain.request_len = request_len;
-            chain.room_len = room_len;
-            Ok(None)
+            chain.request_len = request_len as usize;
+            chain.room_len = room_len as usize;
+            Ok(true)
         }
-        Ok(Some(fault)) => {
+        Ok(false) => {
             chain.readable.clear();
             chain.writable.clear();
-            Ok(Some(fault))
+            Ok(false)
         }
         Err(error) => {
             chain.readable.clear();
@@ -355,21 +333,10 @@ pub fn hold_chain<M: GuestMemory, H: HostBlocks>(
     ensures memory { OnErr result (KeepsLimit limit descriptors.now) }
 {
     chain.clear();
-    let request_len = count_bytes(descriptors, false);
-    let room_len = count_bytes(descriptors, true);
-    if request_len > u64::from(limit) || room_len > u64::from(limit) {
-        return Ok(Some(ChainFault::OverLimit));
+    if fill_chain(alloc, host, mem, head, descriptors, limit, chain)? {
+        return Ok(None);
     }
-    fill_chain(
-        alloc,
-        host,
-        mem,
-        head,
-        descriptors,
-        request_len as usize,
-        room_len as usize,
-        chain,
-    )
+    Ok(chain_fault(&HostPlaces { alloc, host, mem }, limit, descriptors))
 }
 
 // Walks the chain of a head, and puts its request and its room in a place, or answers its fault. `DescriptorUnreachable` and

@@ -10,9 +10,8 @@ use Rattle.fs_queue.specs.declared.fault.ChainFault.TheVariants.{OverLimit, Requ
 use Rattle.fs_queue.specs.Queue.{Queue}
 use Rattle.fs_queue.specs.Chain.{Descriptor, IsChain, HasFault}
 use Rattle.fs_queue.specs.OfferLoads.{with_request}
-use Rattle.fs_queue.specs.Taking.{readable, writable, total_len, all_reach, RequestAndRoom, IsRequest, CannotFetch, Offers}
+use Rattle.fs_queue.specs.Taking.{readable, writable, total_len, all_reach, RequestAndRoom, IsRequest, CannotFetch, Offers, chain_fault}
 use Rattle.fs_queue.proofs.ReadLemmas.{length-bytes}
-use Rattle.fs_regions.specs.Windows.{why_not}
 use Rattle.fs_regions.specs.Walks.{Loaded, Waits, FindsBy, FetchesBy}
 use Rattle.fs_regions.proofs.Offering.{on_found}
 
@@ -46,7 +45,7 @@ whole head false false true loaded request room e long = absurd (cc)
 whole head false false false loaded request room e long = rw (eq-eqb (length loaded) (length request) long) refl
 
 -- what is fetched of a chain that was found
-pub fetches : (m : Memory) (limit : ℕ) (q : Queue) (loaded : Loaded) (ds : List Descriptor) (head : ℕ) (o : Option ChainFault) → q.stopped ≡ false → o ≡ why_not m limit ds → Waits m q loaded head →
+pub fetches : (m : Memory) (limit : ℕ) (q : Queue) (loaded : Loaded) (ds : List Descriptor) (head : ℕ) (o : Option ChainFault) → q.stopped ≡ false → o ≡ chain_fault m limit ds → Waits m q loaded head →
     FindsBy m q loaded head (IsChain ds) → FetchesBy m limit q loaded ds head o
 fetches m limit q loaded ds head (Some fault) runs why waits finds =
     on_found m limit q loaded head (IsChain ds) [] (Offers head (CannotFetch fault)) runs waits

@@ -1,21 +1,10 @@
 -- Where the bytes of a chain's request and room stand.
-use Rattle.std.specs.Prelude.{◌≡◌, ℕ, ◌<◌, ◌≤◌, ◌||◌, ◌+◌, ◌-◌, ◌%◌, ◌^◌, min, not, Bool, List, ◌∷◌, ◌++◌, nat_lt, take, drop, Option, Some, None, if◌then◌else◌}
-use Rattle.vm_iotlb.specs.declared.permissions.Permissions.TheVariants.{Read, Write}
+use Rattle.std.specs.Prelude.{◌≡◌, ℕ, ◌<◌, ◌≤◌, ◌+◌, ◌-◌, ◌%◌, ◌^◌, min, Bool, List, ◌∷◌, ◌++◌, take, drop, Some}
 use Rattle.vm_memory_core.specs.Window.{Window, places_of}
 use Rattle.vm_memory.specs.Layout.{Region, left_at, place}
-use Rattle.vm_memory.specs.Memory.{Memory, addresses, located, reach}
-use Rattle.fs_queue.specs.declared.fault.ChainFault.{ChainFault}
-use Rattle.fs_queue.specs.declared.fault.ChainFault.TheVariants.{OverLimit, RequestUnreachable, RoomUnreachable}
+use Rattle.vm_memory.specs.Memory.{addresses, located}
 use Rattle.fs_queue.specs.Chain.{Descriptor}
-use Rattle.fs_queue.specs.Taking.{readable, writable, total_len, all_reach, of_direction, addresses_of}
-
--- why the bytes of a chain can't be fetched, if they can't: too many, what can't be read, what can't be written, in this order
-abbrev pub why_not : Memory → (limit : ℕ) → List Descriptor → Option ChainFault
-why_not m limit ds =
-    if nat_lt limit (total_len (readable ds)) || nat_lt limit (total_len (writable ds)) then Some OverLimit
-    else if not (all_reach m Read (readable ds)) then Some RequestUnreachable
-    else if not (all_reach m Write (writable ds)) then Some RoomUnreachable
-    else None
+use Rattle.fs_queue.specs.Taking.{total_len, of_direction, addresses_of}
 
 -- the descriptor in which one byte of some stands, and how many of its bytes come before that one
 abbrev pub StandsIn : List Descriptor → (from : ℕ) → (d : Descriptor) → (skip : ℕ) → Type 0

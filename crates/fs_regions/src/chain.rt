@@ -1,58 +1,13 @@
 //! Where the bytes of a chain stand.
 
-ghost use Rattle.std.specs.Prelude.{◌≡◌, ◌≤◌, [], ◌∷◌, true, IfSome, None};
+ghost use Rattle.std.specs.Prelude.{◌≡◌, ◌≤◌, true, IfSome, None};
 ghost use Rattle.fs_queue.specs.Taking.{all_reach, total_len, access_of, of_direction};
 ghost use Rattle.fs_regions.specs.Places.{places_in};
-ghost use Rattle.fs_regions.specs.Windows.{why_not, IsRangeFrom, IsWindowFrom};
+ghost use Rattle.fs_regions.specs.Windows.{IsRangeFrom, IsWindowFrom};
 
 use crate::regions::GuestRegions;
-use fs_queue::{ChainFault, Descriptor, count_bytes};
+use fs_queue::Descriptor;
 use vm_memory_core::VolatileSlice;
-
-// Whether all bytes of a descriptor have places, if it is of this direction.
-fn has_descriptor(regions: &GuestRegions, descriptor: &Descriptor, write_only: bool) -> bool
-    ensures { result ≡ all_reach (places_in regions.now) (access_of write_only) (of_direction write_only (descriptor.now ∷ [])) }
-{
-    if descriptor.is_write_only() == write_only {
-        regions.reaches(descriptor.addr, descriptor.len as usize)
-    } else {
-        true
-    }
-}
-
-// Whether all bytes of one direction of a chain have places.
-fn has_bytes(regions: &GuestRegions, descriptors: &[Descriptor], write_only: bool) -> bool
-    ensures { result ≡ all_reach (places_in regions.now) (access_of write_only) (of_direction write_only descriptors.now) }
-{
-    for descriptor in descriptors {
-        if !has_descriptor(regions, descriptor, write_only) {
-            return false;
-        }
-    }
-    true
-}
-
-/// Why the request or the room of a chain can't be fetched: `OverLimit` if one of them has more than `limit` bytes, then `RequestUnreachable`,
-/// then `RoomUnreachable`; none if both can.
-pub fn chain_fault(
-    regions: &GuestRegions,
-    limit: u32,
-    descriptors: &[Descriptor],
-) -> Option<ChainFault>
-    ensures { result ≡ why_not (places_in regions.now) limit descriptors.now }
-{
-    let limit = u64::from(limit);
-    if count_bytes(descriptors, false) > limit || count_bytes(descriptors, true) > limit {
-        return Some(ChainFault::OverLimit);
-    }
-    if !has_bytes(regions, descriptors, false) {
-        return Some(ChainFault::RequestUnreachable);
-    }
-    if !has_bytes(regions, descriptors, true) {
-        return Some(ChainFault::RoomUnreachable);
-    }
-    None
-}
 
 /// The longest window that has the bytes of one direction of a chain from one on, in one descriptor and one region. None past their end, or where
 /// the first of them has no place.

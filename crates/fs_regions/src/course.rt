@@ -12,7 +12,6 @@ ghost use Rattle.fs_regions.specs.Places.{places_in};
 ghost use Rattle.fs_regions.specs.Stretches.{AsksFor};
 ghost use Rattle.fs_regions.specs.Walks.{Loaded, nothing, asked_len, asked_entries, queue_of, IsCourseOf, TellsBy, StandsAfterIndex, HeadWaits, StandsAt, ComesBy, ComesTo, Waits, Brings, FindsBy};
 
-use crate::chain::chain_fault;
 use crate::entries::{ENTRY_LEN, EntriesWalk};
 use crate::regions::GuestRegions;
 use crate::step::Step;
@@ -20,7 +19,7 @@ use crate::stretch::{read_stretch, stretch_len};
 use crate::walk::QueueWalk;
 use fs_queue::{
     ChainFault, ChainWalk, Descriptor, Descriptors, Progress, Queue, QueueError, QueueLayout, Walk,
-    Walked, return_fault,
+    Walked, chain_fault, return_fault,
 };
 
 /// Where a walk goes: through what waits at a position of a queue. A request or a room of more than `limit` bytes makes a chain faulty.

@@ -11,7 +11,7 @@ mod step;
 mod stretch;
 mod walk;
 
-pub use chain::{chain_fault, range_from, window_from};
+pub use chain::{range_from, window_from};
 pub use course::Course;
 pub use entries::EntriesWalk;
 pub use region::MemoryRegion;

@@ -1,6 +1,6 @@
 use Rattle.std.proofs.Common.{◌≡◌, ◌+◌, ◌-◌, ◌^◌, ◌<◌, min, drop}
 use Rattle.fs_queue.specs.Taking.{total_len, of_direction}
-use Rattle.fs_queue.proofs.take.count_bytes.Given as goal
+use Rattle.fs_queue.proofs.places.count_bytes.Given as goal
 
 abbrev pub invariant-loop-descriptor : goal.invariant-loop-descriptor
 invariant-loop-descriptor l = record {
