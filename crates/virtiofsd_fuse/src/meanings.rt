@@ -239,6 +239,16 @@ fn setxattr_row<'a, S: Source<'a> + Drop>(
     }
 }
 
+// A match over opcodes. A row: how requests of a shape are read, and their opcodes; and behind the rows other arms.
+macro_rules! by_shape {
+    ($opcode:expr, $head:ident, $options:ident, $source:ident, { $($row:ident: $($name:ident)+;)* } $($arm:tt)*) => {
+        match $opcode {
+            $($(Opcode::$name => $row::<$name, S>($head, $options, $source),)+)*
+            $($arm)*
+        }
+    };
+}
+
 /// What a request means, by its opcode and what stands behind its header. The fault is `OutOfMemory` only if names, or a name and
 /// a value, stand in several segments, and memory for them is refused.
 #[tactic(auto, unfolding(crate::specs::Grammar::row))]
@@ -252,54 +262,24 @@ pub fn row_meaning<'a, S: Source<'a> + Drop>(
     requires { is_single opcode ≡ true }
     ensures { RowReads S.splits (λ g. takes_memory g opcode (S.segments source) (S.left source)) head.now options.0 (λ g. row g opcode) (S.left source) result }
 {
-    match opcode {
-        Opcode::Readlink => header_row::<Readlink, S>(head, options, source),
-        Opcode::Statfs => header_row::<Statfs, S>(head, options, source),
-        Opcode::Getlk => header_row::<Getlk, S>(head, options, source),
-        Opcode::Setlk => header_row::<Setlk, S>(head, options, source),
-        Opcode::Setlkw => header_row::<Setlkw, S>(head, options, source),
-        Opcode::Bmap => header_row::<Bmap, S>(head, options, source),
-        Opcode::Destroy => header_row::<Destroy, S>(head, options, source),
-        Opcode::Ioctl => header_row::<Ioctl, S>(head, options, source),
-        Opcode::Poll => header_row::<Poll, S>(head, options, source),
-        Opcode::NotifyReply => header_row::<NotifyReply, S>(head, options, source),
-        Opcode::Syncfs => header_row::<Syncfs, S>(head, options, source),
-        Opcode::TmpFile => header_row::<TmpFile, S>(head, options, source),
-        Opcode::Forget => record_row::<Forget, S>(head, options, source),
-        Opcode::Getattr => record_row::<Getattr, S>(head, options, source),
-        Opcode::Setattr => record_row::<Setattr, S>(head, options, source),
-        Opcode::Open => record_row::<Open, S>(head, options, source),
-        Opcode::Release => record_row::<Release, S>(head, options, source),
-        Opcode::Fsync => record_row::<Fsync, S>(head, options, source),
-        Opcode::Flush => record_row::<Flush, S>(head, options, source),
-        Opcode::Opendir => record_row::<Opendir, S>(head, options, source),
-        Opcode::Releasedir => record_row::<Releasedir, S>(head, options, source),
-        Opcode::Fsyncdir => record_row::<Fsyncdir, S>(head, options, source),
-        Opcode::Access => record_row::<Access, S>(head, options, source),
-        Opcode::Fallocate => record_row::<Fallocate, S>(head, options, source),
-        Opcode::Lseek => record_row::<Lseek, S>(head, options, source),
-        Opcode::CopyFileRange => record_row::<CopyFileRange, S>(head, options, source),
-        Opcode::Lookup => name_row::<Lookup, S>(head, options, source),
-        Opcode::Unlink => name_row::<Unlink, S>(head, options, source),
-        Opcode::Rmdir => name_row::<Rmdir, S>(head, options, source),
-        Opcode::Removexattr => name_row::<Removexattr, S>(head, options, source),
-        Opcode::Link => record_name_row::<Link, S>(head, options, source),
-        Opcode::Rename => two_names_row::<Rename, S>(head, options, source),
-        Opcode::Rename2 => two_names_row::<Rename2, S>(head, options, source),
-        Opcode::Mknod => new_name_row::<Mknod, S>(head, options, source),
-        Opcode::Mkdir => new_name_row::<Mkdir, S>(head, options, source),
-        Opcode::Create => new_name_row::<Create, S>(head, options, source),
-        Opcode::Symlink => symlink_row(head, options, source),
-        Opcode::Getxattr => getxattr_row(head, options, source),
-        Opcode::Listxattr => listxattr_row(head, options, source),
-        Opcode::Setxattr => setxattr_row(head, options, source),
-        Opcode::Interrupt => RequestMeaning::Silence,
-        Opcode::SetupMapping | Opcode::RemoveMapping => RequestMeaning::Error(Errno::ENOSYS),
-        Opcode::Init
-        | Opcode::BatchForget
-        | Opcode::Read
-        | Opcode::Write
-        | Opcode::Readdir
-        | Opcode::Readdirplus => unreachable!(),
+    by_shape!(opcode, head, options, source, {
+        header_row: Readlink Statfs Getlk Setlk Setlkw Bmap Destroy Ioctl Poll NotifyReply Syncfs TmpFile;
+        record_row: Forget Getattr Setattr Open Release Fsync Flush Opendir Releasedir Fsyncdir Access Fallocate Lseek CopyFileRange;
+        name_row: Lookup Unlink Rmdir Removexattr;
+        record_name_row: Link;
+        two_names_row: Rename Rename2;
+        new_name_row: Mknod Mkdir Create;
     }
+    Opcode::Symlink => symlink_row(head, options, source),
+    Opcode::Getxattr => getxattr_row(head, options, source),
+    Opcode::Listxattr => listxattr_row(head, options, source),
+    Opcode::Setxattr => setxattr_row(head, options, source),
+    Opcode::Interrupt => RequestMeaning::Silence,
+    Opcode::SetupMapping | Opcode::RemoveMapping => RequestMeaning::Error(Errno::ENOSYS),
+    Opcode::Init
+    | Opcode::BatchForget
+    | Opcode::Read
+    | Opcode::Write
+    | Opcode::Readdir
+    | Opcode::Readdirplus => unreachable!())
 }
