@@ -79,8 +79,8 @@
  * lent, and does what its contract in the crate fs_chain_c says, in the terms of the crate fs_chain: the load that is asked for, the
  * call that a request means, the reply that an answer gives, the stores of a return. Of a chain from its walk to its return fs_chain's law_chains says more,
  * and of several chains that are out at once the laws of fs_live: over the same regions each store of pk_return has a place then (law_runs).
- * TRIED ALONE is this: that pk_chain_free frees all; that the bytes of a span are the name's (proved is where it stands, and its length);
- * a chain whose calls several threads make; and what is written out here in C.
+ * The bytes of a span are the name, the value or the pairs (law_spans of fs_chain_c).
+ * TRIED ALONE is this: that pk_chain_free frees all; a chain whose calls several threads make; and what is written out here in C.
  *
  * THREADS. What a call takes as const may be read by several calls at a time; what it takes otherwise is that call's alone. So a
  * thread with a chain and a queue of its own needs no lock but round `device`: many pk_ask, or one pk_reply_init. The library keeps nothing of a thread's: a chain

@@ -1,7 +1,10 @@
 mod ChainValues
 pub mod HandleLemmas
 pub mod MemoryLemmas
+pub mod NamePlaces
 pub mod QueueLemmas
 pub mod RangeLemmas
 pub mod RecordLemmas
+pub mod SpanCalls
+pub mod SpanLemmas
 pub mod WindowLemmas

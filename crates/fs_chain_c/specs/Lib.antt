@@ -12,5 +12,6 @@ pub mod Ranges
 pub mod Records
 pub mod Replies
 pub mod Returning
+pub mod Spans
 pub mod Walking
 pub mod Windows

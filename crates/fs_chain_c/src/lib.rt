@@ -11,6 +11,7 @@ mod exports;
 mod fields;
 mod handle;
 mod kicks;
+pub mod laws;
 mod listing;
 mod memory;
 mod names;

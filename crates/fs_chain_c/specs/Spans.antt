@@ -1,0 +1,57 @@
+-- The names, values and pairs of a call, where it is told that they stand in its request.
+use Rattle.std.specs.Prelude.{◌≡◌, ◌<◌, ◌^◌, ℕ, List, length, take, drop}
+use Rattle.fuse_values.specs.declared.call.FileCall.{FileCall}
+use Rattle.fuse_values.specs.declared.call.FileCall.TheVariants as value
+use Rattle.fuse_values.specs.Values.{call_of, pairs_in}
+use Rattle.server_phases.specs.Waiting.{first_call}
+use Rattle.virtiofsd_fuse.specs.Grammar.{Asks, FileCommand, meaning}
+use Rattle.fs_chain.specs.declared.asking.Told as told
+use Rattle.fs_chain.specs.declared.asking.Told.TheVariants as tells
+use Rattle.fs_chain.specs.declared.workbench.Workbench.{Workbench}
+use Rattle.fs_chain_c.specs.declared.call.FsCall.{FsCall}
+use Rattle.fs_chain_c.specs.declared.call.FsSpan.{FsSpan}
+use Rattle.fs_chain_c.specs.declared.device.FsDevice.{FsDevice}
+use Rattle.fs_chain_c.specs.Asking.{AsksSo}
+use Rattle.fs_chain_c.specs.Calls.{opcode_in, told_call}
+
+-- the bytes of a place in a request
+abbrev pub bytes_at : List ℕ → FsSpan → List ℕ
+bytes_at request place = take place.len (drop place.at request)
+
+-- these places hold the names of a call, and its value or its pairs
+abbrev pub AreNames : (request : List ℕ) → FileCall → (name name2 other : FsSpan) → Type 0
+AreNames request (value.Lookup context node name) at at2 other = bytes_at request at ≡ name.now
+AreNames request (value.BatchForget context counts) at at2 other = pairs_in (bytes_at request other) ≡ pairs_in counts.now
+AreNames request (value.Symlink context link node name extra) at at2 other = (bytes_at request at ≡ name.now) × (bytes_at request other ≡ link.now)
+AreNames request (value.Mknod context node name mode rdev umask extra) at at2 other = bytes_at request at ≡ name.now
+AreNames request (value.Mkdir context node name mode umask extra) at at2 other = bytes_at request at ≡ name.now
+AreNames request (value.Unlink context node name) at at2 other = bytes_at request at ≡ name.now
+AreNames request (value.Rmdir context node name) at at2 other = bytes_at request at ≡ name.now
+AreNames request (value.Rename context node old new_dir new flags) at at2 other = (bytes_at request at ≡ old.now) × (bytes_at request at2 ≡ new.now)
+AreNames request (value.Link context old_node node name) at at2 other = bytes_at request at ≡ name.now
+AreNames request (value.Setxattr context node name content flags extra) at at2 other = (bytes_at request at ≡ name.now) × (bytes_at request other ≡ content.now)
+AreNames request (value.Getxattr context node name size) at at2 other = bytes_at request at ≡ name.now
+AreNames request (value.Removexattr context node name) at at2 other = bytes_at request at ≡ name.now
+AreNames request (value.Create context node name mode kill flags umask extra) at at2 other = bytes_at request at ≡ name.now
+AreNames request _ at at2 other = Unit {0}
+
+-- those that are told of it do
+abbrev pub HasNames : (request : List ℕ) → FileCall → FsCall → Type 0
+HasNames request made told = AreNames request made told.name told.name2 told.value
+
+-- of each request of less than 2^32 bytes, whatever was agreed, the places that are told of the call that it means hold its names
+abbrev pub SpansHoldNames : Type 0
+SpansHoldNames =
+    (request bytes : List ℕ) (options room : ℕ) (command : FileCommand) (made : FileCall) → length request < 2 ^ 32 → meaning options request room ≡ Asks command
+    → call_of bytes made ≡ first_call command → HasNames request made (told_call (opcode_in request) options room made)
+
+-- of a call, if one is told
+abbrev pub IfCall : told.Told → (FileCall → Type 0) → Type 0
+IfCall (tells.Call made) P = P made
+IfCall _ P = Unit {0}
+
+-- what pk_ask tells of a request, by all of its bytes or by a WRITE's first ones, has its names in the bytes that it was handed
+abbrev pub AskedSpansHoldNames : Type 0
+AskedSpansHoldNames =
+    (b : Workbench) (d : FsDevice) (request : List ℕ) (call : FsCall) (status : ℕ) (b' : Workbench) → length request < 2 ^ 32
+    → (so : AsksSo b d request call status b') → IfCall so.3 (λ (made : FileCall). HasNames request made call)
