@@ -1,8 +1,10 @@
 -- Where the names and pairs stand that are read from some bytes.
-use Rattle.std.proofs.Common.{◌≡◌, ◌∙◌, ℕ, zero, suc, ◌-◌, ◌+◌, ◌*◌, ◌/◌, ◌≤◌, Bool, true, false, cond, ◌&&◌, List, [], ◌∷◌, length, take, drop, Option, Some, None, Ok, Err, refl, ap, sym, subst, arith, le_refl}
+use Rattle.std.proofs.Common.{◌≡◌, ◌∙◌, ℕ, zero, suc, ◌-◌, ◌+◌, ◌*◌, ◌/◌, ◌<◌, ◌≤◌, All, Bool, true, false, cond, ◌&&◌, List}
+use Rattle.std.proofs.Common.{[], ◌∷◌, length, take, drop, Option, Some, None, Ok, Err, refl, ap, sym, subst, arith, le_refl, slice_get, true≢false}
 use Rattle.std.specs.Prelude.{◌==◌, nat_lt, nat_le}
-use Rattle.std.proofs.lemmas.Bool.{ltb-false}
+use Rattle.std.proofs.lemmas.Bool.{eq-eqb, eqb-true, ltb-false}
 use Rattle.std.proofs.lemmas.List.{drop-drop, drop-take, length-drop, length-take-le, take-take, take_all}
+use Rattle.std.proofs.lemmas.List.Elements.{All-cons, All-nil}
 use Rattle.fuse_in.specs.Shapes.{Shape, size, made}
 use Rattle.fuse_wire.specs.declared.others.ForgetOne.{ForgetOne}
 use Rattle.fuse_wire.specs.Records.{forget_one}
@@ -13,6 +15,7 @@ use Rattle.server_segments.specs.declared.error.Error.TheVariants.{DecodeMessage
 use Rattle.server_requests.specs.Reading.{Read, ReadFailure, Faults, and_then, at_zero, before_zero, ended_or, exactly, front_name, last_name, many, name_and_value, name_by, name_or, needs, reading_of, two_names}
 use Rattle.server_requests.specs.Extras.{extra, new_link, new_name}
 use Rattle.server_requests.specs.Fronts.{counted, forget_pair, with_bytes}
+use Rattle.fs_chain_c.specs.Spans.{IsNotZero}
 
 -- a name stands at a place of some bytes
 abbrev pub StandsAt : (k : ℕ) → (bytes name : List ℕ) → Type 0
@@ -22,9 +25,21 @@ StandsAt k bytes name = take (length name) (drop k bytes) ≡ name
 abbrev pub Begins : (bytes name : List ℕ) → Type 0
 Begins bytes name = take (length name) bytes ≡ name
 
--- one stands in front, and another behind it and a zero byte
-abbrev pub BeginTwo : (bytes first second : List ℕ) → Type 0
-BeginTwo bytes first second = Begins bytes first × Begins (drop (suc (length first)) bytes) second
+-- a name stands in front: it has no zero byte, and one stands behind it
+abbrev pub IsName : (bytes name : List ℕ) → Type 0
+IsName bytes name = Begins bytes name × All IsNotZero name × (slice_get bytes (length name) ≡ Some 0)
+
+-- it stands at a place
+abbrev pub NameStandsAt : (k : ℕ) → (bytes name : List ℕ) → Type 0
+NameStandsAt k bytes name = StandsAt k bytes name × All IsNotZero name × (slice_get bytes (k + length name) ≡ Some 0)
+
+-- one stands in front, and another behind its zero byte
+abbrev pub AreTwo : (bytes first second : List ℕ) → Type 0
+AreTwo bytes first second = IsName bytes first × IsName (drop (suc (length first)) bytes) second
+
+-- one stands in front, and a value behind its zero byte
+abbrev pub AreNameAndValue : (bytes name content : List ℕ) → Type 0
+AreNameAndValue bytes name content = IsName bytes name × Begins (drop (suc (length name)) bytes) content
 
 -- what was read, and what is left of the bytes, have this, if something was read
 abbrev pub IfRead : {A : Type 0} → (A → List ℕ → Type 0) → Read A → Type 0
@@ -157,20 +172,23 @@ pairs_held counts bytes n m are is =
 -- what stands before a zero byte, and what behind it
 abbrev pub IsSplit : List ℕ → Option (List ℕ × List ℕ) → Type 0
 IsSplit bytes None = Unit {0}
-IsSplit bytes (Some s) = Begins bytes s.0 × (drop (suc (length s.0)) bytes ≡ s.1)
+IsSplit bytes (Some s) = IsName bytes s.0 × (drop (suc (length s.0)) bytes ≡ s.1)
 
-one_more : (test : Bool) (b : ℕ) (bytes : List ℕ) (split : Option (List ℕ × List ℕ)) → IsSplit bytes split → IsSplit (b ∷ bytes) (cond test (Some ([], bytes)) (before_zero b split))
-one_more true b bytes split h = (refl, refl)
-one_more false b bytes None h = tt
-one_more false b bytes (Some s) h = (ap (λ (l : List ℕ). b ∷ l) h.0, h.1)
+one_more : (test : Bool) (b : ℕ) (bytes : List ℕ) (split : Option (List ℕ × List ℕ)) → (b == 0) ≡ test → IsSplit bytes split
+    → IsSplit (b ∷ bytes) (cond test (Some ([], bytes)) (before_zero b split))
+one_more true b bytes split is h = ((refl, All-nil IsNotZero, ap Some (eqb-true b 0 is)), refl)
+one_more false b bytes None is h = tt
+one_more false b bytes (Some s) is h =
+    let not_zero : IsNotZero b = λ zero. true≢false (sym (eq-eqb b 0 zero) ∙ is) in
+    ((ap (λ (l : List ℕ). b ∷ l) h.0.0, All-cons IsNotZero b s.0 not_zero h.0.1, h.0.2), h.1)
 
 is_split : (bytes : List ℕ) → IsSplit bytes (at_zero bytes)
 is_split [] = tt
-is_split (b ∷ bytes) = one_more (b == 0) b bytes (at_zero bytes) (is_split bytes)
+is_split (b ∷ bytes) = one_more (b == 0) b bytes (at_zero bytes) refl (is_split bytes)
 
 -- a name stands in front, and what is left behind its zero byte
 abbrev pub Ends : (bytes name more : List ℕ) → Type 0
-Ends bytes name more = Begins bytes name × (drop (suc (length name)) bytes ≡ more)
+Ends bytes name more = IsName bytes name × (drop (suc (length name)) bytes ≡ more)
 
 ended_read : (e : Error) (bytes : List ℕ) (split : Option (List ℕ × List ℕ)) → IsSplit bytes split → IfRead (Ends bytes) (ended_or e split)
 ended_read e bytes None h = tt
@@ -179,28 +197,28 @@ ended_read e bytes (Some s) h = h
 name_read : (e : Error) (bytes : List ℕ) → IfRead (Ends bytes) (name_or e bytes)
 name_read e bytes = ended_read e bytes (at_zero bytes) (is_split bytes)
 
-pub last_read : (bytes : List ℕ) → IfRead (λ (name more : List ℕ). Begins bytes name) (last_name bytes)
+pub last_read : (bytes : List ℕ) → IfRead (λ (name more : List ℕ). IsName bytes name) (last_name bytes)
 unfolding last_name
 last_read bytes =
-    then_read (Ends bytes) (λ (name more : List ℕ). Begins bytes name) (name_or InvalidCString bytes)
+    then_read (Ends bytes) (λ (name more : List ℕ). IsName bytes name) (name_or InvalidCString bytes)
     (λ x. and_then (needs (length x.1 == 0) (Faults InvalidCString) []) (λ z. Ok (x.0, z.1))) (name_read InvalidCString bytes)
-    (λ x h. then_read (λ (u : Unit {0}) (more : List ℕ). Unit {0}) (λ (name more : List ℕ). Begins bytes name) (needs (length x.1 == 0) (Faults InvalidCString) [])
+    (λ x h. then_read (λ (u : Unit {0}) (more : List ℕ). Unit {0}) (λ (name more : List ℕ). IsName bytes name) (needs (length x.1 == 0) (Faults InvalidCString) [])
     (λ z. Ok (x.0, z.1)) (quiet (needs (length x.1 == 0) (Faults InvalidCString) [])) (λ z k. h.0))
 
 -- two names, one behind the other's zero byte
-pub two_read : (bytes : List ℕ) → IfRead (λ (names : List ℕ × List ℕ) (more : List ℕ). BeginTwo bytes names.0 names.1) (two_names bytes)
+pub two_read : (bytes : List ℕ) → IfRead (λ (names : List ℕ × List ℕ) (more : List ℕ). AreTwo bytes names.0 names.1) (two_names bytes)
 unfolding two_names
 two_read bytes =
-    let Two : List ℕ × List ℕ → List ℕ → Type 0 = λ names more. BeginTwo bytes names.0 names.1 in
+    let Two : List ℕ × List ℕ → List ℕ → Type 0 = λ names more. AreTwo bytes names.0 names.1 in
     then_read (Ends bytes) Two (name_or MissingParameter bytes) (λ x. and_then (last_name x.1) (λ y. Ok ((x.0, y.0), y.1))) (name_read MissingParameter bytes)
-    (λ x h. then_read (λ (name more : List ℕ). Begins x.1 name) Two (last_name x.1) (λ y. Ok ((x.0, y.0), y.1)) (last_read x.1)
-    (λ y k. (h.0, subst (λ (b : List ℕ). Begins b y.0) (sym h.1) k)))
+    (λ x h. then_read (λ (name more : List ℕ). IsName x.1 name) Two (last_name x.1) (λ y. Ok ((x.0, y.0), y.1)) (last_read x.1)
+    (λ y k. (h.0, subst (λ (b : List ℕ). IsName b y.0) (sym h.1) k)))
 
 -- a name, and a value behind its zero byte
-pub value_read : (size : ℕ) (bytes : List ℕ) → IfRead (λ (parts : List ℕ × List ℕ) (more : List ℕ). BeginTwo bytes parts.0 parts.1) (name_and_value size bytes)
+pub value_read : (size : ℕ) (bytes : List ℕ) → IfRead (λ (parts : List ℕ × List ℕ) (more : List ℕ). AreNameAndValue bytes parts.0 parts.1) (name_and_value size bytes)
 unfolding name_and_value
 value_read size bytes =
-    let Two : List ℕ × List ℕ → List ℕ → Type 0 = λ parts more. BeginTwo bytes parts.0 parts.1 in
+    let Two : List ℕ × List ℕ → List ℕ → Type 0 = λ parts more. AreNameAndValue bytes parts.0 parts.1 in
     then_read (Ends bytes) Two (name_or MissingParameter bytes)
     (λ x. and_then (needs (size == length x.1) (Faults (InvalidXattrSize (size, length x.1))) []) (λ z. Ok ((x.0, x.1), z.1))) (name_read MissingParameter bytes)
     (λ x h. then_read (λ (u : Unit {0}) (more : List ℕ). Unit {0}) Two (needs (size == length x.1) (Faults (InvalidXattrSize (size, length x.1))) []) (λ z. Ok ((x.0, x.1), z.1))
@@ -230,33 +248,33 @@ if_needed Q true r bytes a h = h refl
 if_needed Q false r bytes a h = tt
 
 -- the name of a node that is made
-pub new_read : (options : ℕ) (bytes : List ℕ) → IfRead (λ (x : List ℕ × Extra) (more : List ℕ). Begins bytes x.0) (new_name options bytes)
+pub new_read : (options : ℕ) (bytes : List ℕ) → IfRead (λ (x : List ℕ × Extra) (more : List ℕ). IsName bytes x.0) (new_name options bytes)
 unfolding new_name
 new_read options bytes =
-    let New : List ℕ × Extra → List ℕ → Type 0 = λ x more. Begins bytes x.0 in
+    let New : List ℕ × Extra → List ℕ → Type 0 = λ x more. IsName bytes x.0 in
     then_read (EndsIf bytes) New (front_name bytes)
     (λ x. and_then (extra options x.1) (λ y. and_then (needs x.0.1 (Faults InvalidCString) y.1) (λ z. Ok ((x.0.0, y.0), z.1)))) (front_read bytes)
     (λ x h. then_read (λ (more : Extra) (left : List ℕ). Unit {0}) New (extra options x.1) (λ y. and_then (needs x.0.1 (Faults InvalidCString) y.1) (λ z. Ok ((x.0.0, y.0), z.1)))
-    (quiet (extra options x.1)) (λ y k. if_needed (λ (n : List ℕ × Extra). Begins bytes n.0) x.0.1 (Faults InvalidCString) y.1 (x.0.0, y.0) (λ yes. (h yes).0)))
+    (quiet (extra options x.1)) (λ y k. if_needed (λ (n : List ℕ × Extra). IsName bytes n.0) x.0.1 (Faults InvalidCString) y.1 (x.0.0, y.0) (λ yes. (h yes).0)))
 
 pub both : (a b : Bool) → (a && b) ≡ true → (a ≡ true) × (b ≡ true)
 both true b h = (refl, h)
 both false b h = absurd (cc)
 
 -- the name of a link, and what it leads to
-pub link_read : (options : ℕ) (bytes : List ℕ) → IfRead (λ (x : NewLink) (more : List ℕ). BeginTwo bytes x.name x.link) (new_link options bytes)
+pub link_read : (options : ℕ) (bytes : List ℕ) → IfRead (λ (x : NewLink) (more : List ℕ). AreTwo bytes x.name x.link) (new_link options bytes)
 unfolding new_link
 link_read options bytes =
-    let New : NewLink → List ℕ → Type 0 = λ x more. BeginTwo bytes x.name x.link in
+    let New : NewLink → List ℕ → Type 0 = λ x more. AreTwo bytes x.name x.link in
     let last : (List ℕ × Bool) → (List ℕ × Bool) → Extra × List ℕ → Read NewLink =
     λ x y e. and_then (needs (x.1 && y.1) (Faults InvalidCString) e.1) (λ z. Ok (record { name = x.0; link = y.0; extra = e.0 }, z.1)) in
     then_read (EndsIf bytes) New (front_name bytes) (λ x. and_then (front_name x.1) (λ y. and_then (extra options y.1) (λ e. last x.0 y.0 e))) (front_read bytes)
     (λ x h. then_read (EndsIf x.1) New (front_name x.1) (λ y. and_then (extra options y.1) (λ e. last x.0 y.0 e)) (front_read x.1)
     (λ y k. then_read (λ (more : Extra) (left : List ℕ). Unit {0}) New (extra options y.1) (λ e. last x.0 y.0 e) (quiet (extra options y.1))
-    (λ e u. if_needed (λ (n : NewLink). BeginTwo bytes n.name n.link) (x.0.1 && y.0.1) (Faults InvalidCString) e.1 (record { name = x.0.0; link = y.0.0; extra = e.0 })
+    (λ e u. if_needed (λ (n : NewLink). AreTwo bytes n.name n.link) (x.0.1 && y.0.1) (Faults InvalidCString) e.1 (record { name = x.0.0; link = y.0.0; extra = e.0 })
     (λ yes. let each = both x.0.1 y.0.1 yes in
     let one = h each.0 in
-    (one.0, subst (λ (b : List ℕ). Begins b y.0.0) (sym one.1) (k each.1).0)))))
+    (one.0, subst (λ (b : List ℕ). IsName b y.0.0) (sym one.1) (k each.1).0)))))
 
 -- ---- bytes that are cut short
 
@@ -265,7 +283,7 @@ first_or d [] = d
 first_or d (y ∷ l) = y
 
 -- what stands in front of the first of some bytes stands in front of all
-pub front_kept : (name bytes : List ℕ) (n : ℕ) → Begins (take n bytes) name → Begins bytes name
+front_kept : (name bytes : List ℕ) (n : ℕ) → Begins (take n bytes) name → Begins bytes name
 front_kept [] bytes n h = refl
 front_kept (b ∷ name) [] zero h = h
 front_kept (b ∷ name) [] (suc n) h = h
@@ -287,11 +305,49 @@ place_kept name [] (suc n) (suc k) h = h
 place_kept name (x ∷ bytes) zero (suc k) h = none_in name (suc k) h (drop k bytes)
 place_kept name (x ∷ bytes) (suc n) (suc k) h = place_kept name bytes n k h
 
--- two that stand in front of the first bytes at a place of some
-pub two_kept : (request first second : List ℕ) (k n : ℕ) → BeginTwo (take n (drop k request)) first second
-    → StandsAt k request first × StandsAt (k + (length first + 1)) request second
-two_kept request first second k n h =
+-- a byte of the first ones is one of all, and so is one behind some
+get_take : (bytes : List ℕ) (n i b : ℕ) → slice_get (take n bytes) i ≡ Some b → slice_get bytes i ≡ Some b
+get_take [] zero i b h = h
+get_take [] (suc n) i b h = h
+get_take (x ∷ bytes) zero i b h = absurd (cc)
+get_take (x ∷ bytes) (suc n) zero b h = h
+get_take (x ∷ bytes) (suc n) (suc i) b h = get_take bytes n i b h
+
+get_drop : (bytes : List ℕ) (k i : ℕ) → slice_get (drop k bytes) i ≡ slice_get bytes (k + i)
+get_drop bytes zero i = let same : i ≡ zero + i = omega arith in ap (slice_get bytes) same
+get_drop [] (suc k) i = refl
+get_drop (x ∷ bytes) (suc k) i = let same : suc (k + i) ≡ suc k + i = omega arith in get_drop bytes k i ∙ ap (slice_get (x ∷ bytes)) same
+
+pub get_within : (bytes : List ℕ) (i b : ℕ) → slice_get bytes i ≡ Some b → i < length bytes
+get_within [] i b h = absurd (cc)
+get_within (x ∷ bytes) zero b h = omega arith
+get_within (x ∷ bytes) (suc i) b h = let less = get_within bytes i b h in omega (arith, less)
+
+-- a name that stands in front of the first bytes at a place of some
+pub name_kept : (request name : List ℕ) (k n : ℕ) → IsName (take n (drop k request)) name → NameStandsAt k request name
+name_kept request name k n h =
+    (front_kept name (drop k request) n h.0, h.1, sym (get_drop request k (length name)) ∙ get_take (drop k request) n (length name) 0 h.2)
+
+-- what stands behind it and its zero byte
+second_kept : (request first second : List ℕ) (k n : ℕ) → Begins (drop (suc (length first)) (take n (drop k request))) second
+    → StandsAt (k + (length first + 1)) request second
+second_kept request first second k n h =
     let next : k + suc (length first) ≡ k + (length first + 1) = omega arith in
     let there : drop (suc (length first)) (drop k request) ≡ drop (k + (length first + 1)) request =
     drop-drop (suc (length first)) k request ∙ ap (λ (m : ℕ). drop m request) next in
-    (front_kept first (drop k request) n h.0, subst (λ (b : List ℕ). Begins b second) there (place_kept second (drop k request) n (suc (length first)) h.1))
+    subst (λ (b : List ℕ). Begins b second) there (place_kept second (drop k request) n (suc (length first)) h)
+
+pub two_kept : (request first second : List ℕ) (k n : ℕ) → AreTwo (take n (drop k request)) first second
+    → NameStandsAt k request first × NameStandsAt (k + (length first + 1)) request second
+two_kept request first second k n h =
+    let i = suc (length first) in
+    let j = length second in
+    let here : k + (i + j) ≡ k + (length first + 1) + j = omega arith in
+    let in_front : slice_get (drop k request) (i + j) ≡ Some 0 = get_take (drop k request) n (i + j) 0 (sym (get_drop (take n (drop k request)) i j) ∙ h.1.2) in (
+      name_kept request first k n h.0,
+      (second_kept request first second k n h.1.0, h.1.1, sym (ap (slice_get request) here) ∙ sym (get_drop request k (i + j)) ∙ in_front),
+    )
+
+pub value_kept : (request name content : List ℕ) (k n : ℕ) → AreNameAndValue (take n (drop k request)) name content
+    → NameStandsAt k request name × StandsAt (k + (length name + 1)) request content
+value_kept request name content k n h = (name_kept request name k n h.0, second_kept request name content k n h.1)

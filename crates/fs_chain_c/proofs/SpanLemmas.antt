@@ -29,9 +29,10 @@ use Rattle.virtiofsd_fuse.specs.Grammar as grammar
 use Rattle.virtiofsd_fuse.specs.Grammar.{Asks, FileCommand, Given, IsFault, Lists, Meaning, Replies, ended, given, meaning, meant, one, row, row_of, with_header}
 use Rattle.virtiofsd_fuse.specs.Listings.{listing_of}
 use Rattle.fs_chain_c.specs.Calls.{at_rename, at_setxattr, behind, low, opcode_in, span, told_call}
-use Rattle.fs_chain_c.specs.Spans.{HasNames, SpansHoldNames, bytes_at}
-use Rattle.fs_chain_c.proofs.NamePlaces.{ArePairs, Begins, BeginTwo, IfRead, IsRecord, StandBehind, StandsAt, both, counted_read, front_kept, last_read}
-use Rattle.fs_chain_c.proofs.NamePlaces.{link_read, needed, new_read, pairs_held, pairs_read, record_read, then_read, two_kept, two_read, value_read, with_bytes_read}
+use Rattle.fs_chain_c.specs.Spans.{HasNames, IsNameAt, SpansHoldNames, bytes_at}
+use Rattle.fs_chain_c.proofs.NamePlaces.{ArePairs, AreNameAndValue, AreTwo, IfRead, IsName, IsRecord, NameStandsAt, StandBehind, StandsAt}
+use Rattle.fs_chain_c.proofs.NamePlaces.{both, counted_read, get_within, last_read, link_read, name_kept, needed, new_read, pairs_held}
+use Rattle.fs_chain_c.proofs.NamePlaces.{pairs_read, record_read, then_read, two_kept, two_read, value_kept, value_read, with_bytes_read}
 
 -- where the first name of RENAME or RENAME2 stands, by the request
 abbrev pub at_rename_of : Option Opcode → ℕ
@@ -40,21 +41,21 @@ at_rename_of _ = 48
 
 -- the names of a call stand in a request where those of its kind do
 abbrev pub NamesStand : (request : List ℕ) → Option Opcode → (options : ℕ) → FileCall → Type 0
-NamesStand bytes o options (Lookup context node name) = StandsAt 40 bytes name
+NamesStand bytes o options (Lookup context node name) = NameStandsAt 40 bytes name
 NamesStand bytes o options (BatchForget context counts) = (n : ℕ) × ArePairs n (drop 48 bytes) counts
-NamesStand bytes o options (Symlink context link node name extra) = StandsAt 40 bytes name × StandsAt (40 + (length name + 1)) bytes link
-NamesStand bytes o options (Mknod context node name mode rdev umask extra) = StandsAt 56 bytes name
-NamesStand bytes o options (Mkdir context node name mode umask extra) = StandsAt 48 bytes name
-NamesStand bytes o options (Unlink context node name) = StandsAt 40 bytes name
-NamesStand bytes o options (Rmdir context node name) = StandsAt 40 bytes name
+NamesStand bytes o options (Symlink context link node name extra) = NameStandsAt 40 bytes name × NameStandsAt (40 + (length name + 1)) bytes link
+NamesStand bytes o options (Mknod context node name mode rdev umask extra) = NameStandsAt 56 bytes name
+NamesStand bytes o options (Mkdir context node name mode umask extra) = NameStandsAt 48 bytes name
+NamesStand bytes o options (Unlink context node name) = NameStandsAt 40 bytes name
+NamesStand bytes o options (Rmdir context node name) = NameStandsAt 40 bytes name
 NamesStand bytes o options (Rename context node old new_dir new flags) =
-    StandsAt (at_rename_of o) bytes old × StandsAt (at_rename_of o + (length old + 1)) bytes new
-NamesStand bytes o options (Link context old_node node name) = StandsAt 48 bytes name
+    NameStandsAt (at_rename_of o) bytes old × NameStandsAt (at_rename_of o + (length old + 1)) bytes new
+NamesStand bytes o options (Link context old_node node name) = NameStandsAt 48 bytes name
 NamesStand bytes o options (Setxattr context node name content flags further) =
-    StandsAt (at_setxattr options) bytes name × StandsAt (at_setxattr options + (length name + 1)) bytes content
-NamesStand bytes o options (Getxattr context node name size) = StandsAt 48 bytes name
-NamesStand bytes o options (Removexattr context node name) = StandsAt 40 bytes name
-NamesStand bytes o options (Create context node name mode kill flags umask extra) = StandsAt 56 bytes name
+    NameStandsAt (at_setxattr options) bytes name × StandsAt (at_setxattr options + (length name + 1)) bytes content
+NamesStand bytes o options (Getxattr context node name size) = NameStandsAt 48 bytes name
+NamesStand bytes o options (Removexattr context node name) = NameStandsAt 40 bytes name
+NamesStand bytes o options (Create context node name mode kill flags umask extra) = NameStandsAt 56 bytes name
 NamesStand bytes o options _ = Unit {0}
 
 -- and so of the call that a request means
@@ -110,8 +111,8 @@ module _ (all : List ℕ) (o : Option Opcode) (g : Given) where
       (λ x. and_then (within x.0 p x.1) (λ y. one g (c y.0) y.1)) (counted_read g.header.len 0 (drop 40 all))
       (λ x h. inside p c Is x.0 x.1 40 n h (reads x.0) (λ a i. has a n i))
 
-  name_stands : (c : InHeader → List ℕ → FileCall) → ((name : List ℕ) → StandsAt 40 all name → Has (c g.header name)) → Stands (grammar.name_row c g (drop 40 all))
-  name_stands c has = counted_stands last_name (c g.header) Begins last_read (λ name n h. has name (front_kept name (drop 40 all) n h))
+  name_stands : (c : InHeader → List ℕ → FileCall) → ((name : List ℕ) → NameStandsAt 40 all name → Has (c g.header name)) → Stands (grammar.name_row c g (drop 40 all))
+  name_stands c has = counted_stands last_name (c g.header) IsName last_read (λ name n h. has name (name_kept all name 40 n h))
 
   -- a record and bytes behind it, and what is read of them
   bytes_stands : {R A : Type 0} (front : Given → Reading (R × List ℕ)) (parts : Given → R → Reading A) (c : InHeader → R → A → FileCall) (k : ℕ) (Is : List ℕ → A → Type 0)
@@ -124,41 +125,41 @@ module _ (all : List ℕ) (o : Option Opcode) (g : Given) where
       (λ x h. inside (parts g x.0.0) (c g.header x.0.0) Is x.0.1 x.1 k h.0 h.1 (reads x.0.0 x.0.1) (λ a i. has x.0.0 a h.0 i))
 
   new_stands : {R : Type 0} (s : Shape R) (k : ℕ) (c : InHeader → R → List ℕ × Extra → FileCall) → size s.parts ≡ k
-      → ((r : R) (x : List ℕ × Extra) → StandsAt (40 + k) all x.0 → Has (c g.header r x)) → Stands (grammar.new_name_row s k c g (drop 40 all))
+      → ((r : R) (x : List ℕ × Extra) → NameStandsAt (40 + k) all x.0 → Has (c g.header r x)) → Stands (grammar.new_name_row s k c g (drop 40 all))
   new_stands {R} s k c is has =
-      bytes_stands (λ g. with_bytes s k g.header.len) (λ g r. new_name g.options) c (40 + k) (λ (bytes : List ℕ) (x : List ℕ × Extra). Begins bytes x.0)
-      (with_bytes_read s k g.header.len all is) (λ r bytes. new_read g.options bytes) (λ r x n h. has r x (front_kept x.0 (drop (40 + k) all) n h))
+      bytes_stands (λ g. with_bytes s k g.header.len) (λ g r. new_name g.options) c (40 + k) (λ (bytes : List ℕ) (x : List ℕ × Extra). IsName bytes x.0)
+      (with_bytes_read s k g.header.len all is) (λ r bytes. new_read g.options bytes) (λ r x n h. has r x (name_kept all x.0 (40 + k) n h))
 
   record_name_stands : {R : Type 0} (s : Shape R) (k : ℕ) (c : InHeader → R → List ℕ → FileCall) → size s.parts ≡ k
-      → ((r : R) (name : List ℕ) → StandsAt (40 + k) all name → Has (c g.header r name)) → Stands (grammar.record_name_row s k c g (drop 40 all))
+      → ((r : R) (name : List ℕ) → NameStandsAt (40 + k) all name → Has (c g.header r name)) → Stands (grammar.record_name_row s k c g (drop 40 all))
   record_name_stands {R} s k c is has =
-      bytes_stands (λ g. with_bytes s k g.header.len) (λ g r. last_name) c (40 + k) Begins (with_bytes_read s k g.header.len all is) (λ r bytes. last_read bytes)
-      (λ r name n h. has r name (front_kept name (drop (40 + k) all) n h))
+      bytes_stands (λ g. with_bytes s k g.header.len) (λ g r. last_name) c (40 + k) IsName (with_bytes_read s k g.header.len all is) (λ r bytes. last_read bytes)
+      (λ r name n h. has r name (name_kept all name (40 + k) n h))
 
   two_names_stands : {R : Type 0} (s : Shape R) (k : ℕ) (c : InHeader → R → List ℕ × List ℕ → FileCall) → size s.parts ≡ k
-      → ((r : R) (names : List ℕ × List ℕ) → StandsAt (40 + k) all names.0 × StandsAt (40 + k + (length names.0 + 1)) all names.1 → Has (c g.header r names))
+      → ((r : R) (names : List ℕ × List ℕ) → NameStandsAt (40 + k) all names.0 × NameStandsAt (40 + k + (length names.0 + 1)) all names.1 → Has (c g.header r names))
       → Stands (grammar.two_names_row s k c g (drop 40 all))
   two_names_stands {R} s k c is has =
-      bytes_stands (λ g. with_bytes s k g.header.len) (λ g r. two_names) c (40 + k) (λ (bytes : List ℕ) (names : List ℕ × List ℕ). BeginTwo bytes names.0 names.1)
+      bytes_stands (λ g. with_bytes s k g.header.len) (λ g r. two_names) c (40 + k) (λ (bytes : List ℕ) (names : List ℕ × List ℕ). AreTwo bytes names.0 names.1)
       (with_bytes_read s k g.header.len all is) (λ r bytes. two_read bytes) (λ r names n h. has r names (two_kept all names.0 names.1 (40 + k) n h))
 
-  symlink_stands : ((x : NewLink) → StandsAt 40 all x.name × StandsAt (40 + (length x.name + 1)) all x.link → Has (request.symlink_call g.header x))
+  symlink_stands : ((x : NewLink) → NameStandsAt 40 all x.name × NameStandsAt (40 + (length x.name + 1)) all x.link → Has (request.symlink_call g.header x))
       → Stands (grammar.symlink_row g (drop 40 all))
   symlink_stands has =
-      counted_stands (new_link g.options) (request.symlink_call g.header) (λ (bytes : List ℕ) (x : NewLink). BeginTwo bytes x.name x.link) (λ bytes. link_read g.options bytes)
+      counted_stands (new_link g.options) (request.symlink_call g.header) (λ (bytes : List ℕ) (x : NewLink). AreTwo bytes x.name x.link) (λ bytes. link_read g.options bytes)
       (λ x n h. has x (two_kept all x.name x.link 40 n h))
 
   -- a test, and then a name
-  tested_read : (test : Bool) (e : ReadFailure) (bytes : List ℕ) → IfRead (λ (name more : List ℕ). Begins bytes name) ((needs test e >> last_name) bytes)
+  tested_read : (test : Bool) (e : ReadFailure) (bytes : List ℕ) → IfRead (λ (name more : List ℕ). IsName bytes name) ((needs test e >> last_name) bytes)
   tested_read test e bytes =
-      then_read (λ (u : Unit {0}) (more : List ℕ). (test ≡ true) × (more ≡ bytes)) (λ (name more : List ℕ). Begins bytes name) (needs test e bytes) (λ x. last_name x.1)
-      (needed test e bytes) (λ x h. subst (λ (b : List ℕ). IfRead (λ (name more : List ℕ). Begins b name) (last_name x.1)) h.1 (last_read x.1))
+      then_read (λ (u : Unit {0}) (more : List ℕ). (test ≡ true) × (more ≡ bytes)) (λ (name more : List ℕ). IsName bytes name) (needs test e bytes) (λ x. last_name x.1)
+      (needed test e bytes) (λ x h. subst (λ (b : List ℕ). IfRead (λ (name more : List ℕ). IsName b name) (last_name x.1)) h.1 (last_read x.1))
 
   getxattr_stands : Stands (grammar.getxattr_row g (drop 40 all))
   getxattr_stands =
-      bytes_stands (λ g. with_bytes inputs.getxattr_in 8 g.header.len) (λ g r. grammar.at_most_a_mebibyte r.size >> last_name) request.getxattr_call 48 Begins
+      bytes_stands (λ g. with_bytes inputs.getxattr_in 8 g.header.len) (λ g r. grammar.at_most_a_mebibyte r.size >> last_name) request.getxattr_call 48 IsName
       (with_bytes_read inputs.getxattr_in 8 g.header.len all refl) (λ r bytes. tested_read (nat_le r.size (2 ^ 20)) (Sends grammar.ENOMEM) bytes)
-      (λ r name n h. front_kept name (drop 48 all) n h)
+      (λ r name n h. name_kept all name 48 n h)
 
   listxattr_stands : Stands (grammar.listxattr_row g (drop 40 all))
   listxattr_stands =
@@ -215,8 +216,8 @@ setxattr_begins options len all = setxattr_read (bit_and options (2 ^ 29) == 0) 
 setxattr_stands : (all : List ℕ) (o : Option Opcode) (g : Given) → Stands all o g (grammar.setxattr_row g (drop 40 all))
 setxattr_stands all o g =
     bytes_stands all o g (λ g. setxattr_front g.options g.header.len) (λ g r. name_and_value r.size) request.setxattr_call (at_setxattr g.options)
-    (λ (bytes : List ℕ) (parts : List ℕ × List ℕ). BeginTwo bytes parts.0 parts.1) (setxattr_begins g.options g.header.len all) (λ r bytes. value_read r.size bytes)
-    (λ r parts n h. two_kept all parts.0 parts.1 (at_setxattr g.options) n h)
+    (λ (bytes : List ℕ) (parts : List ℕ × List ℕ). AreNameAndValue bytes parts.0 parts.1) (setxattr_begins g.options g.header.len all) (λ r bytes. value_read r.size bytes)
+    (λ r parts n h. value_kept all parts.0 parts.1 (at_setxattr g.options) n h)
 
 row_stands : (all : List ℕ) (g : Given) (o : Opcode) → Stands all (Some o) g (row g o (drop 40 all))
 unfolding row
@@ -388,11 +389,27 @@ held all (b ∷ name) k at small is h =
 behind_is : (k n len : ℕ) → len < 2 ^ 32 → k + (n + 1) < len → low (behind k n) ≡ k + (n + 1)
 behind_is k n len small within = omega (arith, small, within)
 
-two_held : (all first second : List ℕ) (k : ℕ) → length all < 2 ^ 32 → low k ≡ k → StandsAt k all first × StandsAt (k + (length first + 1)) all second
-    → (bytes_at all (span k (length first)) ≡ first) × (bytes_at all (span (behind k (length first)) (length second)) ≡ second)
+name_held : (all name : List ℕ) (k at : ℕ) → length all < 2 ^ 32 → (k < length all → at ≡ k) → NameStandsAt k all name
+    → IsNameAt all (record { at = at; len = low (length name) }) name
+name_held all name k at small is h =
+    let within : k + length name < length all = get_within all (k + length name) 0 h.2 in
+    let here : at ≡ k = is (omega (arith, within)) in
+    let whole : low (length name) ≡ length name = omega (arith, within, small) in
+    let end : at + low (length name) ≡ k + length name = omega (arith, here, whole) in
+    (held all name k at small is h.0, h.1, ap (slice_get all) end ∙ h.2)
+
+two_held : (all first second : List ℕ) (k : ℕ) → length all < 2 ^ 32 → low k ≡ k → NameStandsAt k all first × NameStandsAt (k + (length first + 1)) all second
+    → IsNameAt all (span k (length first)) first × IsNameAt all (span (behind k (length first)) (length second)) second
 two_held all first second k small is h = (
-  held all first k (low k) small (λ l. is) h.0,
-  held all second (k + (length first + 1)) (low (behind k (length first))) small (λ l. behind_is k (length first) (length all) small l) h.1,
+  name_held all first k (low k) small (λ l. is) h.0,
+  name_held all second (k + (length first + 1)) (low (behind k (length first))) small (λ l. behind_is k (length first) (length all) small l) h.1,
+)
+
+value_held : (all name content : List ℕ) (k : ℕ) → length all < 2 ^ 32 → low k ≡ k → NameStandsAt k all name × StandsAt (k + (length name + 1)) all content
+    → IsNameAt all (span k (length name)) name × (bytes_at all (span (behind k (length name)) (length content)) ≡ content)
+value_held all name content k small is h = (
+  name_held all name k (low k) small (λ l. is) h.0,
+  held all content (k + (length name + 1)) (low (behind k (length name))) small (λ l. behind_is k (length name) (length all) small l) h.1,
 )
 
 rename_low : (b : Bool) → low (if b then 56 else 48) ≡ (if b then 56 else 48)
@@ -405,25 +422,25 @@ setxattr_low false = refl
 
 told_holds : (all bytes : List ℕ) (opcode options room : ℕ) (made : values.FileCall) → length all < 2 ^ 32
     → NamesStand all (opcode_of opcode) options (call_of bytes made) → HasNames all made (told_call opcode options room made)
-told_holds all bytes opcode options room (value.Lookup context node name) small h = held all name.now 40 40 small (λ l. refl) h
+told_holds all bytes opcode options room (value.Lookup context node name) small h = name_held all name.now 40 40 small (λ l. refl) h
 told_holds all bytes opcode options room (value.BatchForget context counts) small h =
     let left : length (drop 48 all) ≡ length all - 48 = length-drop 48 all in
     pairs_held counts.now (drop 48 all) h.0 (low (16 * (length counts.now / 16))) h.1 (λ fits. omega (arith, left, small, fits))
 told_holds all bytes opcode options room (value.Symlink context link node name extra) small h = two_held all name.now link.now 40 small refl h
-told_holds all bytes opcode options room (value.Mknod context node name mode rdev umask extra) small h = held all name.now 56 56 small (λ l. refl) h
-told_holds all bytes opcode options room (value.Mkdir context node name mode umask extra) small h = held all name.now 48 48 small (λ l. refl) h
-told_holds all bytes opcode options room (value.Unlink context node name) small h = held all name.now 40 40 small (λ l. refl) h
-told_holds all bytes opcode options room (value.Rmdir context node name) small h = held all name.now 40 40 small (λ l. refl) h
+told_holds all bytes opcode options room (value.Mknod context node name mode rdev umask extra) small h = name_held all name.now 56 56 small (λ l. refl) h
+told_holds all bytes opcode options room (value.Mkdir context node name mode umask extra) small h = name_held all name.now 48 48 small (λ l. refl) h
+told_holds all bytes opcode options room (value.Unlink context node name) small h = name_held all name.now 40 40 small (λ l. refl) h
+told_holds all bytes opcode options room (value.Rmdir context node name) small h = name_held all name.now 40 40 small (λ l. refl) h
 told_holds all bytes opcode options room (value.Rename context node old new_dir new flags) small h =
-    let there : StandsAt (at_rename opcode) all old.now × StandsAt (at_rename opcode + (length old.now + 1)) all new.now =
-    subst (λ (k : ℕ). StandsAt k all old.now × StandsAt (k + (length old.now + 1)) all new.now) (sym (rename_at opcode)) h in
+    let there : NameStandsAt (at_rename opcode) all old.now × NameStandsAt (at_rename opcode + (length old.now + 1)) all new.now =
+    subst (λ (k : ℕ). NameStandsAt k all old.now × NameStandsAt (k + (length old.now + 1)) all new.now) (sym (rename_at opcode)) h in
     two_held all old.now new.now (at_rename opcode) small (rename_low (opcode == 45)) there
-told_holds all bytes opcode options room (value.Link context old_node node name) small h = held all name.now 48 48 small (λ l. refl) h
+told_holds all bytes opcode options room (value.Link context old_node node name) small h = name_held all name.now 48 48 small (λ l. refl) h
 told_holds all bytes opcode options room (value.Setxattr context node name content flags extra) small h =
-    two_held all name.now content.now (at_setxattr options) small (setxattr_low (bit_and options (2 ^ 29) == 0)) h
-told_holds all bytes opcode options room (value.Getxattr context node name size) small h = held all name.now 48 48 small (λ l. refl) h
-told_holds all bytes opcode options room (value.Removexattr context node name) small h = held all name.now 40 40 small (λ l. refl) h
-told_holds all bytes opcode options room (value.Create context node name mode kill flags umask extra) small h = held all name.now 56 56 small (λ l. refl) h
+    value_held all name.now content.now (at_setxattr options) small (setxattr_low (bit_and options (2 ^ 29) == 0)) h
+told_holds all bytes opcode options room (value.Getxattr context node name size) small h = name_held all name.now 48 48 small (λ l. refl) h
+told_holds all bytes opcode options room (value.Removexattr context node name) small h = name_held all name.now 40 40 small (λ l. refl) h
+told_holds all bytes opcode options room (value.Create context node name mode kill flags umask extra) small h = name_held all name.now 56 56 small (λ l. refl) h
 told_holds all bytes opcode options room _ small h = tt
 
 -- the names of the call that a request means stand where they are told to

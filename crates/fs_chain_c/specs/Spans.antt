@@ -1,5 +1,5 @@
 -- The names, values and pairs of a call, where it is told that they stand in its request.
-use Rattle.std.specs.Prelude.{◌≡◌, ◌<◌, ◌^◌, ℕ, List, length, take, drop}
+use Rattle.std.specs.Prelude.{◌≡◌, ◌+◌, ◌<◌, ◌^◌, ℕ, All, List, Some, length, take, drop, slice_get}
 use Rattle.fuse_values.specs.declared.call.FileCall.{FileCall}
 use Rattle.fuse_values.specs.declared.call.FileCall.TheVariants as value
 use Rattle.fuse_values.specs.Values.{call_of, pairs_in}
@@ -18,21 +18,29 @@ use Rattle.fs_chain_c.specs.Calls.{opcode_in, told_call}
 abbrev pub bytes_at : List ℕ → FsSpan → List ℕ
 bytes_at request place = take place.len (drop place.at request)
 
+-- a byte that isn't zero
+abbrev pub IsNotZero : ℕ → Type 0
+IsNotZero b = b ≡ 0 → ⊥
+
+-- a name stands at a place: it has no zero byte, and one stands behind it
+abbrev pub IsNameAt : (request : List ℕ) → FsSpan → (name : List ℕ) → Type 0
+IsNameAt request place name = (bytes_at request place ≡ name) × All IsNotZero name × (slice_get request (place.at + place.len) ≡ Some 0)
+
 -- these places hold the names of a call, and its value or its pairs
 abbrev pub AreNames : (request : List ℕ) → FileCall → (name name2 other : FsSpan) → Type 0
-AreNames request (value.Lookup context node name) at at2 other = bytes_at request at ≡ name.now
+AreNames request (value.Lookup context node name) at at2 other = IsNameAt request at name.now
 AreNames request (value.BatchForget context counts) at at2 other = pairs_in (bytes_at request other) ≡ pairs_in counts.now
-AreNames request (value.Symlink context link node name extra) at at2 other = (bytes_at request at ≡ name.now) × (bytes_at request other ≡ link.now)
-AreNames request (value.Mknod context node name mode rdev umask extra) at at2 other = bytes_at request at ≡ name.now
-AreNames request (value.Mkdir context node name mode umask extra) at at2 other = bytes_at request at ≡ name.now
-AreNames request (value.Unlink context node name) at at2 other = bytes_at request at ≡ name.now
-AreNames request (value.Rmdir context node name) at at2 other = bytes_at request at ≡ name.now
-AreNames request (value.Rename context node old new_dir new flags) at at2 other = (bytes_at request at ≡ old.now) × (bytes_at request at2 ≡ new.now)
-AreNames request (value.Link context old_node node name) at at2 other = bytes_at request at ≡ name.now
-AreNames request (value.Setxattr context node name content flags extra) at at2 other = (bytes_at request at ≡ name.now) × (bytes_at request other ≡ content.now)
-AreNames request (value.Getxattr context node name size) at at2 other = bytes_at request at ≡ name.now
-AreNames request (value.Removexattr context node name) at at2 other = bytes_at request at ≡ name.now
-AreNames request (value.Create context node name mode kill flags umask extra) at at2 other = bytes_at request at ≡ name.now
+AreNames request (value.Symlink context link node name extra) at at2 other = IsNameAt request at name.now × IsNameAt request other link.now
+AreNames request (value.Mknod context node name mode rdev umask extra) at at2 other = IsNameAt request at name.now
+AreNames request (value.Mkdir context node name mode umask extra) at at2 other = IsNameAt request at name.now
+AreNames request (value.Unlink context node name) at at2 other = IsNameAt request at name.now
+AreNames request (value.Rmdir context node name) at at2 other = IsNameAt request at name.now
+AreNames request (value.Rename context node old new_dir new flags) at at2 other = IsNameAt request at old.now × IsNameAt request at2 new.now
+AreNames request (value.Link context old_node node name) at at2 other = IsNameAt request at name.now
+AreNames request (value.Setxattr context node name content flags extra) at at2 other = IsNameAt request at name.now × (bytes_at request other ≡ content.now)
+AreNames request (value.Getxattr context node name size) at at2 other = IsNameAt request at name.now
+AreNames request (value.Removexattr context node name) at at2 other = IsNameAt request at name.now
+AreNames request (value.Create context node name mode kill flags umask extra) at at2 other = IsNameAt request at name.now
 AreNames request _ at at2 other = Unit {0}
 
 -- those that are told of it do
