@@ -1,4 +1,4 @@
--- The names, values and pairs of a call, where it is told that they stand in its request.
+-- What stands at the places that C is told.
 use Rattle.std.specs.Prelude.{◌≡◌, ◌+◌, ◌<◌, ◌^◌, ℕ, All, List, Some, length, take, drop, slice_get}
 use Rattle.fuse_values.specs.declared.call.FileCall.{FileCall}
 use Rattle.fuse_values.specs.declared.call.FileCall.TheVariants as value
