@@ -1,6 +1,6 @@
 -- A chain that is walked, asked, answered and returned by a handle, as a run beside whatever other chains are out.
-use Rattle.std.proofs.Common.{◌≡◌, ℕ, ◌≤◌, ◌^◌, Bool, List, [], ◌∷◌, ◌++◌, append-nil, append_assoc, length, Some, None, slice_get, inl, inr, refl, subst, sym, ap, ◌∙◌}
-use Rattle.std.specs.Prelude.{◌⊎◌, drop, false, IfSome, is_some, IsTrue, Option, option_map}
+use Rattle.std.proofs.Common.{◌≡◌, ℕ, ◌≤◌, ◌^◌, Bool, List, [], ◌∷◌, ◌++◌, append-nil, append_assoc, length, Some, None, slice_get, refl, subst, sym, ap, ◌∙◌}
+use Rattle.std.specs.Prelude.{drop, false, true, IfSome, is_some, IsTrue, Option, option_map}
 use Rattle.std.specs.List.{AllByRecursion}
 use Rattle.vm_memory_core.specs.Host.{changed_at}
 use Rattle.fs_queue.specs.Chain.{Descriptor}
@@ -36,6 +36,7 @@ use Rattle.fs_live.specs.Live.{
   Begins,
   Declines,
   Happens,
+  HasPlace,
   LiveEvent,
   LiveRun,
   LiveState,
@@ -155,7 +156,7 @@ module _ {F : Type 0} (may : May F) (law : HandleCalls may) (w w' : Workbench) (
       let d = asked_chain c request options earlier in
       let more : Calls = earlier ++ (call, answer) ∷ [] in
       let next : LiveState F = after_answer s before behind d request options more run.0 in
-      let happens : Happens may s (Answers d call answer) next = law s d before behind w w' request options made given earlier later call answer run.0 out refl kept has calls_are run.1 run.2 in
+      let happens : Happens may s (Answers d call answer) next = (law s d before behind w w' request options made given earlier later call answer run.0 out refl kept has calls_are run.1 run.2).0 in
       let rest = answered_all next c before behind more later files refl (kept_on s.page_size options request c earlier more made w kept)
       (calls_are ∙ sym (append_assoc earlier ((call, answer) ∷ []) later)) run.3 in
       record {
@@ -228,17 +229,17 @@ module _ {F : Type 0} (may : May F) (walks_law : HandleWalks may) (asks_law : Ha
 -- ---- one event
 
 -- the options after an answer: those of this moment, or those that the handle's session has
-pub options_after : (now now' asked asked' left : ℕ) → left ≡ asked' → ((now' ≡ now) × (asked' ≡ asked)) ⊎ (now' ≡ asked') → ((now' ≡ now) × (left ≡ asked)) ⊎ (now' ≡ left)
-options_after now now' asked asked' left is (inl stays) = inl (stays.0, is ∙ stays.1)
-options_after now now' asked asked' left is (inr same) = inr (same ∙ sym is)
+pub options_after : (changes : Bool) (now now' asked asked' left : ℕ) → left ≡ asked' → (changes ≡ false → (now' ≡ now) × (asked' ≡ asked)) × (changes ≡ true → now' ≡ asked')
+    → (changes ≡ false → (now' ≡ now) × (left ≡ asked)) × (changes ≡ true → now' ≡ left)
+options_after changes now now' asked asked' left is stays = (λ no. ((stays.0 no).0, is ∙ (stays.0 no).1), λ yes. stays.1 yes ∙ sym is)
 
 -- what is stored before a sleep
 pub sleep_is : {F : Type 0} (may : May F) (q : KeptQueue) (wanted : Bool) (told : Option KickStore) → HandleSleeps may → StoresStayThere may → option_map store_of told ≡ kick_store q wanted
-    → IfSome told (λ store. (s : LiveState F) (i : ℕ) → slice_get s.queues i ≡ Some (live_of q)
+    → IfSome told (λ store. (s : LiveState F) (i : ℕ) → slice_get s.queues i ≡ Some (live_of q) → HasPlace s.places store.address
     → (run : LiveRun may s (Sleeps i (store_of store) ∷ []) s) × EachStoresThere may s (Sleeps i (store_of store) ∷ []) s run)
 sleep_is may q wanted None law stores is = tt
-sleep_is {F} may q wanted (Some store) law stores is = λ s i there.
-    let run : LiveRun may s (Sleeps i (store_of store) ∷ []) s = (s, law s i q wanted (Some store) there is, refl) in
+sleep_is {F} may q wanted (Some store) law stores is = λ s i there place.
+    let run : LiveRun may s (Sleeps i (store_of store) ∷ []) s = (s, (law s i q wanted (Some store) there is).0 place, refl) in
     (run, stores s s (Sleeps i (store_of store) ∷ []) run)
 
 -- a faulty chain that is walked and goes back

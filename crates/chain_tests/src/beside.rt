@@ -1,6 +1,6 @@
 //! What calls of a handle are in a run, beside whatever other chains are out and a guest that writes.
 
-ghost use Rattle.std.specs.Prelude.{◌≡◌, ◌≤◌, ◌+◌, ◌^◌, ◌⊎◌, ℕ, [], ◌∷◌, ◌++◌, drop, IsTrue, IfOk, IfSome, List, None, Ok, OnOk, Some, slice_get};
+ghost use Rattle.std.specs.Prelude.{◌≡◌, ◌≤◌, ◌+◌, ◌^◌, ℕ, [], ◌∷◌, ◌++◌, drop, false, IsTrue, IfOk, IfSome, length, List, None, Ok, OnOk, Some, slice_get, true};
 ghost use Rattle.std.specs.List.{AllByRecursion};
 ghost use Rattle.fs_queue.specs.declared.fault.QueueError.{QueueError};
 ghost use Rattle.fs_regions.specs.Places.{places_in};
@@ -8,6 +8,7 @@ ghost use Rattle.fuse_fs.specs.Calls.{FileRun};
 ghost use Rattle.fuse_values.specs.Answers.{answer_of};
 ghost use Rattle.fuse_values.specs.Values.{call_of};
 ghost use Rattle.fuse_values.specs.declared.call.FileCall as value;
+ghost use Rattle.virtiofsd_fuse.specs.Grammar.{meaning};
 ghost use Rattle.server_phases.specs.Answering.{TellsBytes};
 ghost use Rattle.fs_chain.specs.Events.{store_of};
 ghost use Rattle.fs_chain.specs.Walks.{HasEvents};
@@ -15,8 +16,8 @@ ghost use Rattle.fs_chain.specs.Whole.{IsWalked, WalksBy};
 ghost use Rattle.fs_chain.specs.declared.asking.Told.TheVariants as asks;
 ghost use Rattle.fs_chain.specs.declared.state.State.TheVariants as at;
 ghost use Rattle.fs_device.specs.Step.{Calls};
-ghost use Rattle.fs_live.specs.Handles.{IsKept, IsReached, IsSessionOf, live_of, load_count};
-ghost use Rattle.fs_live.specs.Live.{Answers, Asked, Begins, Declines, Happens, LiveEvent, LiveRun, LiveState, NoneWaits, OutChain, Sleeps, calls_among, why_declined};
+ghost use Rattle.fs_live.specs.Handles.{IsKept, IsReached, IsSessionOf, changes_options, live_of, load_count};
+ghost use Rattle.fs_live.specs.Live.{Answers, Asked, Begins, Declines, Happens, HasPlace, LiveEvent, LiveRun, LiveState, NoneWaits, OutChain, Sleeps, calls_among, room_of, why_declined};
 ghost use Rattle.fs_live.specs.Runs.{EachStoresThere, events_on, going, tickets_on};
 ghost use Rattle.fs_live.specs.Several.{LiveQueue, RunsOver, UsedFrom, may_take, returns_among};
 
@@ -62,8 +63,8 @@ fn serve_beside<F: FileSystem>(
     give_back(workbench, queue)
 }
 
-// A call without data is answered, by the options of its asking: the run's options after it are those of this moment, or those that the handle's session
-// has then.
+// A call without data is answered, by the options of its asking: the run's options after it are those of this moment, but after DESTROY, or an INIT that is
+// agreed on, those that the handle's session has then.
 fn answer_beside<F: FileSystem>(
     workbench: &mut Workbench,
     serial: u32,
@@ -74,7 +75,8 @@ fn answer_beside<F: FileSystem>(
         → s.outs ≡ before ++ c ∷ behind → c.phase ≡ Asked request options [] → IsKept s.page_size options request c (asks.Call made) workbench.old
         → F.may s.files (call_of (drop 80 request) made) (answer_of [] answer) files
         → (next : LiveState F) × Happens F.may s (Answers c (call_of (drop 80 request) made) (answer_of [] answer)) next
-        × (((next.options ≡ s.options) × (workbench.new.session.options.0 ≡ options)) ⊎ (next.options ≡ workbench.new.session.options.0))) }
+        × (changes_options (meaning options request (length (room_of c))) (answer_of [] answer ∷ []) ≡ false → (next.options ≡ s.options) × (workbench.new.session.options.0 ≡ options))
+        × (changes_options (meaning options request (length (room_of c))) (answer_of [] answer ∷ []) ≡ true → next.options ≡ workbench.new.session.options.0)) }
 {
     law_handles::<F>();
     match workbench.answer(serial, answer) {
@@ -168,9 +170,9 @@ fn give_faulty_beside<F: FileSystem>(
     give_back(workbench, queue)
 }
 
-// What the device stores before it sleeps is an event, and stays where it may be.
+// What the device stores before it sleeps, where it has a place, is an event, and stays where it may be.
 fn sleep_beside<F: FileSystem>(queue: &KeptQueue, wanted: bool) -> Option<KickStore>
-    ensures sleeps { IfSome result (λ store. (s : LiveState F) (i : ℕ) → slice_get s.queues i ≡ Some (live_of queue.now)
+    ensures sleeps { IfSome result (λ store. (s : LiveState F) (i : ℕ) → slice_get s.queues i ≡ Some (live_of queue.now) → HasPlace s.places store.address
         → (run : LiveRun F.may s (Sleeps i (store_of store) ∷ []) s) × EachStoresThere F.may s (Sleeps i (store_of store) ∷ []) s run) }
 {
     law_handles::<F>();
@@ -180,7 +182,8 @@ fn sleep_beside<F: FileSystem>(queue: &KeptQueue, wanted: bool) -> Option<KickSt
 
 // A queue that is begun anew once no call of its chains waits is an event.
 fn begin_beside<F: FileSystem>(queue: &mut KeptQueue, layout: QueueLayout, position: u16)
-    ensures begins { (s : LiveState F) (i : ℕ) → slice_get s.queues i ≡ Some (live_of queue.old) → AllByRecursion (λ c. NoneWaits s.page_size i c c.phase) s.outs
+    ensures begins { (s : LiveState F) (i : ℕ) → slice_get s.queues i ≡ Some (live_of queue.old) → 1 ≤ queue.old.most_out → queue.old.most_out ≤ layout.size
+        → AllByRecursion (λ c. NoneWaits s.page_size i c c.phase) s.outs
         → (next : LiveState F) × Happens F.may s (Begins i (live_of queue.new)) next × (slice_get next.queues i ≡ Some (live_of queue.new)) }
 {
     law_handles::<F>();

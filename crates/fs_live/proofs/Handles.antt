@@ -1,7 +1,6 @@
 -- What calls of handles give a run.
 use Rattle.std.proofs.Common.{◌≡◌, ℕ, Bool, List, [], ◌∷◌, ◌++◌, length, Option, Some, None, slice_get, refl, subst, sym, ap, ◌∙◌, arith}
 use Rattle.std.specs.Prelude.{drop, false, if◌then◌else◌, is_some, IsTrue, not, true, unwrap_or}
-use Rattle.std.specs.Int.{w16, to_le_bytes}
 use Rattle.std.specs.List.{AllByRecursion}
 use Rattle.vm_iotlb.specs.declared.permissions.Permissions.TheVariants.{Read, Write}
 use Rattle.vm_memory.specs.Memory.{Memory, reach}
@@ -35,7 +34,7 @@ use Rattle.fs_chain.specs.Answers.{CanBeGiven, IfWaits, IsGiven, IsWaiting}
 use Rattle.fs_chain.specs.Asking.{KeepsCall, KeepsReply, TellsMeaning, asked_of}
 use Rattle.fs_chain.specs.Events.{event_fault}
 use Rattle.fs_chain.specs.Events as chain_events
-use Rattle.fs_chain.specs.Walks.{Begins, BeginsUnless, BeginsWhere, WalksFrom, WalksOn, course_of, faulty_out, no_reply, out_of, queue_after, state_after, told_of}
+use Rattle.fs_chain.specs.Walks.{Begins, BeginsUnless, BeginsWhere, WalksFrom, WalksOn, RefusalHasEvents, course_of, faulty_out, no_reply, out_of, queue_after, state_after, told_of}
 use Rattle.fs_chain.specs.Loads.{GoesSo, whole}
 use Rattle.fs_chain.specs.Orders.{front_len, load_len}
 use Rattle.fs_chain.specs.Returns.{ReturnsBy}
@@ -56,23 +55,21 @@ use Rattle.fs_chain.specs.declared.walking.WalkOutcome.TheVariants as says
 use Rattle.fs_chain.specs.declared.workbench.Workbench.{Workbench}
 use Rattle.fs_chain.proofs.WholeChains.{told_so}
 use Rattle.fs_chain.proofs.WholeOffers.{fits_limit}
-use Rattle.fs_chain.proofs.WholeWalks.{walk_comes}
+use Rattle.fs_chain.proofs.WholeWalks.{event_fault_refuses, walk_comes}
 use Rattle.fs_chain.specs.Queues.{at_return, ticket_of}
 use Rattle.fs_device.specs.Step.{Calls, EachSuits, Exchange, State, answers_alone, calls_alone, faulty, served_exchange}
 use Rattle.fs_device.specs.StepBy as act
 use Rattle.fs_device.specs.StepBy.{Act, reply_stores, return_acts}
-use Rattle.fs_live.specs.Several.{LiveQueue, may_take, returning}
+use Rattle.fs_live.specs.Several.{LiveQueue, may_take, returning, seen_at}
 use Rattle.fs_live.specs.Several as several
 use Rattle.fs_live.specs.Live.{LiveState, Phase, WalksIn, after_walk, fault_of, room_in, room_of, why_declined, with_live, GoesBackWith}
 use Rattle.fs_live.specs.Handles.{
   HandleAnswers,
   HandleAsks,
-  HandleBegins,
   HandleCalls,
   HandleDeclines,
   HandleFaulty,
   HandleReturns,
-  HandleSleeps,
   HandleWalks,
   IsDone,
   IsHeld,
@@ -81,7 +78,9 @@ use Rattle.fs_live.specs.Handles.{
   live_of,
 }
 use Rattle.fs_live.proofs.Alone.{AllWalked, one_walked, run_keeps, Walked}
+use Rattle.fs_live.proofs.Declined.{goes_there}
 use Rattle.fs_live.proofs.EachCall.{each_waits}
+use Rattle.fs_live.proofs.Left.{options_left_by, out_left, seen_left}
 use Rattle.fs_live.proofs.Listed.{AreServed, list_all_served, one_served}
 use Rattle.fs_live.proofs.Queues.{none_some, same_some, there_same}
 use Rattle.fs_live.proofs.Refusals.{refusal_stops}
@@ -89,7 +88,7 @@ use Rattle.fs_live.proofs.Refusals.{refusal_stops}
 -- ---- walks
 
 -- what a walk came to is an event, which leaves the queue so, and the handle has its chain
-abbrev WalkEvent : {F : Type 0} → LiveState F → ℕ → KeptQueue → KeptQueue → Loaded → List Descriptor → comes.Step → Type 0
+abbrev pub WalkEvent : {F : Type 0} → LiveState F → ℕ → KeptQueue → KeptQueue → Loaded → List Descriptor → comes.Step → Type 0
 WalkEvent {F} s i before after loaded ds came =
     WalksIn s i (live_of before) loaded ds came (after_walk s i (live_of before) loaded ds came) × (slice_get (after_walk s i (live_of before) loaded ds came).queues i ≡ Some (live_of after))
 
@@ -98,7 +97,7 @@ stopped_by : (q : KeptQueue) (after : KeptQueue) (e : QueueError) → stops_queu
 stopped_by q after e stops left =
     ap (λ (b : Bool). Some (record (live_of q) { queue = if b then with_stop (live_of q).queue else (live_of q).queue })) stops ∙ ap (λ (k : KeptQueue). Some (live_of k)) (sym left)
 
-event_of : {F : Type 0} (s : LiveState F) (i : ℕ) (before after : KeptQueue) (loaded : Loaded) (ds : List Descriptor) (came : comes.Step) → slice_get s.queues i ≡ Some (live_of before)
+pub event_of : {F : Type 0} (s : LiveState F) (i : ℕ) (before after : KeptQueue) (loaded : Loaded) (ds : List Descriptor) (came : comes.Step) → slice_get s.queues i ≡ Some (live_of before)
     → IsTrue (may_take (live_of before)) → after ≡ queue_after before came → IsDone (told_of ds came) → (live_of before).queue ≡ queue_of (course_of before 0)
     → ComesTo s.places s.limit (live_of before).queue loaded ds came → WalkEvent s i before after loaded ds came
 event_of s i before after loaded ds (step.Load walk) there may left done goes comes = absurd done
@@ -116,13 +115,25 @@ event_of s i before after loaded ds (step.Chain head (Some fault)) there may lef
   there_same s.queues i i (λ _. several.took (live_of before)) (live_of before) refl there ∙ ap (λ (q : KeptQueue). Some (live_of q)) (sym left),
 )
 
-held_by : {F : Type 0} (s : LiveState F) (i : ℕ) (before : KeptQueue) (loaded : Loaded) (came : comes.Step) (w : Workbench) → (live_of before).queue ≡ queue_of (course_of before s.limit)
-    → w.state ≡ state_after (course_of before s.limit) (ticket_of before) w.descriptors.items came → IsHeld s i (live_of before) loaded came w
-held_by s i before loaded (step.Load walk) w goes is = tt
-held_by s i before loaded step.Idle w goes is = tt
-held_by s i before loaded (step.Refused e) w goes is = tt
-held_by s i before loaded (step.Chain head None) w goes is = record { kept = before; ticket = ticket_of before; taken = goes; state = is }
-held_by s i before loaded (step.Chain head (Some why)) w goes is = record { kept = before; ticket = ticket_of before; taken = goes; state = is }
+pub held_by : {F : Type 0} (s : LiveState F) (i : ℕ) (q : LiveQueue) (before : KeptQueue) (loaded : Loaded) (came : comes.Step) (w : Workbench) → q.queue ≡ queue_of (course_of before s.limit)
+    → w.state ≡ state_after (course_of before s.limit) (ticket_of before) w.descriptors.items came → IsHeld s i q loaded came w
+held_by s i q before loaded (step.Load walk) w goes is = tt
+held_by s i q before loaded step.Idle w goes is = tt
+held_by s i q before loaded (step.Refused e) w goes is = tt
+held_by s i q before loaded (step.Chain head None) w goes is = record { kept = before; ticket = ticket_of before; taken = goes; state = is }
+held_by s i q before loaded (step.Chain head (Some why)) w goes is = record { kept = before; ticket = ticket_of before; taken = goes; state = is }
+
+-- a walk to its end goes through a queue whose event index has its places: else it was refused by that
+abbrev pub IsUnrefused : went.Went → Workbench → KeptQueue → Type 0
+IsUnrefused wents.Part w q = Unit {0}
+IsUnrefused (wents.On told) w q = RefusalHasEvents told w q
+
+pub walked_events : (given : List (List ℕ)) (old new : Workbench) (before after : KeptQueue) (told : walked.WalkOutcome) (fault : Option QueueError) → event_fault (places_in old.regions) before ≡ fault
+    → before.stopped ≡ None → RefusalHasEvents told old before → WalksBy given old new before after (wents.On told) → event_fault (places_in old.regions) before ≡ None
+walked_events given old new before after told None is goes refusal walks = is
+walked_events given old new before after told (Some e) is goes refusal walks =
+    let refused = event_fault_refuses given e old new before after (wents.On told) goes is walks in
+    subst (λ (k : went.Went). IsUnrefused k old before) refused.0 refusal
 
 pub handle_walks : {F : Type 0} (may : May F) → HandleWalks may
 handle_walks {F} may s i given old new before after told there places limit goes refusal room walks done =
@@ -140,7 +151,10 @@ handle_walks {F} may s i given old new before after told there places limit goes
     let state_is : new.state ≡ state_after (course_of before s.limit) (ticket_of before) ds came =
     keeps.1 ∙ ap (λ (n : ℕ). state_after (course_of before n) (ticket_of before) ds came) (sym limit) in
     let event = event_of s i before after loaded ds came there room keeps.2 (subst IsDone keeps.0 done) queue so in
-    (loaded, made.1, came, keeps.0, record { w = live_of before; there = there; walks = event.0 }, event.1, held_by s i before loaded came new queue state_is)
+    let events = walked_events given old new before after told (event_fault (places_in old.regions) before) refl goes refusal walks in
+    let clear : why_declined s.places (live_of before) ≡ None =
+    subst (λ (m : Memory). why_declined m (live_of before) ≡ None) (sym places) (goes_there (places_in old.regions) before goes events) in
+    (loaded, made.1, came, keeps.0, record { w = live_of before; there = there; goes = clear; walks = event.0 }, event.1, held_by s i (live_of before) before loaded came new queue state_is)
 
 -- ---- walks without a load
 
@@ -151,7 +165,7 @@ no_load w free = ap load_len free
 whole_of_none : (w : Workbench) → w.state ≡ at.Free → whole w [] ≡ []
 whole_of_none w free = rw (no_load w free) refl
 
-begins_whole : (old : Workbench) (before : KeptQueue) (new : Workbench) (after : KeptQueue) → old.state ≡ at.Free → GoesSo old before [] wents.Part new after → ⊥
+pub begins_whole : (old : Workbench) (before : KeptQueue) (new : Workbench) (after : KeptQueue) → old.state ≡ at.Free → GoesSo old before [] wents.Part new after → ⊥
 begins_whole old before new after free call = let none = no_load old free in let few = call.1 in omega (arith, none, few)
 
 begun : (old new : Workbench) (before after : KeptQueue) (told : walked.WalkOutcome) → BeginsBy old new before after (wents.On told) → Begins old new before after told
@@ -382,20 +396,24 @@ handle_calls {F} may s c before behind w w' request options made given earlier l
     let all = all_served s.page_size options n (meaning options request n) (drop 80 request) made given kept.out w w' kept.session tells has in
     let split : AreServed (setting s.page_size options n) (meaning options request n) (earlier ++ (call, answer) ∷ later) =
     subst (λ (calls : Calls). AreServed (setting s.page_size options n) (meaning options request n) calls) calls_are all in
-    record {
-      before = before;
-      behind = behind;
-      out = is_out;
-      request = request;
-      options = options;
-      calls = earlier;
-      asked = asked;
-      waits = each_waits (setting s.page_size options n) (meaning options request n) earlier later call answer split;
-      is_one = fits;
-      files = files;
-      may_so = so;
-      state = refl;
-    }
+    let left = options_left_by s.page_size options n (meaning options request n) (drop 80 request) made given kept.out w w' kept.session tells has in
+    let leaves : Calls → ℕ = λ calls. (served (setting s.page_size options n) (meaning options request n) (answers_alone calls)).options in (
+      record {
+        before = before;
+        behind = behind;
+        out = is_out;
+        request = request;
+        options = options;
+        calls = earlier;
+        asked = asked;
+        waits = each_waits (setting s.page_size options n) (meaning options request n) earlier later call answer split;
+        is_one = fits;
+        files = files;
+        may_so = so;
+        state = refl;
+      },
+      λ none. sym left ∙ ap leaves (calls_are ∙ ap (λ (calls : Calls). earlier ++ (call, answer) ∷ calls) none),
+    )
 
 -- ---- the return
 
@@ -428,6 +446,10 @@ flags_back kept (at.Taken out) used room behind flags acts last back = absurd ba
 flags_back kept (at.Waits out w) used room behind flags acts last back = absurd back
 flags_back kept (at.Lists out l) used room behind flags acts last back = absurd back
 flags_back kept (at.Returning out) used room behind flags acts last back = absurd back
+
+-- where they stand, of a queue
+abbrev seen_of : (event_index : Bool) → Queue → ℕ
+seen_of event_index q = seen_at (record { queue = q; returned = 0; most_out = 0; event_index = event_index })
 
 pub handle_returns : {F : Type 0} (may : May F) → HandleReturns may
 handle_returns {F} may s c before behind w w' kept request options made given acts last notice out there taken phase each keeps has back =
@@ -462,7 +484,11 @@ handle_returns {F} may s c before behind w w' kept request options made given ac
     let acts_are : acts ≡ return_acts (reply_stores room x.reply last ++ used) flags =
     first_acts ∙ ap (λ (f : List ℕ). return_acts made_stores f) found
     ∙ ap (λ (l : List ℕ). return_acts (reply_stores room l last ++ stores_after_reply (at_return kept o) o.head (length answer.given.reply)) flags) reply
-    ∙ ap (λ (u : List Store). return_acts (reply_stores room x.reply last ++ u) flags) stores in (
+    ∙ ap (λ (u : List Store). return_acts (reply_stores room x.reply last ++ u) flags) stores in
+    let is_of = out_left (setting w.session.page_size w.session.options.0 o.room_len) (meaning w.session.options.0 request o.room_len) (drop 80 request) made given o w w' meant has in
+    let seen : back.stores.seen_at ≡ seen_at (live_of kept) =
+    seen_left kept o (λ reply s₁. (last ≡ front_len reply) × (acts ≡ acts_by room reply (data_behind given) s₁ flags)) w'.state back.stores is_of back.returns
+    ∙ ap (λ (q : Queue). seen_of kept.event_index q) laid in (
       x,
       used,
       flags,
@@ -480,6 +506,7 @@ handle_returns {F} may s c before behind w w' kept request options made given ac
         state = refl;
       },
       there_same s.queues c.queue c.queue (λ _. several.gave (live_of kept)) (live_of kept) refl there,
+      seen,
     )
 
 -- a faulty chain
@@ -500,7 +527,8 @@ handle_faulty {F} may s c before behind w kept why acts last notice out there ta
     by.1.1 ∙ ap (λ (u : List Store). return_acts u flags) stored ∙ sym (ap (λ (n : ℕ). return_acts (reply_stores [] [] n ++ used) flags) by.1.0) in
     let acts_are : acts ≡ return_acts (reply_stores (room_of c) [] last ++ used) flags =
     done ∙ ap (λ (p : Phase). return_acts (reply_stores (room_in p c.descriptors) [] last ++ used) flags) (sym phase) in
-    let goes : GoesBackWith s.page_size c c.phase x = subst (λ (p : Phase). GoesBackWith s.page_size c p x) (sym phase) refl in (
+    let goes : GoesBackWith s.page_size c c.phase x = subst (λ (p : Phase). GoesBackWith s.page_size c p x) (sym phase) refl in
+    let seen : back.stores.seen_at ≡ seen_at (live_of kept) = by.0.2 ∙ ap (λ (k : Queue). seen_of kept.event_index k) laid in (
       x,
       used,
       flags,
@@ -518,30 +546,5 @@ handle_faulty {F} may s c before behind w kept why acts last notice out there ta
         state = refl;
       },
       there_same s.queues c.queue c.queue (λ _. several.gave (live_of kept)) (live_of kept) refl there,
+      seen,
     )
-
--- ---- queues
-
-not_stored : (event wanted : Bool) (one other : Store) → (if event then (if wanted then Some one else None) else Some other) ≡ None → (event ≡ true) × (wanted ≡ false)
-not_stored true true one other is = absurd (none_some one (sym is))
-not_stored true false one other is = (refl, refl)
-not_stored false wanted one other is = absurd (none_some other (sym is))
-
-pub handle_sleeps : {F : Type 0} (may : May F) → HandleSleeps may
-handle_sleeps may s i kept wanted (Some store) there is = record { w = live_of kept; there = there; wanted = wanted; stores = sym is; state = refl }
-handle_sleeps may s i kept wanted None there is =
-    let event : Store = record { address = chain_events.avail_event_at kept.layout; bytes = to_le_bytes w16 kept.position } in
-    let flags : Store = record { address = kept.layout.used; bytes = to_le_bytes w16 (if wanted then 0 else 1) } in
-    not_stored kept.event_index wanted event flags (sym is)
-
-pub handle_begins : {F : Type 0} (may : May F) → HandleBegins may
-handle_begins {F} may s i kept after layout position most_out event_index there is none = (
-  record {
-    old = live_of kept;
-    there = there;
-    both = ap (λ (q : KeptQueue). q.returned) is ∙ sym (ap (λ (q : KeptQueue). q.position) is);
-    none_waits = none;
-    state = refl;
-  },
-  there_same s.queues i i (λ _. live_of after) (live_of kept) refl there,
-)

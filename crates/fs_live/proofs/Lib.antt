@@ -1,8 +1,11 @@
 pub mod Alone
+pub mod Among
 pub mod Calls
+pub mod Declined
 pub mod EachCall
 pub mod Handles
 pub mod InitBesideRun
+pub mod Left
 pub mod Listed
 pub mod Loads
 pub mod Options
@@ -14,4 +17,5 @@ pub mod Refusals
 pub mod RewrittenRun
 pub mod Serial
 pub mod SeveralRuns
+pub mod Sleeping
 pub mod Stored

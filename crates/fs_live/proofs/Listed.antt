@@ -113,7 +113,7 @@ list_served s l unique a list es (Unreadable errno) w after out len is holds st 
     let r = replied_at (λ l reply. IsFailedReply l errno reply) w.state after.state out l len st ends.0 in
     (r.0.front ++ take r.0.len list, unreadable s l unique a list es a.with_nodes errno r.0 is holds r.3 refl)
 
-from_lists : (st : state.State) (P : Listing → Type 0) → FromLists st P → (out : Out) × (l : Listing) × (st ≡ at.Lists out l) × P l
+pub from_lists : (st : state.State) (P : Listing → Type 0) → FromLists st P → (out : Out) × (l : Listing) × (st ≡ at.Lists out l) × P l
 from_lists (at.Lists out l) P p = (out, l, refl, p)
 from_lists at.Free P p = absurd p
 from_lists (at.Walking course ticket walk) P p = absurd p
@@ -122,7 +122,7 @@ from_lists (at.Waits out w) P p = absurd p
 from_lists (at.HasReply out reply) P p = absurd p
 from_lists (at.Returning out) P p = absurd p
 
-list_command : (l : Listing) (room : ℕ) (command : FileCommand) → IsListingFor l room command → (unique : ℕ) × (a : asked.Listing) × (command ≡ Lists unique a) × IsListingFor l room (Lists unique a)
+pub list_command : (l : Listing) (room : ℕ) (command : FileCommand) → IsListingFor l room command → (unique : ℕ) × (a : asked.Listing) × (command ≡ Lists unique a) × IsListingFor l room (Lists unique a)
 list_command l room (One unique call) is = absurd is
 list_command l room (Starts unique capable readahead) is = absurd is
 list_command l room (Lists unique a) is = (unique, a, refl, is)

@@ -1,13 +1,14 @@
 -- The options that serving leaves, where those that stand by an answer aren't those of the asking.
-use Rattle.std.proofs.Common.{◌≡◌, ℕ, Bool, List, [], ◌∷◌, ◌++◌, length, inl, inr, refl, subst, sym, ap, ◌∙◌}
-use Rattle.std.specs.Prelude.{◌⊎◌, true, false, nat_lt}
+use Rattle.std.proofs.Common.{◌≡◌, ℕ, Bool, List, [], ◌∷◌, ◌++◌, length, refl, subst, sym, ap, ◌∙◌}
+use Rattle.std.specs.Prelude.{true, false, nat_lt}
+use Rattle.std.proofs.lemmas.Bool.{true≢false}
 use Rattle.fuse_fs.specs.Calls.{FileCall, FileAnswer}
 use Rattle.fuse_fs.specs.Calls as file
 use Rattle.server_calls.specs.Requests.{options_after}
 use Rattle.virtiofsd_fuse.specs.Grammar.{Meaning, IsFault, Replies, IsSilent, Asks, One, Starts, Lists}
 use Rattle.virtiofsd_fuse.specs.Listings.{Listing}
-use Rattle.virtiofsd_fuse.specs.Serving.{Setting, served, setting, replied, start_options, list_answered}
-use Rattle.fs_live.specs.Handles.{OptionsStay}
+use Rattle.virtiofsd_fuse.specs.Serving.{Setting, agreed, served, setting, replied, start_options, list_answered}
+use Rattle.fs_live.specs.Handles.{OptionsStay, agrees, changes_options, is_destroy}
 
 -- as the options of a setting alone
 pub left_of : Meaning → List FileAnswer → ℕ → ℕ
@@ -36,6 +37,10 @@ list_leaves s unique l (file.Wrote a) answers = refl
 list_leaves s unique l (file.Offset a) answers = refl
 list_leaves s unique l (file.Entries a) answers = reply_leaves _ _ _ _
 list_leaves s unique l (file.Wants a) answers = refl
+
+pub lists_leave : (s : Setting) (unique : ℕ) (l : Listing) (answers : List FileAnswer) → (served s (Asks (Lists unique l)) answers).options ≡ s.options
+lists_leave s unique l [] = refl
+lists_leave s unique l (a ∷ answers) = list_leaves s unique l a answers
 
 pub leaves : (s : Setting) (m : Meaning) (answers : List FileAnswer) → (served s m answers).options ≡ left_of m answers s.options
 unfolding left_of
@@ -147,85 +152,91 @@ leaves_again page_size options now room m some more is =
 
 -- ---- the options after an answer
 
-abbrev Stays : (now asked now' asked' : ℕ) → Type 0
-Stays now asked now' asked' = ((now' ≡ now) × (asked' ≡ asked)) ⊎ (now' ≡ asked')
+abbrev Stays : (changes : Bool) (now asked now' asked' : ℕ) → Type 0
+Stays changes now asked now' asked' = (changes ≡ false → (now' ≡ now) × (asked' ≡ asked)) × (changes ≡ true → now' ≡ asked')
 
-by_one : (now asked : ℕ) (call : FileCall) → Stays now asked (options_after now call) (options_after asked call)
-by_one now asked (file.Init a) = inl (refl, refl)
-by_one now asked file.Destroy = inr refl
-by_one now asked (file.Lookup a b c) = inl (refl, refl)
-by_one now asked (file.Forget a b c) = inl (refl, refl)
-by_one now asked (file.BatchForget a b) = inl (refl, refl)
-by_one now asked (file.Getattr a b c) = inl (refl, refl)
-by_one now asked (file.Setattr a b c d e) = inl (refl, refl)
-by_one now asked (file.Readlink a b) = inl (refl, refl)
-by_one now asked (file.Symlink a b c d e) = inl (refl, refl)
-by_one now asked (file.Mknod a b c d e f g) = inl (refl, refl)
-by_one now asked (file.Mkdir a b c d e f) = inl (refl, refl)
-by_one now asked (file.Unlink a b c) = inl (refl, refl)
-by_one now asked (file.Rmdir a b c) = inl (refl, refl)
-by_one now asked (file.Rename a b c d e f) = inl (refl, refl)
-by_one now asked (file.Link a b c d) = inl (refl, refl)
-by_one now asked (file.Open a b c d) = inl (refl, refl)
-by_one now asked (file.Read a b c d e f g h) = inl (refl, refl)
-by_one now asked (file.Write a b c d e f g h i j) = inl (refl, refl)
-by_one now asked (file.Statfs a b) = inl (refl, refl)
-by_one now asked (file.Release a b c d e f g) = inl (refl, refl)
-by_one now asked (file.Fsync a b c d) = inl (refl, refl)
-by_one now asked (file.Fsyncdir a b c d) = inl (refl, refl)
-by_one now asked (file.Setxattr a b c d e f) = inl (refl, refl)
-by_one now asked (file.Getxattr a b c d) = inl (refl, refl)
-by_one now asked (file.Listxattr a b c) = inl (refl, refl)
-by_one now asked (file.Removexattr a b c) = inl (refl, refl)
-by_one now asked (file.Flush a b c d) = inl (refl, refl)
-by_one now asked (file.Opendir a b c) = inl (refl, refl)
-by_one now asked (file.Readdir a b c d e) = inl (refl, refl)
-by_one now asked (file.Releasedir a b c d) = inl (refl, refl)
-by_one now asked file.Getlk = inl (refl, refl)
-by_one now asked file.Setlk = inl (refl, refl)
-by_one now asked file.Setlkw = inl (refl, refl)
-by_one now asked file.Bmap = inl (refl, refl)
-by_one now asked file.Ioctl = inl (refl, refl)
-by_one now asked file.Poll = inl (refl, refl)
-by_one now asked file.NotifyReply = inl (refl, refl)
-by_one now asked (file.Access a b c) = inl (refl, refl)
-by_one now asked (file.Create a b c d e f g h) = inl (refl, refl)
-by_one now asked (file.Fallocate a b c d e f) = inl (refl, refl)
-by_one now asked (file.Lseek a b c d e) = inl (refl, refl)
-by_one now asked (file.CopyFileRange a b c d e f g h i) = inl (refl, refl)
-by_one now asked (file.Syncfs a b) = inl (refl, refl)
-by_one now asked file.TmpFile = inl (refl, refl)
+stay : (now asked : ℕ) → Stays false now asked now asked
+stay now asked = (λ is. (refl, refl), λ is. absurd (true≢false (sym is)))
 
-by_start : (now asked capable : ℕ) (answer : FileAnswer) → Stays now asked (start_options now capable answer) (start_options asked capable answer)
-by_start now asked capable (file.Failed a) = inl (refl, refl)
-by_start now asked capable file.Done = inl (refl, refl)
-by_start now asked capable (file.HasEntry a) = inl (refl, refl)
-by_start now asked capable (file.HasAttr a b) = inl (refl, refl)
-by_start now asked capable (file.Opened a b) = inl (refl, refl)
-by_start now asked capable (file.Created a b c) = inl (refl, refl)
-by_start now asked capable (file.Bytes a) = inl (refl, refl)
-by_start now asked capable (file.Count a) = inl (refl, refl)
-by_start now asked capable (file.Stats a) = inl (refl, refl)
-by_start now asked capable (file.Wrote a) = inl (refl, refl)
-by_start now asked capable (file.Offset a) = inl (refl, refl)
-by_start now asked capable (file.Entries a) = inl (refl, refl)
-by_start now asked capable (file.Wants a) = inr refl
+change : (now asked left : ℕ) → Stays true now asked left left
+change now asked left = (λ is. absurd (true≢false is), λ is. refl)
 
-left_stays : (now asked : ℕ) (m : Meaning) (answers : List FileAnswer) → Stays now asked (left_of m answers now) (left_of m answers asked)
+by_one : (now asked : ℕ) (call : FileCall) → Stays (is_destroy call) now asked (options_after now call) (options_after asked call)
+by_one now asked (file.Init a) = stay now asked
+by_one now asked file.Destroy = change now asked 0
+by_one now asked (file.Lookup a b c) = stay now asked
+by_one now asked (file.Forget a b c) = stay now asked
+by_one now asked (file.BatchForget a b) = stay now asked
+by_one now asked (file.Getattr a b c) = stay now asked
+by_one now asked (file.Setattr a b c d e) = stay now asked
+by_one now asked (file.Readlink a b) = stay now asked
+by_one now asked (file.Symlink a b c d e) = stay now asked
+by_one now asked (file.Mknod a b c d e f g) = stay now asked
+by_one now asked (file.Mkdir a b c d e f) = stay now asked
+by_one now asked (file.Unlink a b c) = stay now asked
+by_one now asked (file.Rmdir a b c) = stay now asked
+by_one now asked (file.Rename a b c d e f) = stay now asked
+by_one now asked (file.Link a b c d) = stay now asked
+by_one now asked (file.Open a b c d) = stay now asked
+by_one now asked (file.Read a b c d e f g h) = stay now asked
+by_one now asked (file.Write a b c d e f g h i j) = stay now asked
+by_one now asked (file.Statfs a b) = stay now asked
+by_one now asked (file.Release a b c d e f g) = stay now asked
+by_one now asked (file.Fsync a b c d) = stay now asked
+by_one now asked (file.Fsyncdir a b c d) = stay now asked
+by_one now asked (file.Setxattr a b c d e f) = stay now asked
+by_one now asked (file.Getxattr a b c d) = stay now asked
+by_one now asked (file.Listxattr a b c) = stay now asked
+by_one now asked (file.Removexattr a b c) = stay now asked
+by_one now asked (file.Flush a b c d) = stay now asked
+by_one now asked (file.Opendir a b c) = stay now asked
+by_one now asked (file.Readdir a b c d e) = stay now asked
+by_one now asked (file.Releasedir a b c d) = stay now asked
+by_one now asked file.Getlk = stay now asked
+by_one now asked file.Setlk = stay now asked
+by_one now asked file.Setlkw = stay now asked
+by_one now asked file.Bmap = stay now asked
+by_one now asked file.Ioctl = stay now asked
+by_one now asked file.Poll = stay now asked
+by_one now asked file.NotifyReply = stay now asked
+by_one now asked (file.Access a b c) = stay now asked
+by_one now asked (file.Create a b c d e f g h) = stay now asked
+by_one now asked (file.Fallocate a b c d e f) = stay now asked
+by_one now asked (file.Lseek a b c d e) = stay now asked
+by_one now asked (file.CopyFileRange a b c d e f g h i) = stay now asked
+by_one now asked (file.Syncfs a b) = stay now asked
+by_one now asked file.TmpFile = stay now asked
+
+by_start : (now asked capable : ℕ) (answer : FileAnswer) → Stays (agrees answer) now asked (start_options now capable answer) (start_options asked capable answer)
+by_start now asked capable (file.Failed a) = stay now asked
+by_start now asked capable file.Done = stay now asked
+by_start now asked capable (file.HasEntry a) = stay now asked
+by_start now asked capable (file.HasAttr a b) = stay now asked
+by_start now asked capable (file.Opened a b) = stay now asked
+by_start now asked capable (file.Created a b c) = stay now asked
+by_start now asked capable (file.Bytes a) = stay now asked
+by_start now asked capable (file.Count a) = stay now asked
+by_start now asked capable (file.Stats a) = stay now asked
+by_start now asked capable (file.Wrote a) = stay now asked
+by_start now asked capable (file.Offset a) = stay now asked
+by_start now asked capable (file.Entries a) = stay now asked
+by_start now asked capable (file.Wants a) = change now asked (agreed capable a)
+
+left_stays : (now asked : ℕ) (m : Meaning) (answers : List FileAnswer) → Stays (changes_options m answers) now asked (left_of m answers now) (left_of m answers asked)
 unfolding left_of
-left_stays now asked (IsFault fault) answers = inl (refl, refl)
-left_stays now asked (Replies bytes) answers = inl (refl, refl)
-left_stays now asked IsSilent answers = inl (refl, refl)
-left_stays now asked (Asks (One unique call)) [] = inl (refl, refl)
+left_stays now asked (IsFault fault) answers = stay now asked
+left_stays now asked (Replies bytes) answers = stay now asked
+left_stays now asked IsSilent answers = stay now asked
+left_stays now asked (Asks (One unique call)) [] = stay now asked
 left_stays now asked (Asks (One unique call)) (a ∷ answers) = by_one now asked call
-left_stays now asked (Asks (Starts unique capable readahead)) [] = inl (refl, refl)
+left_stays now asked (Asks (Starts unique capable readahead)) [] = stay now asked
 left_stays now asked (Asks (Starts unique capable readahead)) (a ∷ answers) = by_start now asked capable a
-left_stays now asked (Asks (Lists unique l)) [] = inl (refl, refl)
-left_stays now asked (Asks (Lists unique l)) (a ∷ answers) = inl (refl, refl)
+left_stays now asked (Asks (Lists unique l)) [] = stay now asked
+left_stays now asked (Asks (Lists unique l)) (a ∷ answers) = stay now asked
 
 pub options_stay : OptionsStay
 options_stay page_size asked now room m answers =
     let here = leaves (setting page_size now room) m answers in
     let there = leaves (setting page_size asked room) m answers in
-    subst (λ (x : ℕ). Stays now asked x (served (setting page_size asked room) m answers).options) (sym here)
-    (subst (λ (x : ℕ). Stays now asked (left_of m answers now) x) (sym there) (left_stays now asked m answers))
+    subst (λ (x : ℕ). Stays (changes_options m answers) now asked x (served (setting page_size asked room) m answers).options) (sym here)
+    (subst (λ (x : ℕ). Stays (changes_options m answers) now asked (left_of m answers now) x) (sym there) (left_stays now asked m answers))

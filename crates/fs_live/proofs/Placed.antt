@@ -13,9 +13,10 @@ use Rattle.fs_regions.specs.declared.step.Step.TheVariants as step
 use Rattle.fs_regions.specs.Walks.{Loaded}
 use Rattle.virtiofsd_fuse.specs.Serving.{May}
 use Rattle.fs_live.specs.Several.{LiveQueue, Ticket, took, gave, returning}
-use Rattle.fs_live.specs.Live.{Phase, Faulty, Fetched, Asked, OutChain, LiveState, LiveEvent, Walks, Declines, Asks, Answers, Returns, Sleeps, Begins, Happens, LiveRun, WalksIn, after_answer, after_asking, after_beginning, after_giving, asked_chain, fault_of, new_chain, room_in}
-use Rattle.fs_live.specs.Runs.{EachTakesSo, HasUsedEvent, IsEven, ReturnsHavePlaces, TakesSo, has_places, tickets_on}
+use Rattle.fs_live.specs.Live.{Phase, Faulty, Fetched, Asked, OutChain, LiveState, LiveEvent, Walks, Declines, Asks, Answers, Returns, Sleeps, Begins, Happens, LiveRun, WalksIn, after_answer, after_asking, after_beginning, after_giving, asked_chain, fault_of, new_chain, room_in, why_declined}
+use Rattle.fs_live.specs.Runs.{HasUsedEvent, IsEven, ReturnsHavePlaces, has_places, tickets_on}
 use Rattle.fs_live.proofs.Alone.{AllWalked, Walked, one_walked, run_keeps}
+use Rattle.fs_live.proofs.Declined.{has_events, seen_has_a_place}
 use Rattle.fs_live.proofs.Offered.{RoomFits, fetched_fits, goes_back}
 use Rattle.fs_live.proofs.Queues.{apart_of, dropped, goes_on, none_some, one_ticket, same_some, there_other, there_same, tickets-append}
 
@@ -149,43 +150,43 @@ module _ (m : Memory) (i : ℕ) where
       (λ is. none_more i s.outs c (ap (λ (n : ℕ). n == i) of_queue ∙ is)) kept
 
   walks : {F : Type 0} (s mid : LiveState F) (j : ℕ) (v : LiveQueue) (loaded : Loaded) (ds : List Descriptor) (came : comes.Step) → slice_get s.queues j ≡ Some v
-      → WalksIn s j v loaded ds came mid → TakesSo s (Walks j loaded ds came) → Kept s → Kept mid
-  walks s mid j v loaded ds (step.Load walk) at h so kept = absurd h
-  walks {F} s mid j v loaded ds step.Idle at h so kept = subst (λ (k : LiveState F). Kept k) (sym h.1) kept
-  walks {F} s mid j v loaded ds (step.Refused e) at h so kept = subst (λ (k : LiveState F). Kept k) (sym h.1) (refuses s j v (stops_queue e) at kept)
-  walks {F} s mid j v loaded ds (step.Chain head fault) at h so kept =
+      → why_declined s.places v ≡ None → WalksIn s j v loaded ds came mid → Kept s → Kept mid
+  walks s mid j v loaded ds (step.Load walk) at clear h kept = absurd h
+  walks {F} s mid j v loaded ds step.Idle at clear h kept = subst (λ (k : LiveState F). Kept k) (sym h.1) kept
+  walks {F} s mid j v loaded ds (step.Refused e) at clear h kept = subst (λ (k : LiveState F). Kept k) (sym h.1) (refuses s j v (stops_queue e) at kept)
+  walks {F} s mid j v loaded ds (step.Chain head fault) at clear h kept =
       let goes = (fetched_fits s.places s.limit v.queue loaded ds head fault h.0).0 in
       subst (λ (k : LiveState F). Kept k) (sym h.2)
-      (takes s j v (new_chain s j v loaded ds head fault) refl at (subst (λ (k : Memory). return_fault k v.queue ≡ None) kept.0 goes) (subst (λ (k : Memory). HasUsedEvent k v) kept.0 (so v at)) kept)
+      (takes s j v (new_chain s j v loaded ds head fault) refl at (subst (λ (k : Memory). return_fault k v.queue ≡ None) kept.0 goes) (subst (λ (k : Memory). HasUsedEvent k v) kept.0 (λ event. (has_events s.places v clear event).0)) kept)
 
-  keeps : {F : Type 0} (may : May F) (s mid : LiveState F) (e : LiveEvent) → Happens may s e mid → TakesSo s e → Kept s → Kept mid
-  keeps may s mid (Walks j loaded ds came) h so kept = walks s mid j h.w loaded ds came h.there h.walks so kept
-  keeps {F} may s mid (Declines j e) h so kept = subst (λ (k : LiveState F). Kept k) (sym h.state) (refuses s j h.w (stops_queue e) h.there kept)
-  keeps {F} may s mid (Asks c request told) h so kept =
+  keeps : {F : Type 0} (may : May F) (s mid : LiveState F) (e : LiveEvent) → Happens may s e mid → Kept s → Kept mid
+  keeps may s mid (Walks j loaded ds came) h kept = walks s mid j h.w loaded ds came h.there h.goes h.walks kept
+  keeps {F} may s mid (Declines j e) h kept = subst (λ (k : LiveState F). Kept k) (sym h.state) (refuses s j h.w (stops_queue e) h.there kept)
+  keeps {F} may s mid (Asks c request told) h kept =
       subst (λ (k : LiveState F). Kept k) (sym h.state)
       (stays s (after_asking s h.before h.behind c request) refl refl
       (goes_on i h.before h.behind c (asked_chain c request s.options []) (c.queue == i) refl refl refl ∙ sym (ap (λ (l : List OutChain). tickets_on i l) h.out)) kept)
-  keeps {F} may s mid (Answers c call answer) h so kept =
+  keeps {F} may s mid (Answers c call answer) h kept =
       let calls = h.calls ++ (call, answer) ∷ [] in
       subst (λ (k : LiveState F). Kept k) (sym h.state)
       (stays s (after_answer s h.before h.behind c h.request h.options calls h.files) refl refl
       (goes_on i h.before h.behind c (asked_chain c h.request h.options calls) (c.queue == i) refl refl refl ∙ sym (ap (λ (l : List OutChain). tickets_on i l) h.out)) kept)
-  keeps {F} may s mid (Returns c x notice last used seen) h so kept =
+  keeps {F} may s mid (Returns c x notice last used seen) h kept =
       let mid' = after_giving s h.before h.behind c h.w in
       let out : out_on i s.outs ≡ out_on i (h.before ++ c ∷ h.behind) = ap (λ (cs : List OutChain). out_on i cs) h.out in
       subst (λ (k : LiveState F). Kept k) (sym h.state)
       (changes s mid' c.queue h.w (gave h.w) (c.queue == i) refl refl refl h.there
       (λ is ahead. (subst (λ (n : ℕ). Ahead m h.w n) (out ∙ one_less i h.before h.behind c is) ahead).1) (λ is. none_less i h.before h.behind c is ∙ sym out) kept)
-  keeps {F} may s mid (Sleeps j store) h so kept = subst (λ (k : LiveState F). Kept k) (sym h.state) kept
-  keeps {F} may s mid (Begins j v) h so kept =
+  keeps {F} may s mid (Sleeps j store) h kept = subst (λ (k : LiveState F). Kept k) (sym h.state) kept
+  keeps {F} may s mid (Begins j v) h kept =
       subst (λ (k : LiveState F). Kept k) (sym h.state)
       (changes s (after_beginning s j v) j h.old v (j == i) refl refl refl h.there
       (λ is ahead. subst (λ (l : List Ticket). Ahead m v (length l)) (sym (none_left i j s.outs is)) h.both)
       (λ is. ap (λ (l : List Ticket). length l) (dropped i j s.outs (apart_of j i is))) kept)
 
-  run_kept : {F : Type 0} (may : May F) (s now : LiveState F) (es : List LiveEvent) (run : LiveRun may s es now) → EachTakesSo may s es now run → Kept s → Kept now
-  run_kept {F} may s now [] run so kept = subst (λ (k : LiveState F). Kept k) (sym run) kept
-  run_kept may s now (e ∷ es) run so kept = run_kept may run.0 now es run.2 so.1 (keeps may s run.0 e run.1 so.0 kept)
+  run_kept : {F : Type 0} (may : May F) (s now : LiveState F) (es : List LiveEvent) → LiveRun may s es now → Kept s → Kept now
+  run_kept {F} may s now [] run kept = subst (λ (k : LiveState F). Kept k) (sym run) kept
+  run_kept may s now (e ∷ es) run kept = run_kept may run.0 now es run.2 (keeps may s run.0 e run.1 kept)
 
 -- ---- the room of a chain that is out
 
@@ -195,14 +196,14 @@ room_fits m ds Fetched fits = fits
 room_fits m ds (Asked request options calls) fits = fits
 
 pub returns_have_places : {F : Type 0} (may : May F) → ReturnsHavePlaces may
-returns_have_places {F} may s now after es c x notice last used seen none even run so h =
+returns_have_places {F} may s now after es c x notice last used seen none even run h =
     let m = s.places in
     let i = c.queue in
     let start : Kept m i s = (
       refl,
       λ w there. subst (λ (cs : List OutChain). Ahead m w (out_on i cs)) (sym none) (even_at s.queues i w even there),
     ) in
-    let kept = run_kept m i may s now es run so start in
+    let kept = run_kept m i may s now es run start in
     let out : out_on i now.outs ≡ suc (out_on i (h.before ++ h.behind)) = ap (λ (cs : List OutChain). out_on i cs) h.out ∙ one_less i h.before h.behind c (eq-eqb c.queue c.queue refl) in
     let next = (subst (λ (n : ℕ). Ahead m h.w n) out (kept.1 h.w h.there)).0 in
     let places = goes_back m (returning h.w) next.0 in
@@ -217,6 +218,7 @@ returns_have_places {F} may s now after es c x notice last used seen none even r
         index = places.1;
         flags = places.2;
         used_event = next.1;
+        seen = seen_has_a_place m h.w places.2 next.1;
         room = subst (λ (k : Memory). has_places k (room_in c.phase c.descriptors) ≡ true) kept.0 room;
       },
     )

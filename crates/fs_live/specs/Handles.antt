@@ -1,5 +1,5 @@
 -- What calls of handles, each with its chain, give a run, whatever other chains are out.
-use Rattle.std.specs.Prelude.{◌≡◌, ◌⊎◌, ◌≤◌, ◌+◌, ◌^◌, ℕ, suc, Bool, true, false, IsTrue, List, [], ◌∷◌, ◌++◌, length, drop, is_some, Option, Some, None, slice_get, option_map}
+use Rattle.std.specs.Prelude.{◌≡◌, ◌≤◌, ◌+◌, ◌^◌, ℕ, suc, Bool, true, false, IsTrue, List, [], ◌∷◌, ◌++◌, length, drop, is_some, Option, Some, None, slice_get, option_map}
 use Rattle.std.specs.List.{AllByRecursion}
 use Rattle.fs_queue.specs.declared.fault.ChainFault.{ChainFault}
 use Rattle.fs_queue.specs.declared.fault.QueueError.{QueueError}
@@ -10,12 +10,13 @@ use Rattle.fs_regions.specs.declared.step.Step as comes
 use Rattle.fs_regions.specs.declared.step.Step.TheVariants as step
 use Rattle.fs_regions.specs.Places.{places_in}
 use Rattle.fs_regions.specs.Walks.{Loaded, queue_of}
-use Rattle.fuse_fs.specs.Calls.{FileCall, FileAnswer, suits}
+use Rattle.fuse_fs.specs.Calls.{FileCall, FileAnswer, Destroy, Wants, suits}
 use Rattle.fuse_values.specs.Answers.{answer_of}
 use Rattle.fuse_values.specs.Values.{call_of}
 use Rattle.fuse_values.specs.declared.answer.FileAnswer as made_answer
 use Rattle.fuse_values.specs.declared.call.FileCall as made_call
-use Rattle.virtiofsd_fuse.specs.Grammar.{Meaning, meaning}
+use Rattle.virtiofsd_fuse.specs.Grammar.{Meaning, One, Starts, meaning}
+use Rattle.virtiofsd_fuse.specs.Grammar as grammar
 use Rattle.virtiofsd_fuse.specs.Serving.{May, served, setting}
 use Rattle.server_phases.specs.declared.session.Session.{Session}
 use Rattle.fs_chain.specs.Answers.{CanBeGiven, IfWaits}
@@ -31,6 +32,7 @@ use Rattle.fs_chain.specs.declared.event_index.KickStore.{KickStore}
 use Rattle.fs_chain.specs.declared.loads.Went as went
 use Rattle.fs_chain.specs.declared.loads.Went.TheVariants as wents
 use Rattle.fs_chain.specs.declared.queue.KeptQueue.{KeptQueue}
+use Rattle.fs_chain.specs.declared.returning.Stores.{Stores}
 use Rattle.fs_chain.specs.declared.state.Out.{Out}
 use Rattle.fs_chain.specs.declared.state.State.TheVariants as at
 use Rattle.fs_chain.specs.declared.state.Ticket.{Ticket}
@@ -39,9 +41,9 @@ use Rattle.fs_chain.specs.declared.walking.WalkOutcome.TheVariants as says
 use Rattle.fs_chain.specs.declared.workbench.Workbench.{Workbench}
 use Rattle.fs_device.specs.Step.{Calls, EachSuits, Exchange}
 use Rattle.fs_device.specs.StepBy.{Act}
-use Rattle.fs_live.specs.Several.{LiveQueue, may_take}
+use Rattle.fs_live.specs.Several.{LiveQueue, may_take, seen_at}
 use Rattle.fs_live.specs.Live.{Answers, Asked, Asks, Begins, Declines, Faulty, Fetched, LiveEvent, LiveRun, LiveState, OutChain, Returns, Sleeps, Walks}
-use Rattle.fs_live.specs.Live.{Happens, NoneWaits, acts_of, after_answer, after_asking, after_beginning, after_giving, after_walk, asked_chain, new_chain, room_of, serving, why_declined}
+use Rattle.fs_live.specs.Live.{Happens, HasPlace, NoneWaits, acts_of, after_answer, after_asking, after_beginning, after_giving, after_walk, asked_chain, new_chain, room_of, serving, why_declined}
 
 -- a kept queue, as a run has it
 abbrev pub live_of : KeptQueue → LiveQueue
@@ -119,7 +121,7 @@ abbrev pub calls_told : (behind : List ℕ) → told.Told → List FileCall
 calls_told behind (asks.Call made) = call_of behind made ∷ []
 calls_told behind _ = []
 
--- the first bytes told what is asked
+-- the first bytes told what is asked; an asking that wants more of them is no event, of which the handle keeps the session alone
 abbrev pub IsTold : told.Told → Type 0
 IsTold (asks.More n) = ⊥
 IsTold _ = Unit {0}
@@ -162,29 +164,47 @@ HandleAnswers {F} may =
     × (w'.session.options.0 ≡ (serving s.page_size options options request (room_of c) ((call, answer) ∷ [])).options)
 
 -- so is each call of a chain, whichever came before it: the reading of a directory and the look-ups of the entries that are brought to the listing, and the FORGET of an entry of which the guest
--- isn't told
+-- isn't told; with the last one the handle's session has the options that the chain leaves by itself
 abbrev pub HandleCalls : {F : Type 0} → May F → Type 0
 HandleCalls {F} may =
     (s : LiveState F) (c : OutChain) (before behind : List OutChain) (w w' : Workbench) (request : List ℕ) (options : ℕ) (made : told.Told) (given : Given) (earlier later : Calls) (call : FileCall)
     (answer : FileAnswer) (files : F) → s.outs ≡ before ++ c ∷ behind → c.phase ≡ Asked request options earlier → IsKept s.page_size options request c made w → HasReply made w given w' →
     file_calls (drop 80 request) made given ≡ earlier ++ (call, answer) ∷ later → IsTrue (suits call answer) → may s.files call answer files →
-    Happens may s (Answers c call answer) (after_answer s before behind c request options (earlier ++ (call, answer) ∷ []) files)
+    let calls = earlier ++ (call, answer) ∷ [] in
+    Happens may s (Answers c call answer) (after_answer s before behind c request options calls files)
+    × (later ≡ [] → w'.session.options.0 ≡ (serving s.page_size options options request (room_of c) calls).options)
 
--- the options of the session after an answer: unless it changes them, those of this moment stay, and not those of the asking
+-- DESTROY ends what was agreed
+abbrev pub is_destroy : FileCall → Bool
+is_destroy Destroy = true
+is_destroy _ = false
+
+-- INIT is agreed on
+abbrev pub agrees : FileAnswer → Bool
+agrees (Wants wanted) = true
+agrees _ = false
+
+-- whether the answers to what is asked change the session's options: that of DESTROY does, and the one by which INIT is agreed on
+abbrev pub changes_options : Meaning → List FileAnswer → Bool
+changes_options (grammar.Asks (One unique call)) (a ∷ answers) = is_destroy call
+changes_options (grammar.Asks (Starts unique capable readahead)) (a ∷ answers) = agrees a
+changes_options m answers = false
+
+-- the options of the session after an answer: unless it changes them, those of this moment stay, and not those of the asking; else they are the same by both
 abbrev pub OptionsStay : Type 0
 OptionsStay =
     (page_size asked now room : ℕ) (m : Meaning) (answers : List FileAnswer) →
-    (((served (setting page_size now room) m answers).options ≡ now) × ((served (setting page_size asked room) m answers).options ≡ asked))
-    ⊎ ((served (setting page_size now room) m answers).options ≡ (served (setting page_size asked room) m answers).options)
+    let left = (served (setting page_size now room) m answers).options in let alone = (served (setting page_size asked room) m answers).options in
+    (changes_options m answers ≡ false → (left ≡ now) × (alone ≡ asked)) × (changes_options m answers ≡ true → left ≡ alone)
 
 -- ---- returns
 
--- what was stored and loaded for a chain is the event of its return, at the position where its queue's next one goes back
-abbrev pub IsReturn : {F : Type 0} → May F → LiveState F → (before behind : List OutChain) → OutChain → KeptQueue → List Act → (last : ℕ) → (notice : Bool) → Type 0
-IsReturn {F} may s before behind c kept acts last notice =
+-- what was stored and loaded for a chain is the event of its return, at the position where its queue's next one goes back; the two bytes that are seen are told to stand where they do
+abbrev pub IsReturn : {F : Type 0} → May F → LiveState F → (before behind : List OutChain) → OutChain → KeptQueue → List Act → (last : ℕ) → (notice : Bool) → Stores → Type 0
+IsReturn {F} may s before behind c kept acts last notice stores =
     (x : Exchange) × (used : List Store) × (seen : List ℕ) × (acts ≡ acts_of (Returns c x notice last used seen))
     × Happens may s (Returns c x notice last used seen) (after_giving s before behind c (live_of kept))
-    × (slice_get (after_giving s before behind c (live_of kept)).queues c.queue ≡ Some (live_of (gave kept)))
+    × (slice_get (after_giving s before behind c (live_of kept)).queues c.queue ≡ Some (live_of (gave kept))) × (stores.seen_at ≡ seen_at (live_of kept))
 
 -- a chain whose calls were answered and that a handle returns is the event of its return, whichever chains of its queue were taken and went back meanwhile
 abbrev pub HandleReturns : {F : Type 0} → May F → Type 0
@@ -192,20 +212,25 @@ HandleReturns {F} may =
     (s : LiveState F) (c : OutChain) (before behind : List OutChain) (w w' : Workbench) (kept : KeptQueue) (request : List ℕ) (options : ℕ) (made : told.Told) (given : Given) (acts : List Act) (last : ℕ)
     (notice : Bool) → s.outs ≡ before ++ c ∷ behind → slice_get s.queues c.queue ≡ Some (live_of kept) → c.taken ≡ queue_of (course_of (record kept { position = c.taken.position }) 0) →
     c.phase ≡ Asked request options (file_calls (drop 80 request) made given) → EachSuits (file_calls (drop 80 request) made given) → IsKept s.page_size options request c made w →
-    HasReply made w given w' → GoesBackBy kept (room_of c) (data_behind given) w'.state acts last notice → IsReturn may s before behind c kept acts last notice
+    HasReply made w given w' → (back : GoesBackBy kept (room_of c) (data_behind given) w'.state acts last notice) →
+    IsReturn may s before behind c kept acts last notice back.stores
 
 -- so is the return of a faulty chain, with nothing
 abbrev pub HandleFaulty : {F : Type 0} → May F → Type 0
 HandleFaulty {F} may =
     (s : LiveState F) (c : OutChain) (before behind : List OutChain) (w : Workbench) (kept : KeptQueue) (why : ChainFault) (acts : List Act) (last : ℕ) (notice : Bool) →
     s.outs ≡ before ++ c ∷ behind → slice_get s.queues c.queue ≡ Some (live_of kept) → c.taken ≡ queue_of (course_of (record kept { position = c.taken.position }) 0) → c.phase ≡ Faulty why →
-    IsFaultyOut s.limit c w → GoesBackBy kept [] [] w.state acts last notice → IsReturn may s before behind c kept acts last notice
+    IsFaultyOut s.limit c w → (back : GoesBackBy kept [] [] w.state acts last notice) →
+    IsReturn may s before behind c kept acts last notice back.stores
 
 -- ---- queues
 
--- what is stored to be told of the next chain or of none is the event before a sleep; that nothing is stored is the event index's answer where none is wanted
+-- what is stored to be told of the next chain or of none is the event before a sleep, where it has a place: with the event index it has one, unless the queue is declined; that nothing is
+-- stored is the event index's answer where none is wanted
 abbrev pub IsSleep : {F : Type 0} → May F → LiveState F → (i : ℕ) → KeptQueue → (wanted : Bool) → Option KickStore → Type 0
-IsSleep may s i kept wanted (Some store) = Happens may s (Sleeps i (store_of store)) s
+IsSleep may s i kept wanted (Some store) =
+    (HasPlace s.places store.address → Happens may s (Sleeps i (store_of store)) s)
+    × (kept.event_index ≡ true → why_declined s.places (live_of kept) ≡ None → HasPlace s.places store.address)
 IsSleep may s i kept wanted None = (kept.event_index ≡ true) × (wanted ≡ false)
 
 abbrev pub HandleSleeps : {F : Type 0} → May F → Type 0
@@ -213,9 +238,11 @@ HandleSleeps {F} may =
     (s : LiveState F) (i : ℕ) (kept : KeptQueue) (wanted : Bool) (store : Option KickStore) → slice_get s.queues i ≡ Some (live_of kept) → option_map store_of store ≡ kick_store kept wanted →
     IsSleep may s i kept wanted store
 
--- a queue that a call begins anew is the event of its beginning, once no call of its chains waits; how many may be out, and the event index, may be others from then on
+-- a queue that a call begins anew is the event of its beginning, once no call of its chains waits; how many may be out, from one to as many as it has descriptors, and the event index, may be
+-- others from then on
 abbrev pub HandleBegins : {F : Type 0} → May F → Type 0
 HandleBegins {F} may =
     (s : LiveState F) (i : ℕ) (kept after : KeptQueue) (layout : QueueLayout) (position most_out : ℕ) (event_index : Bool) → slice_get s.queues i ≡ Some (live_of kept) →
-    after ≡ record (begun_anew kept layout position) { most_out = most_out; event_index = event_index } → AllByRecursion (λ c. NoneWaits s.page_size i c c.phase) s.outs →
+    after ≡ record (begun_anew kept layout position) { most_out = most_out; event_index = event_index } → 1 ≤ most_out → most_out ≤ layout.size →
+    AllByRecursion (λ c. NoneWaits s.page_size i c c.phase) s.outs →
     Happens may s (Begins i (live_of after)) (after_beginning s i (live_of after)) × (slice_get (after_beginning s i (live_of after)).queues i ≡ Some (live_of after))

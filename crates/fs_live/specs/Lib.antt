@@ -1,3 +1,4 @@
+pub mod Among
 pub mod Handles
 pub mod InitBeside
 pub mod Live

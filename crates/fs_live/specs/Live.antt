@@ -1,5 +1,5 @@
 -- A run of chains that are out of several queues at once, in the order in which things happen, for a guest that writes meanwhile (VIRTIO 1.2, 2.7).
-use Rattle.std.specs.Prelude.{◌≡◌, ℕ, Bool, not, ◌==◌, IsTrue, List, [], ◌∷◌, ◌++◌, length, filter, Option, Some, None, slice_get, if◌then◌else◌}
+use Rattle.std.specs.Prelude.{◌≡◌, ◌≤◌, ℕ, Bool, true, false, not, ◌==◌, IsTrue, List, [], ◌∷◌, ◌++◌, length, filter, Option, Some, None, slice_get, if◌then◌else◌}
 use Rattle.std.specs.List.{AllByRecursion}
 use Rattle.vm_iotlb.specs.declared.permissions.Permissions.TheVariants.{Read, Write}
 use Rattle.vm_memory_core.specs.Host.{changed_at}
@@ -78,13 +78,13 @@ pub record LiveState (F : Type 0) : Type 0 where
 pub data LiveEvent : Type 0 where
   -- a walk through what waits in queue i came to this by these loads, with these descriptors
   Walks : (i : ℕ) → Loaded → List Descriptor → comes.Step → LiveEvent
-  -- queue i was refused to a walk by this, before anything was loaded
+  -- queue i was refused to a walk by this, before anything was loaded, or since it was stopped meanwhile
   Declines : (i : ℕ) → QueueError → LiveEvent
   -- a chain that is out was asked by this request: the call that is told first, or none
   Asks : OutChain → (request : List ℕ) → (told : List FileCall) → LiveEvent
   -- its call was answered
   Answers : OutChain → FileCall → FileAnswer → LiveEvent
-  -- it went back: how many bytes of the reply were stored last, the stores behind the reply, and the two bytes that tell whether the driver wants to be told
+  -- it went back: how many bytes of the reply were stored last, the stores behind the reply, and the two bytes that tell whether the driver wants to be told, as they stand at `seen_at`
   Returns : OutChain → Exchange → (notice : Bool) → (last : ℕ) → (used : List Store) → (seen : List ℕ) → LiveEvent
   -- before it sleeps, and where it wakes, the device asks to be told of queue i, or not to be
   Sleeps : (i : ℕ) → Store → LiveEvent
@@ -130,13 +130,7 @@ after_walk s i w loaded ds (step.Refused e) = with_live s i (record w { queue = 
 after_walk s i w loaded ds (step.Chain head fault) = after_take s i w (new_chain s i w loaded ds head fault)
 after_walk s i w loaded ds _ = s
 
--- on a queue that there is
-pub record WalksSo {F : Type 0} (s : LiveState F) (i : ℕ) (loaded : Loaded) (ds : List Descriptor) (came : comes.Step) (after : LiveState F) : Type 0 where
-  pub w : LiveQueue
-  pub there : slice_get s.queues i ≡ Some w
-  pub walks : WalksIn s i w loaded ds came after
-
--- why a queue is walked by no load: it is stopped, or it has the event index, and used_event or avail_event has no place
+-- why a queue isn't walked, or not on: it is stopped, or it has the event index, and used_event or avail_event has no place
 abbrev pub why_declined : Memory → LiveQueue → Option QueueError
 why_declined m w =
     if w.queue.stopped then Some Stopped
@@ -144,6 +138,13 @@ why_declined m w =
     else if not (reach m Read (used_event_at w.queue) 2) then Some AvailFlagsUnreachable
     else if not (reach m Write (avail_event_at w.queue) 2) then Some UsedUnreachable
     else None
+
+-- a queue that there is and that isn't declined is walked: it isn't stopped, and with the event index used_event and avail_event have places
+pub record WalksSo {F : Type 0} (s : LiveState F) (i : ℕ) (loaded : Loaded) (ds : List Descriptor) (came : comes.Step) (after : LiveState F) : Type 0 where
+  pub w : LiveQueue
+  pub there : slice_get s.queues i ≡ Some w
+  pub goes : why_declined s.places w ≡ None
+  pub walks : WalksIn s i w loaded ds came after
 
 -- a walk of a queue is refused so
 pub record DeclinesSo {F : Type 0} (s : LiveState F) (i : ℕ) (e : QueueError) (after : LiveState F) : Type 0 where
@@ -213,12 +214,17 @@ pub record ReturnsSo {F : Type 0} (s : LiveState F) (c : OutChain) (x : Exchange
   pub told : notice ≡ wants w seen
   pub state : after ≡ after_giving s before behind c w
 
--- the device asks to be told of the next chain, or of none
+-- two bytes have a place there to be written
+abbrev pub HasPlace : Memory → (address : ℕ) → Type 0
+HasPlace m address = reach m Write address 2 ≡ true
+
+-- the device asks to be told of the next chain, or of none, by a store that has a place
 pub record SleepsSo {F : Type 0} (s : LiveState F) (i : ℕ) (store : Store) (after : LiveState F) : Type 0 where
   pub w : LiveQueue
   pub there : slice_get s.queues i ≡ Some w
   pub wanted : Bool
   pub stores : sleep_store w wanted ≡ Some store
+  pub place : HasPlace s.places store.address
   pub state : after ≡ s
 
 -- no call of a queue's chains waits for its answer
@@ -230,11 +236,17 @@ NoneWaits page_size i c _ = Unit {0}
 abbrev pub after_beginning : {F : Type 0} → LiveState F → ℕ → LiveQueue → LiveState F
 after_beginning s i w = record s { queues = changed_at s.queues i (λ _. w); outs = filter (λ c. not (c.queue == i)) s.outs }
 
--- a queue is begun anew once each call of its chains was answered: they are out no more
+-- from one chain to as many as a queue has descriptors may be out of it
+abbrev pub MayBeOut : LiveQueue → Type 0
+MayBeOut w = (1 ≤ w.most_out) × (w.most_out ≤ w.queue.size)
+
+-- a queue is begun anew once each call of its chains was answered: they are out no more, and it isn't stopped
 pub record BeginsSo {F : Type 0} (s : LiveState F) (i : ℕ) (w : LiveQueue) (after : LiveState F) : Type 0 where
   pub old : LiveQueue
   pub there : slice_get s.queues i ≡ Some old
   pub both : w.returned ≡ w.queue.position
+  pub few : MayBeOut w
+  pub goes : w.queue.stopped ≡ false
   pub none_waits : AllByRecursion (λ c. NoneWaits s.page_size i c c.phase) s.outs
   pub state : after ≡ after_beginning s i w
 
@@ -255,7 +267,7 @@ LiveRun {F} may s (e ∷ es) after = (mid : LiveState F) × Happens may s e mid 
 
 -- ---- what is stored, and what is called
 
--- the acts of an event; the calls' data is stored with the reply, at the return
+-- the acts of an event; the calls' data is stored with the reply, at the return. `LoadsFlags` is the load of the two bytes that are seen: the available flags, with the event index used_event
 abbrev pub acts_of : LiveEvent → List Act
 acts_of (Returns c x notice last used seen) = return_acts (reply_stores (room_of c) x.reply last ++ used) seen
 acts_of (Sleeps i store) = Stores store ∷ []

@@ -12,7 +12,7 @@ use Rattle.fuse_fs.specs.Calls.{FileRun}
 use Rattle.virtiofsd_fuse.specs.Serving.{May}
 use Rattle.fs_device.specs.Step.{State, Exchange, Exchanged}
 use Rattle.fs_device.specs.StepBy.{StepLoads, StepBy, return_acts, return_stores, stores_among}
-use Rattle.fs_live.specs.Several.{LiveQueue, Ticket, Event, RunsOver, UsedFrom, heads_taken, heads_returned, returns_among, returning, avail_event_at, used_event_at}
+use Rattle.fs_live.specs.Several.{LiveQueue, Ticket, Event, RunsOver, UsedFrom, heads_taken, heads_returned, returns_among, returning, avail_event_at, seen_at, used_event_at}
 use Rattle.fs_live.specs.Several as several
 use Rattle.fs_live.specs.Live.{Phase, Asked, OutChain, LiveState, LiveEvent, Walks, Returns, Sleeps, Begins, Happens, LiveRun, acts_of, calls_among, calls_in, room_of, serving}
 
@@ -124,17 +124,8 @@ pub record ReturnHasPlaces (m : Memory) (w : LiveQueue) (c : OutChain) : Type 0 
   pub index : reach m Write (index_at (returning w)) 2 ≡ true
   pub flags : reach m Read w.queue.avail 2 ≡ true
   pub used_event : HasUsedEvent m w
+  pub seen : reach m Read (seen_at w) 2 ≡ true
   pub room : has_places m (room_of c) ≡ true
-
--- a chain is taken where used_event has a place, if the queue has the event index: a walk elsewhere is declined
-abbrev pub TakesSo : {F : Type 0} → LiveState F → LiveEvent → Type 0
-TakesSo s (Walks i loaded ds (step.Chain head fault)) = (w : LiveQueue) → slice_get s.queues i ≡ Some w → HasUsedEvent s.places w
-TakesSo s _ = Unit {0}
-
--- so is each of a run
-abbrev pub EachTakesSo : {F : Type 0} → (may : May F) → (s : LiveState F) → (es : List LiveEvent) → (after : LiveState F) → LiveRun may s es after → Type 0
-EachTakesSo may s [] after run = Unit {0}
-EachTakesSo may s (e ∷ es) after run = TakesSo s e × EachTakesSo may run.0 es after run.2
 
 -- where the next chain is taken the next one goes back
 abbrev pub IsEven : LiveQueue → Type 0
@@ -144,7 +135,7 @@ IsEven w = w.returned ≡ w.queue.position
 abbrev pub ReturnsHavePlaces : {F : Type 0} → May F → Type 0
 ReturnsHavePlaces {F} may =
     (s now after : LiveState F) (es : List LiveEvent) (c : OutChain) (x : Exchange) (notice : Bool) (last : ℕ) (used : List Store) (seen : List ℕ) →
-    s.outs ≡ [] → AllByRecursion IsEven s.queues → (run : LiveRun may s es now) → EachTakesSo may s es now run → Happens may now (Returns c x notice last used seen) after →
+    s.outs ≡ [] → AllByRecursion IsEven s.queues → LiveRun may s es now → Happens may now (Returns c x notice last used seen) after →
     (w : LiveQueue) × (slice_get now.queues c.queue ≡ Some w) × ReturnHasPlaces s.places w c
 
 -- ---- one queue of a run

@@ -120,6 +120,10 @@ used_event_at q = q.avail + 4 + 2 * q.size
 abbrev pub avail_event_at : Queue → ℕ
 avail_event_at q = q.used + 4 + 8 * q.size
 
+-- where the two bytes stand that are seen as a chain goes back
+abbrev pub seen_at : LiveQueue → ℕ
+seen_at w = if w.event_index then used_event_at w.queue else w.queue.avail
+
 -- whether an index that went from old to new passed an event (vring_need_event of linux/virtio_ring.h)
 abbrev pub passes : (event old new : ℕ) → Bool
 passes event old new = nat_lt ((new + (2 ^ 16 - 1 - event)) % 2 ^ 16) ((new + (2 ^ 16 - old)) % 2 ^ 16)

@@ -1,6 +1,8 @@
-use Rattle.fs_live.proofs.Handles.{handle_answers, handle_asks, handle_begins, handle_calls, handle_declines, handle_faulty, handle_returns, handle_sleeps, handle_walks}
+use Rattle.fs_live.proofs.Among.{handle_finds_stopped, handle_walks_among}
+use Rattle.fs_live.proofs.Handles.{handle_answers, handle_asks, handle_calls, handle_declines, handle_faulty, handle_returns, handle_walks}
 use Rattle.fs_live.proofs.Loads.{handle_loads}
 use Rattle.fs_live.proofs.Options.{options_stay}
+use Rattle.fs_live.proofs.Sleeping.{handle_begins, handle_sleeps}
 use Rattle.fs_live.proofs.law_handles.Goals as goal
 
 pub returns-clause-walks : goal.returns-clause-walks
@@ -35,3 +37,9 @@ returns-clause-begins g c = handle_begins g.F.FileSystemBase.may
 
 pub returns-clause-options : goal.returns-clause-options
 returns-clause-options g c = options_stay
+
+pub returns-clause-among : goal.returns-clause-among
+returns-clause-among g c = handle_walks_among g.F.FileSystemBase.may
+
+pub returns-clause-stopped : goal.returns-clause-stopped
+returns-clause-stopped g c = handle_finds_stopped g.F.FileSystemBase.may

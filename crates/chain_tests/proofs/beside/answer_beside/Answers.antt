@@ -21,6 +21,6 @@ returns-in-Ok g c =
           (c.in-Ok.ensures.taken.0, c.requires.data, c.in-Ok.ensures.stays.1, c.in-Ok.ensures.given) c.in-Ok.ensures.taken.1 so in (
             after_answer s before behind chain request options ((call, answer) ∷ []) files,
             law.0,
-            options_after _ _ _ _ _ law.1 (c.law_handles.ensures.options s.page_size options s.options n (meaning options request n) (answer ∷ [])),
+            options_after _ _ _ _ _ _ law.1 (c.law_handles.ensures.options s.page_size options s.options n (meaning options request n) (answer ∷ [])),
           );
     }
