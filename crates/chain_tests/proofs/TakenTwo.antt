@@ -35,8 +35,8 @@ took_so may s next i loaded ds step.Idle head n r told happens = absurd (subst I
 took_so may s next i loaded ds (step.Refused e) head n r told happens = absurd (subst IsAChain told tt)
 took_so {F} may s next i loaded ds (step.Chain h None) head n r told happens = (
   ap (λ (x : ℕ). step.Chain x None) (sym (ap head_in told)),
-  ap (λ (k : LiveState F). k.places) happens.walks.2,
-  ap (λ (k : LiveState F). k.limit) happens.walks.2,
+  ap (λ (k : LiveState F). k.places) happens.walks.1,
+  ap (λ (k : LiveState F). k.limit) happens.walks.1,
 )
 took_so may s next i loaded ds (step.Chain h (Some fault)) head n r told happens = absurd (subst IsAChain told tt)
 

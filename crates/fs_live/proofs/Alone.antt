@@ -67,7 +67,7 @@ walk_keeps s after i w loaded ds (step.Load walk) h all = absurd h
 walk_keeps {F} s after i w loaded ds step.Idle h all = subst (λ (k : LiveState F). AllWalked k) (sym h.1) all
 walk_keeps {F} s after i w loaded ds (step.Refused e) h all = subst (λ (k : LiveState F). AllWalked k) (sym h.1) all
 walk_keeps {F} s after i w loaded ds (step.Chain head fault) h all =
-    subst (λ (k : LiveState F). AllWalked k) (sym h.2)
+    subst (λ (k : LiveState F). AllWalked k) (sym h.1)
     (all_both (Walked s.places s.limit) s.outs (new_chain s i w loaded ds head fault ∷ []) all (new_walked s i w loaded ds head fault h.0, tt))
 
 -- a chain that is out, and the others

@@ -20,7 +20,7 @@ use Rattle.fs_regions.specs.declared.walk.QueueWalk.{QueueWalk}
 use Rattle.virtiofsd_fuse.specs.Serving.{May}
 use Rattle.fs_chain.specs.Events.{event_fault}
 use Rattle.fs_chain.specs.Loads.{GoesSo, IsSame, whole}
-use Rattle.fs_chain.specs.Orders.{IsWalking, begin_error, give_error, walk_error}
+use Rattle.fs_chain.specs.Orders.{IsWalking, give_error, walk_error}
 use Rattle.fs_chain.specs.Queues.{is_at, is_laid_out, may_take, ticket_of}
 use Rattle.fs_chain.specs.Walks.{GoesOnUnless, WalksFrom, course_of, queue_after, state_after, told_of}
 use Rattle.fs_chain.specs.Whole.{AddsSo, BeginsBy, WantsBytes}
@@ -39,7 +39,7 @@ use Rattle.fs_live.specs.Handles.{IsDone, live_of}
 use Rattle.fs_live.specs.Live.{why_declined, with_live}
 use Rattle.fs_live.specs.Several.{LiveQueue, avail_event_at, used_event_at}
 use Rattle.fs_live.proofs.Declined.{goes_there}
-use Rattle.fs_live.proofs.Handles.{IsUnrefused, begins_whole, event_of, held_by, walked_events}
+use Rattle.fs_live.proofs.Handles.{IsUnrefused, begins_whole, begun_room, event_of, held_by, walked_events}
 use Rattle.fs_live.proofs.Queues.{none_some, there_same}
 
 -- ---- where a walk stands
@@ -81,11 +81,6 @@ give_tests false b c is = absurd (none_some error.BadArgument (sym is))
 give_tests true false c is = absurd (none_some error.OtherQueue (sym is))
 give_tests true true false is = absurd (none_some error.ChainOut (sym is))
 give_tests true true true is = (refl, refl)
-
-begin_tests : (a c : Bool) → (if not a then Some error.BadArgument else if not c then Some error.ChainOut else None) ≡ None → c ≡ true
-begin_tests false c is = absurd (none_some error.BadArgument (sym is))
-begin_tests true false is = absurd (none_some error.ChainOut (sym is))
-begin_tests true true is = refl
 
 same_layout : (a b : QueueLayout) (position : ℕ) → is_laid_out a b ≡ true → at_position a position ≡ at_position b position
 same_layout a b position is =
@@ -223,8 +218,7 @@ first : (old new : Workbench) (before after : KeptQueue) (told : went.Went) (wal
 first old new before after wents.Part walks goes has by = absurd (begins_whole old before new after by.0 by.1)
 first old new before after (wents.On told) walks goes has by =
     let made = walk_comes [] old new before after told goes has by in
-    let so : ComesSo nothing old new before after told = subst (λ (l : Loaded). ComesSo l old new before after told) made.1 made.2 in
-    let clear : begin_error before (length (whole old [])) ≡ None = subst (λ (s : state.State). walk_error s before (length (whole old [])) ≡ None) by.0 by.1.3 in (
+    let so : ComesSo nothing old new before after told = subst (λ (l : Loaded). ComesSo l old new before after told) made.1 made.2 in (
       nothing,
       refl,
       record {
@@ -236,7 +230,7 @@ first old new before after (wents.On told) walks goes has by =
         limit = so.1.4.1;
         comes = so.2;
         there = refl;
-        may = begin_tests (length (whole old []) == 0) (may_take before) clear;
+        may = begun_room old new before after told by;
       },
     )
 
@@ -304,8 +298,8 @@ handle_walks_among {F} may s i given old new before now after told there places 
     ap (λ (b : Bool). fault_of m b (queue_of (course_of now old.limit))) same ∙ ap (λ (q : Queue). fault_of m before.event_index q) c.there
     ∙ among_events given old new before now after (wents.On told) goes refusal walks in
     let clear : why_declined s.places (live_of now) ≡ None = subst (λ (k : Memory). why_declined k (live_of now) ≡ None) (sym places) (goes_there m now still events) in
-    let event = event_of s i now after loaded ds came there c.may c.queue (subst IsDone c.told_is done) plain comes_so in
-    (loaded, so.1, came, c.told_is, record { w = live_of now; there = there; goes = clear; walks = event.0 }, event.1, held_by s i (live_of now) before loaded came new queue state_is)
+    let event = event_of s i now after loaded ds came there c.queue (subst IsDone c.told_is done) plain comes_so in
+    (loaded, so.1, came, c.told_is, record { w = live_of now; there = there; room = c.may; goes = clear; walks = event.0 }, event.1, held_by s i (live_of now) before loaded came new queue state_is)
 
 -- ---- a queue that was stopped meanwhile
 
@@ -326,6 +320,15 @@ ended_at (at.Lists o k) bs w new now after told why walking stopped walks = absu
 ended_at (at.HasReply o reply) bs w new now after told why walking stopped walks = absurd walking
 ended_at (at.Returning o) bs w new now after told why walking stopped walks = absurd walking
 
+walking_room : (st : state.State) (now : KeptQueue) (len : ℕ) → IsWalking st → walk_error st now len ≡ None → may_take now ≡ true
+walking_room (at.Walking course ticket walk) now len walking clear = (give_tests (len == asked_len walk) (is_at now course ticket) (may_take now) clear).1
+walking_room at.Free now len walking clear = absurd walking
+walking_room (at.Taken o) now len walking clear = absurd walking
+walking_room (at.Waits o k) now len walking clear = absurd walking
+walking_room (at.Lists o k) now len walking clear = absurd walking
+walking_room (at.HasReply o reply) now len walking clear = absurd walking
+walking_room (at.Returning o) now len walking clear = absurd walking
+
 pub handle_finds_stopped : {F : Type 0} (may : May F) → HandleFindsStopped may
 handle_finds_stopped {F} may s i bs w new now after told why there walking stopped call =
     let ended = ended_at w.state (whole w bs) w new now after told why walking stopped call.4 in
@@ -336,6 +339,6 @@ handle_finds_stopped {F} may s i bs w new now after told why there walking stopp
       ended.1,
       ended.2,
       with_live s i v,
-      record { w = live_of now; there = there; why = declined; state = refl },
+      record { w = live_of now; there = there; room = walking_room w.state now (length (whole w bs)) walking call.3; why = declined; state = refl },
       there_same s.queues i i (λ _. v) (live_of now) refl there ∙ ap (λ (q : KeptQueue). Some (live_of q)) (sym ended.2),
     )

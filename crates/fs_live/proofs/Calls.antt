@@ -14,7 +14,7 @@ walk_files : {F : Type 0} (s after : LiveState F) (i : ℕ) (w : LiveQueue) (loa
 walk_files s after i w loaded ds (step.Load walk) h = absurd h
 walk_files {F} s after i w loaded ds step.Idle h = ap (λ (k : LiveState F). k.files) h.1
 walk_files {F} s after i w loaded ds (step.Refused e) h = ap (λ (k : LiveState F). k.files) h.1
-walk_files {F} s after i w loaded ds (step.Chain head fault) h = ap (λ (k : LiveState F). k.files) h.2
+walk_files {F} s after i w loaded ds (step.Chain head fault) h = ap (λ (k : LiveState F). k.files) h.1
 
 one_event : {F : Type 0} (may : May F) (s mid : LiveState F) (end : F) (e : LiveEvent) (es : List LiveEvent) → Happens may s e mid → FileRun may mid.files (calls_among es) end
     → FileRun may s.files (calls_among (e ∷ es)) end

@@ -1,6 +1,6 @@
 -- What calls of handles give a run.
 use Rattle.std.proofs.Common.{◌≡◌, ℕ, Bool, List, [], ◌∷◌, ◌++◌, length, Option, Some, None, slice_get, refl, subst, sym, ap, ◌∙◌, arith}
-use Rattle.std.specs.Prelude.{drop, false, if◌then◌else◌, is_some, IsTrue, not, true, unwrap_or}
+use Rattle.std.specs.Prelude.{◌==◌, drop, false, if◌then◌else◌, is_some, IsTrue, not, true, unwrap_or}
 use Rattle.std.specs.List.{AllByRecursion}
 use Rattle.vm_iotlb.specs.declared.permissions.Permissions.TheVariants.{Read, Write}
 use Rattle.vm_memory.specs.Memory.{Memory, reach}
@@ -36,7 +36,7 @@ use Rattle.fs_chain.specs.Events.{event_fault}
 use Rattle.fs_chain.specs.Events as chain_events
 use Rattle.fs_chain.specs.Walks.{Begins, BeginsUnless, BeginsWhere, WalksFrom, WalksOn, RefusalHasEvents, course_of, faulty_out, no_reply, out_of, queue_after, state_after, told_of}
 use Rattle.fs_chain.specs.Loads.{GoesSo, whole}
-use Rattle.fs_chain.specs.Orders.{front_len, load_len}
+use Rattle.fs_chain.specs.Orders.{begin_error, front_len, load_len, walk_error}
 use Rattle.fs_chain.specs.Returns.{ReturnsBy}
 use Rattle.fs_chain.specs.Whole.{BeginsBy, ByEntries, FromReplied, FromTaken, Given, HasReply, NoAnswer, OneAnswer, WalksBy, WantsBytes, data_behind, file_calls, reply_bytes}
 use Rattle.fs_chain.specs.Whole.{acts_of as acts_by}
@@ -48,6 +48,7 @@ use Rattle.fs_chain.specs.declared.returning.Stores.{Stores}
 use Rattle.fs_chain.specs.declared.state.Out.{Out}
 use Rattle.fs_chain.specs.declared.state.State as state
 use Rattle.fs_chain.specs.declared.state.State.TheVariants as at
+use Rattle.fs_chain.specs.declared.error.ChainError.TheVariants as error
 use Rattle.fs_chain.specs.declared.loads.Went as went
 use Rattle.fs_chain.specs.declared.loads.Went.TheVariants as wents
 use Rattle.fs_chain.specs.declared.walking.WalkOutcome as walked
@@ -98,20 +99,20 @@ stopped_by q after e stops left =
     ap (λ (b : Bool). Some (record (live_of q) { queue = if b then with_stop (live_of q).queue else (live_of q).queue })) stops ∙ ap (λ (k : KeptQueue). Some (live_of k)) (sym left)
 
 pub event_of : {F : Type 0} (s : LiveState F) (i : ℕ) (before after : KeptQueue) (loaded : Loaded) (ds : List Descriptor) (came : comes.Step) → slice_get s.queues i ≡ Some (live_of before)
-    → IsTrue (may_take (live_of before)) → after ≡ queue_after before came → IsDone (told_of ds came) → (live_of before).queue ≡ queue_of (course_of before 0)
+    → after ≡ queue_after before came → IsDone (told_of ds came) → (live_of before).queue ≡ queue_of (course_of before 0)
     → ComesTo s.places s.limit (live_of before).queue loaded ds came → WalkEvent s i before after loaded ds came
-event_of s i before after loaded ds (step.Load walk) there may left done goes comes = absurd done
-event_of s i before after loaded ds step.Idle there may left done goes comes = ((comes, refl), there ∙ ap (λ (q : KeptQueue). Some (live_of q)) (sym left))
-event_of s i before after loaded ds (step.Refused e) there may left done goes comes =
+event_of s i before after loaded ds (step.Load walk) there left done goes comes = absurd done
+event_of s i before after loaded ds step.Idle there left done goes comes = ((comes, refl), there ∙ ap (λ (q : KeptQueue). Some (live_of q)) (sym left))
+event_of s i before after loaded ds (step.Refused e) there left done goes comes =
     let w = record (live_of before) { queue = after_refusal (live_of before).queue e } in
     let stops = refusal_stops s.places s.limit (course_of before 0) loaded e (subst (λ (q : Queue). OffersBy s.places s.limit q loaded [] (Refuses e)) goes comes) in
     ((comes, refl), there_same s.queues i i (λ _. w) (live_of before) refl there ∙ stopped_by before after e stops left)
-event_of s i before after loaded ds (step.Chain head None) there may left done goes comes = (
-  (comes, may, refl),
+event_of s i before after loaded ds (step.Chain head None) there left done goes comes = (
+  (comes, refl),
   there_same s.queues i i (λ _. several.took (live_of before)) (live_of before) refl there ∙ ap (λ (q : KeptQueue). Some (live_of q)) (sym left),
 )
-event_of s i before after loaded ds (step.Chain head (Some fault)) there may left done goes comes = (
-  (comes, may, refl),
+event_of s i before after loaded ds (step.Chain head (Some fault)) there left done goes comes = (
+  (comes, refl),
   there_same s.queues i i (λ _. several.took (live_of before)) (live_of before) refl there ∙ ap (λ (q : KeptQueue). Some (live_of q)) (sym left),
 )
 
@@ -150,11 +151,11 @@ handle_walks {F} may s i given old new before after told there places limit goes
     (subst (λ (k : Queue). ComesTo (places_in old.regions) old.limit k loaded ds came) (sym queue) made.2.2)) in
     let state_is : new.state ≡ state_after (course_of before s.limit) (ticket_of before) ds came =
     keeps.1 ∙ ap (λ (n : ℕ). state_after (course_of before n) (ticket_of before) ds came) (sym limit) in
-    let event = event_of s i before after loaded ds came there room keeps.2 (subst IsDone keeps.0 done) queue so in
+    let event = event_of s i before after loaded ds came there keeps.2 (subst IsDone keeps.0 done) queue so in
     let events = walked_events given old new before after told (event_fault (places_in old.regions) before) refl goes refusal walks in
     let clear : why_declined s.places (live_of before) ≡ None =
     subst (λ (m : Memory). why_declined m (live_of before) ≡ None) (sym places) (goes_there (places_in old.regions) before goes events) in
-    (loaded, made.1, came, keeps.0, record { w = live_of before; there = there; goes = clear; walks = event.0 }, event.1, held_by s i (live_of before) before loaded came new queue state_is)
+    (loaded, made.1, came, keeps.0, record { w = live_of before; there = there; room = room; goes = clear; walks = event.0 }, event.1, held_by s i (live_of before) before loaded came new queue state_is)
 
 -- ---- walks without a load
 
@@ -172,6 +173,17 @@ begun : (old new : Workbench) (before after : KeptQueue) (told : walked.WalkOutc
 begun old new before after told by =
     let walks : WalksOn [] old new before after told = subst (λ (bs : List ℕ). WalksOn bs old new before after told) (whole_of_none old by.0) by.1.4 in
     subst (λ (s : state.State). WalksFrom s [] old new before after told) by.0 walks
+
+begin_tests : (a c : Bool) → (if not a then Some error.BadArgument else if not c then Some error.ChainOut else None) ≡ None → c ≡ true
+begin_tests false c is = absurd (none_some error.BadArgument (sym is))
+begin_tests true false is = absurd (none_some error.ChainOut (sym is))
+begin_tests true true is = refl
+
+-- one more chain may be out
+pub begun_room : (old new : Workbench) (before after : KeptQueue) (told : walked.WalkOutcome) → BeginsBy old new before after (wents.On told) → IsTrue (may_take (live_of before))
+begun_room old new before after told by =
+    let clear : begin_error before (length (whole old [])) ≡ None = subst (λ (s : state.State). walk_error s before (length (whole old [])) ≡ None) by.0 by.1.3 in
+    begin_tests (length (whole old []) == 0) (may_take (live_of before)) clear
 
 -- it is refused by this, and the queue is as a refusal leaves it
 abbrev IsDeclined : went.Went → (e : QueueError) → (before after : KeptQueue) → Type 0
@@ -205,18 +217,24 @@ declined_by old new before after told e None is lacks begins =
     let stops = lacks_stop before.event_index (reach m Read (chain_events.used_event_at before.layout) 2) (reach m Write (chain_events.avail_event_at before.layout) 2) e lacks in
     declined_there old new before after told e (event_fault m before) lacks stops begins
 
-declined_first : (old new : Workbench) (before after : KeptQueue) (told : went.Went) (e : QueueError) → why_declined (places_in old.regions) (live_of before) ≡ Some e
-    → BeginsBy old new before after told → IsDeclined told e before after
-declined_first old new before after wents.Part e why by = begins_whole old before new after by.0 by.1
-declined_first old new before after (wents.On told) e why by = declined_by old new before after told e before.stopped refl why (begun old new before after told by)
+-- and one more chain may be out
+abbrev IsDeclinedThere : went.Went → (e : QueueError) → (before after : KeptQueue) → Type 0
+IsDeclinedThere wents.Part e before after = ⊥
+IsDeclinedThere (wents.On told) e before after = IsDeclined (wents.On told) e before after × IsTrue (may_take (live_of before))
 
-wants_none : (told : went.Went) (e : QueueError) (before after : KeptQueue) → IsDeclined told e before after → WantsBytes told → ⊥
+declined_first : (old new : Workbench) (before after : KeptQueue) (told : went.Went) (e : QueueError) → why_declined (places_in old.regions) (live_of before) ≡ Some e
+    → BeginsBy old new before after told → IsDeclinedThere told e before after
+declined_first old new before after wents.Part e why by = begins_whole old before new after by.0 by.1
+declined_first old new before after (wents.On told) e why by =
+    (declined_by old new before after told e before.stopped refl why (begun old new before after told by), begun_room old new before after told by)
+
+wants_none : (told : went.Went) (e : QueueError) (before after : KeptQueue) → IsDeclinedThere told e before after → WantsBytes told → ⊥
 wants_none wents.Part e before after declined wants = declined
-wants_none (wents.On told) e before after declined wants = subst (λ (k : walked.WalkOutcome). WantsBytes (wents.On k)) declined.0 wants
+wants_none (wents.On told) e before after declined wants = subst (λ (k : walked.WalkOutcome). WantsBytes (wents.On k)) declined.0.0 wants
 
 -- so no call is behind the first one
 declined_walk : (given : List (List ℕ)) (old new : Workbench) (before after : KeptQueue) (told : went.Went) (e : QueueError) → why_declined (places_in old.regions) (live_of before) ≡ Some e
-    → WalksBy given old new before after told → (given ≡ []) × IsDeclined told e before after
+    → WalksBy given old new before after told → (given ≡ []) × IsDeclinedThere told e before after
 declined_walk [] old new before after told e why walks = (refl, declined_first old new before after told e why walks)
 declined_walk (bs ∷ given) old new before after told e why walks =
     let earlier = declined_walk given old walks.0 before walks.1 walks.2 e why walks.3 in
@@ -227,11 +245,11 @@ handle_declines {F} may s i given old new before after told e there places why w
     let there_why : why_declined (places_in old.regions) (live_of before) ≡ Some e = subst (λ (m : Memory). why_declined m (live_of before) ≡ Some e) places why in
     let so = declined_walk given old new before after (wents.On told) e there_why walks in
     let w = record (live_of before) { queue = after_refusal (live_of before).queue e } in (
-      so.1.0,
+      so.1.0.0,
       so.0,
       with_live s i w,
-      record { w = live_of before; there = there; why = why; state = refl },
-      there_same s.queues i i (λ _. w) (live_of before) refl there ∙ so.1.1,
+      record { w = live_of before; there = there; room = so.1.1; why = why; state = refl },
+      there_same s.queues i i (λ _. w) (live_of before) refl there ∙ so.1.0.1,
     )
 
 -- ---- asking

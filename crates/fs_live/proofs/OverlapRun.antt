@@ -73,14 +73,14 @@ unfolding place addresses stored_all found_exactly
 second_fetches = (([], All-nil (IsLost blank), refl), second_offers)
 
 first_walks : {F : Type 0} (f : F) → WalksSo (state f (at_positions 0 0) 1 []) 0 first_loads first_table (step.Chain 0 None) (state f (at_positions 1 0) 1 (first ∷ []))
-first_walks f = record { w = at_positions 0 0; there = refl; goes = refl; walks = (first_fetches, refl, refl) }
+first_walks f = record { w = at_positions 0 0; there = refl; room = refl; goes = refl; walks = (first_fetches, refl) }
 
 first_asks : {F : Type 0} (f : F) → AsksSo (state f (at_positions 1 0) 1 (first ∷ [])) first destroy (Destroy ∷ []) (state f (at_positions 1 0) 1 (first_asked ∷ []))
 unfolding addresses meaning reading_of meant row reply_bytes error_bytes fields.field_bytes
 first_asks f = record { before = []; behind = []; out = refl; fresh = refl; whole = refl; tells = refl; state = refl }
 
 second_walks : {F : Type 0} (f : F) → WalksSo (state f (at_positions 1 0) 1 (first_asked ∷ [])) 0 second_loads second_table (step.Chain 2 None) (state f (at_positions 2 0) 1 (first_asked ∷ second ∷ []))
-second_walks f = record { w = at_positions 1 0; there = refl; goes = refl; walks = (second_fetches, refl, refl) }
+second_walks f = record { w = at_positions 1 0; there = refl; room = refl; goes = refl; walks = (second_fetches, refl) }
 
 second_asks : {F : Type 0} (f : F) → AsksSo (state f (at_positions 2 0) 1 (first_asked ∷ second ∷ [])) second unknown [] (state f (at_positions 2 0) 1 (first_asked ∷ second_asked ∷ []))
 unfolding addresses meaning reading_of meant row reply_bytes error_bytes fields.field_bytes

@@ -163,14 +163,14 @@ module _ (i : ℕ) where
 
   -- walks
   walks : {F : Type 0} (s mid : LiveState F) (j : ℕ) (w v : LiveQueue) (loaded : Loaded) (ds : List Descriptor) (came : comes.Step) → slice_get s.queues i ≡ Some w → slice_get s.queues j ≡ Some v
-      → WalksIn s j v loaded ds came mid → Carries s mid w (event_on i (Walks j loaded ds came))
-  walks s mid j w v loaded ds (step.Load walk) there at h = absurd h
-  walks {F} s mid j w v loaded ds step.Idle there at h = subst (λ (k : LiveState F). Carries s k w []) (sym h.1) (stays s s w w there refl refl)
-  walks {F} s mid j w v loaded ds (step.Refused e) there at h =
+      → IsTrue (may_take v) → WalksIn s j v loaded ds came mid → Carries s mid w (event_on i (Walks j loaded ds came))
+  walks s mid j w v loaded ds (step.Load walk) there at room h = absurd h
+  walks {F} s mid j w v loaded ds step.Idle there at room h = subst (λ (k : LiveState F). Carries s k w []) (sym h.1) (stays s s w w there refl refl)
+  walks {F} s mid j w v loaded ds (step.Refused e) there at room h =
       subst (λ (k : LiveState F). Carries s k w []) (sym h.1) (refuses s j w v (j == i) (stops_queue e) refl there at)
-  walks {F} s mid j w v loaded ds (step.Chain head fault) there at h =
-      subst (λ (k : LiveState F). Carries s k w (event_on i (Walks j loaded ds (step.Chain head fault)))) (sym h.2)
-      (takes s j w v (j == i) (new_chain s j v loaded ds head fault) refl there at refl refl h.1)
+  walks {F} s mid j w v loaded ds (step.Chain head fault) there at room h =
+      subst (λ (k : LiveState F). Carries s k w (event_on i (Walks j loaded ds (step.Chain head fault)))) (sym h.1)
+      (takes s j w v (j == i) (new_chain s j v loaded ds head fault) refl there at refl refl room)
 
   -- a return
   returns : {F : Type 0} (s : LiveState F) (before behind : List OutChain) (c : OutChain) (w v : LiveQueue) (b : Bool) (len : ℕ) (used : List Store) → (c.queue == i) ≡ b
@@ -205,7 +205,7 @@ module _ (i : ℕ) where
   not_true false never = refl
 
   carries : {F : Type 0} (may : May F) (s mid : LiveState F) (w : LiveQueue) (e : LiveEvent) → slice_get s.queues i ≡ Some w → NotAnew i e → Happens may s e mid → Carries s mid w (event_on i e)
-  carries may s mid w (Walks j loaded ds came) there anew h = walks s mid j w h.w loaded ds came there h.there h.walks
+  carries may s mid w (Walks j loaded ds came) there anew h = walks s mid j w h.w loaded ds came there h.there h.room h.walks
   carries {F} may s mid w (Declines j e) there anew h =
       subst (λ (k : LiveState F). Carries s k w []) (sym h.state) (refuses s j w h.w (j == i) (stops_queue e) refl there h.there)
   carries {F} may s mid w (Asks c request told) there anew h =

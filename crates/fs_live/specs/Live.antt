@@ -115,14 +115,14 @@ new_chain s i w loaded ds head fault =
 abbrev pub after_take : {F : Type 0} → LiveState F → ℕ → LiveQueue → OutChain → LiveState F
 after_take s i w c = record s { queues = changed_at s.queues i (λ _. took w); outs = s.outs ++ c ∷ [] }
 
--- what a walk comes to in a queue; a queue of which as many are out as may be hands out none
+-- what a walk comes to in a queue
 abbrev pub WalksIn : {F : Type 0} → LiveState F → ℕ → LiveQueue → Loaded → List Descriptor → comes.Step → LiveState F → Type 0
 WalksIn s i w loaded ds (step.Load walk) after = ⊥
 WalksIn s i w loaded ds step.Idle after = OffersBy s.places s.limit w.queue loaded [] Idle × (after ≡ s)
 WalksIn s i w loaded ds (step.Refused e) after =
     OffersBy s.places s.limit w.queue loaded [] (Refuses e) × (after ≡ with_live s i (record w { queue = after_refusal w.queue e }))
 WalksIn s i w loaded ds (step.Chain head fault) after =
-    FetchesBy s.places s.limit w.queue loaded ds head fault × IsTrue (may_take w) × (after ≡ after_take s i w (new_chain s i w loaded ds head fault))
+    FetchesBy s.places s.limit w.queue loaded ds head fault × (after ≡ after_take s i w (new_chain s i w loaded ds head fault))
 
 -- the state after a walk
 abbrev pub after_walk : {F : Type 0} → LiveState F → ℕ → LiveQueue → Loaded → List Descriptor → comes.Step → LiveState F
@@ -139,17 +139,19 @@ why_declined m w =
     else if not (reach m Write (avail_event_at w.queue) 2) then Some UsedUnreachable
     else None
 
--- a queue that there is and that isn't declined is walked: it isn't stopped, and with the event index used_event and avail_event have places
+-- a queue that there is and that isn't declined is walked, if one more of its chains may be out: it isn't stopped, and with the event index used_event and avail_event have places
 pub record WalksSo {F : Type 0} (s : LiveState F) (i : ℕ) (loaded : Loaded) (ds : List Descriptor) (came : comes.Step) (after : LiveState F) : Type 0 where
   pub w : LiveQueue
   pub there : slice_get s.queues i ≡ Some w
+  pub room : IsTrue (may_take w)
   pub goes : why_declined s.places w ≡ None
   pub walks : WalksIn s i w loaded ds came after
 
--- a walk of a queue is refused so
+-- a walk of a queue is refused so, if one more of its chains may be out
 pub record DeclinesSo {F : Type 0} (s : LiveState F) (i : ℕ) (e : QueueError) (after : LiveState F) : Type 0 where
   pub w : LiveQueue
   pub there : slice_get s.queues i ≡ Some w
+  pub room : IsTrue (may_take w)
   pub why : why_declined s.places w ≡ Some e
   pub state : after ≡ with_live s i (record w { queue = after_refusal w.queue e })
 
