@@ -1,5 +1,5 @@
 -- What a request asks, as C is told.
-use Rattle.std.specs.Prelude.{◌==◌, ◌+◌, ◌-◌, ◌/◌, ◌^◌, ℕ, Bool, true, false, List, length, take, drop, min, nat_lt, bit_and, is_some, unwrap_or, if◌then◌else◌}
+use Rattle.std.specs.Prelude.{◌==◌, ◌+◌, ◌-◌, ◌*◌, ◌/◌, ◌^◌, ℕ, Bool, true, false, List, length, take, drop, min, nat_lt, bit_and, is_some, unwrap_or, if◌then◌else◌}
 use Rattle.std.specs.Int.{w32, w64, cast_unsigned, from_le_bytes}
 use Rattle.fuse_fs.specs.declared.answers.Context.{Context}
 use Rattle.fuse_in.specs.declared.nodes.SetattrIn.{SetattrIn}
@@ -145,7 +145,7 @@ told_call opcode options room value.Destroy = made op.Destroy awaits.Done
 told_call opcode options room (value.Lookup context node name) = record (made_by op.Lookup awaits.Entry context node) { name = span 40 (length name.now) }
 told_call opcode options room (value.Forget context node count) = record (made_by op.Forget awaits.None context node) { count = count }
 told_call opcode options room (value.BatchForget context counts) =
-    record (made_by op.BatchForget awaits.None context 0) { count = length counts.now / 16; value = span 48 (length counts.now) }
+    record (made_by op.BatchForget awaits.None context 0) { count = length counts.now / 16; value = span 48 (16 * (length counts.now / 16)) }
 told_call opcode options room (value.Getattr context node handle) =
     record (made_by op.Getattr awaits.Attr context node) { has_handle = flag (is_some handle); handle = unwrap_or handle 0 }
 told_call opcode options room (value.Setattr context node attr handle valid) =

@@ -120,7 +120,7 @@ pub(crate) fn told_call(opcode: u32, options: u64, room: usize, call: &FileCall<
         Init { capable } = FsCall::made(Opcode::Init, AnswerKind::Init), options: capable.bits();
         Destroy {} = FsCall::made(Opcode::Destroy, AnswerKind::Done);
         BatchForget { context, counts } = FsCall::made_by(Opcode::BatchForget, AnswerKind::None, context, 0),
-            count: (counts.len() / 16) as u64, value: span(AT_8, counts.len());
+            count: (counts.len() / 16) as u64, value: span(AT_8, 16 * (counts.len() / 16));
         Link { context, old_node, node, name } = FsCall::made_by(Opcode::Link, AnswerKind::Entry, context, *old_node), name: span(AT_8, name.len()), node2: *node;
         Getlk {} = FsCall::none();
         Setlk {} = FsCall::none();
