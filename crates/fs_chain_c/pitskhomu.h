@@ -80,7 +80,8 @@
  * call that a request means, the reply that an answer gives, the stores of a return. Of a chain from its walk to its return fs_chain's law_chains says more,
  * and of several chains that are out at once the laws of fs_live: over the same regions each store of pk_return has a place then (law_runs).
  * The bytes of a span are the name, the value or the pairs (law_spans of fs_chain_c).
- * TRIED ALONE is this: that pk_chain_free frees all; a chain whose calls several threads make; and what is written out here in C.
+ * TRIED ALONE is this: that pk_chain_free frees all; a chain whose calls several threads make; whether PK_OUT_OF_MEMORY or an error behind it
+ * comes, if both may; and what is written out here in C.
  *
  * THREADS. What a call takes as const may be read by several calls at a time; what it takes otherwise is that call's alone. So a
  * thread with a chain and a queue of its own needs no lock but round `device`: many pk_ask, or one pk_reply_init. The library keeps nothing of a thread's: a chain

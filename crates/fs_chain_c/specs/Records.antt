@@ -52,7 +52,7 @@ pub record RefusesQueues (qs : List FsQueue) (e : ChainError) : Type 0 where
 abbrev pub bytes_of : FsDevice → List FsQueue → List ℕ
 bytes_of d qs = record_bytes (Second d.page_size d.limit) d.options (map queue_of qs)
 
--- the record stands at the front of a buffer, or why not: device, options and count are looked at first, then each queue in order, then memory, and the buffer last
+-- the record stands at the front of a buffer, or why not: device, options and count are looked at first, then each queue in order, and behind them memory and the buffer
 abbrev pub SavesSo : FsDevice → List FsQueue → (buffer : List ℕ) → Option ChainError → (len : ℕ) → (buffer' : List ℕ) → Type 0
 SavesSo d qs buffer None len buffer' =
     CanSave d qs × All HasNoneOut qs × (len ≡ length (bytes_of d qs)) × (buffer' ≡ bytes_of d qs ++ drop len buffer)
