@@ -2,6 +2,8 @@
 #![tactic(auto)]
 
 #[cfg(test)]
+mod among;
+#[cfg(test)]
 mod beside;
 #[cfg(test)]
 mod events;

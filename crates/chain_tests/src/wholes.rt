@@ -26,8 +26,8 @@ use fuse_values::FileAnswer;
 use fuse_wire::Errno;
 use server_phases::Session;
 
-// Whether a call of walk wants bytes.
-fn wants_bytes(told: &Went) -> bool
+/// Whether a call of walk wants bytes.
+pub fn wants_bytes(told: &Went) -> bool
     ensures { result ≡ true → WantsBytes told.now }
 {
     matches!(told, Went::Part | Went::On(WalkOutcome::Load(_)))
