@@ -74,8 +74,8 @@ impl PositionedFile for MemoryFile {
     }
 }
 
-// The file's attributes, which stay good for a second.
-fn file_attr() -> Result<(Attr, Timeout), Errno> {
+/// The file's attributes, which stay good for a second.
+pub(crate) fn file_attr() -> Result<(Attr, Timeout), Errno> {
     let Some(second) = Timeout::new(1, 0) else {
         return Err(Errno::EIO);
     };

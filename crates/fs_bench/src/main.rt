@@ -1,6 +1,6 @@
 //! Measures windows of memory, memory of many regions, whole kicks, kicks behind an IOMMU and what a move to
 //! another host takes beside plain slice copies, page marks beside bare steps on atomic words, kicks of a device that
-//! threads share, gathers of the pages that it wrote, and kicks of guests that want them to be slow.
+//! threads share, gathers of the pages that it wrote, kicks of guests that want them to be slow, and chains by the handle.
 //!
 //! Without an argument each case runs a few times, and the checksum of what was done is printed. The first argument is how
 //! many samples are taken of each case; the times are then printed on standard error. The second names the kinds of cases
@@ -9,6 +9,7 @@
 
 mod fault;
 mod files;
+mod handle;
 mod harvests;
 mod hostile;
 mod kick;
@@ -23,6 +24,7 @@ mod shared;
 mod window;
 
 use fault::BenchFault;
+use handle::measure_handles;
 use harvests::measure_harvests;
 use hostile::measure_hostile;
 use kick::measure_kicks;
@@ -87,6 +89,7 @@ fn run<R: Clock + Eprint + Threads + Wait + Sync>(
         measure_moves(&mut meter, alloc)?;
     }
     measure_hostile(&mut meter, alloc)?;
+    measure_handles(&mut meter, alloc)?;
     Ok(meter.checksum())
 }
 
