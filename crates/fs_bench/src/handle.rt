@@ -285,7 +285,7 @@ pub(crate) fn measure_handles<R: Clock + Eprint>(
     let mut case = Handling::new(alloc, &kicking.guest, LONG_RING, 1)?;
     let label = Label {
         kind: "hostile-handle",
-        case: "bytes-32767",
+        case: "write-of-bytes-32767",
         split: 1,
         bytes: 0,
         runs: 16,

@@ -51,8 +51,10 @@ const LONG_REQUEST: u64 = 0x100000;
 // Into how many parts of 32 bytes the request of a long chain is cut; its room is one more.
 const LONG_SPLITS: [u16; 2] = [4095, 32767];
 
-// Into how many single bytes the request of the longest chain is cut, and where its room is.
+// Into how many single bytes the request of the longest chain is cut, what it asks, and where its room is.
 const MOST_PARTS: u16 = 32767;
+
+const LONGEST: Ask = Ask::Write(32767 - 80);
 
 const LONG_ROOM: u64 = 0x380000;
 
@@ -376,7 +378,7 @@ impl Kicking {
     /// A chain of as many descriptors as go: a request in single bytes that don't touch, and a room.
     pub fn longest(alloc: Global) -> Result<Kicking, BenchFault> {
         let mut kicking = Kicking::idle(alloc, LONG_RING)?;
-        let request = Ask::Unknown(16).request(alloc)?;
+        let request = LONGEST.request(alloc)?;
         let readable = parts(alloc, LONG_REQUEST, u32::from(MOST_PARTS), MOST_PARTS, GAP)?;
         kicking
             .guest
