@@ -1,6 +1,6 @@
 -- A chain that is walked, asked, answered and returned by a handle, as a run beside whatever other chains are out.
 use Rattle.std.proofs.Common.{◌≡◌, ℕ, ◌≤◌, ◌^◌, Bool, List, [], ◌∷◌, ◌++◌, append-nil, append_assoc, length, Some, None, slice_get, refl, subst, sym, ap, ◌∙◌}
-use Rattle.std.specs.Prelude.{drop, false, true, IfSome, is_some, IsTrue, Option, option_map}
+use Rattle.std.specs.Prelude.{drop, false, true, IfSome, is_some, Option, option_map}
 use Rattle.std.specs.List.{AllByRecursion}
 use Rattle.vm_memory_core.specs.Host.{changed_at}
 use Rattle.fs_queue.specs.Chain.{Descriptor}
@@ -54,7 +54,7 @@ use Rattle.fs_live.specs.Live.{
   room_of,
 }
 use Rattle.fs_live.specs.Runs.{EachStoresThere, NotAnew, StoresStayThere}
-use Rattle.fs_live.specs.Several.{LiveQueue, may_take, took}
+use Rattle.fs_live.specs.Several.{LiveQueue, took}
 use Rattle.fs_live.proofs.Alone.{all_both}
 use Rattle.fs_live.proofs.Queues.{same_some, there_same}
 
@@ -184,7 +184,7 @@ pub record IsServed {F : Type 0} (may : May F) (s : LiveState F) (i : ℕ) (afte
 
 module _ {F : Type 0} (may : May F) (walks_law : HandleWalks may) (asks_law : HandleAsks may) (calls_law : HandleCalls may) (returns_law : HandleReturns may) (old one two three : Workbench)
     (before after : KeptQueue) (head n r : ℕ) (session : Session) (request : List ℕ) (made : told.Told) (given : Given) (notice : Bool) (goes : before.stopped ≡ None)
-    (room : IsTrue (may_take (live_of before))) (walks : IsWalked old one before after (wents.On (says.Chain head n r))) (asked : IsAskedBy one session request request made two)
+    (walks : IsWalked old one before after (wents.On (says.Chain head n r))) (asked : IsAskedBy one session request request made two)
     (has : HasReply made two given three) (back : (room behind : List ℕ) → (acts : List Act) × (last : ℕ) × GoesBackBy after room behind three.state acts last notice) where
   pub served_beside : (s : LiveState F) (i : ℕ) (files : F) → IsReached may s → slice_get s.queues i ≡ Some (live_of before) → s.places ≡ places_in old.regions → s.limit ≡ old.limit
       → s.limit ≤ 2 ^ 31 → IsSessionOf s session → FileRun may s.files (file_calls (drop 80 request) made given) files → IsServed may s i after (file_calls (drop 80 request) made given)
@@ -192,7 +192,7 @@ module _ {F : Type 0} (may : May F) (walks_law : HandleWalks may) (asks_law : Ha
       let q = live_of before in
       let calls = file_calls (drop 80 request) made given in
       let ds = one.descriptors.items in
-      let walk = walks_law s i walks.0 old one before after (says.Chain head n r) there places limit goes tt room walks.1 tt in
+      let walk = walks_law s i walks.0 old one before after (says.Chain head n r) there places limit goes tt walks.1 tt in
       let loaded = walk.0 in
       let is = chain_is ds walk.2 head n r walk.3 in
       let c : OutChain = new_chain s i q loaded ds head None in
@@ -264,14 +264,14 @@ faulty_is ds (step.Chain h (Some why)) head fault is =
     ap (λ (x : ℕ). step.Chain x (Some why)) (sym (ap faulty_head is)) ∙ ap (λ (x : ChainFault). step.Chain head (Some x)) (sym (ap (λ (w : walked.WalkOutcome). fault_in fault w) is))
 
 pub faulty_beside : {F : Type 0} (may : May F) (walks_law : HandleWalks may) (faulty_law : HandleFaulty may) (old one : Workbench) (before after : KeptQueue) (head : ℕ) (fault : ChainFault)
-    (notice : Bool) → before.stopped ≡ None → IsTrue (may_take (live_of before)) → IsWalked old one before after (wents.On (says.Faulty head fault))
+    (notice : Bool) → before.stopped ≡ None → IsWalked old one before after (wents.On (says.Faulty head fault))
     → ((room behind : List ℕ) → (acts : List Act) × (last : ℕ) × GoesBackBy after room behind one.state acts last notice) → (s : LiveState F) (i : ℕ) → slice_get s.queues i ≡ Some (live_of before)
     → s.places ≡ places_in old.regions → s.limit ≡ old.limit
     → (es : List LiveEvent) × (end : LiveState F) × LiveRun may s es end × (calls_among es ≡ []) × (end.outs ≡ s.outs)
-faulty_beside {F} may walks_law faulty_law old one before after head fault notice goes room walks back s i there places limit =
+faulty_beside {F} may walks_law faulty_law old one before after head fault notice goes walks back s i there places limit =
     let q = live_of before in
     let ds = one.descriptors.items in
-    let walk = walks_law s i walks.0 old one before after (says.Faulty head fault) there places limit goes tt room walks.1 tt in
+    let walk = walks_law s i walks.0 old one before after (says.Faulty head fault) there places limit goes tt walks.1 tt in
     let loaded = walk.0 in
     let is = faulty_is ds walk.2 head fault walk.3 in
     let came = step.Chain head (Some fault) in

@@ -1,6 +1,6 @@
 //! What calls of a handle are in a run, beside whatever other chains are out and a guest that writes.
 
-ghost use Rattle.std.specs.Prelude.{◌≡◌, ◌≤◌, ◌+◌, ◌^◌, ℕ, [], ◌∷◌, ◌++◌, drop, false, IsTrue, IfOk, IfSome, length, List, None, Ok, OnOk, Some, slice_get, true};
+ghost use Rattle.std.specs.Prelude.{◌≡◌, ◌≤◌, ◌+◌, ◌^◌, ℕ, [], ◌∷◌, ◌++◌, drop, false, IfOk, IfSome, length, List, None, Ok, OnOk, Some, slice_get, true};
 ghost use Rattle.std.specs.List.{AllByRecursion};
 ghost use Rattle.fs_queue.specs.declared.fault.QueueError.{QueueError};
 ghost use Rattle.fs_regions.specs.Places.{places_in};
@@ -19,11 +19,10 @@ ghost use Rattle.fs_device.specs.Step.{Calls};
 ghost use Rattle.fs_live.specs.Handles.{IsKept, IsReached, IsSessionOf, changes_options, live_of, load_count};
 ghost use Rattle.fs_live.specs.Live.{Answers, Asked, Begins, Declines, Happens, HasPlace, LiveEvent, LiveRun, LiveState, NoneWaits, OutChain, Sleeps, calls_among, room_of, why_declined};
 ghost use Rattle.fs_live.specs.Runs.{EachStoresThere, events_on, going, tickets_on};
-ghost use Rattle.fs_live.specs.Several.{LiveQueue, RunsOver, UsedFrom, may_take, returns_among};
+ghost use Rattle.fs_live.specs.Several.{LiveQueue, RunsOver, UsedFrom, returns_among};
 
 use crate::given::{LOADS, LOADS_OF_FAULTY, LOOKUP, expect_same, queue, session, workbench};
-use crate::lives::take_one;
-use crate::wholes::{give_back, reply, walk_by};
+use crate::wholes::{give_back, reply, walk_by, walk_chain};
 use call_log::CallLog;
 use fs_chain::{ChainError, KeptQueue, KickStore, WalkOutcome, Went, Workbench};
 use fs_live::{law_handles, law_runs};
@@ -55,7 +54,7 @@ fn serve_beside<F: FileSystem>(
 {
     law_handles::<F>();
     law_runs::<F, F>();
-    let (_, request_len, _) = take_one(workbench, queue, given)?;
+    let (_, request_len, _) = walk_chain(workbench, queue, given)?;
     if request_len != request.len() {
         return Err(ChainError::BadArgument);
     }
@@ -85,7 +84,7 @@ fn answer_beside<F: FileSystem>(
     }
 }
 
-// A walk of a queue of which one more chain may be out, to its end.
+// A walk of a queue to its end.
 fn walk_to_end(
     workbench: &mut Workbench,
     queue: &mut KeptQueue,
@@ -93,11 +92,7 @@ fn walk_to_end(
 ) -> Result<WalkOutcome, ChainError>
     requires free { workbench.old.state ≡ at.Free }
     ensures walked { IfOk result (λ told. IsWalked workbench.old workbench.new queue.old queue.new (Went.On told)) }
-    ensures may { OnOk result (IsTrue (may_take (live_of queue.old))) }
 {
-    if queue.out() >= queue.most_out {
-        return Err(ChainError::ChainOut);
-    }
     match walk_by(workbench, queue, given)? {
         Went::On(told) => Ok(told),
         Went::Part => Err(ChainError::BadArgument),
@@ -146,7 +141,6 @@ fn take_faulty(
 ) -> Result<(u16, ChainFault), ChainError>
     requires free { workbench.old.state ≡ at.Free }
     ensures walked { IfOk result (λ c. IsWalked workbench.old workbench.new queue.old queue.new (Went.On (WalkOutcome.Faulty c.0 c.1))) }
-    ensures may { OnOk result (IsTrue (may_take (live_of queue.old))) }
 {
     match walk_to_end(workbench, queue, given)? {
         WalkOutcome::Faulty { head, fault } => Ok((head, fault)),

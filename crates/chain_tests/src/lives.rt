@@ -1,36 +1,18 @@
 //! Chains that are out at once, by a handle each, are a run beside a guest that writes.
 
-ghost use Rattle.std.specs.Prelude.{◌≡◌, ℕ, List, [], ◌∷◌, map, IsPermutation, IsTrue, None, Some, IfOk, OnOk, slice_get};
+ghost use Rattle.std.specs.Prelude.{◌≡◌, ℕ, List, [], ◌∷◌, map, IsPermutation, None, Some, IfOk, slice_get};
 ghost use Rattle.fs_regions.specs.Places.{places_in};
-ghost use Rattle.fs_chain.specs.Whole.{IsWalked};
 ghost use Rattle.fs_chain.specs.declared.state.State.TheVariants as at;
 ghost use Rattle.fs_live.specs.Handles.{live_of};
 ghost use Rattle.fs_live.specs.Live.{LiveEvent, LiveRun, LiveState};
 ghost use Rattle.fs_live.specs.Runs.{tickets_on};
-ghost use Rattle.fs_live.specs.Several.{may_take};
 
 use crate::given::{expect_same, queue, workbench};
 use crate::wholes::walk_chain;
 use call_log::CallLog;
-use fs_chain::{ChainError, KeptQueue, WalkOutcome, Went, Workbench};
+use fs_chain::{ChainError, KeptQueue, Workbench};
 use fs_live::{law_handles, law_runs};
 use fuse_fs::FileSystem;
-
-/// A walk through a queue of which one more chain may be out comes to a chain: its head, and how many bytes its request and its room have.
-pub fn take_one(
-    workbench: &mut Workbench,
-    queue: &mut KeptQueue,
-    given: &[&[u8]],
-) -> Result<(u16, usize, usize), ChainError>
-    requires free { workbench.old.state ≡ at.Free }
-    ensures walked { IfOk result (λ c. IsWalked workbench.old workbench.new queue.old queue.new (Went.On (WalkOutcome.Chain c.0 c.1 c.2))) }
-    ensures may { OnOk result (IsTrue (may_take (live_of queue.old))) }
-{
-    if queue.out() >= queue.most_out {
-        return Err(ChainError::ChainOut);
-    }
-    walk_chain(workbench, queue, given)
-}
 
 // Two chains of one queue are taken by two handles: both are out then, each once.
 fn take_two<F: FileSystem>(
@@ -50,8 +32,8 @@ fn take_two<F: FileSystem>(
 {
     law_handles::<F>();
     law_runs::<F, F>();
-    let (head, _, _) = take_one(first, queue, given)?;
-    let (other, _, _) = take_one(second, queue, more)?;
+    let (head, _, _) = walk_chain(first, queue, given)?;
+    let (other, _, _) = walk_chain(second, queue, more)?;
     Ok((head, other))
 }
 

@@ -136,29 +136,6 @@ walked_events given old new before after told (Some e) is goes refusal walks =
     let refused = event_fault_refuses given e old new before after (wents.On told) goes is walks in
     subst (λ (k : went.Went). IsUnrefused k old before) refused.0 refusal
 
-pub handle_walks : {F : Type 0} (may : May F) → HandleWalks may
-handle_walks {F} may s i given old new before after told there places limit goes refusal room walks done =
-    let made = walk_comes given old new before after told goes refusal walks in
-    let loaded = made.0 in
-    let came = made.2.0 in
-    let keeps = made.2.1 in
-    let ds = new.descriptors.items in
-    let queue : (live_of before).queue ≡ queue_of (course_of before old.limit) =
-    ap (λ (x : Option QueueError). record (at_position before.layout before.position) { stopped = is_some x }) goes in
-    let so : ComesTo s.places s.limit (live_of before).queue loaded ds came =
-    subst (λ (k : Memory). ComesTo k s.limit (live_of before).queue loaded ds came) (sym places)
-    (subst (λ (n : ℕ). ComesTo (places_in old.regions) n (live_of before).queue loaded ds came) (sym limit)
-    (subst (λ (k : Queue). ComesTo (places_in old.regions) old.limit k loaded ds came) (sym queue) made.2.2)) in
-    let state_is : new.state ≡ state_after (course_of before s.limit) (ticket_of before) ds came =
-    keeps.1 ∙ ap (λ (n : ℕ). state_after (course_of before n) (ticket_of before) ds came) (sym limit) in
-    let event = event_of s i before after loaded ds came there keeps.2 (subst IsDone keeps.0 done) queue so in
-    let events = walked_events given old new before after told (event_fault (places_in old.regions) before) refl goes refusal walks in
-    let clear : why_declined s.places (live_of before) ≡ None =
-    subst (λ (m : Memory). why_declined m (live_of before) ≡ None) (sym places) (goes_there (places_in old.regions) before goes events) in
-    (loaded, made.1, came, keeps.0, record { w = live_of before; there = there; room = room; goes = clear; walks = event.0 }, event.1, held_by s i (live_of before) before loaded came new queue state_is)
-
--- ---- walks without a load
-
 -- the first call of a walk gives no bytes
 no_load : (w : Workbench) → w.state ≡ at.Free → load_len w.state ≡ 0
 no_load w free = ap load_len free
@@ -184,6 +161,38 @@ pub begun_room : (old new : Workbench) (before after : KeptQueue) (told : walked
 begun_room old new before after told by =
     let clear : begin_error before (length (whole old [])) ≡ None = subst (λ (s : state.State). walk_error s before (length (whole old [])) ≡ None) by.0 by.1.3 in
     begin_tests (length (whole old []) == 0) (may_take (live_of before)) clear
+
+first_room : (old new : Workbench) (before after : KeptQueue) (told : went.Went) → BeginsBy old new before after told → IsTrue (may_take (live_of before))
+first_room old new before after wents.Part by = absurd (begins_whole old before new after by.0 by.1)
+first_room old new before after (wents.On told) by = begun_room old new before after told by
+
+walked_room : (given : List (List ℕ)) (old new : Workbench) (before after : KeptQueue) (told : went.Went) → WalksBy given old new before after told → IsTrue (may_take (live_of before))
+walked_room [] old new before after told walks = first_room old new before after told walks
+walked_room (bs ∷ given) old new before after told walks = walked_room given old walks.0 before walks.1 walks.2 walks.3
+
+pub handle_walks : {F : Type 0} (may : May F) → HandleWalks may
+handle_walks {F} may s i given old new before after told there places limit goes refusal walks done =
+    let made = walk_comes given old new before after told goes refusal walks in
+    let loaded = made.0 in
+    let came = made.2.0 in
+    let keeps = made.2.1 in
+    let ds = new.descriptors.items in
+    let queue : (live_of before).queue ≡ queue_of (course_of before old.limit) =
+    ap (λ (x : Option QueueError). record (at_position before.layout before.position) { stopped = is_some x }) goes in
+    let so : ComesTo s.places s.limit (live_of before).queue loaded ds came =
+    subst (λ (k : Memory). ComesTo k s.limit (live_of before).queue loaded ds came) (sym places)
+    (subst (λ (n : ℕ). ComesTo (places_in old.regions) n (live_of before).queue loaded ds came) (sym limit)
+    (subst (λ (k : Queue). ComesTo (places_in old.regions) old.limit k loaded ds came) (sym queue) made.2.2)) in
+    let state_is : new.state ≡ state_after (course_of before s.limit) (ticket_of before) ds came =
+    keeps.1 ∙ ap (λ (n : ℕ). state_after (course_of before n) (ticket_of before) ds came) (sym limit) in
+    let event = event_of s i before after loaded ds came there keeps.2 (subst IsDone keeps.0 done) queue so in
+    let events = walked_events given old new before after told (event_fault (places_in old.regions) before) refl goes refusal walks in
+    let room = walked_room given old new before after (wents.On told) walks in
+    let clear : why_declined s.places (live_of before) ≡ None =
+    subst (λ (m : Memory). why_declined m (live_of before) ≡ None) (sym places) (goes_there (places_in old.regions) before goes events) in
+    (loaded, made.1, came, keeps.0, record { w = live_of before; there = there; room = room; goes = clear; walks = event.0 }, event.1, held_by s i (live_of before) before loaded came new queue state_is)
+
+-- ---- walks without a load
 
 -- it is refused by this, and the queue is as a refusal leaves it
 abbrev IsDeclined : went.Went → (e : QueueError) → (before after : KeptQueue) → Type 0

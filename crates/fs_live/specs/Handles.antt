@@ -41,7 +41,7 @@ use Rattle.fs_chain.specs.declared.walking.WalkOutcome.TheVariants as says
 use Rattle.fs_chain.specs.declared.workbench.Workbench.{Workbench}
 use Rattle.fs_device.specs.Step.{Calls, EachSuits, Exchange}
 use Rattle.fs_device.specs.StepBy.{Act}
-use Rattle.fs_live.specs.Several.{LiveQueue, may_take, seen_at}
+use Rattle.fs_live.specs.Several.{LiveQueue, seen_at}
 use Rattle.fs_live.specs.Live.{Answers, Asked, Asks, Begins, Declines, Faulty, Fetched, LiveEvent, LiveRun, LiveState, OutChain, Returns, Sleeps, Walks}
 use Rattle.fs_live.specs.Live.{Happens, HasPlace, NoneWaits, acts_of, after_answer, after_asking, after_beginning, after_giving, after_walk, asked_chain, new_chain, room_of, serving, why_declined}
 
@@ -85,7 +85,7 @@ IsHeld s i q loaded _ w = Unit {0}
 abbrev pub HandleWalks : {F : Type 0} → May F → Type 0
 HandleWalks {F} may =
     (s : LiveState F) (i : ℕ) (given : List (List ℕ)) (old new : Workbench) (before after : KeptQueue) (told : walked.WalkOutcome) →
-    slice_get s.queues i ≡ Some (live_of before) → s.places ≡ places_in old.regions → s.limit ≡ old.limit → before.stopped ≡ None → RefusalHasEvents told old before → IsTrue (may_take (live_of before)) →
+    slice_get s.queues i ≡ Some (live_of before) → s.places ≡ places_in old.regions → s.limit ≡ old.limit → before.stopped ≡ None → RefusalHasEvents told old before →
     (walks : WalksBy given old new before after (wents.On told)) → IsDone told →
     (loaded : Loaded) × LoadsOf given old new before after (wents.On told) walks loaded × (came : comes.Step) × (told ≡ told_of new.descriptors.items came)
     × Happens may s (Walks i loaded new.descriptors.items came) (after_walk s i (live_of before) loaded new.descriptors.items came)
@@ -238,11 +238,11 @@ HandleSleeps {F} may =
     (s : LiveState F) (i : ℕ) (kept : KeptQueue) (wanted : Bool) (store : Option KickStore) → slice_get s.queues i ≡ Some (live_of kept) → option_map store_of store ≡ kick_store kept wanted →
     IsSleep may s i kept wanted store
 
--- a queue that a call begins anew is the event of its beginning, once no call of its chains waits; how many may be out, from one to as many as it has descriptors, and the event index, may be
--- others from then on
+-- a queue that a call begins anew is the event of its beginning, once no call of its chains waits; how many may be out, from one to as many as it has descriptors, the event index, and whether
+-- it is stopped, may be others from then on
 abbrev pub HandleBegins : {F : Type 0} → May F → Type 0
 HandleBegins {F} may =
-    (s : LiveState F) (i : ℕ) (kept after : KeptQueue) (layout : QueueLayout) (position most_out : ℕ) (event_index : Bool) → slice_get s.queues i ≡ Some (live_of kept) →
-    after ≡ record (begun_anew kept layout position) { most_out = most_out; event_index = event_index } → 1 ≤ most_out → most_out ≤ layout.size →
+    (s : LiveState F) (i : ℕ) (kept after : KeptQueue) (layout : QueueLayout) (position most_out : ℕ) (event_index : Bool) (stopped : Option QueueError) →
+    slice_get s.queues i ≡ Some (live_of kept) → after ≡ record (begun_anew kept layout position) { most_out = most_out; event_index = event_index; stopped = stopped } → 1 ≤ most_out → most_out ≤ layout.size →
     AllByRecursion (λ c. NoneWaits s.page_size i c c.phase) s.outs →
     Happens may s (Begins i (live_of after)) (after_beginning s i (live_of after)) × (slice_get (after_beginning s i (live_of after)).queues i ≡ Some (live_of after))

@@ -1,5 +1,5 @@
 -- A run of chains that are out of several queues at once, in the order in which things happen, for a guest that writes meanwhile (VIRTIO 1.2, 2.7).
-use Rattle.std.specs.Prelude.{◌≡◌, ◌≤◌, ℕ, Bool, true, false, not, ◌==◌, IsTrue, List, [], ◌∷◌, ◌++◌, length, filter, Option, Some, None, slice_get, if◌then◌else◌}
+use Rattle.std.specs.Prelude.{◌≡◌, ◌≤◌, ℕ, Bool, true, not, ◌==◌, IsTrue, List, [], ◌∷◌, ◌++◌, length, filter, Option, Some, None, slice_get, if◌then◌else◌}
 use Rattle.std.specs.List.{AllByRecursion}
 use Rattle.vm_iotlb.specs.declared.permissions.Permissions.TheVariants.{Read, Write}
 use Rattle.vm_memory_core.specs.Host.{changed_at}
@@ -242,13 +242,12 @@ after_beginning s i w = record s { queues = changed_at s.queues i (λ _. w); out
 abbrev pub MayBeOut : LiveQueue → Type 0
 MayBeOut w = (1 ≤ w.most_out) × (w.most_out ≤ w.queue.size)
 
--- a queue is begun anew once each call of its chains was answered: they are out no more, and it isn't stopped
+-- a queue is begun anew once each call of its chains was answered: they are out no more. It may be stopped from then on, as one is that was brought back so
 pub record BeginsSo {F : Type 0} (s : LiveState F) (i : ℕ) (w : LiveQueue) (after : LiveState F) : Type 0 where
   pub old : LiveQueue
   pub there : slice_get s.queues i ≡ Some old
   pub both : w.returned ≡ w.queue.position
   pub few : MayBeOut w
-  pub goes : w.queue.stopped ≡ false
   pub none_waits : AllByRecursion (λ c. NoneWaits s.page_size i c c.phase) s.outs
   pub state : after ≡ after_beginning s i w
 

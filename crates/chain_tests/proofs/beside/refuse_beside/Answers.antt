@@ -1,5 +1,4 @@
-use Rattle.std.proofs.Common.{[], ◌∷◌, Result, IfOk, OnOk, subst, refl}
-use Rattle.std.specs.Prelude.{IsTrue}
+use Rattle.std.proofs.Common.{[], ◌∷◌, Result, IfOk, subst, refl}
 use Rattle.fs_chain.specs.Whole.{IsWalked}
 use Rattle.fs_chain.specs.declared.error.ChainError.{ChainError}
 use Rattle.fs_chain.specs.declared.loads.Went.TheVariants as wents
@@ -7,7 +6,6 @@ use Rattle.fs_chain.specs.declared.walking.WalkOutcome as walked
 use Rattle.fs_chain.specs.declared.walking.WalkOutcome.TheVariants as says
 use Rattle.fs_live.specs.Handles.{live_of}
 use Rattle.fs_live.specs.Live.{Walks, after_walk}
-use Rattle.fs_live.specs.Several.{may_take}
 use Rattle.chain_tests.proofs.Served.{if_ok}
 use Rattle.chain_tests.proofs.beside.refuse_beside.Goals as goal
 
@@ -19,9 +17,7 @@ returns-clause-loaded g c e is s i there places limit events =
     let after = c.walk_to_end.new.queue in
     let walks : IsWalked old new before after (wents.On (says.Refused e)) =
     subst (λ (r : Result walked.WalkOutcome ChainError). IfOk r (λ told. IsWalked old new before after (wents.On told))) is c.walk_to_end.ensures.walked in
-    let may : IsTrue (may_take (live_of before)) =
-    subst (λ (r : Result walked.WalkOutcome ChainError). OnOk r (IsTrue (may_take (live_of before)))) is c.walk_to_end.ensures.may in
-    let walk = c.law_handles.ensures.walks s i walks.0 old new before after (says.Refused e) there places limit c.requires.goes events may walks.1 tt in
+    let walk = c.law_handles.ensures.walks s i walks.0 old new before after (says.Refused e) there places limit c.requires.goes events walks.1 tt in
     let end = after_walk s i (live_of before) walk.0 new.descriptors.items walk.2 in
     (Walks i walk.0 new.descriptors.items walk.2 ∷ [], end, (end, walk.4, refl), walk.5)
 

@@ -12,8 +12,8 @@ reply-requires-clause-taken g c =
     let n = c.in_ok-request_len.request_len in
     let test = c.if-request_len-request.false in
     let same : n ≡ length c.args.request.now = grind (arith, nat_tests, test) in
-    more_taken c.take_one.new.workbench.state _ _ (λ out is. is ∙ same)
-    (taken_so c.args.workbench.now c.take_one.new.workbench c.args.queue.now c.take_one.new.queue c.in_ok-request_len.field-0-0 n c.in_ok-request_len.field-0-2
+    more_taken c.walk_chain.new.workbench.state _ _ (λ out is. is ∙ same)
+    (taken_so c.args.workbench.now c.walk_chain.new.workbench c.args.queue.now c.walk_chain.new.queue c.in_ok-request_len.field-0-0 n c.in_ok-request_len.field-0-2
     c.requires.goes c.in_ok-request_len.ensures.walked)
 
 pub returns : goal.returns
@@ -22,9 +22,9 @@ returns g c =
     let handles = c.law_handles.ensures in
     let runs = c.law_runs.ensures in
     let old = c.args.workbench.now in
-    let one = c.take_one.new.workbench in
+    let one = c.walk_chain.new.workbench in
     let before = c.args.queue.now in
-    let after = c.take_one.new.queue in
+    let after = c.walk_chain.new.queue in
     let walked = c.in_ok-request_len.ensures in
     let replied = c.in_ok-reply.ensures.replied in
     let request = c.args.request.now in
@@ -35,7 +35,7 @@ returns g c =
             calls,
             λ files_run.
                 let so = served_beside may handles.walks handles.asks handles.calls handles.returns old one replied.1 c.reply.new.workbench before after
-                c.in_ok-request_len.field-0-0 c.in_ok-request_len.request_len c.in_ok-request_len.field-0-2 c.args.session request replied.0 replied.2 notice c.requires.goes walked.may walked.walked
+                c.in_ok-request_len.field-0-0 c.in_ok-request_len.request_len c.in_ok-request_len.field-0-2 c.args.session request replied.0 replied.2 notice c.requires.goes walked.walked
                 replied.3 replied.4 back s i files reached there places limit small session files_run in (
                   so.es,
                   so.end,

@@ -16,20 +16,20 @@ returns g c =
     let head = c.in_ok-head.head in
     let other = c.in_ok-other.other in
     let before = c.args.queue.now in
-    let mid = c.take_one.new.queue in
+    let mid = c.walk_chain.new.queue in
     let first = c.in_ok-head.ensures in
     let second = c.in_ok-other.ensures in
-    let ds = c.take_one.new.workbench.descriptors.items in
-    let more = c.take_one-2.new.workbench.descriptors.items in
+    let ds = c.walk_chain.new.workbench.descriptors.items in
+    let more = c.walk_chain-2.new.workbench.descriptors.items in
     record {
       out = λ s i none there places places' limit limit'.
-          let one = c.law_handles.ensures.walks s i first.walked.0 c.args.first.now c.take_one.new.workbench before mid (says.Chain head c.in_ok-head.field-0-1 c.in_ok-head.field-0-2)
-          there places limit c.requires.goes tt first.may first.walked.1 tt in
+          let one = c.law_handles.ensures.walks s i first.walked.0 c.args.first.now c.walk_chain.new.workbench before mid (says.Chain head c.in_ok-head.field-0-1 c.in_ok-head.field-0-2)
+          there places limit c.requires.goes tt first.walked.1 tt in
           let s₁ = after_walk s i (live_of before) one.0 ds one.2 in
           let took = took_so may s s₁ i one.0 ds one.2 head c.in_ok-head.field-0-1 c.in_ok-head.field-0-2 one.3 one.4 in
-          let goes = goes_still c.args.first.now c.take_one.new.workbench before mid head c.in_ok-head.field-0-1 c.in_ok-head.field-0-2 c.requires.goes first.walked in
-          let two = c.law_handles.ensures.walks s₁ i second.walked.0 c.args.second.now c.take_one-2.new.workbench mid c.take_one-2.new.queue
-          (says.Chain other c.in_ok-other.field-0-1 c.in_ok-other.field-0-2) one.5 (took.1 ∙ places') (took.2 ∙ limit') goes tt second.may second.walked.1 tt in
+          let goes = goes_still c.args.first.now c.walk_chain.new.workbench before mid head c.in_ok-head.field-0-1 c.in_ok-head.field-0-2 c.requires.goes first.walked in
+          let two = c.law_handles.ensures.walks s₁ i second.walked.0 c.args.second.now c.walk_chain-2.new.workbench mid c.walk_chain-2.new.queue
+          (says.Chain other c.in_ok-other.field-0-1 c.in_ok-other.field-0-2) one.5 (took.1 ∙ places') (took.2 ∙ limit') goes tt second.walked.1 tt in
           let s₂ = after_walk s₁ i (live_of mid) two.0 more two.2 in
           let took' = took_so may s₁ s₂ i two.0 more two.2 other c.in_ok-other.field-0-1 c.in_ok-other.field-0-2 two.3 two.4 in
           let es : List LiveEvent = Walks i one.0 ds (step.Chain head None) ∷ Walks i two.0 more (step.Chain other None) ∷ [] in
