@@ -1,5 +1,5 @@
 -- Walks between whose calls others go on with the queue, or of which some calls were refused, are events.
-use Rattle.std.proofs.Common.{◌≡◌, ℕ, Bool, List, [], ◌∷◌, Option, Some, None, refl, subst, sym, ap, ◌∙◌}
+use Rattle.std.proofs.Common.{◌≡◌, ◌+◌, ◌<◌, ℕ, Bool, List, [], ◌∷◌, ◌++◌, length-append, Option, Some, None, refl, subst, sym, ap, ◌∙◌, arith}
 use Rattle.std.specs.Prelude.{true, false, is_some, length, not, ◌&&◌, ◌==◌, if◌then◌else◌}
 use Rattle.std.proofs.lemmas.Bool.{and_parts, eqb-true}
 use Rattle.vm_iotlb.specs.declared.permissions.Permissions.TheVariants.{Read, Write}
@@ -13,14 +13,16 @@ use Rattle.fs_queue.specs.declared.fault.QueueError.{QueueError}
 use Rattle.fs_queue.specs.declared.fault.QueueError.TheVariants as stop
 use Rattle.fs_queue.specs.declared.layout.QueueLayout.{QueueLayout}
 use Rattle.fs_regions.specs.Places.{places_in}
-use Rattle.fs_regions.specs.Walks.{ComesBy, ComesTo, Loaded, StandsAt, asked_len, nothing, queue_of}
+use Rattle.fs_regions.specs.Walks.{ComesBy, ComesTo, IsThere, Loaded, StandsAt, asked_len, nothing, queue_of}
 use Rattle.fs_regions.specs.declared.step.Step as comes
 use Rattle.fs_regions.specs.declared.step.Step.TheVariants as step
+use Rattle.fs_regions.specs.declared.course.Course.{Course}
 use Rattle.fs_regions.specs.declared.walk.QueueWalk.{QueueWalk}
+use Rattle.fs_regions.specs.declared.walk.QueueWalk.TheVariants as asks
 use Rattle.virtiofsd_fuse.specs.Serving.{May}
 use Rattle.fs_chain.specs.Events.{event_fault}
 use Rattle.fs_chain.specs.Loads.{GoesSo, IsSame, whole}
-use Rattle.fs_chain.specs.Orders.{IsWalking, give_error, walk_error}
+use Rattle.fs_chain.specs.Orders.{IsWalking, give_error, load_len, walk_error}
 use Rattle.fs_chain.specs.Queues.{is_at, is_laid_out, may_take, ticket_of}
 use Rattle.fs_chain.specs.Walks.{GoesOnUnless, WalksFrom, course_of, queue_after, state_after, told_of}
 use Rattle.fs_chain.specs.Whole.{AddsSo, BeginsBy, WantsBytes}
@@ -30,6 +32,7 @@ use Rattle.fs_chain.specs.declared.loads.Went.TheVariants as wents
 use Rattle.fs_chain.specs.declared.queue.KeptQueue.{KeptQueue}
 use Rattle.fs_chain.specs.declared.state.State as state
 use Rattle.fs_chain.specs.declared.state.State.TheVariants as at
+use Rattle.fs_chain.specs.declared.state.Ticket.{Ticket}
 use Rattle.fs_chain.specs.declared.walking.WalkOutcome as walked
 use Rattle.fs_chain.specs.declared.walking.WalkOutcome.TheVariants as says
 use Rattle.fs_chain.specs.declared.workbench.Workbench.{Workbench}
@@ -40,36 +43,59 @@ use Rattle.fs_live.specs.Live.{why_declined, with_live}
 use Rattle.fs_live.specs.Several.{LiveQueue, avail_event_at, used_event_at}
 use Rattle.fs_live.proofs.Declined.{goes_there}
 use Rattle.fs_live.proofs.Handles.{IsUnrefused, begins_whole, begun_room, event_of, held_by, walked_events}
+use Rattle.fs_live.proofs.Loads.{IsInside, inside_of}
 use Rattle.fs_live.proofs.Queues.{none_some, there_same}
+
+-- ---- the bytes of a load
+
+some_asked : (walk : QueueWalk) → 0 < asked_len walk
+some_asked (asks.Index w) = omega arith
+some_asked (asks.RingEntry w) = omega arith
+some_asked (asks.Entries w) = let some = w.some in omega (arith, some)
+
+-- a part more is less than the load still
+few_still : (w new : Workbench) (bs : List ℕ) (walk : QueueWalk) (course : Course) (ticket : Ticket) → w.state ≡ at.Walking course ticket walk → new.part.items ≡ w.part.items ++ bs
+    → length w.part.items + length bs < load_len w.state → length new.part.items < asked_len walk
+few_still w new bs walk course ticket is more few =
+    let len : length new.part.items ≡ length w.part.items + length bs = ap length more ∙ length-append w.part.items bs in
+    let asked : load_len w.state ≡ asked_len walk = ap load_len is in
+    omega (arith, len, asked, few)
 
 -- ---- where a walk stands
 
 -- it asks for a load
-record Stands (l : Loaded) (old w : Workbench) (before : KeptQueue) : Type 0 where
+pub record Stands (l : Loaded) (old w : Workbench) (before : KeptQueue) : Type 0 where
   pub walk : QueueWalk
   pub state : w.state ≡ at.Walking (course_of before old.limit) (ticket_of before) walk
   pub regions : w.regions ≡ old.regions
   pub limit : w.limit ≡ old.limit
+  pub few : length w.part.items < asked_len walk
+  pub there : IsThere (places_in old.regions) walk
+  pub inside : IsInside walk
   pub stands : StandsAt (places_in old.regions) (queue_of (course_of before old.limit)) l w.descriptors.items walk
 
 -- calls that were refused leave it there
-stands_still : (l : Loaded) (old w v : Workbench) (before : KeptQueue) → IsSame w v → Stands l old w before → Stands l old v before
+pub stands_still : (l : Loaded) (old w v : Workbench) (before : KeptQueue) → IsSame w v → Stands l old w before → Stands l old v before
 stands_still l old w v before same from = record {
   walk = from.walk;
   state = same.1 ∙ from.state;
   regions = same.0.0 ∙ from.regions;
   limit = same.0.1 ∙ from.limit;
+  few = subst (λ (part : List ℕ). length part < asked_len from.walk) (sym same.3) from.few;
+  there = from.there;
+  inside = from.inside;
   stands = subst (λ (ds : List Descriptor). StandsAt (places_in old.regions) (queue_of (course_of before old.limit)) l ds from.walk) (sym same.2) from.stands;
 }
 
 -- what a walk came to, of a queue as its last call found it
-record Came (l : Loaded) (old new : Workbench) (before now after : KeptQueue) (told : walked.WalkOutcome) : Type 0 where
+pub record Came (l : Loaded) (old new : Workbench) (before now after : KeptQueue) (told : walked.WalkOutcome) : Type 0 where
   pub came : comes.Step
   pub told_is : told ≡ told_of new.descriptors.items came
   pub state : new.state ≡ state_after (course_of before old.limit) (ticket_of before) new.descriptors.items came
   pub queue : after ≡ queue_after now came
   pub regions : new.regions ≡ old.regions
   pub limit : new.limit ≡ old.limit
+  pub part : new.part.items ≡ []
   pub comes : ComesTo (places_in old.regions) old.limit (queue_of (course_of before old.limit)) l new.descriptors.items came
   pub there : queue_of (course_of now old.limit) ≡ queue_of (course_of before old.limit)
   pub may : may_take now ≡ true
@@ -106,7 +132,7 @@ goes_at now before limit asked len is =
 
 -- ---- calls
 
-abbrev IsALoad : walked.WalkOutcome → Type 0
+abbrev pub IsALoad : walked.WalkOutcome → Type 0
 IsALoad (says.Load n) = Unit {0}
 IsALoad _ = ⊥
 
@@ -114,7 +140,7 @@ kept_items : (w new : Workbench) → new.descriptors ≡ w.descriptors → w.des
 kept_items w new same = cc
 
 -- what a call comes to that finds its queue so
-abbrev AfterCall : (stopped : Option QueueError) → (bs : List ℕ) → (l : Loaded) → (old v new : Workbench) → (before now after : KeptQueue) → went.Went → Type 0
+abbrev pub AfterCall : (stopped : Option QueueError) → (bs : List ℕ) → (l : Loaded) → (old v new : Workbench) → (before now after : KeptQueue) → went.Went → Type 0
 AfterCall stopped bs l old v new before now after wents.Part =
     (loaded : Loaded) × AddsSo v.state wents.Part new.descriptors.items l (whole v bs) loaded × Stands loaded old new before
 AfterCall (Some why) bs l old v new before now after (wents.On told) = told ≡ says.Refused stop.Stopped
@@ -123,10 +149,10 @@ AfterCall None bs l old v new before now after (wents.On told) =
 
 -- one that goes on
 on_unless : (stopped : Option QueueError) (bs : List ℕ) (l : Loaded) (old v new : Workbench) (before now after : KeptQueue) (told : walked.WalkOutcome) (from : Stands l old v before)
-    → GoesOnUnless stopped (course_of before old.limit) (ticket_of before) from.walk (whole v bs) v new now after told
+    → GoesOnUnless stopped (course_of before old.limit) (ticket_of before) from.walk (whole v bs) v new now after told → new.part.items ≡ []
     → (queue_of (course_of now old.limit) ≡ queue_of (course_of before old.limit)) × (may_take now ≡ true) → AfterCall stopped bs l old v new before now after (wents.On told)
-on_unless (Some why) bs l old v new before now after told from on there = on.0
-on_unless None bs l old v new before now after told from on there =
+on_unless (Some why) bs l old v new before now after told from on part there = on.0
+on_unless None bs l old v new before now after told from on part there =
     let course = course_of before old.limit in
     let walk = from.walk in
     let all = whole v bs in
@@ -146,13 +172,14 @@ on_unless None bs l old v new before now after told from on there =
         queue = on.1.2;
         regions = on.1.4.0 ∙ from.regions;
         limit = on.1.4.1 ∙ from.limit;
+        part = part;
         comes = came;
         there = there.0;
         may = there.1;
       },
     )
 
-on_call : (bs : List ℕ) (l : Loaded) (old v new : Workbench) (before now after : KeptQueue) (told : went.Went) → Stands l old v before → GoesSo v now bs told new after
+pub on_call : (bs : List ℕ) (l : Loaded) (old v new : Workbench) (before now after : KeptQueue) (told : went.Went) → Stands l old v before → GoesSo v now bs told new after
     → AfterCall now.stopped bs l old v new before now after told
 on_call bs l old v new before now after wents.Part from call = (
   l,
@@ -162,6 +189,9 @@ on_call bs l old v new before now after wents.Part from call = (
     state = call.3.3 ∙ from.state;
     regions = call.3.0.0 ∙ from.regions;
     limit = call.3.0.1 ∙ from.limit;
+    few = few_still v new bs from.walk (course_of before old.limit) (ticket_of before) from.state call.4 call.1;
+    there = from.there;
+    inside = from.inside;
     stands = subst (λ (ds : List Descriptor). StandsAt (places_in old.regions) (queue_of (course_of before old.limit)) l ds from.walk) (kept_items v new call.3.2) from.stands;
   },
 )
@@ -172,39 +202,48 @@ on_call bs l old v new before now after (wents.On told) from call =
     subst (λ (s : state.State). WalksFrom s (whole v bs) v new now after told) from.state call.4 in
     let clear : give_error now course ticket (asked_len from.walk) (length (whole v bs)) ≡ None =
     subst (λ (s : state.State). walk_error s now (length (whole v bs)) ≡ None) from.state call.3 in
-    on_unless now.stopped bs l old v new before now after told from unless (goes_at now before old.limit (asked_len from.walk) (length (whole v bs)) clear)
+    on_unless now.stopped bs l old v new before now after told from unless call.1 (goes_at now before old.limit (asked_len from.walk) (length (whole v bs)) clear)
 
 -- ---- walks
 
 -- what the calls of a walk come to, the last of which finds its queue so
-abbrev SoFar : (stopped : Option QueueError) → (given : List (List ℕ)) → (old new : Workbench) → (before now after : KeptQueue) → (told : went.Went) → WalksAmong given old new before now after told → Type 0
+abbrev pub SoFar : (stopped : Option QueueError) → (given : List (List ℕ)) → (old new : Workbench) → (before now after : KeptQueue) → (told : went.Went) → WalksAmong given old new before now after told → Type 0
 SoFar stopped given old new before now after wents.Part walks = (l : Loaded) × LoadsAmong given old new before now after wents.Part walks l × Stands l old new before
 SoFar (Some why) given old new before now after (wents.On told) walks = told ≡ says.Refused stop.Stopped
 SoFar None given old new before now after (wents.On told) walks = (l : Loaded) × LoadsAmong given old new before now after (wents.On told) walks l × Came l old new before now after told
 
-load_stands : (l : Loaded) (old new : Workbench) (before now after : KeptQueue) (n : ℕ) (came : comes.Step) → says.Load n ≡ told_of new.descriptors.items came
+pub load_stands : (l : Loaded) (old new : Workbench) (before now after : KeptQueue) (n : ℕ) (came : comes.Step) → says.Load n ≡ told_of new.descriptors.items came
     → new.state ≡ state_after (course_of before old.limit) (ticket_of before) new.descriptors.items came → new.regions ≡ old.regions → new.limit ≡ old.limit
-    → ComesTo (places_in old.regions) old.limit (queue_of (course_of before old.limit)) l new.descriptors.items came → Stands l old new before
-load_stands l old new before now after n (step.Load walk) told state_is regions limit comes = record { walk = walk; state = state_is; regions = regions; limit = limit; stands = comes.0 }
-load_stands l old new before now after n step.Idle told state_is regions limit comes = absurd (subst IsALoad told tt)
-load_stands l old new before now after n (step.Refused e) told state_is regions limit comes = absurd (subst IsALoad told tt)
-load_stands l old new before now after n (step.Chain head None) told state_is regions limit comes = absurd (subst IsALoad told tt)
-load_stands l old new before now after n (step.Chain head (Some fault)) told state_is regions limit comes = absurd (subst IsALoad told tt)
+    → new.part.items ≡ [] → ComesTo (places_in old.regions) old.limit (queue_of (course_of before old.limit)) l new.descriptors.items came → Stands l old new before
+load_stands l old new before now after n (step.Load walk) told state_is regions limit part comes = record {
+  walk = walk;
+  state = state_is;
+  regions = regions;
+  limit = limit;
+  few = subst (λ (items : List ℕ). length items < asked_len walk) (sym part) (some_asked walk);
+  there = comes.1;
+  inside = inside_of (places_in old.regions) (queue_of (course_of before old.limit)) new.descriptors.items walk comes.2;
+  stands = comes.0;
+}
+load_stands l old new before now after n step.Idle told state_is regions limit part comes = absurd (subst IsALoad told tt)
+load_stands l old new before now after n (step.Refused e) told state_is regions limit part comes = absurd (subst IsALoad told tt)
+load_stands l old new before now after n (step.Chain head None) told state_is regions limit part comes = absurd (subst IsALoad told tt)
+load_stands l old new before now after n (step.Chain head (Some fault)) told state_is regions limit part comes = absurd (subst IsALoad told tt)
 
 -- one that wants bytes stands somewhere
-standing : (stopped : Option QueueError) (given : List (List ℕ)) (old new : Workbench) (before now after : KeptQueue) (told : went.Went) (walks : WalksAmong given old new before now after told)
+pub standing : (stopped : Option QueueError) (given : List (List ℕ)) (old new : Workbench) (before now after : KeptQueue) (told : went.Went) (walks : WalksAmong given old new before now after told)
     → WantsBytes told → SoFar stopped given old new before now after told walks
     → (l : Loaded) × LoadsAmong given old new before now after told walks l × Stands l old new before
 standing stopped given old new before now after wents.Part walks wants so = so
 standing (Some why) given old new before now after (wents.On (says.Load n)) walks wants so = absurd (subst IsALoad so tt)
 standing None given old new before now after (wents.On (says.Load n)) walks wants so =
-    let c = so.2 in (so.0, so.1, load_stands so.0 old new before now after n c.came c.told_is c.state c.regions c.limit c.comes)
+    let c = so.2 in (so.0, so.1, load_stands so.0 old new before now after n c.came c.told_is c.state c.regions c.limit c.part c.comes)
 standing stopped given old new before now after (wents.On says.Idle) walks wants so = absurd wants
 standing stopped given old new before now after (wents.On (says.Refused e)) walks wants so = absurd wants
 standing stopped given old new before now after (wents.On (says.Chain head n r)) walks wants so = absurd wants
 standing stopped given old new before now after (wents.On (says.Faulty head fault)) walks wants so = absurd wants
 
-wants_unrefused : (w : Workbench) (q : KeptQueue) (told : went.Went) → WantsBytes told → IsUnrefused told w q
+pub wants_unrefused : (w : Workbench) (q : KeptQueue) (told : went.Went) → WantsBytes told → IsUnrefused told w q
 wants_unrefused w q wents.Part wants = tt
 wants_unrefused w q (wents.On (says.Load n)) wants = tt
 wants_unrefused w q (wents.On says.Idle) wants = absurd wants
@@ -228,6 +267,7 @@ first old new before after (wents.On told) walks goes has by =
         queue = so.1.2;
         regions = so.1.4.0;
         limit = so.1.4.1;
+        part = by.1.1;
         comes = so.2;
         there = refl;
         may = begun_room old new before after told by;
@@ -249,7 +289,7 @@ one_more stopped bs given old new before now after wents.Part walks l loads so =
 one_more (Some why) bs given old new before now after (wents.On told) walks l loads so = so
 one_more None bs given old new before now after (wents.On told) walks l loads so = (so.0, (l, loads, so.1), so.2)
 
-all_among : (given : List (List ℕ)) (old new : Workbench) (before now after : KeptQueue) (told : went.Went) → before.stopped ≡ None → IsUnrefused told old before
+pub all_among : (given : List (List ℕ)) (old new : Workbench) (before now after : KeptQueue) (told : went.Went) → before.stopped ≡ None → IsUnrefused told old before
     → (walks : WalksAmong given old new before now after told) → SoFar now.stopped given old new before now after told walks
 all_among [] old new before now after told goes has walks = begun old new before now after told walks goes has walks.0 walks.1
 all_among (bs ∷ given) old new before now after told goes has walks =

@@ -1,5 +1,6 @@
 pub mod Alone
 pub mod Among
+pub mod AmongLoads
 pub mod Calls
 pub mod Declined
 pub mod EachCall

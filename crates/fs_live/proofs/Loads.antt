@@ -21,7 +21,7 @@ use Rattle.fs_queue.proofs.AnyLoadLemmas.{few_loads}
 use Rattle.fs_queue.proofs.LoadLemmas.{memory_with, reach_none}
 use Rattle.fs_queue.proofs.StillLemmas.{mapped}
 use Rattle.fs_regions.specs.Places.{places_in}
-use Rattle.fs_regions.specs.Walks.{AddsBytes, ComesBy, ComesTo, FetchesBy, IsLongestStretch, Loaded, OffersBy, StandsAt, nothing, queue_of}
+use Rattle.fs_regions.specs.Walks.{AddsBytes, Brings, ComesBy, ComesTo, FetchesBy, IsLongestStretch, Loaded, OffersBy, StandsAt, nothing, queue_of}
 use Rattle.fs_regions.specs.declared.step.Step as comes
 use Rattle.fs_regions.specs.declared.step.Step.TheVariants as step
 use Rattle.fs_regions.specs.declared.walk.QueueWalk.{QueueWalk}
@@ -137,11 +137,11 @@ few_fetched m limit q loaded ds head None h = few_front loaded.entries h.0.0 (q.
 -- ---- where a walk stands
 
 -- the entry that is asked for is in its table
-abbrev IsInside : QueueWalk → Type 0
+abbrev pub IsInside : QueueWalk → Type 0
 IsInside (asks.Entries w) = (visit_of w.walk).index < (visit_of w.walk).table.entries
 IsInside _ = Unit {0}
 
-inside_of : (m : Memory) (q : Queue) (ds : List Descriptor) (walk : QueueWalk) → IsLongestStretch m q ds walk → IsInside walk
+pub inside_of : (m : Memory) (q : Queue) (ds : List Descriptor) (walk : QueueWalk) → IsLongestStretch m q ds walk → IsInside walk
 inside_of m q ds (asks.Index w) longest = tt
 inside_of m q ds (asks.RingEntry w) longest = tt
 inside_of m q ds (asks.Entries w) longest = let fits = longest.0.1 in let some = w.some in omega (arith, fits, some)
@@ -154,12 +154,20 @@ few_standing m q loaded ds (asks.Entries w) inside stands =
     let finds = loses (memory_with (entry_address v) None) q loaded w.head ds v (lost_walked v.table.indirect) inside (reach_none (entry_address v) 15) refl stands.2 in
     few_front loaded.entries finds.0 (q.size + 2) (few_used q w.head (loaded.entries ++ finds.0) _ finds.2)
 
+-- there is room for the load that is asked for
+few_before : (q : Queue) (head : ℕ) (ls more : List Load) (f : Found) (ds : List Descriptor) (v : Visit) → Brings q.size ls (ahead_at q.size (first_visit q head)) ds (Reads v)
+    → chain_exactly (ls ++ more) q head ≡ Some f → suc (length ls) ≤ q.size + 2
+unfolding found_exactly
+few_before q head ls [] f ds v brings is = absurd (none_some f (sym (brings []) ∙ is))
+few_before q head ls (l ∷ more) f ds v brings is =
+    let sum = length-append ls (l ∷ more) in let few = few_used q head (ls ++ l ∷ more) f is in omega (arith, few, sum)
+
 -- how many loads brought it there
-abbrev one : Option (List ℕ) → ℕ
+abbrev pub one : Option (List ℕ) → ℕ
 one None = 0
 one (Some bs) = 1
 
-abbrev made : Loaded → ℕ
+abbrev pub made : Loaded → ℕ
 made l = one l.index + one l.entry + length l.entries
 
 at_most_one : (x : Option (List ℕ)) → one x ≤ 1
@@ -169,7 +177,22 @@ at_most_one (Some bs) = omega arith
 few_made : (k n : ℕ) (l : Loaded) → k ≤ made l → length l.entries ≤ n + 2 → k ≤ n + 4
 few_made k n l come few = let a = at_most_one l.index in let b = at_most_one l.entry in omega (arith, come, few, a, b)
 
-made_more : (m : Memory) (q : Queue) (loaded after : Loaded) (ds : List Descriptor) (walk : QueueWalk) (bs : List ℕ) (came : comes.Step) → StandsAt m q loaded ds walk →
+pub room_for_one : (m : Memory) (q : Queue) (loaded : Loaded) (ds : List Descriptor) (walk : QueueWalk) → IsInside walk → StandsAt m q loaded ds walk → suc (made loaded) ≤ q.size + 4
+room_for_one m q loaded ds (asks.Index w) inside stands = let none : made loaded ≡ 0 = ap (λ (l : Loaded). made l) stands.1 in omega (arith, none)
+room_for_one m q loaded ds (asks.RingEntry w) inside stands =
+    let index = at_most_one loaded.index in
+    let entry : one loaded.entry ≡ 0 = ap one stands.3 in
+    let none : length loaded.entries ≡ 0 = ap (λ (ls : List Load). length ls) stands.4 in
+    omega (arith, index, entry, none)
+room_for_one m q loaded ds (asks.Entries w) inside stands =
+    let v = visit_of w.walk in
+    let finds = loses (memory_with (entry_address v) None) q loaded w.head ds v (lost_walked v.table.indirect) inside (reach_none (entry_address v) 15) refl stands.2 in
+    let few = few_before q w.head loaded.entries finds.0 _ ds v stands.2 finds.2 in
+    let index = at_most_one loaded.index in
+    let entry = at_most_one loaded.entry in
+    omega (arith, few, index, entry)
+
+pub made_more : (m : Memory) (q : Queue) (loaded after : Loaded) (ds : List Descriptor) (walk : QueueWalk) (bs : List ℕ) (came : comes.Step) → StandsAt m q loaded ds walk →
     AddsBytes walk bs came loaded after → suc (made loaded) ≤ made after
 made_more m q loaded after ds (asks.Index w) bs came stands adds =
     let none : made loaded ≡ 0 = ap (λ (l : Loaded). made l) stands.1 in

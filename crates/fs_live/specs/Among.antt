@@ -1,5 +1,5 @@
 -- Walks of handles between whose calls others go on with the queue, or of which some calls were refused.
-use Rattle.std.specs.Prelude.{◌≡◌, ℕ, List, [], ◌∷◌, Some, None, slice_get}
+use Rattle.std.specs.Prelude.{◌≡◌, ◌≤◌, ◌+◌, ℕ, List, [], ◌∷◌, Some, None, slice_get}
 use Rattle.fs_queue.specs.declared.fault.QueueError.{QueueError}
 use Rattle.fs_queue.specs.declared.fault.QueueError.TheVariants.{Stopped}
 use Rattle.fs_regions.specs.declared.step.Step as comes
@@ -18,7 +18,7 @@ use Rattle.fs_chain.specs.declared.walking.WalkOutcome as walked
 use Rattle.fs_chain.specs.declared.walking.WalkOutcome.TheVariants as says
 use Rattle.fs_chain.specs.declared.workbench.Workbench.{Workbench}
 use Rattle.fs_live.specs.Live.{Declines, Happens, LiveState, Walks, after_walk}
-use Rattle.fs_live.specs.Handles.{IsDone, IsHeld, live_of}
+use Rattle.fs_live.specs.Handles.{IsDone, IsHeld, counted, live_of}
 
 -- a walk by calls of the handle, the last one first, which finds the queue as `now`. Before each of them but the first others may have gone on with the queue, and calls of its own may have been
 -- refused, which left the handle as it was; that no other chain was taken, and that the queue wasn't begun anew, the call tells itself
@@ -43,6 +43,17 @@ HandleWalksAmong {F} may =
     (loaded : Loaded) × LoadsAmong given old new before now after (wents.On told) walks loaded × (came : comes.Step) × (told ≡ told_of new.descriptors.items came)
     × Happens may s (Walks i loaded new.descriptors.items came) (after_walk s i (live_of now) loaded new.descriptors.items came)
     × (slice_get (after_walk s i (live_of now) loaded new.descriptors.items came).queues i ≡ Some (live_of after)) × IsHeld s i (live_of now) loaded came new
+
+-- how many loads the calls of such a walk were given
+abbrev pub load_count_among : (given : List (List ℕ)) → (old new : Workbench) → (before now after : KeptQueue) → (told : went.Went) → WalksAmong given old new before now after told → ℕ
+load_count_among [] old new before now after told walks = 0
+load_count_among (bs ∷ given) old new before now after told walks = counted told (load_count_among given old walks.0 before walks.2 walks.3 walks.4 walks.5)
+
+-- they are as few as those of a walk alone, of one too that finds its queue stopped meanwhile
+abbrev pub HandleLoadsAmong : Type 0
+HandleLoadsAmong =
+    (given : List (List ℕ)) (old new : Workbench) (before now after : KeptQueue) (told : went.Went) → before.stopped ≡ None → (walks : WalksAmong given old new before now after told) →
+    load_count_among given old new before now after told walks ≤ before.layout.size + 4
 
 -- a walk that goes on and finds that its queue was stopped meanwhile is refused as each walk of a stopped queue, whatever it has loaded: the handle is free, and the queue stays
 abbrev pub HandleFindsStopped : {F : Type 0} → May F → Type 0

@@ -1,4 +1,5 @@
 use Rattle.fs_live.proofs.Among.{handle_finds_stopped, handle_walks_among}
+use Rattle.fs_live.proofs.AmongLoads.{handle_loads_among}
 use Rattle.fs_live.proofs.Handles.{handle_answers, handle_asks, handle_calls, handle_declines, handle_faulty, handle_returns, handle_walks}
 use Rattle.fs_live.proofs.Loads.{handle_loads}
 use Rattle.fs_live.proofs.Options.{options_stay}
@@ -10,6 +11,9 @@ returns-clause-walks g c = handle_walks g.F.FileSystemBase.may
 
 pub returns-clause-loads : goal.returns-clause-loads
 returns-clause-loads g c = handle_loads
+
+pub returns-clause-loads_among : goal.returns-clause-loads_among
+returns-clause-loads_among g c = handle_loads_among
 
 pub returns-clause-declines : goal.returns-clause-declines
 returns-clause-declines g c = handle_declines g.F.FileSystemBase.may
