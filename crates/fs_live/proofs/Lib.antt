@@ -20,3 +20,4 @@ pub mod Serial
 pub mod SeveralRuns
 pub mod Sleeping
 pub mod Stored
+pub mod WantedAmong

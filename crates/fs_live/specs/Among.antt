@@ -6,7 +6,7 @@ use Rattle.fs_regions.specs.declared.step.Step as comes
 use Rattle.fs_regions.specs.Places.{places_in}
 use Rattle.fs_regions.specs.Walks.{Loaded, nothing}
 use Rattle.virtiofsd_fuse.specs.Serving.{May}
-use Rattle.fs_chain.specs.Loads.{GoesSo, IsSame, whole}
+use Rattle.fs_chain.specs.Loads.{GoesSo, HasNoPlace, IsSame, came, whole}
 use Rattle.fs_chain.specs.Orders.{IsWalking}
 use Rattle.fs_chain.specs.Walks.{RefusalHasEvents, told_of}
 use Rattle.fs_chain.specs.Whole.{AddsSo, BeginsBy, WantsBytes}
@@ -43,6 +43,12 @@ HandleWalksAmong {F} may =
     (loaded : Loaded) × LoadsAmong given old new before now after (wents.On told) walks loaded × (came : comes.Step) × (told ≡ told_of new.descriptors.items came)
     × Happens may s (Walks i loaded new.descriptors.items came) (after_walk s i (live_of now) loaded new.descriptors.items came)
     × (slice_get (after_walk s i (live_of now) loaded new.descriptors.items came).queues i ≡ Some (live_of after)) × IsHeld s i (live_of now) loaded came new
+
+-- what such a walk wants has a place, so that no call is refused for it
+abbrev pub WantedAmongHasAPlace : Type 0
+WantedAmongHasAPlace =
+    (given : List (List ℕ)) (old new : Workbench) (before now after : KeptQueue) (told : went.Went) → before.stopped ≡ None →
+    WalksAmong given old new before now after told → WantsBytes told → HasNoPlace new (came new) → ⊥
 
 -- how many loads the calls of such a walk were given
 abbrev pub load_count_among : (given : List (List ℕ)) → (old new : Workbench) → (before now after : KeptQueue) → (told : went.Went) → WalksAmong given old new before now after told → ℕ

@@ -1,7 +1,7 @@
 //! Runs of several chains on several queues, beside a guest that writes meanwhile: laws of the definitions, contracts of functions that do nothing.
 #![tactic(auto)]
 
-ghost use Rattle.fs_live.specs.Among.{HandleFindsStopped, HandleLoadsAmong, HandleWalksAmong};
+ghost use Rattle.fs_live.specs.Among.{HandleFindsStopped, HandleLoadsAmong, HandleWalksAmong, WantedAmongHasAPlace};
 ghost use Rattle.fs_live.specs.Handles.{HandleAnswers, HandleAsks, HandleBegins, HandleCalls, HandleDeclines, HandleFaulty, HandleLoads, HandleReturns, HandleSleeps, HandleWalks, OptionsStay};
 ghost use Rattle.fs_live.specs.InitBeside.{InitBeside};
 ghost use Rattle.fs_live.specs.Overlap.{Overlap};
@@ -48,12 +48,13 @@ pub fn law_examples<F: FileSystem>()
 {}
 
 /// What calls of handles give a run, by their contracts, whatever other chains are out. A walk that finds its queue as its call before left it is an event, a
-/// refused one too, leaves the queue as the contract says, and makes few loads. So is a walk between whose calls others went on with the queue, or of which calls were refused, and its loads are as few;
+/// refused one too, leaves the queue as the contract says, and makes few loads. So is a walk between whose calls others went on with the queue, or of which calls were refused: its loads are as few, and what it wants has a place;
 /// one that finds its queue stopped meanwhile is declined. So are an asking, each answer (of the call, of a listing's look-ups, of a FORGET), a chain's return, a faulty
 /// one's too, a store before a sleep where it has a place, and a queue's beginning anew once no call of its chains waits.
 pub fn law_handles<F: FileSystem>()
     ensures walks { HandleWalks F.may }
     ensures among { HandleWalksAmong F.may }
+    ensures wanted_among { WantedAmongHasAPlace }
     ensures stopped { HandleFindsStopped F.may }
     ensures loads { HandleLoads }
     ensures loads_among { HandleLoadsAmong }

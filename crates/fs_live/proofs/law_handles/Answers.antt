@@ -4,6 +4,7 @@ use Rattle.fs_live.proofs.Handles.{handle_answers, handle_asks, handle_calls, ha
 use Rattle.fs_live.proofs.Loads.{handle_loads}
 use Rattle.fs_live.proofs.Options.{options_stay}
 use Rattle.fs_live.proofs.Sleeping.{handle_begins, handle_sleeps}
+use Rattle.fs_live.proofs.WantedAmong.{wanted_among_has_a_place}
 use Rattle.fs_live.proofs.law_handles.Goals as goal
 
 pub returns-clause-walks : goal.returns-clause-walks
@@ -44,6 +45,9 @@ returns-clause-options g c = options_stay
 
 pub returns-clause-among : goal.returns-clause-among
 returns-clause-among g c = handle_walks_among g.F.FileSystemBase.may
+
+pub returns-clause-wanted_among : goal.returns-clause-wanted_among
+returns-clause-wanted_among g c = wanted_among_has_a_place
 
 pub returns-clause-stopped : goal.returns-clause-stopped
 returns-clause-stopped g c = handle_finds_stopped g.F.FileSystemBase.may
