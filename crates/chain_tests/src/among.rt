@@ -3,6 +3,7 @@
 ghost use Rattle.std.specs.Prelude.{◌≡◌, ℕ, List, None, Ok, Some, slice_get};
 ghost use Rattle.fs_queue.specs.declared.fault.QueueError.{QueueError};
 ghost use Rattle.fs_regions.specs.Places.{places_in};
+ghost use Rattle.fs_chain.specs.Loads.{HasNoPlace, came};
 ghost use Rattle.fs_chain.specs.Orders.{IsWalking};
 ghost use Rattle.fs_chain.specs.declared.state.State.TheVariants as at;
 ghost use Rattle.fs_chain.specs.declared.walking.WalkOutcome.{WalkOutcome};
@@ -17,7 +18,7 @@ use fs_live::law_handles;
 use fs_queue::QueueError;
 use fuse_fs::FileSystem;
 
-// A walk whose index is given once bytes were refused is idle: that is an event, and the queue stays.
+// A walk whose index is given once bytes were refused is idle: that is an event, and the queue stays. If it wants more, that has a place.
 fn look_after_refusal<F: FileSystem>(
     workbench: &mut Workbench,
     queue: &mut KeptQueue,
@@ -29,6 +30,7 @@ fn look_after_refusal<F: FileSystem>(
     ensures idle { result ≡ Ok (Went.On WalkOutcome.Idle) → (s : LiveState F) (i : ℕ) → slice_get s.queues i ≡ Some (live_of queue.old)
         → s.places ≡ places_in workbench.old.regions → s.limit ≡ workbench.old.limit
         → (es : List LiveEvent) × (end : LiveState F) × LiveRun F.may s es end × (slice_get end.queues i ≡ Some (live_of queue.new)) }
+    ensures wants { (n : ℕ) → result ≡ Ok (Went.On (WalkOutcome.Load n)) → HasNoPlace workbench.new (came workbench.new) → ⊥ }
 {
     law_handles::<F>();
     let begun = workbench.walk(queue, &[])?;

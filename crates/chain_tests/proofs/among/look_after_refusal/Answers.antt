@@ -1,4 +1,4 @@
-use Rattle.std.proofs.Common.{◌≡◌, ℕ, true, [], ◌∷◌, List, Some, None, Result, IfOk, refl, subst, sym, ap, ◌∙◌}
+use Rattle.std.proofs.Common.{◌≡◌, ℕ, true, [], ◌∷◌, List, Some, None, Ok, Result, IfOk, refl, subst, sym, ap, ◌∙◌}
 use Rattle.fs_queue.specs.Chain.{Descriptor}
 use Rattle.fs_regions.specs.declared.step.Step as comes
 use Rattle.fs_regions.specs.declared.step.Step.TheVariants as step
@@ -56,13 +56,16 @@ returns-in-Err g c =
     let yes : c.wants_bytes.result ≡ true = Prim.search in
     let wants : WantsBytes told = c.wants_bytes.ensures yes in
     let same : now ≡ before = c.in-Err.ensures.same.1 ∙ keeps_queue old w before left told c.requires.goes wants first in
+    let walks_so : (out : walked.WalkOutcome) → c.walk-in-Err.result ≡ Ok (wents.On out) → WalksAmong (index ∷ []) old new before now after (wents.On out) = λ out is.
+    let goes : GoesSo v now index (wents.On out) new after =
+    subst (λ (r : Result Went ChainError). IfOk r (λ went. GoesSo v now index went new after)) is c.walk-in-Err.ensures.goes in
+    (w, v, before, left, told, (refl, first), wants, c.in-Err.ensures.same.0, goes) in
     record {
       idle = λ is s i there places limit.
-          let goes : GoesSo v now index (wents.On says.Idle) new after =
-          subst (λ (r : Result Went ChainError). IfOk r (λ went. GoesSo v now index went new after)) is c.walk-in-Err.ensures.goes in
-          let walks : WalksAmong (index ∷ []) old new before now after (wents.On says.Idle) = (w, v, before, left, told, (refl, first), wants, c.in-Err.ensures.same.0, goes) in
+          let walks = walks_so says.Idle is in
           let law = c.law_handles.ensures.among s i (index ∷ []) old new before now after says.Idle (there ∙ ap (λ (q : KeptQueue). Some (live_of q)) (sym same)) places limit c.requires.goes
           (ap (λ (q : KeptQueue). q.stopped) same ∙ c.requires.goes) (ap (λ (q : KeptQueue). q.event_index) same) tt walks tt in
           let end = after_walk s i (live_of now) law.0 new.descriptors.items law.2 in
           (Walks i law.0 new.descriptors.items law.2 ∷ [], end, (end, law.4, refl), law.5);
+      wants = λ n is lacks. c.law_handles.ensures.wanted_among (index ∷ []) old new before now after (wents.On (says.Load n)) c.requires.goes (walks_so (says.Load n) is) tt lacks;
     }
