@@ -48,9 +48,10 @@ pub fn law_examples<F: FileSystem>()
 {}
 
 /// What calls of handles give a run, by their contracts, whatever other chains are out. A walk that finds its queue as its call before left it is an event, a
-/// refused one too, leaves the queue as the contract says, and makes few loads. So is a walk between whose calls others went on with the queue, or of which calls were refused: its loads are as few, and what it wants has a place;
-/// one that finds its queue stopped meanwhile is declined. So are an asking, each answer (of the call, of a listing's look-ups, of a FORGET), a chain's return, a faulty
-/// one's too, a store before a sleep where it has a place, and a queue's beginning anew once no call of its chains waits.
+/// refused one too, leaves the queue as the contract says, and makes few loads. So is a walk between whose calls others went on with the queue, or of which calls were
+/// refused: its loads are as few, and what it wants has a place; one that finds its queue stopped meanwhile is declined. So are an asking, each answer (of the call, of a
+/// listing's look-ups, of a FORGET), a chain's return, a faulty one's too, a store before a sleep where it has a place, and a queue's beginning anew once no call of its
+/// chains waits.
 pub fn law_handles<F: FileSystem>()
     ensures walks { HandleWalks F.may }
     ensures among { HandleWalksAmong F.may }
