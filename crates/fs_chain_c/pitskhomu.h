@@ -78,10 +78,11 @@
  * WHAT IS PROVED. Each function, whenever its arguments are what their types say, returns, doesn't panic, reads and writes only what it is
  * lent, and does what its contract in the crate fs_chain_c says, in the terms of the crate fs_chain: the load that is asked for, the
  * call that a request means, the reply that an answer gives, the stores of a return. Of a chain from its walk to its return fs_chain's law_chains says more,
- * and of several chains that are out at once the laws of fs_live: over the same regions each store of pk_return has a place then (law_runs).
+ * and of several chains that are out at once the laws of fs_live: over the same regions each store of pk_return has a place then (law_runs,
+ * of runs without pk_drop and pk_reply_bytes).
  * The bytes of a span are the name, the value or the pairs (law_spans of fs_chain_c).
- * TRIED ALONE is this: that pk_chain_free frees all; a chain whose calls several threads make; whether PK_OUT_OF_MEMORY or an error behind it
- * comes, if both may; and what is written out here in C.
+ * TRIED ALONE is this: that pk_chain_free frees all; a chain whose calls several threads make; whether PK_OUT_OF_MEMORY (of
+ * pk_restore PK_RECORD_OUT_OF_MEMORY) or an error behind it comes, if both may; and what is written out here in C.
  *
  * THREADS. What a call takes as const may be read by several calls at a time; what it takes otherwise is that call's alone. So a
  * thread with a chain and a queue of its own needs no lock but round `device`: many pk_ask, or one pk_reply_init. The library keeps nothing of a thread's: a chain
@@ -202,7 +203,7 @@ enum pk_status {
     PK_OTHER_KIND = 75,             /* the call wants an answer of another kind (`answer` of the call) */
     PK_CHAIN_OUT = 76,              /* the queue has as many chains out as it may (most_out), or the chain is walked or out; of pk_save: one is out */
     PK_NO_PLACE = 77,               /* what is to be loaded or stored has no place. The walk found that it has, and regions don't change while a
-                                       chain is walked or out: so pk_walk (proved: law_chains of fs_chain) and pk_return don't tell this. pk_ask_kicks
+                                       chain is walked or out: so pk_walk (proved: law_handles of fs_live) and pk_return don't tell this. pk_ask_kicks
                                        tells it of a ring that no walk has found to have its place */
     PK_RETURNING = 78,              /* another chain of the queue is between pk_return and pk_returned */
     PK_OTHER_CALL = 79,             /* the answer has another ticket than the chain: it comes late, to a call that is gone */
