@@ -318,6 +318,7 @@ scenario_migrate() {
 # Suites that others wrote, in a root of their own on a disk.
 scenario_suite() {
     local name
+    run ifconfig lo up # for sendfile's tests
     mkdir /disk
     run mount -t ext4 /dev/vda /disk
     for name in proc sys dev; do mount -o bind /$name /disk/$name; done
