@@ -77,6 +77,7 @@ const MAPPED: &[Mapped] = &[
         comes: NO_ROOM,
         has: NOTHING,
         marked: &[0],
+        goes_on: true,
         ..GOOD
     },
     Mapped {
@@ -85,6 +86,7 @@ const MAPPED: &[Mapped] = &[
         comes: NO_ROOM,
         has: NOTHING,
         marked: &[0],
+        goes_on: true,
         ..GOOD
     },
     Mapped {
@@ -97,6 +99,7 @@ const MAPPED: &[Mapped] = &[
         },
         has: NOTHING,
         marked: &[0],
+        goes_on: true,
         ..GOOD
     },
     Mapped {
