@@ -73,6 +73,7 @@ impl ChainWalk {
     ghost use Rattle.fs_queue.specs.WalkingView.{at_position, in_table, walk_step_of, IfOrdinary, IfTable, EndsIn64Bits};
 
     // At an entry of a table, or past its end.
+    #[inline(always)]
     fn at(size: u16, table: DescriptorTable, index: u16, earlier: u16) -> Progress
         requires ends { EndsIn64Bits table }
         requires few { earlier ≤ size }
@@ -119,6 +120,7 @@ impl ChainWalk {
     }
 
     // What the step comes to. `came` has the entry's bytes, or is none if one of their addresses can't be reached.
+    #[inline(always)]
     fn step(self, came: Option<[u8; 16]>) -> WalkStep
         ensures step { walk_step_of result ≡ step_by self.size (visit_of self) (load_of self came) }
         ensures fits { IfOrdinary result (λ d. d.addr + d.len < 2 ^ 64) }
@@ -142,6 +144,7 @@ impl ChainWalk {
 
     /// Takes the entry's bytes, or none if one of their addresses can't be reached, and answers the next state of the walk.
     /// Each time fewer steps are left.
+    #[inline(always)]
     pub fn give(self, came: Option<[u8; 16]>) -> Given
         ensures joins { result.joins ≡ joining (step_by self.size (visit_of self) (load_of self came)) }
         ensures then { ahead_of result.then ≡ ahead_after self.size (visit_of self) (step_by self.size (visit_of self) (load_of self came)) }

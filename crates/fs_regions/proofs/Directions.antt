@@ -89,13 +89,6 @@ stands l b ds from skip d rest this less s =
     let front : (before : List Descriptor) × (of_direction b ds ≡ before ++ d ∷ of_direction b rest) × (from ≡ total_len before + skip) = rw (direction b true d rest this) at s.front in
     (front.0, of_direction b rest, front.1, front.2, less)
 
-pub skips_end : (l : List Region) (b : Bool) (ds : List Descriptor) (from skip : ℕ) (rest : List Descriptor) → rest ≡ [] → Skips l b ds from skip rest → total_len (of_direction b ds) ≤ from
-skips_end l b ds from skip rest end s =
-    let none : total_len (of_direction b rest) ≡ 0 = ap (λ (x : List Descriptor). total_len (of_direction b x)) end ∙ ap total_len (none_of b) in
-    let count = s.count in
-    let below = s.below in
-    omega (arith, none, count, below)
-
 take_front : (xs ys : List ℕ) (n : ℕ) → length xs ≡ n → take n (xs ++ ys) ≡ xs
 take_front [] ys zero long = refl
 take_front [] ys (suc n) long = absurd (omega (arith, long))
@@ -199,8 +192,3 @@ pub hole_if : (l : List Region) (b : Bool) (ds : List Descriptor) (from skip : �
     beq (is_writable d) b ≡ true → addr ≡ d.addr → len ≡ d.len →
     skip < len → Skips l b ds from skip (d ∷ rest) → all_reach (places_in l) (access_of b) (of_direction b ds) ≡ true → place l (addr + skip) ≡ None → ⊥
 hole_if l b ds from skip d rest addr len this at long less s all none = no_hole l b ds from skip d rest this (rw long at less) s all (rw at at none)
-
-pub overflow_if : (l : List Region) (b : Bool) (ds : List Descriptor) (from skip : ℕ) (d : Descriptor) (rest : List Descriptor) (addr len : ℕ) →
-    beq (is_writable d) b ≡ true → addr ≡ d.addr → len ≡ d.len →
-    skip < len → Skips l b ds from skip (d ∷ rest) → all_reach (places_in l) (access_of b) (of_direction b ds) ≡ true → addr + skip < 2 ^ 64
-overflow_if l b ds from skip d rest addr len this at long less s all = rw at (no_overflow l b ds from skip d rest this (rw long at less) s all)

@@ -12,7 +12,7 @@ use Rattle.fs_queue.specs.NextAvail as avail
 use Rattle.fs_queue.specs.Chain.{Found}
 use Rattle.fs_queue.specs.Loads.{Load}
 use Rattle.fs_queue.specs.OfferLoads.{waits_by, on_waits, with_loaded, offer_by}
-use Rattle.fs_queue.specs.Taking.{Offer, Idle, Refuses, offer_of, return_fault}
+use Rattle.fs_queue.specs.Taking.{Offer, Refuses, offer_of, return_fault}
 use Rattle.fs_regions.specs.Walks.{Loaded, RingIsAsked, IsLost, HeadWaits, Waits, FindsBy, OffersBy}
 
 -- by what waits
@@ -32,11 +32,6 @@ on_found m limit q loaded head found request o runs waits with_request finds =
     let has = return_has (reach m Write (element_at q) 8 && reach m Write (index_at q) 2) (reach m Read q.avail 2) waits.returns in
     let by_head = on_next m limit q loaded.index loaded.entry (loaded.entries ++ finds.0) request (avail.Head head) runs waits.by_loads in
     (waits.asked, finds.0, finds.1, by_head ∙ (rw (has.0, has.1, finds.2) with_request))
-
--- by the ring alone
-pub on_idle : (m : Memory) (limit : ℕ) (q : Queue) (loaded : Loaded) → q.stopped ≡ false → loaded.entries ≡ [] → RingIsAsked m q loaded → waits_by q loaded.index loaded.entry ≡ Some avail.Idle →
-    OffersBy m limit q loaded [] Idle
-on_idle m limit q loaded runs none asked waits = (asked, [], All-nil (IsLost m), on_next m limit q loaded.index loaded.entry (loaded.entries ++ []) [] avail.Idle runs waits ∙ (rw none refl))
 
 pub on_refused : (m : Memory) (limit : ℕ) (q : Queue) (loaded : Loaded) (e : QueueError) → q.stopped ≡ false → loaded.entries ≡ [] → RingIsAsked m q loaded →
     waits_by q loaded.index loaded.entry ≡ Some (avail.Refused e) → OffersBy m limit q loaded [] (Refuses e)

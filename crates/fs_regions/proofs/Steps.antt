@@ -154,13 +154,6 @@ begins_of l position q (says.Refused e) is begins = tt
 pub index_begins : (l : QueueLayout) (position : ℕ) (x : IndexWalk) → BeginsAt l position (says.Index x) → at_position x.layout x.position ≡ at_position l position
 index_begins l position x begins = rw (begins.0, begins.1) refl
 
-pub not_begun : (l : QueueLayout) (position : ℕ) (w : code.Walk) → ((x : IndexWalk) → w ≡ says.Index x → ⊥) → BeginsAt l position w → ⊥
-not_begun l position (says.Index x) other begins = other x refl
-not_begun l position (says.RingEntry x) other begins = begins
-not_begun l position (says.Chain head progress) other begins = begins
-not_begun l position says.Idle other begins = begins
-not_begun l position (says.Refused e) other begins = begins
-
 -- a head waits, and nothing of its chain was loaded
 pub head_waits : (m : Memory) (q : Queue) (loaded : Loaded) (head : ℕ) (progress : Progress) → TellsBy m q loaded (says.Chain head progress) → HeadWaits m q loaded head progress
 head_waits m q loaded head progress tells = record {

@@ -1,5 +1,5 @@
 -- What a walk over regions comes to by the loads so far (VIRTIO 1.2, 2.7.5, 2.7.6 and 2.7.13 from the device's side).
-use Rattle.std.specs.Prelude.{◌≡◌, ◌⊎◌, ℕ, ◌+◌, ◌*◌, ◌<◌, ◌≤◌, ◌&&◌, Bool, true, false, nat_le, List, [], ◌∷◌, ◌++◌, All, length, take, drop, Option, Some, None, option_map}
+use Rattle.std.specs.Prelude.{◌≡◌, ◌⊎◌, if◌then◌else◌, ℕ, ◌+◌, ◌*◌, ◌<◌, ◌≤◌, ◌&&◌, Bool, true, false, nat_le, List, [], ◌∷◌, ◌++◌, All, length, take, drop, Option, Some, None, option_map}
 use Rattle.vm_iotlb.specs.declared.permissions.Permissions.TheVariants.{Read}
 use Rattle.vm_memory.specs.Layout.{left_at}
 use Rattle.vm_memory.specs.Memory.{Memory, reach}
@@ -9,7 +9,7 @@ use Rattle.fs_queue.specs.declared.walk.Walk as code
 use Rattle.fs_queue.specs.declared.walk.Walk.TheVariants as waits
 use Rattle.fs_queue.specs.Queue.{Queue, avail_index_at, ring_entry_at}
 use Rattle.fs_queue.specs.NextAvail.{NextAvail, Head}
-use Rattle.fs_queue.specs.Chain.{Descriptor, Visit, with_front, entry_address, Found, IsChain, first_visit}
+use Rattle.fs_queue.specs.Chain.{Descriptor, DescriptorTable, Visit, with_front, entry_address, Found, IsChain, first_visit}
 use Rattle.fs_queue.specs.Loads.{Load, Ahead, Reads, found_exactly, chain_exactly, asks_entry, ahead_at, is_whole}
 use Rattle.fs_queue.specs.OfferLoads.{waits_by, offer_by}
 use Rattle.fs_queue.specs.Taking.{readable, writable, total_len, IsRequest, CannotFetch, Offer, Idle, Refuses, Offers, addresses_of, return_fault}
@@ -121,11 +121,14 @@ StandsAt m q loaded ds (at.Entries w) =
 abbrev pub IsThere : Memory → QueueWalk → Type 0
 IsThere m w = reach m Read (asked_by w) (asked_len w) ≡ true
 
--- so many entries from one on may be asked for at once: none past their table's end, at most 4096 bytes; and more than one only of a table that a descriptor names, in one region, and no
--- more than descriptors may still join the chain
+-- how many entries a load of a table has at most: 4096 bytes of one that a descriptor names; of the queue's own 64 bytes, since a driver lays a chain there mostly one descriptor behind another
+abbrev pub most_of : DescriptorTable → ℕ
+most_of t = if t.indirect then 256 else 4
+
+-- so many entries from one on may be asked for at once: none past their table's end, and no more than a load has; and more than one only in one region, and no more than descriptors may still
+-- join the chain
 abbrev pub MayBeAsked : Memory → Queue → List Descriptor → Visit → (n : ℕ) → Type 0
-MayBeAsked m q ds v n =
-    (n ≤ 256) × (v.index + n ≤ v.table.entries) × (1 < n → (v.table.indirect ≡ true) × (16 * n ≤ left_at m.layout (entry_address v)) × (length ds + n ≤ q.size))
+MayBeAsked m q ds v n = (n ≤ most_of v.table) × (v.index + n ≤ v.table.entries) × (1 < n → (16 * n ≤ left_at m.layout (entry_address v)) × (length ds + n ≤ q.size))
 
 -- a stretch has the most that may be
 abbrev pub IsLongestStretch : Memory → Queue → List Descriptor → QueueWalk → Type 0

@@ -6,8 +6,11 @@ ghost use Rattle.fs_queue.specs.SteppingView.{visit_of};
 
 use fs_queue::ChainWalk;
 
-/// How many entries of a table a walk asks for at most: 4096 bytes.
+/// How many entries of a table that a descriptor names a load has at most: 4096 bytes.
 pub(crate) const MOST_ENTRIES: u16 = 256;
+
+/// How many entries of the queue's own table a load has at most: 64 bytes.
+pub(crate) const MOST_OWN_ENTRIES: u16 = 4;
 
 /// How many bytes an entry of a table has.
 pub(crate) const ENTRY_LEN: usize = 16;

@@ -10,27 +10,38 @@ ghost use Rattle.fs_queue.specs.Loads.{Load, Ahead, Reads};
 ghost use Rattle.fs_queue.specs.SteppingView.{ahead_of, load_of, visit_of, IfWants};
 ghost use Rattle.fs_regions.specs.Places.{places_in};
 ghost use Rattle.fs_regions.specs.Stretches.{ReadsStretch};
-ghost use Rattle.fs_regions.specs.Walks.{is_in, Brings};
+ghost use Rattle.fs_regions.specs.Walks.{is_in, most_of, Brings};
 
-use crate::entries::{ENTRY_LEN, MOST_ENTRIES};
+use crate::entries::{ENTRY_LEN, MOST_ENTRIES, MOST_OWN_ENTRIES};
 use crate::regions::GuestRegions;
-use fs_queue::{ChainWalk, Descriptors, Progress};
+use fs_queue::{ChainWalk, DescriptorTable, Descriptors, Progress};
 
-// How many entries a walk asks for at most: of a table that a descriptor names those up to its end, as many as the chain may still take descriptors, and no more
-// than 256; of the queue's own the one that it is at.
-fn most_entries(walk: &ChainWalk, may_join: usize) -> u16
+// How many entries a load of a table has at most.
+fn most_of(table: DescriptorTable) -> u16
+    ensures most { result ≡ most_of table }
     ensures some { 0 < result }
     ensures few { result ≤ 256 }
+{
+    if table.indirect {
+        MOST_ENTRIES
+    } else {
+        MOST_OWN_ENTRIES
+    }
+}
+
+// How many entries a walk asks for at most: those up to the end of its table, no more than a load of it has, and no more than the chain may still take
+// descriptors; but the one that it is at in any case.
+fn most_entries(walk: &ChainWalk, may_join: usize) -> u16
+    ensures some { 0 < result }
+    ensures few { result ≤ most_of walk.now.table }
+    ensures low { result ≤ 256 }
     ensures inside { walk.now.index + result ≤ walk.now.table.entries }
-    ensures stretch { 1 < result → (walk.now.table.indirect ≡ true) × (result ≤ may_join) }
-    ensures most { (n : ℕ) → n ≤ 256 → walk.now.index + n ≤ walk.now.table.entries → (1 < n → (walk.now.table.indirect ≡ true) × (n ≤ may_join)) → n ≤ result }
+    ensures joins { 1 < result → result ≤ may_join }
+    ensures most { (n : ℕ) → n ≤ most_of walk.now.table → walk.now.index + n ≤ walk.now.table.entries → (1 < n → n ≤ may_join) → n ≤ result }
 {
     let (table, index) = walk.entry();
-    if !table.indirect {
-        return 1;
-    }
     let left = (table.entries - u32::from(index)) as usize;
-    let most = left.min(may_join).min(usize::from(MOST_ENTRIES));
+    let most = left.min(may_join).min(usize::from(most_of(table)));
     most.max(1) as u16
 }
 
@@ -54,15 +65,16 @@ fn entries_in_region(regions: &GuestRegions, walk: &ChainWalk, most: u16) -> u16
     }
 }
 
-/// How many entries a walk asks for at once: at least the one that it is at. More are of a table that a descriptor names, stand in one region, and are no
-/// more than the descriptors that may still join the chain: as many as these bounds let it have.
+/// How many entries a walk asks for at once: at least the one that it is at. More stand in one region, and are no more than a load of their table has, than
+/// the table has from there on, and than descriptors may still join the chain: as many as these bounds let it have.
 pub(crate) fn stretch_len(regions: &GuestRegions, walk: &ChainWalk, may_join: usize) -> u16
     ensures some { 0 < result }
-    ensures few { result ≤ 256 }
+    ensures few { result ≤ most_of walk.now.table }
+    ensures low { result ≤ 256 }
     ensures inside { walk.now.index + result ≤ walk.now.table.entries }
-    ensures stretch { 1 < result → (walk.now.table.indirect ≡ true) × (16 * result ≤ left_at regions.now (entry_address (visit_of walk.now))) × (result ≤ may_join) }
-    ensures most { reach (places_in regions.now) Read (entry_address (visit_of walk.now)) 16 ≡ true → (n : ℕ) → n ≤ 256 → walk.now.index + n ≤ walk.now.table.entries
-        → (1 < n → (walk.now.table.indirect ≡ true) × (16 * n ≤ left_at regions.now (entry_address (visit_of walk.now))) × (n ≤ may_join)) → n ≤ result }
+    ensures stretch { 1 < result → (16 * result ≤ left_at regions.now (entry_address (visit_of walk.now))) × (result ≤ may_join) }
+    ensures most { reach (places_in regions.now) Read (entry_address (visit_of walk.now)) 16 ≡ true → (n : ℕ) → n ≤ most_of walk.now.table → walk.now.index + n ≤ walk.now.table.entries
+        → (1 < n → (16 * n ≤ left_at regions.now (entry_address (visit_of walk.now))) × (n ≤ may_join)) → n ≤ result }
     ensures there { let m = places_in regions.now in let a = entry_address (visit_of walk.now) in reach m Read a 16 ≡ true → reach m Read a (16 * result) ≡ true }
 {
     entries_in_region(regions, walk, most_entries(walk, may_join))

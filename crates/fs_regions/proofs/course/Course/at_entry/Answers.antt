@@ -22,17 +22,17 @@ returns-then-reaches-clause-comes c = λ loaded waits size brings.
           c.stretch_len-entries.ensures.inside,
           λ more.
               let stretch = c.stretch_len-entries.ensures.stretch more in
-              let joins = stretch.2 in
+              let joins = stretch.1 in
               let may_join = c.may_join.ensures in
-              (stretch.0, stretch.1, omega (arith, more, joins, may_join)),
+              (stretch.0, omega (arith, more, joins, may_join)),
         ),
         λ n may.
             c.stretch_len-entries.ensures.most there n may.0 may.1
             (λ more.
             let stretch = may.2 more in
-            let joins = stretch.2 in
+            let joins = stretch.1 in
             let may_join = c.may_join.ensures in
-            (stretch.0, stretch.1, omega (arith, more, joins, may_join))),
+            (stretch.0, omega (arith, more, joins, may_join))),
       ),
     )
 
