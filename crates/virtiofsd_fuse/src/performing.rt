@@ -44,6 +44,16 @@ macro_rules! performed {
     };
 }
 
+// A match over calls by the shape of their requests. A row: the calls of a shape, and what performs them.
+macro_rules! by_shape {
+    ($call:expr, { $($($name:ident)+ => $performed:expr;)* }) => {
+        match $call {
+            $($(FileCall::$name { .. })|+ => $performed,)*
+            _ => unreachable!(),
+        }
+    };
+}
+
 impl<F: FileSystem> Server<F> {
     /// Performs the one call that a request asks. What the file system owns of it takes memory, before the call.
     #[inline(always)]
@@ -60,48 +70,14 @@ impl<F: FileSystem> Server<F> {
         ensures handles { ServerHandles F.may self.old w.old.free (Asks (One unique (call_of [] call.entry))) result w.new.written self.new }
         ensures rest { Leaves (owns_memory (call_of [] call.entry)) result w.old w.new self.old self.new }
     {
-        match call {
-            FileCall::Lookup { .. }
-            | FileCall::Unlink { .. }
-            | FileCall::Rmdir { .. }
-            | FileCall::Removexattr { .. } => self.perform_named(unique, call, w),
-            FileCall::Link { .. }
-            | FileCall::Rename { .. }
-            | FileCall::Setxattr { .. }
-            | FileCall::Getxattr { .. } => self.perform_recorded(unique, call, w),
-            FileCall::Symlink { .. }
-            | FileCall::Mknod { .. }
-            | FileCall::Mkdir { .. }
-            | FileCall::Create { .. } => self.perform_made(alloc, unique, call, w),
-            FileCall::Readlink { .. }
-            | FileCall::Statfs { .. }
-            | FileCall::Syncfs { .. }
-            | FileCall::Destroy
-            | FileCall::Getlk
-            | FileCall::Setlk
-            | FileCall::Setlkw
-            | FileCall::Bmap
-            | FileCall::Ioctl
-            | FileCall::Poll
-            | FileCall::NotifyReply
-            | FileCall::TmpFile => self.perform_header(unique, call, w),
-            FileCall::Forget { .. }
-            | FileCall::Getattr { .. }
-            | FileCall::Setattr { .. }
-            | FileCall::Access { .. }
-            | FileCall::Listxattr { .. }
-            | FileCall::Open { .. }
-            | FileCall::Opendir { .. }
-            | FileCall::Release { .. }
-            | FileCall::Releasedir { .. }
-            | FileCall::Fsync { .. }
-            | FileCall::Fsyncdir { .. }
-            | FileCall::Flush { .. }
-            | FileCall::Fallocate { .. }
-            | FileCall::Lseek { .. }
-            | FileCall::CopyFileRange { .. } => self.perform_record(unique, call, w),
-            _ => unreachable!(),
-        }
+        by_shape!(call, {
+            Lookup Unlink Rmdir Removexattr => self.perform_named(unique, call, w);
+            Link Rename Setxattr Getxattr => self.perform_recorded(unique, call, w);
+            Symlink Mknod Mkdir Create => self.perform_made(alloc, unique, call, w);
+            Readlink Statfs Syncfs Destroy Getlk Setlk Setlkw Bmap Ioctl Poll NotifyReply TmpFile => self.perform_header(unique, call, w);
+            Forget Getattr Setattr Access Listxattr Open Opendir Release Releasedir Fsync Fsyncdir Flush Fallocate Lseek CopyFileRange =>
+                self.perform_record(unique, call, w);
+        })
     }
 
     // Performs a call whose request is nothing but its header.
