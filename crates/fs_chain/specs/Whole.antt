@@ -101,7 +101,7 @@ abbrev pub FromTaken : state.State → (Out → Type 0) → Type 0
 FromTaken (at.Taken out) P = P out
 FromTaken _ P = ⊥
 
--- a workbench is asked in a session by the first bytes of a request that was loaded; an ask that told More before it left all as it was
+-- a workbench is asked in a session by the first bytes of a request that was loaded; an ask that told More before it changed the session alone
 abbrev pub IsAskedBy : Workbench → Session → (request front : List ℕ) → told.Told → Workbench → Type 0
 IsAskedBy w s request front made w' = FromTaken w.state (λ out. (out.request_len ≡ length request) × IsFront front request
     × TellsMeaning (setting s.page_size s.options.0 out.room_len) (meaning s.options.0 request out.room_len) (drop 80 request) out made w'.state

@@ -48,7 +48,7 @@ return_stores q head room reply n = reply_stores room reply n ++ stores_after_re
 abbrev pub after_stores : Memory → List Store → Memory
 after_stores m stores = stored_all m (flat_map writes_of stores)
 
--- what a step does to memory once its calls are answered: a store, or a load of the two bytes of the available flags (2.7.7)
+-- what a step does to memory once its calls are answered: a store, or a load of two bytes: the available flags (2.7.7), or used_event of a queue with the event index (2.7.10)
 pub data Act : Type 0 where
   Stores : Store → Act
   LoadsFlags : (found : List ℕ) → Act

@@ -18,8 +18,8 @@ use std::marker::Model;
 use vm_memory::GuestMemory;
 use vm_memory_core::HostBlocks;
 
-/// A split virtqueue from the device's side: where its parts are, how many chains were returned, modulo 2^16 (its
-/// position), and whether it stopped.
+/// A split virtqueue from the device's side: where its parts are, how many chains were taken, modulo 2^16 (its position;
+/// each goes back before the next is taken), and whether it stopped.
 #[derive(Debug, Drop)]
 pub struct Queue {
     layout: QueueLayout,
@@ -77,7 +77,7 @@ impl Queue {
         }
     }
 
-    /// A queue of which so many chains were returned, modulo 2^16, and which is stopped or not.
+    /// A queue of which so many chains were taken and returned, modulo 2^16, and which is stopped or not.
     pub fn resume(layout: QueueLayout, position: u16, stopped: bool) -> Queue
         ensures { result ≡ resumed layout.size layout.desc layout.avail layout.used position stopped }
     {
@@ -105,7 +105,7 @@ impl Queue {
         self.layout
     }
 
-    /// How many chains were returned, modulo 2^16.
+    /// How many chains were taken, modulo 2^16.
     pub fn position(&self) -> u16
         ensures { result ≡ self.now.position }
     {

@@ -27,7 +27,7 @@ use fs_queue::{
 pub struct Course {
     /// Where the queue's parts are.
     pub layout: QueueLayout,
-    /// How many of its chains were returned, modulo 2^16.
+    /// How many of its chains were taken before, modulo 2^16.
     pub position: u16,
     /// How many bytes a request or a room has at most.
     pub limit: u32,
