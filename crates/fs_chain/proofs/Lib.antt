@@ -6,7 +6,6 @@ pub mod Steps
 pub mod WholeCalls
 pub mod WholeChains
 pub mod WholeEntries
-pub mod WholeFlags
 pub mod WholeListings
 pub mod WholeMemory
 pub mod WholeOffers

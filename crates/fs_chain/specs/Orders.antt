@@ -11,7 +11,7 @@ use Rattle.fs_chain.specs.declared.state.State as state
 use Rattle.fs_chain.specs.declared.state.State.TheVariants as at
 use Rattle.fs_chain.specs.Queues.{is_at, is_last, is_out_of, may_take}
 use Rattle.fs_chain.specs.declared.error.ChainError.{ChainError}
-use Rattle.fs_chain.specs.declared.error.ChainError.TheVariants.{BadArgument, ShortBuffer, WrongOrder, OtherQueue, OtherKind, ChainOut, Returning}
+use Rattle.fs_chain.specs.declared.error.ChainError.TheVariants.{BadArgument, ShortBuffer, WrongOrder, OtherQueue, ChainOut, Returning}
 
 -- whether a chain is out, of any queue
 abbrev pub is_out : state.State → Bool
@@ -58,18 +58,6 @@ walk_error _ q len = Some WrongOrder
 abbrev pub ask_error : state.State → (len : ℕ) → Option ChainError
 ask_error (at.Taken out) len = if nat_lt out.request_len len then Some BadArgument else None
 ask_error _ len = Some WrongOrder
-
--- why no answer can be taken, whatever it is
-abbrev pub answer_error : state.State → Option ChainError
-answer_error (at.Waits out waiting) = None
-answer_error (at.Lists out listing) = Some OtherKind
-answer_error _ = Some WrongOrder
-
--- why no listing goes on
-abbrev pub listing_error : state.State → Option ChainError
-listing_error (at.Lists out listing) = None
-listing_error (at.Waits out waiting) = Some OtherKind
-listing_error _ = Some WrongOrder
 
 -- the front of a reply; none has no bytes
 abbrev pub front_in : Option (List ℕ) → List ℕ

@@ -21,6 +21,7 @@ use std::mem;
 use vm_memory_core::VolatileSlice;
 
 // The longest window of the bytes that a walk asks for, from one of them on.
+#[inline(always)]
 fn window_of(regions: &GuestRegions, walk: &QueueWalk, from: usize) -> Option<VolatileSlice>
     ensures some { IfSome result (λ w. (from < asked_len walk.now) × IsWindowAt (place regions.now) (asked_by walk.now + from) (asked_len walk.now - from) w) }
     ensures longest { IfSome result (λ w. w.len ≡ min (asked_len walk.now - from) (left_at regions.now (asked_by walk.now + from))) }
@@ -199,6 +200,7 @@ impl Workbench {
     }
 
     /// The longest window of the bytes that a walk asks for, from one of them on; none past their end, or if nothing is asked for.
+    #[inline(always)]
     pub fn load_window(&self, from: usize) -> Option<VolatileSlice>
         ensures some { IfSome result (λ w. IfWalking self.now.state (λ walk. (from < asked_len walk)
             × IsWindowAt (place self.now.regions) (asked_by walk + from) (asked_len walk - from) w

@@ -26,6 +26,7 @@ pub enum Went {
 impl Workbench {
     /// The window of the bytes that a walk still asks for: of its load what didn't come yet, as long as its region goes on. None if it asks for
     /// none, or if they have no place.
+    #[inline(always)]
     pub fn still_wanted(&self) -> Option<VolatileSlice>
         ensures some { IfSome result (IsLoadWindow self.now (came self.now)) }
         ensures none { result ≡ None → HasNoPlace self.now (came self.now) }

@@ -152,6 +152,7 @@ impl Workbench {
     }
 
     // Begins a walk through what waits at the queue's position, if its event index has a place.
+    #[inline(always)]
     fn begin_course(&mut self, queue: &mut KeptQueue) -> WalkOutcome
         requires free { self.old.state ≡ at.Free }
         requires goes { queue.old.stopped ≡ None }
