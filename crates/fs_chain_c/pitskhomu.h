@@ -444,6 +444,9 @@ struct pk_step {
  * PK_DONE: the chain is out of the queue, its windows stay as they are until it is returned, dropped or abandoned. PK_IDLE, a refusal
  * from 1 to 8: the chain is free. A chain whose walk has begun isn't out yet: pk_drop ends it, and so does a refusal. An entry that goes over the
  * end of a region (the next one begins there) is loaded in two parts, by two calls; a caller who has it whole may give it whole, unless a part of it was given.
+ * The first load is of the available index. The two bytes of the last load of this queue's index may be given in its place, if that was made since the queue was
+ * begun (pk_queue_begin, pk_restore; else since its first walk) and over the same memory, and told another number than `position` is now: so chains wait that
+ * it told of. Otherwise the index is loaded. What the walk asks for next is loaded after that last load, which acquired (rule 3), by another thread too.
  * Errors: PK_WRONG_ORDER (no memory was told), PK_BAD_ARGUMENT (the queue's numbers are none; or `loaded` isn't as long as the load, whole or as
  * it was told: that is still wanted, and told again), PK_WRONG_ORDER (it is out), PK_OTHER_QUEUE (it walks another, or a chain was taken
  * or dropped since, or it was begun anew: drop or abandon the walk), PK_CHAIN_OUT; then in no order PK_OUT_OF_MEMORY, 1 to 8, PK_NO_PLACE. */

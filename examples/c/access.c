@@ -19,11 +19,24 @@ static void load(void *to, uintptr_t at, size_t len) {
     else copy_out(to, at, len);
 }
 
-uint32_t take_chain(struct pk_chain *chain, struct pk_queue *queue, struct pk_step *step) {
+/* The first load of a walk: the available index, unless the one that was loaded last tells of a chain that wasn't taken yet. What it covers was stored
+ * before that load, which acquired. */
+static void load_offered(void *to, const struct pk_queue *queue, struct offered *offered, uintptr_t at) {
+    bool tells_more = offered->at == at && offered->begun == queue->begun && offered->index != queue->position;
+    if (!tells_more) *offered = (struct offered){at, queue->begun, load_index(at)};
+    memcpy(to, &offered->index, 2);
+}
+
+uint32_t take_chain(struct pk_chain *chain, struct pk_queue *queue, struct offered *offered, struct pk_step *step) {
     uint8_t bytes[PK_LOAD_MAX];
     uint32_t status;
+    bool is_first = true;
     *step = (struct pk_step){0};
-    while ((status = pk_walk(chain, queue, bytes, step->len, step)) == PK_LOAD) load(bytes, step->at, step->len);
+    while ((status = pk_walk(chain, queue, bytes, step->len, step)) == PK_LOAD) {
+        if (is_first) load_offered(bytes, queue, offered, step->at);
+        else load(bytes, step->at, step->len);
+        is_first = false;
+    }
     return status;
 }
 

@@ -18,8 +18,17 @@ uint16_t load_index(uintptr_t at);
  * stored: where they are wanted, walk once more then, since a chain may have come before the driver could know. `marker` may be NULL. */
 bool ask_kicks(struct pk_chain *chain, const struct pk_queue *queue, bool wanted, const struct marker *marker);
 
-/* Walks to the next chain of a queue: the status is PK_DONE with a chain, PK_IDLE, or why there is none. */
-uint32_t take_chain(struct pk_chain *chain, struct pk_queue *queue, struct pk_step *step);
+/* How many chains a queue's driver had offered when its available index was loaded last: the index, where it was loaded, and in which beginning of
+ * the queue. Zeros before its first use, and kept with the queue, under the same lock. */
+struct offered {
+    uintptr_t at;
+    uint32_t begun;
+    uint16_t index;
+};
+
+/* Walks to the next chain of a queue: the status is PK_DONE with a chain, PK_IDLE, or why there is none. The index is loaded again only once all
+ * that it told of was taken: so all walks of the queue are made by this, with the same `offered`, and one that was restored begins with zeros. */
+uint32_t take_chain(struct pk_chain *chain, struct pk_queue *queue, struct offered *offered, struct pk_step *step);
 
 /* Copies `len` bytes of the request out, from its byte `from` on. */
 void gather(struct pk_chain *chain, uint64_t from, void *to, uint64_t len);

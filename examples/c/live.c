@@ -36,7 +36,7 @@ static uint32_t serve_request(struct worker *worker, const struct pk_step *step)
 /* Takes the next chain. PK_CHAIN_OUT: as many are out as the queue holds, and whoever gives one back looks again. */
 static uint32_t take(struct worker *worker, struct pk_step *step) {
     struct live *live = worker->live;
-    uint32_t status = live->refused ? PK_IDLE : take_chain(&worker->chain, &live->queue, step);
+    uint32_t status = live->refused ? PK_IDLE : take_chain(&worker->chain, &live->queue, &live->offered, step);
     uint16_t out = (uint16_t)(live->queue.position - live->queue.returned);
     if (out > live->most) live->most = out;
     return status == PK_CHAIN_OUT ? PK_IDLE : status;
@@ -59,7 +59,8 @@ static void hand_on(struct worker *worker) {
     struct live *live = worker->live;
     bool is_for_another = live->sleeping > 0;
     want_kicks(worker, is_for_another);
-    if (is_for_another && load_index(live->avail_at + 2) != live->queue.position) signal_event(live->kick);
+    uint16_t position = live->queue.position; /* the index that was loaded last may tell of a chain behind it */
+    if (is_for_another && (live->offered.index != position || load_index(live->avail_at + 2) != position)) signal_event(live->kick);
 }
 
 /* The lock is held, but while the request is served. */

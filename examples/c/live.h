@@ -29,6 +29,7 @@ struct live {
     answerer *answer;
     void *files;
     const struct marker *marker; /* or NULL */
+    struct offered offered;
     uint64_t served, faulty; /* chains that went back, with a fault too */
     uint32_t refused;        /* why the queue isn't served any more, or 0 */
     uint16_t most;           /* so many chains were out at once */

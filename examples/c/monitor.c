@@ -19,6 +19,7 @@ enum { ROOT = FUSE_ROOT_ID, FILES = 8, CONTENTS = 0x4000, NAME_MOST = 255 };
 /* Device and queue are numbers. Each thread has a chain and buffers of its own; here there is one. */
 static struct pk_device device = PK_DEVICE;
 static struct pk_queue queue;
+static struct offered known; /* of that queue */
 static struct pk_chain chain;
 static uint8_t request[PK_REQUEST_MAX]; /* as long as the device's limit, so that it holds any request */
 static uint8_t list[PAGE];              /* READDIR's entries */
@@ -246,7 +247,7 @@ static uint32_t serve(bool *notify) {
     struct pk_step step;
     uint32_t status;
     *notify = false;
-    while ((status = take_chain(&chain, &queue, &step)) == PK_DONE) {
+    while ((status = take_chain(&chain, &queue, &known, &step)) == PK_DONE) {
         if (step.fault) printf("Chain %u goes back with no reply: %s\n", step.head, pk_fault_name(step.fault));
         else status = serve_request(&step);
         if (status == PK_DONE) status = give_back(&chain, &queue, &marker, notify);
@@ -276,6 +277,7 @@ static void move(void) {
     expect(pk_save(&device, &queue, 1, record, sizeof record, &len), PK_DONE);
     expect(pk_restore(&device, &queue, 1, record, len - 1, &count), PK_RECORD_TRUNCATED);
     queue = (struct pk_queue){0};
+    known = (struct offered){0};
     expect(pk_restore(&device, &queue, 1, record, len, &count), PK_DONE);
     printf("From a record of %zu bytes the device goes on\n", len);
 }

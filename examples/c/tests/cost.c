@@ -14,6 +14,7 @@ enum { NEXT = 1, WRITE = 2, INDIRECT = 4, RUNS = 9, PIECES = 3, DATA = 4096, ENT
 
 static _Alignas(4096) uint8_t memory[END];
 static uint8_t file[DATA];
+static struct offered offered; /* of the queue */
 
 /* A kind of request: its pieces and those of its room (0: none), how many pages of room stand behind them in a table (0: no table), and
  * what answers it. */
@@ -120,7 +121,7 @@ static void serve_next(const struct row *row, struct pk_chain *chains, struct pk
     bool notify = false;
     put(AVAIL + 2, (uint16_t)(queue->position + row->out), 2);
     for (size_t k = 0; k < row->out; k++)
-        if (take_chain(&chains[k], queue, &steps[k])) abort();
+        if (take_chain(&chains[k], queue, &offered, &steps[k])) abort();
     for (size_t k = 0; k < row->out; k++)
         if (ask(&chains[k], device, request, load_front(&chains[k], &steps[k], request), &call) || row->answer(&chains[k], &call)) abort();
     for (size_t k = 0; k < row->out; k++)

@@ -101,9 +101,10 @@ impl State {
         self.is_started && self.is_enabled && !self.is_refused
     }
 
-    /// Whether the driver has offered a chain that isn't taken: by the ring's own word, so it is a hint.
+    /// Whether the driver has offered a chain that isn't taken: by the ring's own word, so it is a hint. The ring is asked only if its index, as
+    /// it was loaded last, tells of none.
     fn has_more(&self, memory: &Table) -> bool {
-        memory.available_index(self.numbers.layout.available) != Some(self.numbers.position)
+        self.queue.knows_more() || memory.available_index(self.numbers.layout.available) != Some(self.numbers.position)
     }
 
     /// Interrupts the driver, as soon as it is known where.

@@ -83,7 +83,7 @@ impl Chain {
     /// `loaded` has the bytes that the step before wanted; at first none.
     pub fn walk(&mut self, queue: &mut Queue, loaded: &[u8], step: &mut sys::Step) -> Result<Walked, Status> {
         // SAFETY: as the module says.
-        match unsafe { sys::pk_walk(&mut self.handle, queue, loaded.as_ptr(), loaded.len(), step) } {
+        match unsafe { sys::pk_walk(&mut self.handle, queue.numbers_mut(), loaded.as_ptr(), loaded.len(), step) } {
             status::DONE => {
                 self.ticket = step.ticket;
                 Ok(Walked::Out)
@@ -96,7 +96,7 @@ impl Chain {
 
     pub fn give_up(&mut self, queue: &mut Queue) -> Result<(), Status> {
         // SAFETY: as the module says.
-        Status::check(unsafe { sys::pk_drop(&mut self.handle, queue) })
+        Status::check(unsafe { sys::pk_drop(&mut self.handle, queue.numbers_mut()) })
     }
 
     /// The chain is free; its queue isn't told.
@@ -109,7 +109,7 @@ impl Chain {
     pub fn ask_kicks(&mut self, queue: &Queue, wanted: bool) -> Result<sys::Store, Status> {
         let mut store = sys::Store::default();
         // SAFETY: as the module says.
-        Status::check(unsafe { sys::pk_ask_kicks(&mut self.handle, queue, wanted.into(), &mut store) })?;
+        Status::check(unsafe { sys::pk_ask_kicks(&mut self.handle, queue.numbers(), wanted.into(), &mut store) })?;
         Ok(store)
     }
 
@@ -237,7 +237,7 @@ impl Chain {
         let mut stores = sys::Stores::default();
         // SAFETY: as the module says.
         Status::check(unsafe {
-            sys::pk_return(&mut self.handle, queue, front.as_mut_ptr(), front.len(), &mut stores)
+            sys::pk_return(&mut self.handle, queue.numbers_mut(), front.as_mut_ptr(), front.len(), &mut stores)
         })?;
         Ok(stores)
     }
@@ -246,7 +246,7 @@ impl Chain {
     pub fn end_return(&mut self, queue: &mut Queue, seen: u16) -> Result<bool, Status> {
         let mut notify = 0;
         // SAFETY: as the module says.
-        Status::check(unsafe { sys::pk_returned(&mut self.handle, queue, seen, &mut notify) })?;
+        Status::check(unsafe { sys::pk_returned(&mut self.handle, queue.numbers_mut(), seen, &mut notify) })?;
         Ok(notify != 0)
     }
 }
@@ -270,7 +270,7 @@ fn added(number: u32) -> Result<Added, Status> {
 }
 
 /// Begins a queue anew.
-pub(crate) fn begin(queue: &mut Queue, position: u16) -> Result<(), Status> {
+pub(crate) fn begin(queue: &mut sys::Queue, position: u16) -> Result<(), Status> {
     // SAFETY: as the module says.
     Status::check(unsafe { sys::pk_queue_begin(queue, position) })
 }
@@ -288,7 +288,7 @@ pub(crate) fn is_name(name: &[u8]) -> bool {
 }
 
 /// How long the record is, also with `ShortBuffer`, and whether it stands in the buffer.
-pub(crate) fn save(device: &sys::Device, queues: &[Queue], buffer: &mut [u8]) -> (usize, Result<(), Status>) {
+pub(crate) fn save(device: &sys::Device, queues: &[sys::Queue], buffer: &mut [u8]) -> (usize, Result<(), Status>) {
     let mut len = 0;
     // SAFETY: as the module says.
     let number =
@@ -297,7 +297,7 @@ pub(crate) fn save(device: &sys::Device, queues: &[Queue], buffer: &mut [u8]) ->
 }
 
 /// How many queues the record has.
-pub(crate) fn restore(device: &mut sys::Device, queues: &mut [Queue], record: &[u8]) -> Result<usize, Status> {
+pub(crate) fn restore(device: &mut sys::Device, queues: &mut [sys::Queue], record: &[u8]) -> Result<usize, Status> {
     let mut count = 0;
     // SAFETY: as the module says.
     let number = unsafe {

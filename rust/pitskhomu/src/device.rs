@@ -64,14 +64,17 @@ impl Device {
     /// `ChainOut` (of a queue), `OutOfMemory`.
     pub fn save(&self, queues: &[Queue]) -> Result<Vec<u8>, Status> {
         let numbers = self.numbers();
-        let (len, measured) = chain::save(&numbers, queues, &mut []);
+        let mut places = [sys::Queue::default(); Device::MOST_QUEUES];
+        let places = places.get_mut(..queues.len()).ok_or(Status::BadArgument)?;
+        places.iter_mut().zip(queues).for_each(|(place, queue)| *place = *queue.numbers());
+        let (len, measured) = chain::save(&numbers, places, &mut []);
         if let Err(status) = measured {
             if status != Status::ShortBuffer {
                 return Err(status);
             }
         }
         let mut record = zeros(len)?;
-        let (_, saved) = chain::save(&numbers, queues, &mut record);
+        let (_, saved) = chain::save(&numbers, places, &mut record);
         saved.map(|()| record)
     }
 
@@ -81,10 +84,10 @@ impl Device {
     pub fn restore(&self, record: &[u8]) -> Result<Vec<Queue>, Status> {
         let mut queues = Vec::new();
         queues.try_reserve_exact(Device::MOST_QUEUES).map_err(|_| Status::OutOfMemory)?;
-        queues.resize_with(Device::MOST_QUEUES, Queue::default);
+        let mut places = [sys::Queue::default(); Device::MOST_QUEUES];
         let mut numbers = self.numbers();
-        let count = chain::restore(&mut numbers, &mut queues, record)?;
-        queues.truncate(count);
+        let count = chain::restore(&mut numbers, &mut places, record)?;
+        queues.extend(places.iter().take(count).copied().map(Queue::of_numbers));
         self.set_options(Options::from_bits(numbers.options));
         Ok(queues)
     }

@@ -40,6 +40,12 @@ pub struct Region {
     pub host: usize,
 }
 
+/// A number that tells regions from other ones: FNV-1a by words of 64 bits.
+pub(crate) fn sum(regions: &[Region]) -> u64 {
+    let numbers = regions.iter().flat_map(|region| [region.guest, region.len, region.host as u64]);
+    numbers.fold(0xcbf2_9ce4_8422_2325, |sum, number| (sum ^ number).wrapping_mul(0x100_0000_01b3))
+}
+
 /// `len` bytes of memory from the number `at` on (struct pk_window), laid out as struct iovec is.
 #[repr(C)]
 #[derive(Clone, Copy, Debug, Default, PartialEq, Eq)]

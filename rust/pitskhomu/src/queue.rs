@@ -1,6 +1,7 @@
 //! A virtqueue: where its parts stand, and how far it has come.
 use crate::chain;
 use crate::status::Status;
+use crate::sys;
 
 /// The size of a split virtqueue and the guest addresses of its parts (VIRTIO 1.2, 2.7), as the driver told them.
 #[derive(Clone, Copy, Debug, Default, PartialEq, Eq)]
@@ -15,22 +16,19 @@ pub struct QueueLayout {
     pub used: u64,
 }
 
-/// A queue (struct pk_queue). It is told with each call, and moved on by it. Of several workers each has at most one chain out of it.
-#[repr(C)]
+/// What the available index was when it was loaded last (VIRTIO 1.2, 2.7.6), and over which regions, by their sum.
+#[derive(Clone, Copy, Debug)]
+struct Seen {
+    index: u16,
+    regions: u64,
+}
+
+/// A queue. It is told with each call, and moved on by it. Of several workers each has at most one chain out of it. Its available index is
+/// loaded again once all that it told of was taken, and where the queue begins anew or a worker's regions are others.
 #[derive(Debug, Default)]
 pub struct Queue {
-    desc: u64,
-    avail: u64,
-    used: u64,
-    size: u16,
-    position: u16,
-    returned: u16,
-    most_out: u16,
-    stopped: u16,
-    returning: u8,
-    event_index: u8,
-    begun: u32,
-    taken: u32,
+    numbers: sys::Queue,
+    seen: Option<Seen>,
 }
 
 impl Queue {
@@ -39,7 +37,7 @@ impl Queue {
     /// by its numbers alone it can't be told from one of before.
     pub const fn new(layout: QueueLayout, position: u16) -> Queue {
         let QueueLayout { size, descriptors, available, used } = layout;
-        Queue {
+        Queue::of_numbers(sys::Queue {
             desc: descriptors,
             avail: available,
             used,
@@ -52,72 +50,102 @@ impl Queue {
             event_index: 0,
             begun: 0,
             taken: 0,
-        }
+        })
+    }
+
+    /// A queue whose index wasn't loaded yet.
+    pub(crate) const fn of_numbers(numbers: sys::Queue) -> Queue {
+        Queue { numbers, seen: None }
+    }
+
+    pub(crate) const fn numbers(&self) -> &sys::Queue {
+        &self.numbers
+    }
+
+    pub(crate) fn numbers_mut(&mut self) -> &mut sys::Queue {
+        &mut self.numbers
+    }
+
+    /// The available index as it was loaded last, over these regions, if it tells of a chain that wasn't taken yet. That load acquired, and who
+    /// has the queue now comes behind it.
+    pub(crate) fn seen_index(&self, regions: u64) -> Option<u16> {
+        self.seen.filter(|seen| seen.regions == regions && seen.index != self.position()).map(|seen| seen.index)
+    }
+
+    /// The available index was loaded over these regions.
+    pub(crate) fn see_index(&mut self, index: u16, regions: u64) {
+        self.seen = Some(Seen { index, regions });
     }
 
     /// The same with up to `most` chains out at a time, 1 to the queue's size: as many as workers serve it.
     pub const fn with_most_out(mut self, most: u16) -> Queue {
-        self.most_out = most;
+        self.numbers.most_out = most;
         self
     }
 
     /// The same for a driver that took VIRTIO_F_EVENT_IDX, or that didn't: by it driver and device say at which chain they want to be told
     /// next, and not by flags (VIRTIO 1.2, 2.7.7 and 2.7.10).
     pub const fn with_event_index(mut self, is_taken: bool) -> Queue {
-        self.event_index = is_taken as u8;
+        self.numbers.event_index = is_taken as u8;
         self
     }
 
     /// Begins anew, as another does: its walks and the chains that are out of it are refused from here on (`Status::OtherQueue`; their
     /// workers `abandon` them). Errors, after which it is as it was: `BadArgument`.
     pub fn begin(&mut self, anew: Queue) -> Result<(), Status> {
-        let mut begun = Queue { begun: self.begun, ..anew };
-        chain::begin(&mut begun, anew.position)?;
-        *self = begun;
+        let mut numbers = sys::Queue { begun: self.numbers.begun, ..anew.numbers };
+        chain::begin(&mut numbers, anew.numbers.position)?;
+        *self = Queue::of_numbers(numbers);
         Ok(())
     }
 
     /// Its size, and where its parts stand.
     pub const fn layout(&self) -> QueueLayout {
-        QueueLayout { size: self.size, descriptors: self.desc, available: self.avail, used: self.used }
+        let sys::Queue { size, desc: descriptors, avail: available, used, .. } = self.numbers;
+        QueueLayout { size, descriptors, available, used }
     }
 
     /// Where the next chain is taken, modulo 2^16. While none is out it is where the queue stands.
     pub const fn position(&self) -> u16 {
-        self.position
+        self.numbers.position
     }
 
     /// How many chains went back, modulo 2^16, counted from where it began.
     pub const fn returned(&self) -> u16 {
-        self.returned
+        self.numbers.returned
     }
 
     /// How many chains are out: of one worker between calls only after a panic.
     pub const fn out(&self) -> u16 {
-        self.position.wrapping_sub(self.returned)
+        self.numbers.position.wrapping_sub(self.numbers.returned)
     }
 
     /// How many may be out.
     pub const fn most_out(&self) -> u16 {
-        self.most_out
+        self.numbers.most_out
+    }
+
+    /// Whether a chain waits by the available index as it was loaded last. If it tells of none, one may wait all the same: load it then.
+    pub fn knows_more(&self) -> bool {
+        self.seen.map_or(false, |seen| seen.index != self.position())
     }
 
     /// Whether the driver took VIRTIO_F_EVENT_IDX.
     pub const fn has_event_index(&self) -> bool {
-        self.event_index != 0
+        self.numbers.event_index != 0
     }
 
     /// The refusal that stopped it, if one did; of a queue of a record `Status::Stopped`.
     pub fn stopped(&self) -> Option<Status> {
-        Some(self.stopped).filter(|&number| number != 0).map(|number| Status::of(number.into()))
+        Some(self.numbers.stopped).filter(|&number| number != 0).map(|number| Status::of(number.into()))
     }
 
     /// The guest address of what says whether the driver's kicks are wanted: avail_event, or the flags of the used ring (VIRTIO 1.2, 2.7.8 and 2.7.10).
     pub(crate) const fn kick_address(&self) -> u64 {
         if self.has_event_index() {
-            self.used + 4 + 8 * self.size as u64
+            self.numbers.used + 4 + 8 * self.numbers.size as u64
         } else {
-            self.used
+            self.numbers.used
         }
     }
 }

@@ -1,7 +1,6 @@
 //! What pitskhomu.h declares, in its order, with its names (without `fs_` and `FS_`). The header says what each function does and
 //! owes. The script `tools/declared` compares the two.
 use crate::memory::{GuestRange as Range, Region, Window};
-use crate::queue::Queue;
 use core::ffi::c_void;
 
 pub const VERSION: u32 = 7;
@@ -78,6 +77,23 @@ pub struct Device {
     pub page_size: u32,
     pub limit: u32,
     pub options: u64,
+}
+
+#[repr(C)]
+#[derive(Clone, Copy, Debug, Default)]
+pub struct Queue {
+    pub desc: u64,
+    pub avail: u64,
+    pub used: u64,
+    pub size: u16,
+    pub position: u16,
+    pub returned: u16,
+    pub most_out: u16,
+    pub stopped: u16,
+    pub returning: u8,
+    pub event_index: u8,
+    pub begun: u32,
+    pub taken: u32,
 }
 
 #[repr(C)]

@@ -7,7 +7,7 @@ use crate::device::Device;
 use crate::errno::Errno;
 use crate::exchange::{self, Exchange};
 use crate::file_system::FileSystem;
-use crate::memory::{GuestMemory, GuestRange, Region};
+use crate::memory::{self, GuestMemory, GuestRange, Region};
 use crate::queue::Queue;
 use crate::status::{Fault, RequestFault, Status};
 use crate::sys;
@@ -65,6 +65,8 @@ enum Phase {
 pub struct Worker {
     chain: Chain,
     phase: Phase,
+    /// The sum of the regions that were told.
+    regions: u64,
     /// What a walk loaded.
     loaded: Vec<u8>,
     /// The request, as far as it was loaded.
@@ -97,6 +99,7 @@ impl Worker {
         Worker {
             chain: Chain::new(),
             phase: Phase::Free,
+            regions: 0,
             loaded: Vec::new(),
             request: Vec::new(),
             list: Vec::new(),
@@ -112,7 +115,9 @@ impl Worker {
     /// copied. Call it first, and after each change of the guest's memory. Errors, after which the regions stay as they were:
     /// `BadArgument`, `OutOfMemory`, `ChainOut` (after a panic).
     pub fn set_memory(&mut self, device: &Device, regions: &[Region]) -> Result<(), Status> {
-        self.chain.set_memory(&device.numbers(), regions)
+        self.chain.set_memory(&device.numbers(), regions)?;
+        self.regions = memory::sum(regions);
+        Ok(())
     }
 
     /// Serves the next chain of a queue, if one waits: takes it, asks the file system, and gives it back with the reply. Errors, after which
@@ -278,14 +283,29 @@ impl Worker {
     /// Whether a chain is out.
     fn walk(&mut self, queue: &mut Queue, memory: &dyn GuestMemory) -> Result<bool, Status> {
         self.step = sys::Step::default();
+        let mut is_first = true;
         loop {
             let loaded = &self.loaded[..self.step.len];
             match self.chain.walk(queue, loaded, &mut self.step)? {
                 Walked::Out => return Ok(true),
                 Walked::Idle => return Ok(false),
+                Walked::Load if is_first => self.load_index(queue, memory)?,
                 Walked::Load => self.load(memory)?,
             }
+            is_first = false;
         }
+    }
+
+    /// What a walk wants first: the available index. The one that was loaded last is taken again while it tells of chains that weren't taken.
+    fn load_index(&mut self, queue: &mut Queue, memory: &dyn GuestMemory) -> Result<(), Status> {
+        grow(&mut self.loaded, 2)?;
+        if let Some(index) = queue.seen_index(self.regions) {
+            self.loaded[..2].copy_from_slice(&index.to_le_bytes());
+            return Ok(());
+        }
+        self.load(memory)?;
+        queue.see_index(u16::from_le_bytes([self.loaded[0], self.loaded[1]]), self.regions);
+        Ok(())
     }
 
     /// Loads what a walk wants. Two bytes are a ring's: index, entry or flags; or they are the part of a table on one side of a region's

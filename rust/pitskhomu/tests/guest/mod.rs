@@ -31,6 +31,8 @@ pub struct Memory {
     pub marks: RefCell<Vec<GuestRange>>,
     /// Panics at the load of two bytes after so many.
     pub panics_after: Cell<Option<u32>>,
+    /// How often the available index was loaded.
+    pub index_loads: Cell<u32>,
 }
 
 impl Memory {
@@ -41,6 +43,7 @@ impl Memory {
             is_logging: Cell::new(false),
             marks: RefCell::default(),
             panics_after: Cell::new(None),
+            index_loads: Cell::new(0),
         }
     }
 
@@ -66,6 +69,9 @@ impl GuestMemory for Memory {
             None => {}
         }
         assert_eq!(at % 2, 0, "an odd place");
+        if at - self.host == AVAILABLE as usize + 2 {
+            self.index_loads.set(self.index_loads.get() + 1);
+        }
         let mut bytes = [0; 2];
         self.load(at, &mut bytes);
         u16::from_le_bytes(bytes)

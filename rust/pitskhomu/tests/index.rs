@@ -1,0 +1,137 @@
+//! The available index is loaded once for all chains that it tells of (VIRTIO 1.2, 2.7.6): a guest that changes it meanwhile isn't met before.
+mod guest;
+
+use guest::recorder::Recorder;
+use guest::*;
+use pitskhomu::*;
+
+fn offer(guest: &mut Guest, count: u16) {
+    for _ in 0..count {
+        guest.offer_request(&request(1, 1, b"hello\0"), 144);
+    }
+}
+
+/// Whatever was offered.
+fn write_index(guest: &Guest, index: u16) {
+    guest.memory.write(AVAILABLE + 2, &index.to_le_bytes());
+}
+
+fn take(guest: &mut Guest) -> Result<bool, Status> {
+    guest.worker.take(&mut guest.queue, &guest.memory)
+}
+
+/// How often the index was loaded since the last look.
+fn loads(guest: &Guest) -> u32 {
+    guest.memory.index_loads.take()
+}
+
+/// Serves so many chains: how often the index was loaded for them.
+fn serve(guest: &mut Guest, count: u16) -> u32 {
+    let recorder = Recorder::default();
+    for _ in 0..count {
+        assert_eq!(guest.serve(&recorder).0.reply_len, 144);
+    }
+    loads(guest)
+}
+
+/// The position wraps on the way.
+#[test]
+fn what_is_offered_at_once_takes_one_load() {
+    let mut guest = Guest::new();
+    for count in [1, 2, 5, SIZE] {
+        offer(&mut guest, count);
+        assert_eq!(serve(&mut guest, count), 1, "{count}");
+    }
+    assert_eq!((take(&mut guest), loads(&guest)), (Ok(false), 1), "none waits, by the guest's word");
+    assert_eq!((take(&mut guest), loads(&guest)), (Ok(false), 1));
+}
+
+#[test]
+fn what_is_offered_later_is_found() {
+    let mut guest = Guest::new();
+    offer(&mut guest, 2);
+    assert_eq!(serve(&mut guest, 1), 1);
+    assert!(guest.queue.knows_more());
+    offer(&mut guest, 2);
+    assert_eq!(serve(&mut guest, 1), 0);
+    assert!(!guest.queue.knows_more());
+    assert_eq!(serve(&mut guest, 1), 1);
+    assert_eq!(serve(&mut guest, 1), 0);
+    assert_eq!((take(&mut guest), loads(&guest)), (Ok(false), 1));
+}
+
+#[test]
+fn an_index_that_is_wrong_is_refused_at_the_next_load() {
+    for wrong in [SIZE + 1, 0x8000, u16::MAX] {
+        let mut guest = Guest::new();
+        offer(&mut guest, 3);
+        assert_eq!(serve(&mut guest, 1), 1);
+        write_index(&guest, guest.offered.wrapping_add(wrong));
+        assert_eq!(serve(&mut guest, 2), 0, "{wrong}");
+        assert_eq!((take(&mut guest), loads(&guest)), (Err(Status::AvailTooFar), 1), "{wrong}");
+        assert_eq!((take(&mut guest), loads(&guest)), (Err(Status::Stopped), 0), "{wrong}");
+        guest.queue.begin(Queue::new(layout(), guest.offered)).unwrap();
+        offer(&mut guest, 2);
+        assert_eq!(serve(&mut guest, 2), 1, "{wrong}");
+    }
+}
+
+/// A queue whose driver has offered three chains, one of which was served, while no other waits by the guest's word any more.
+fn one_of_three() -> Guest {
+    let mut guest = Guest::new();
+    offer(&mut guest, 3);
+    assert_eq!(serve(&mut guest, 1), 1);
+    write_index(&guest, guest.queue.position());
+    guest
+}
+
+#[test]
+fn a_queue_that_begins_anew_is_loaded_anew() {
+    let mut guest = one_of_three();
+    let position = guest.queue.position();
+    let bad = Queue::new(QueueLayout { size: 3, ..layout() }, position);
+    assert_eq!(guest.queue.begin(bad), Err(Status::BadArgument));
+    assert!(guest.queue.knows_more(), "it is as it was");
+    guest.queue.begin(Queue::new(layout(), position)).unwrap();
+    assert_eq!((take(&mut guest), loads(&guest)), (Ok(false), 1));
+
+    let mut guest = one_of_three();
+    let record = guest.device.save(&[std::mem::take(&mut guest.queue)]).unwrap();
+    guest.queue = guest.device.restore(&record).unwrap().remove(0);
+    assert_eq!((take(&mut guest), loads(&guest)), (Ok(false), 1));
+}
+
+#[test]
+fn another_memory_is_loaded_anew() {
+    let mut guest = one_of_three();
+    let region = |len: usize, host| [Region { guest: 0, len: len as u64, host }];
+    guest.worker.set_memory(&guest.device, &region(LEN - 0x1000, guest.memory.host)).unwrap();
+    assert_eq!((take(&mut guest), loads(&guest)), (Ok(false), 1));
+
+    let mut guest = one_of_three();
+    guest.memory.host += 0x1000;
+    guest.worker.set_memory(&guest.device, &region(LEN, guest.memory.host)).unwrap();
+    assert_eq!((take(&mut guest), loads(&guest)), (Ok(false), 1));
+}
+
+#[test]
+fn workers_of_a_queue_share_it() {
+    let mut guest = one_of_three();
+    guest.worker = Worker::new();
+    for len in [0x1000, LEN as u64] {
+        let region = Region { guest: 0, len, host: guest.memory.host };
+        guest.worker.set_memory(&guest.device, &[region]).unwrap();
+    }
+    assert_eq!(serve(&mut guest, 2), 0);
+    assert_eq!((take(&mut guest), loads(&guest)), (Err(Status::AvailTooFar), 1));
+}
+
+/// A chain that its worker gives up waits again, and is taken by the same index.
+#[test]
+fn a_chain_that_is_given_up_is_taken_again() {
+    let mut guest = one_of_three();
+    let bad = Device::new(4095, Device::LEAST_LIMIT);
+    let served = guest.worker.serve(&mut guest.queue, &bad, &Recorder::default(), &guest.memory);
+    assert_eq!((served, guest.queue.out()), (Err(Status::BadArgument), 0));
+    assert_eq!((serve(&mut guest, 2), loads(&guest)), (0, 0));
+}
