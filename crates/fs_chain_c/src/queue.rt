@@ -73,6 +73,7 @@ impl FsQueue {
     }
 
     /// The queue as the core has it; None if these are no queue's numbers.
+    #[inline(always)]
     pub fn kept(&self) -> Option<KeptQueue>
         ensures kept { IfSome result (IsKept self.now) }
         ensures is { OnSome result (IsQueue self.now) }
