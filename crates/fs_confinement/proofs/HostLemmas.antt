@@ -234,10 +234,6 @@ bare m = record m { host = without_bytes m.host }
 pub same_hosts : (m n : Memory) → bare m ≡ bare n → without_bytes m.host ≡ without_bytes n.host
 same_hosts m n same = ap (λ (k : Memory). k.host) same
 
--- the places of some addresses are the same
-pub same_places : (m n : Memory) → bare m ≡ bare n → (access : Permissions) (as' : List ℕ) → places_for m access as' ≡ places_for n access as'
-same_places m n same access as' = ap (λ (k : Memory). places_for k access as') same
-
 stored_at_aside : (m n : Memory) → bare m ≡ bare n → (x : ℕ) (o : Option Place) → bare (stored_at m x o) ≡ bare (stored_at n x o)
 stored_at_aside m n same x None = same
 stored_at_aside m n same x (Some p) =

@@ -22,7 +22,7 @@ use Rattle.fs_device.specs.declared.refusal.Refusal.TheVariants as why
 use Rattle.fs_device.specs.Step.{State, with_queue}
 use Rattle.fs_device.specs.Run as run
 use Rattle.fs_device.specs.Run.{Told, Command, Answer, Effect, Affects, ChangesTable, HasEffect, Does, IsDecided, Performs, LacksMemory, RunTold, effect}
-use Rattle.fs_device.specs.Run.{guest_read, guest_write, guest_written, make_block, insert, insert_block, remove_region, set_layout, is_known}
+use Rattle.fs_device.specs.Run.{guest_written, insert, insert_block, remove_region, set_layout, is_known}
 use Rattle.fs_device.specs.Run.{has_len, some_overlap, reset, with_host, with_layout, with_ranges, goes_in, block_goes_in, command_takes_memory, ends_fit, no}
 use Rattle.fs_confinement.specs.ReadSet.{places_for, Touched, nothing, guest_reads, guest_writes, plain_touches, command_touches, run_touches}
 use Rattle.fs_confinement.specs.Confinement.{zeroed, without_bytes, without_its_bytes, SameButBytes, AgreeOn, KeepDifference, copies, copies_nothing, AllowsToo}
@@ -37,12 +37,6 @@ record EffectFollows {F : Type 0} (g h : Host) (written : List Place) (x y : Eff
   answer : x.0 ≡ y.0
   state : SameButBytes x.1 y.1
   bytes : KeepDifference g h x.1.memory.host y.1.memory.host written
-
-abbrev DecidedFollows : {F : Type 0} → Host → Host → List Place → Option (Effect F) → Option (Effect F) → Type 0
-DecidedFollows g h written None None = Unit {0}
-DecidedFollows g h written None (Some y) = ⊥
-DecidedFollows g h written (Some x) None = ⊥
-DecidedFollows g h written (Some x) (Some y) = EffectFollows g h written x y
 
 either_follows : {F : Type 0} (g h : Host) (ps : List Place) (b : Bool) (x y z w : Effect F) → EffectFollows g h ps x z → EffectFollows g h ps y w →
     EffectFollows g h ps (if b then x else y) (if b then z else w)

@@ -76,18 +76,6 @@ module _ {F : Type 0} (may : May F) (s after : State F) (i : ℕ) (calls : Calls
 
 -- ---- a refusal
 
--- so is what is kept of a refusal that stops a queue
-pub refusal_keeps : {F : Type 0} (may : May F) (s after : State F) (i : ℕ) (e : DeviceError) (kept : Kept) → IsTrue (is_journaled e) → Step may s i [] (Refused e) after →
-    (command_of kept.entry.command ≡ Kick i 1) × (came_of kept.entry.outcome ≡ Stopped e) × (kept.entry.pages.items ≡ []) →
-    (command_of kept.receipt.command ≡ Kick i 1) × (came_of kept.receipt.outcome ≡ Stopped e) × (kept.receipt.pages.items ≡ []) → Keeps may s (Kick i 1) kept after
-refusal_keeps {F} may s after i e kept stops step entry receipt = record {
-  plays = (refl, subst (λ (o : Outcome). Kicked may s i o kept.entry.pages.items after) (sym entry.1) (stops, step, entry.2));
-  entry = entry.0;
-  receipt = receipt.0;
-  outcome = receipt.1 ∙ sym entry.1;
-  pages = receipt.2 ∙ sym entry.2;
-}
-
 -- a step that a stopped queue refuses changes nothing
 stopped_stays : {F : Type 0} (may : May F) (s after : State F) (i : ℕ) (o : Option Queue) → slice_get s.queues i ≡ o → StepOf may s i o [] (Refused (device.Queue stop.Stopped)) after → after ≡ s
 stopped_stays may s after i None there t = t.1.same

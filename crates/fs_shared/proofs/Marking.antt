@@ -11,19 +11,6 @@ use Rattle.vm_atomic_bitmaps.proofs.PassTotals.{length-each_tally, at_each, at_p
 use Rattle.vm_atomic_bitmaps.proofs.PassParts.{at_clear_of}
 use Rattle.fs_shared.specs.Portion.{IsMarked, MarksPages}
 
-pub marks_none : (old : List Tally) → MarksPages [] old old
-marks_none old = record {
-  count = refl;
-  marked = λ p within here. let below = here.1 in absurd (omega arith);
-  same = λ p none. refl;
-  kept = λ p marked. marked;
-  off = λ p. refl;
-  seen = λ p. refl;
-  held = λ p. omega arith;
-  steps = λ p within here. let below = here.1 in absurd (omega arith);
-  steps_kept = λ p. omega arith;
-}
-
 -- from t to u the page was not cleared, no clear more is known of, and a mark stands
 record Onward (t u : Tally) : Type 0 where
   pub kept : t.marked ≡ true → u.marked ≡ true

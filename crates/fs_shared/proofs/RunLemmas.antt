@@ -169,10 +169,6 @@ windows_more ls ws i w lt is =
     ∙ ap (map (page_of ls)) (flat_map-append places_of (take i ws) (w ∷ []) ∙ ap (λ (xs : List Place). places (take i ws) ++ xs) (append-nil (places_of w)))
     ∙ map-append (page_of ls) (places (take i ws)) (places_of w)
 
-pub begun_item : (n : ℕ) (runs : List PageRun) (i : ℕ) (r : PageRun) (b : Bool) → i < length runs → r ≡ get_or runs i r → nat_lt r.from n ≡ b →
-    begun n (take (i + 1) runs) ≡ begun n (take i runs) ++ (if b then r.page ∷ [] else [])
-begun_item n runs i r b lt is lies = ap (begun n) (take_item runs i r lt is) ∙ begun_more n (take i runs) r ∙ ap (λ (xs : List ℕ). begun n (take i runs) ++ xs) (one_begun n r b lies)
-
 pub places_more : (ws : List Window) (i : ℕ) (w : Window) → i < length ws → w ≡ get_or ws i w → length (places (take (i + 1) ws)) ≡ length (places (take i ws)) + w.len
 places_more ws i w lt is =
     let all = ap (λ (xs : List Window). length (places xs)) (take_item ws i w lt is) in
