@@ -17,7 +17,11 @@ fn queue(rt: &impl Abort, avail: u64, used: u64) -> KeptQueue {
 const LOADS: &[&[u8]] = &[
     &[2, 0],
     &[0, 0],
-    &[0, 1, 0, 0, 0, 0, 0, 0, 46, 0, 0, 0, 0, 0, 0, 0],
+    &[
+        0, 1, 0, 0, 0, 0, 0, 0, 46, 0, 0, 0, 0, 0, 0, 0, 0, 0, 0, 0, 0, 0, 0, 0, 0, 0, 0, 0, 0, 0,
+        0, 0, 0, 0, 0, 0, 0, 0, 0, 0, 0, 0, 0, 0, 0, 0, 0, 0, 0, 0, 0, 0, 0, 0, 0, 0, 0, 0, 0, 0,
+        0, 0, 0, 0,
+    ],
 ];
 
 // A chain is taken and goes back in silence: where it is looked whether the driver wants to be told, and whether it does by these two bytes.

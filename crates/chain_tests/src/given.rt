@@ -59,12 +59,14 @@ pub fn session() -> Session {
     Session::new(4096)
 }
 
-/// The loads of a chain of head 1: 46 bytes at 0x100, and a room of 144 bytes at 0x200.
+/// The loads of a chain of head 1: 46 bytes at 0x100, and a room of 144 bytes at 0x200. That of the table has its three entries from the head on.
 pub const LOADS: &[&[u8]] = &[
     &[0, 0],
     &[1, 0],
-    &[0, 1, 0, 0, 0, 0, 0, 0, 46, 0, 0, 0, 1, 0, 2, 0],
-    &[0, 2, 0, 0, 0, 0, 0, 0, 144, 0, 0, 0, 2, 0, 0, 0],
+    &[
+        0, 1, 0, 0, 0, 0, 0, 0, 46, 0, 0, 0, 1, 0, 2, 0, 0, 2, 0, 0, 0, 0, 0, 0, 144, 0, 0, 0, 2,
+        0, 0, 0, 0, 0, 0, 0, 0, 0, 0, 0, 0, 0, 0, 0, 0, 0, 0, 0,
+    ],
 ];
 
 /// LOOKUP of `hello` in node 1: unique number 7, user 10, group 11, process 12.
@@ -77,23 +79,30 @@ pub const LOOKUP: &[u8] = &[
 pub const LOADS_OF_80: &[&[u8]] = &[
     &[0, 0],
     &[1, 0],
-    &[0, 1, 0, 0, 0, 0, 0, 0, 80, 0, 0, 0, 1, 0, 2, 0],
-    &[0, 2, 0, 0, 0, 0, 0, 0, 144, 0, 0, 0, 2, 0, 0, 0],
+    &[
+        0, 1, 0, 0, 0, 0, 0, 0, 80, 0, 0, 0, 1, 0, 2, 0, 0, 2, 0, 0, 0, 0, 0, 0, 144, 0, 0, 0, 2,
+        0, 0, 0, 0, 0, 0, 0, 0, 0, 0, 0, 0, 0, 0, 0, 0, 0, 0, 0,
+    ],
 ];
 
 /// The same as the first with a room of 20 bytes.
 pub const LOADS_OF_SMALL_ROOM: &[&[u8]] = &[
     &[0, 0],
     &[1, 0],
-    &[0, 1, 0, 0, 0, 0, 0, 0, 46, 0, 0, 0, 1, 0, 2, 0],
-    &[0, 2, 0, 0, 0, 0, 0, 0, 20, 0, 0, 0, 2, 0, 0, 0],
+    &[
+        0, 1, 0, 0, 0, 0, 0, 0, 46, 0, 0, 0, 1, 0, 2, 0, 0, 2, 0, 0, 0, 0, 0, 0, 20, 0, 0, 0, 2, 0,
+        0, 0, 0, 0, 0, 0, 0, 0, 0, 0, 0, 0, 0, 0, 0, 0, 0, 0,
+    ],
 ];
 
 /// The loads of a chain of head 1 that goes on behind the table's end.
 pub const LOADS_OF_FAULTY: &[&[u8]] = &[
     &[0, 0],
     &[1, 0],
-    &[0, 1, 0, 0, 0, 0, 0, 0, 46, 0, 0, 0, 1, 0, 4, 0],
+    &[
+        0, 1, 0, 0, 0, 0, 0, 0, 46, 0, 0, 0, 1, 0, 4, 0, 0, 0, 0, 0, 0, 0, 0, 0, 0, 0, 0, 0, 0, 0,
+        0, 0, 0, 0, 0, 0, 0, 0, 0, 0, 0, 0, 0, 0, 0, 0, 0, 0,
+    ],
 ];
 
 /// RENAME of 15 letters a in node 1 to 15 letters b in node 2: unique number 7.

@@ -10,8 +10,10 @@ use server_phases::Session;
 const LOADS_OF_71: &[&[u8]] = &[
     &[0, 0],
     &[1, 0],
-    &[0, 1, 0, 0, 0, 0, 0, 0, 71, 0, 0, 0, 1, 0, 2, 0],
-    &[0, 2, 0, 0, 0, 0, 0, 0, 144, 0, 0, 0, 2, 0, 0, 0],
+    &[
+        0, 1, 0, 0, 0, 0, 0, 0, 71, 0, 0, 0, 1, 0, 2, 0, 0, 2, 0, 0, 0, 0, 0, 0, 144, 0, 0, 0, 2,
+        0, 0, 0, 0, 0, 0, 0, 0, 0, 0, 0, 0, 0, 0, 0, 0, 0, 0, 0,
+    ],
 ];
 
 // MKDIR of `d` in node 1 with the label `lab`, which is named `s`: unique number 7 (struct fuse_mkdir_in, struct fuse_secctx_header, struct

@@ -110,8 +110,10 @@ fn serve_two<F: FileSystem>(
 const LOADS_OF_LIST: &[&[u8]] = &[
     &[0, 0],
     &[1, 0],
-    &[0, 1, 0, 0, 0, 0, 0, 0, 80, 0, 0, 0, 1, 0, 2, 0],
-    &[0, 2, 0, 0, 0, 0, 0, 0, 144, 1, 0, 0, 2, 0, 0, 0],
+    &[
+        0, 1, 0, 0, 0, 0, 0, 0, 80, 0, 0, 0, 1, 0, 2, 0, 0, 2, 0, 0, 0, 0, 0, 0, 144, 1, 0, 0, 2,
+        0, 0, 0, 0, 0, 0, 0, 0, 0, 0, 0, 0, 0, 0, 0, 0, 0, 0, 0,
+    ],
 ];
 
 // READDIRPLUS of at most 400 bytes from the beginning of the directory that is open as 3: node 1, unique number 7.

@@ -1,5 +1,7 @@
 //! Several chains out of one queue, which go back in any order (VIRTIO 1.2, 2.7.6 and 2.7.8).
 
+ghost use Rattle.std.specs.Prelude.{◌<◌};
+
 use crate::given::{LOADS, LOOKUP, expect_same, queue, session, take, workbench};
 use fs_chain::{ChainError, KeptQueue, WalkOutcome, Workbench};
 use fs_queue::QueueLayout;
@@ -14,16 +16,23 @@ fn queue_of(rt: &impl Abort, most_out: u16) -> KeptQueue {
     KeptQueue::new(layout, 0, most_out)
 }
 
-// The available index where four chains wait, and the entry of a chain of one descriptor: 46 bytes at 0x100.
+// The available index where four chains wait, and entries of which the first is a chain of one descriptor: 46 bytes at 0x100.
 const INDEX: &[u8] = &[4, 0];
 
-const ENTRY: &[u8] = &[0, 1, 0, 0, 0, 0, 0, 0, 46, 0, 0, 0, 0, 0, 0, 0];
+const ENTRIES: [u8; 64] = [
+    0, 1, 0, 0, 0, 0, 0, 0, 46, 0, 0, 0, 0, 0, 0, 0, 0, 0, 0, 0, 0, 0, 0, 0, 0, 0, 0, 0, 0, 0, 0,
+    0, 0, 0, 0, 0, 0, 0, 0, 0, 0, 0, 0, 0, 0, 0, 0, 0, 0, 0, 0, 0, 0, 0, 0, 0, 0, 0, 0, 0, 0, 0, 0,
+    0,
+];
 
 // A handle takes a chain of this head.
-fn take_head(rt: &impl Abort, alloc: Global, queue: &mut KeptQueue, head: u8) -> Workbench {
+fn take_head(rt: &impl Abort, alloc: Global, queue: &mut KeptQueue, head: u8) -> Workbench
+    requires { head < 4 }
+{
     let mut workbench = workbench(rt, alloc);
     let ring = [head, 0];
-    let loads = [INDEX, ring.as_slice(), ENTRY];
+    let entries = &ENTRIES[..16 * usize::from(4 - head)];
+    let loads = [INDEX, ring.as_slice(), entries];
     let walked = take(rt, &mut workbench, queue, &loads);
     let chain = WalkOutcome::Chain {
         head: u16::from(head),

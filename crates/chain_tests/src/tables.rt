@@ -1,4 +1,4 @@
-//! Walks over tables that descriptors name: a load has many entries at once.
+//! Walks over tables: a load has many entries at once of one that a descriptor names, and up to four of the queue's own.
 
 use crate::given::{came_to, expect_same};
 use fs_chain::{KeptQueue, WalkOutcome, Workbench};
@@ -66,7 +66,10 @@ fn give(
     came_to(rt, workbench.walk(queue, &bytes).expect(rt, "a walk"))
 }
 
-// Walks up to a table at an address, whose length is in bytes, and answers how long a load is asked for.
+// An entry that no chain visits.
+const UNUSED: Entry = (0, 0, 0, 0);
+
+// Walks up to a table at an address, whose length is in bytes, and answers how long a load is asked for. The queue has four descriptors or more.
 fn at_table(
     rt: &impl Abort,
     alloc: Global,
@@ -75,10 +78,22 @@ fn at_table(
     address: u64,
     len: u32,
 ) -> WalkOutcome {
+    at_head(rt, workbench, queue);
+    let named = (address, len, INDIRECT, 0);
+    give(
+        rt,
+        alloc,
+        workbench,
+        queue,
+        &[named, UNUSED, UNUSED, UNUSED],
+    )
+}
+
+// Walks up to the chain of head 0, and answers how long a load is asked for.
+fn at_head(rt: &impl Abort, workbench: &mut Workbench, queue: &mut KeptQueue) -> WalkOutcome {
     workbench.walk(queue, &[]).expect(rt, "a walk");
     workbench.walk(queue, &[0, 0]).expect(rt, "a walk");
-    workbench.walk(queue, &[0, 0]).expect(rt, "a walk");
-    give(rt, alloc, workbench, queue, &[(address, len, INDIRECT, 0)])
+    came_to(rt, workbench.walk(queue, &[0, 0]).expect(rt, "a walk"))
 }
 
 // The k-th of the 130 descriptors of a READ of 508 KiB: its request in two, the reply's header, and a page each.
@@ -178,4 +193,48 @@ fn a_table_is_cut_at_the_end_of_a_region(rt: HostRuntime) {
     };
     expect_same(&rt, told, chain);
     expect_same(&rt, workbench.still_wanted().is_some(), false);
+}
+
+// A chain of five descriptors in the queue's table, at 0, 1, 6, 7 and 2: the loads of it.
+const SCATTERED: [&[Entry]; 3] = [
+    &[(0x3000, 40, NEXT, 1), (0x3028, 8, NEXT, 6), UNUSED, UNUSED],
+    &[(0x3100, 16, NEXT | WRITE, 7), (0x3200, 64, NEXT | WRITE, 2)],
+    &[(0x3300, 8, WRITE, 0), UNUSED, UNUSED, UNUSED],
+];
+
+#[test]
+fn up_to_four_entries_of_the_queues_table_are_one_load(rt: HostRuntime) {
+    let mut workbench = workbench(&rt, rt.alloc(), &[(0, 0x4000)]);
+    let mut queue = queue(&rt, 8);
+    let wants = at_head(&rt, &mut workbench, &mut queue);
+    expect_same(&rt, wants, WalkOutcome::Load(64));
+    let wants = give(&rt, rt.alloc(), &mut workbench, &mut queue, SCATTERED[0]);
+    expect_same(&rt, wants, WalkOutcome::Load(32));
+    expect_same(&rt, wanted(&rt, &workbench), (0, 0x60, 32));
+    let wants = give(&rt, rt.alloc(), &mut workbench, &mut queue, SCATTERED[1]);
+    expect_same(&rt, wants, WalkOutcome::Load(64));
+    expect_same(&rt, wanted(&rt, &workbench), (0, 0x20, 64));
+    let told = give(&rt, rt.alloc(), &mut workbench, &mut queue, SCATTERED[2]);
+    let chain = WalkOutcome::Chain {
+        head: 0,
+        request_len: 48,
+        room_len: 88,
+    };
+    expect_same(&rt, told, chain);
+}
+
+#[test]
+fn no_more_entries_are_asked_for_than_may_join(rt: HostRuntime) {
+    let mut workbench = workbench(&rt, rt.alloc(), &[(0, 0x4000)]);
+    let mut queue = queue(&rt, 4);
+    let wants = at_head(&rt, &mut workbench, &mut queue);
+    expect_same(&rt, wants, WalkOutcome::Load(64));
+    let back = &[
+        (0x3000, 40, NEXT, 1),
+        (0x3028, 8, NEXT, 2),
+        (0x3100, 16, NEXT | WRITE, 0),
+        UNUSED,
+    ];
+    let wants = give(&rt, rt.alloc(), &mut workbench, &mut queue, back);
+    expect_same(&rt, wants, WalkOutcome::Load(16));
 }

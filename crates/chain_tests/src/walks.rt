@@ -43,8 +43,12 @@ fn a_queue_that_was_stopped_in_mid_walk_gives_no_chain(rt: HostRuntime) {
     );
 }
 
-// An entry that leads to a table of its own: ten entries at 0x300.
-const OWN_TABLE: &[u8] = &[0, 3, 0, 0, 0, 0, 0, 0, 160, 0, 0, 0, 4, 0, 0, 0];
+// Four entries, of which the first leads to a table of its own: ten entries at 0x300.
+const OWN_TABLE: &[u8] = &[
+    0, 3, 0, 0, 0, 0, 0, 0, 160, 0, 0, 0, 4, 0, 0, 0, 0, 0, 0, 0, 0, 0, 0, 0, 0, 0, 0, 0, 0, 0, 0,
+    0, 0, 0, 0, 0, 0, 0, 0, 0, 0, 0, 0, 0, 0, 0, 0, 0, 0, 0, 0, 0, 0, 0, 0, 0, 0, 0, 0, 0, 0, 0, 0,
+    0,
+];
 
 // An entry of 5 bytes of the request, the k-th from 0x200 on; the next one follows it.
 fn part_of_request(k: u8) -> [u8; 16]
@@ -106,8 +110,12 @@ fn windows_are_found_behind_the_descriptors_that_were_passed(rt: HostRuntime) {
     expect_same(&rt, (none, before), (None, Some((0, 0x207, 3))));
 }
 
-// An entry that leads to a table of two entries at 0xff8, of which the first goes over the end of a page.
-const OVER_THE_END: &[u8] = &[0xf8, 0x0f, 0, 0, 0, 0, 0, 0, 32, 0, 0, 0, 4, 0, 0, 0];
+// Four entries, of which the first leads to a table of two entries at 0xff8: the first of these goes over the end of a page.
+const OVER_THE_END: &[u8] = &[
+    0xf8, 0x0f, 0, 0, 0, 0, 0, 0, 32, 0, 0, 0, 4, 0, 0, 0, 0, 0, 0, 0, 0, 0, 0, 0, 0, 0, 0, 0, 0,
+    0, 0, 0, 0, 0, 0, 0, 0, 0, 0, 0, 0, 0, 0, 0, 0, 0, 0, 0, 0, 0, 0, 0, 0, 0, 0, 0, 0, 0, 0, 0, 0,
+    0, 0, 0,
+];
 
 // What is given of that table's loads: the window that is wanted (region, offset and length), the bytes, and what they come to.
 type Given = (

@@ -23,12 +23,18 @@ struct Row {
     want: (u8, u16, u8),
 }
 
-// A descriptor of 16 bytes at 0xff8, which another follows, and one of 8 bytes at 0x4000 that is written.
-const FIRST: &[u8] = &[0xf8, 0x0f, 0, 0, 0, 0, 0, 0, 16, 0, 0, 0, 1, 0, 1, 0];
+// A descriptor of 16 bytes at 0xff8, which another follows: one of 8 bytes at 0x4000 that is written. Two that no chain visits stand behind them.
+const BOTH: &[u8] = &[
+    0xf8, 0x0f, 0, 0, 0, 0, 0, 0, 16, 0, 0, 0, 1, 0, 1, 0, 0, 0x40, 0, 0, 0, 0, 0, 0, 8, 0, 0, 0,
+    2, 0, 0, 0, 0, 0, 0, 0, 0, 0, 0, 0, 0, 0, 0, 0, 0, 0, 0, 0, 0, 0, 0, 0, 0, 0, 0, 0, 0, 0, 0, 0,
+    0, 0, 0, 0,
+];
 
-const SECOND: &[u8] = &[0, 0x40, 0, 0, 0, 0, 0, 0, 8, 0, 0, 0, 2, 0, 0, 0];
-// One that names a table of one entry at 0x2000, where no region is.
-const AWAY: &[u8] = &[0, 0x20, 0, 0, 0, 0, 0, 0, 16, 0, 0, 0, 4, 0, 0, 0];
+// One that names a table of one entry at 0x2000, where no region is, and the table's last one.
+const AWAY: &[u8] = &[
+    0, 0x20, 0, 0, 0, 0, 0, 0, 16, 0, 0, 0, 4, 0, 0, 0, 0, 0, 0, 0, 0, 0, 0, 0, 0, 0, 0, 0, 0, 0,
+    0, 0,
+];
 
 const ROWS: &[Row] = &[
     Row {
@@ -48,7 +54,7 @@ const ROWS: &[Row] = &[
         want: (3, 0, 5),
     },
     Row {
-        loads: &[(0x52, &[1, 0]), (0x54, &[0, 0]), (0, FIRST), (0x10, SECOND)],
+        loads: &[(0x52, &[1, 0]), (0x54, &[0, 0]), (0, BOTH)],
         want: (4, 0, 0),
     },
     Row {
