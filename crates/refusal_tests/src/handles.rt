@@ -31,9 +31,23 @@ fn entry(number: u8) -> [u8; 16] {
     [0, 8, 0, 0, 0, 0, 0, 0, len, 0, 0, 0, flags, 0, next, 0]
 }
 
-// A chain whose table goes over the end of the first page: its descriptor, the first entry in two parts, and the second one.
+// Four of its entries, from one on.
+fn entries(number: u8) -> [u8; 64] {
+    let mut entries = [0u8; 64];
+    for k in 0..4u8 {
+        let at = 16 * usize::from(k);
+        entries[at..][..16].copy_from_slice(&entry(number.wrapping_add(k)));
+    }
+    entries
+}
+
+// A chain whose table goes over the end of the first page: its descriptor and three that no chain visits, the first entry in two parts, and the second one.
 const OVER_THE_END: [&[u8]; 4] = [
-    &[0xf8, 15, 0, 0, 0, 0, 0, 0, 32, 0, 0, 0, 4, 0, 0, 0],
+    &[
+        0xf8, 15, 0, 0, 0, 0, 0, 0, 32, 0, 0, 0, 4, 0, 0, 0, 0, 0, 0, 0, 0, 0, 0, 0, 0, 0, 0, 0, 0,
+        0, 0, 0, 0, 0, 0, 0, 0, 0, 0, 0, 0, 0, 0, 0, 0, 0, 0, 0, 0, 0, 0, 0, 0, 0, 0, 0, 0, 0, 0,
+        0, 0, 0, 0, 0,
+    ],
     &[0, 8, 0, 0, 0, 0, 0, 0],
     &[46, 0, 0, 0, 1, 0, 1, 0],
     &[0, 2, 0, 0, 0, 0, 0, 0, 144, 0, 0, 0, 2, 0, 0, 0],
@@ -120,8 +134,8 @@ fn walk_rings(
 fn take_long(trial: Trial, workbench: &mut Workbench, queue: &mut KeptQueue) -> Result<(), Unmet> {
     walk_rings(trial, workbench, queue, 0)?;
     let mut went = Went::Part;
-    for number in 0..ENTRIES {
-        went = walk(trial, workbench, queue, &entry(number))?;
+    for part in 0..ENTRIES / 4 {
+        went = walk(trial, workbench, queue, &entries(4 * part))?;
     }
     expect_chain(went, queue)
 }
