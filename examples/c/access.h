@@ -27,7 +27,8 @@ struct offered {
 };
 
 /* Walks to the next chain of a queue: the status is PK_DONE with a chain, PK_IDLE, or why there is none. The index is loaded again only once all
- * that it told of was taken: so all walks of the queue are made by this, with the same `offered`, and one that was restored begins with zeros. */
+ * that it told of was taken: so all walks of the queue are made by this, with the same `offered`, which is zeros again where the queue was
+ * restored, or stands in other memory. */
 uint32_t take_chain(struct pk_chain *chain, struct pk_queue *queue, struct offered *offered, struct pk_step *step);
 
 /* Copies `len` bytes of the request out, from its byte `from` on. */

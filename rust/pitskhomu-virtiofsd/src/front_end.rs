@@ -94,7 +94,7 @@ impl<F: Served> VhostUserBackendReqHandlerMut for FrontEnd<F> {
 
     fn reset_device(&mut self) -> Result<()> {
         self.enable_all(false);
-        self.core.wait_for_chains();
+        self.core.rings.iter().for_each(|ring| ring.state().begin_anew());
         self.core.end_session();
         Ok(())
     }

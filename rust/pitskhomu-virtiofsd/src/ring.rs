@@ -76,6 +76,11 @@ impl State {
         (layout.size != 0 && layout.descriptors != 0).then(|| Queue::new(layout, position))
     }
 
+    /// Whatever it was, its queue begins anew, by the numbers that it has then.
+    pub fn begin_anew(&mut self) {
+        (self.is_new, self.is_refused) = (true, false);
+    }
+
     fn begin(&mut self, threads: u16) -> Result<(), Status> {
         let Numbers { layout, position, has_event_index } = self.numbers;
         let anew = Queue::new(layout, position).with_most_out(threads.min(layout.size));

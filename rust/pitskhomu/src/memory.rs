@@ -1,4 +1,5 @@
 //! The guest's memory, by numbers: the library touches none, and the worker asks whoever keeps it.
+use core::sync::atomic::{AtomicUsize, Ordering};
 
 /// The guest's memory, by the numbers of `Region::host`. A worker asks for bytes of regions alone, and for no more of them than the
 /// regions have. The guest and other threads write to it meanwhile, so no reference to its bytes may be had: each method copies, and
@@ -40,10 +41,13 @@ pub struct Region {
     pub host: usize,
 }
 
-/// A number that tells regions from other ones: FNV-1a by words of 64 bits.
-pub(crate) fn sum(regions: &[Region]) -> u64 {
-    let numbers = regions.iter().flat_map(|region| [region.guest, region.len, region.host as u64]);
-    numbers.fold(0xcbf2_9ce4_8422_2325, |sum, number| (sum ^ number).wrapping_mul(0x100_0000_01b3))
+/// How often regions were told, to any worker.
+static TOLD: AtomicUsize = AtomicUsize::new(0);
+
+/// The number of a telling of regions, above those of all before. Other memory may stand behind the same regions, so they tell nothing by
+/// themselves.
+pub(crate) fn next_telling() -> usize {
+    TOLD.fetch_add(1, Ordering::Relaxed) + 1
 }
 
 /// `len` bytes of memory from the number `at` on (struct pk_window), laid out as struct iovec is.

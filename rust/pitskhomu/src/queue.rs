@@ -16,15 +16,16 @@ pub struct QueueLayout {
     pub used: u64,
 }
 
-/// What the available index was when it was loaded last (VIRTIO 1.2, 2.7.6), and over which regions, by their sum.
+/// What the available index was when it was loaded last (VIRTIO 1.2, 2.7.6), and which telling of regions it is known to come behind. All
+/// workers of a queue go over the same memory, and each is told after it has changed: so it is that of a worker that was told before.
 #[derive(Clone, Copy, Debug)]
 struct Seen {
     index: u16,
-    regions: u64,
+    told: usize,
 }
 
 /// A queue. It is told with each call, and moved on by it. Of several workers each has at most one chain out of it. Its available index is
-/// loaded again once all that it told of was taken, and where the queue begins anew or a worker's regions are others.
+/// loaded again once all that it told of was taken, and where the queue begins anew or a worker's regions were told since.
 #[derive(Debug, Default)]
 pub struct Queue {
     numbers: sys::Queue,
@@ -66,15 +67,16 @@ impl Queue {
         &mut self.numbers
     }
 
-    /// The available index as it was loaded last, over these regions, if it tells of a chain that wasn't taken yet. That load acquired, and who
-    /// has the queue now comes behind it.
-    pub(crate) fn seen_index(&self, regions: u64) -> Option<u16> {
-        self.seen.filter(|seen| seen.regions == regions && seen.index != self.position()).map(|seen| seen.index)
+    /// The available index as it was loaded last, over the memory of a worker of this telling, if it tells of a chain that wasn't taken yet. That
+    /// load acquired, and who has the queue now comes behind it.
+    pub(crate) fn seen_index(&self, told: usize) -> Option<u16> {
+        self.seen.filter(|seen| seen.told >= told && seen.index != self.position()).map(|seen| seen.index)
     }
 
-    /// The available index was loaded over these regions.
-    pub(crate) fn see_index(&mut self, index: u16, regions: u64) {
-        self.seen = Some(Seen { index, regions });
+    /// The available index was loaded by a worker of this telling.
+    pub(crate) fn see_index(&mut self, index: u16, told: usize) {
+        let told = self.seen.map_or(told, |seen| seen.told.max(told));
+        self.seen = Some(Seen { index, told });
     }
 
     /// The same with up to `most` chains out at a time, 1 to the queue's size: as many as workers serve it.

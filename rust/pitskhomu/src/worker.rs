@@ -65,8 +65,8 @@ enum Phase {
 pub struct Worker {
     chain: Chain,
     phase: Phase,
-    /// The sum of the regions that were told.
-    regions: u64,
+    /// The number of the telling of its regions.
+    told: usize,
     /// What a walk loaded.
     loaded: Vec<u8>,
     /// The request, as far as it was loaded.
@@ -99,7 +99,7 @@ impl Worker {
         Worker {
             chain: Chain::new(),
             phase: Phase::Free,
-            regions: 0,
+            told: 0,
             loaded: Vec::new(),
             request: Vec::new(),
             list: Vec::new(),
@@ -116,7 +116,7 @@ impl Worker {
     /// `BadArgument`, `OutOfMemory`, `ChainOut` (after a panic).
     pub fn set_memory(&mut self, device: &Device, regions: &[Region]) -> Result<(), Status> {
         self.chain.set_memory(&device.numbers(), regions)?;
-        self.regions = memory::sum(regions);
+        self.told = memory::next_telling();
         Ok(())
     }
 
@@ -299,12 +299,12 @@ impl Worker {
     /// What a walk wants first: the available index. The one that was loaded last is taken again while it tells of chains that weren't taken.
     fn load_index(&mut self, queue: &mut Queue, memory: &dyn GuestMemory) -> Result<(), Status> {
         grow(&mut self.loaded, 2)?;
-        if let Some(index) = queue.seen_index(self.regions) {
+        if let Some(index) = queue.seen_index(self.told) {
             self.loaded[..2].copy_from_slice(&index.to_le_bytes());
             return Ok(());
         }
         self.load(memory)?;
-        queue.see_index(u16::from_le_bytes([self.loaded[0], self.loaded[1]]), self.regions);
+        queue.see_index(u16::from_le_bytes([self.loaded[0], self.loaded[1]]), self.told);
         Ok(())
     }
 

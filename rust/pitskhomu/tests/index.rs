@@ -108,22 +108,32 @@ fn another_memory_is_loaded_anew() {
     guest.worker.set_memory(&guest.device, &region(LEN - 0x1000, guest.memory.host)).unwrap();
     assert_eq!((take(&mut guest), loads(&guest)), (Ok(false), 1));
 
-    let mut guest = one_of_three();
-    guest.memory.host += 0x1000;
-    guest.worker.set_memory(&guest.device, &region(LEN, guest.memory.host)).unwrap();
-    assert_eq!((take(&mut guest), loads(&guest)), (Ok(false), 1));
+    for moves in [0, 0x1000] {
+        let mut guest = one_of_three();
+        guest.memory.host += moves;
+        guest.worker.set_memory(&guest.device, &region(LEN, guest.memory.host)).unwrap();
+        assert_eq!((take(&mut guest), loads(&guest)), (Ok(false), 1), "{moves}");
+    }
 }
 
 #[test]
 fn workers_of_a_queue_share_it() {
-    let mut guest = one_of_three();
-    guest.worker = Worker::new();
-    for len in [0x1000, LEN as u64] {
-        let region = Region { guest: 0, len, host: guest.memory.host };
-        guest.worker.set_memory(&guest.device, &[region]).unwrap();
+    let mut guest = Guest::new();
+    let region = Region { guest: 0, len: LEN as u64, host: guest.memory.host };
+    let mut other = Worker::new();
+    other.set_memory(&guest.device, &[region]).unwrap();
+    for count in [3, 5] {
+        offer(&mut guest, count);
+        std::mem::swap(&mut guest.worker, &mut other);
+        assert_eq!(serve(&mut guest, 1), 1, "{count}");
+        std::mem::swap(&mut guest.worker, &mut other);
+        assert_eq!(serve(&mut guest, count - 1), 0, "{count}");
     }
-    assert_eq!(serve(&mut guest, 2), 0);
-    assert_eq!((take(&mut guest), loads(&guest)), (Err(Status::AvailTooFar), 1));
+    offer(&mut guest, 2);
+    assert_eq!(serve(&mut guest, 1), 1, "the one that was told first");
+    guest.worker = other;
+    assert_eq!(serve(&mut guest, 1), 0);
+    assert_eq!((take(&mut guest), loads(&guest)), (Ok(false), 1));
 }
 
 /// A chain that its worker gives up waits again, and is taken by the same index.
