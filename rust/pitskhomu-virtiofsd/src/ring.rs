@@ -386,10 +386,11 @@ impl Ring {
         }
     }
 
-    /// What each of the ring's threads does; it ends with the process.
+    /// What each of the ring's threads does; it ends with the process. It begins with a look: another that began before and has a chain may have
+    /// said that kicks aren't wanted, since none slept.
     pub fn run(&self, server: &mut impl Server, memory: impl Fn() -> Arc<Table>) {
         self.lock().sleeping += 1;
-        let mut wait = -1;
+        let mut wait = 0;
         loop {
             if let Err(e) = self.wait(wait) {
                 error!("queue {} isn't served any more: {e}", self.index);
@@ -405,6 +406,9 @@ mod tests {
     use super::*;
     use std::io::Read;
     use std::os::fd::FromRawFd;
+    use std::sync::mpsc::{channel, Sender};
+    use std::thread;
+    use std::time::Duration;
 
     fn event() -> File {
         // SAFETY: no memory is touched.
@@ -452,6 +456,34 @@ mod tests {
         assert_eq!(ring.lock().told, None);
         assert_eq!(ring.serve_all(&mut server, &|| memory.clone()), Looked::Idle);
         assert_eq!(ring.lock().told, Some((true, 0)));
+    }
+
+    /// Has no chain, and says each time that it was asked for one.
+    struct Asked(Sender<()>);
+
+    impl Server for Asked {
+        fn take(&mut self, _queue: &mut Queue, _memory: &Arc<Table>) -> Result<bool, Status> {
+            self.0.send(()).expect("who listens");
+            Ok(false)
+        }
+
+        fn answer(&mut self) {}
+
+        fn give_back(&mut self, _queue: &mut Queue) -> Result<bool, Status> {
+            Ok(false)
+        }
+
+        fn ask_kicks(&mut self, _queue: &Queue, _wanted: bool, _memory: &Arc<Table>) -> Result<bool, Status> {
+            Ok(false)
+        }
+    }
+
+    #[test]
+    fn a_thread_looks_before_it_sleeps() {
+        let (ring, (asked, answers)) = (Ring::new(0, 2).expect("a ring"), channel());
+        *ring.lock() = State { is_started: true, is_enabled: true, ..State::default() };
+        thread::spawn(move || ring.run(&mut Asked(asked), Arc::default)); // it ends with the process
+        assert_eq!(answers.recv_timeout(Duration::from_secs(20)), Ok(()));
     }
 
     #[test]
