@@ -1,5 +1,6 @@
 /* What a chain costs by the library, with plain loads and stores: requests as a Linux guest cuts them, header, arguments and data in
- * pieces of their own, by direct descriptors; and one of 130 descriptors in a table, as a READ of 512 KiB has. Answers and data are at hand.
+ * pieces of their own, by direct descriptors; one of 130 descriptors in a table, as a READ of 512 KiB has; and short ones in a table.
+ * Answers and data are at hand.
  * One chain is out at a time, or four or sixteen of a queue, each by a handle of its own: all are taken, then answered, then given back.
  * cost [CHAINS]: prints for each kind of request the least of nine runs, in nanoseconds for a chain. */
 #define _POSIX_C_SOURCE 200809L
@@ -65,6 +66,8 @@ static const struct row rows[] = {
     {"READ 4 KiB", 15, {40, 40}, {16, DATA}, 0, answer_read, 1},
     {"WRITE 4 KiB", 16, {40, 40, DATA}, {16, 8}, 0, answer_write, 1},
     {"130 descriptors in a table", 0x7777, {40}, {16}, 128, answer_none, 1},
+    {"GETATTR in a table, a page more", 3, {40, 16}, {16, 104}, 1, answer_attr, 1},
+    {"LOOKUP in a table, a page more", 1, {40, 5}, {16, 128}, 1, answer_entry, 1},
     {"LOOKUP, four out", 1, {40, 5}, {16, 128}, 0, answer_entry, 4},
     {"LOOKUP, sixteen out", 1, {40, 5}, {16, 128}, 0, answer_entry, MOST_OUT},
     {"READ 4 KiB, four out", 15, {40, 40}, {16, DATA}, 0, answer_read, 4},
