@@ -2,8 +2,8 @@
 
 ghost use Rattle.fs_chain_c.specs.Spans.{AskedSpansHoldNames, SpansHoldNames};
 
-/// The places that a call tells of its names, its value and its pairs hold just these in the bytes of its request: for each request of less than
-/// 2^32 bytes, whatever was agreed on. So do the places that `pk_ask` tells, by the bytes that it was given.
+/// Each place in a request's bytes that a call is told with holds just its name, its value or its pairs: of each request of less than 2^32 bytes, in
+/// any session. `pk_ask` tells C these places in the bytes that C handed it.
 pub fn law_spans()
     ensures meant { SpansHoldNames }
     ensures asked { AskedSpansHoldNames }

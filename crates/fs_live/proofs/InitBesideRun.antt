@@ -82,7 +82,8 @@ second_asks : {F : Type 0} (f : F) → AsksSo (state f (at_positions 2 0) 0 (fir
 unfolding addresses meaning reading_of meant row reply_bytes error_bytes fields.field_bytes
 second_asks f = record { before = first_asked ∷ []; behind = []; out = refl; fresh = refl; whole = refl; tells = refl; state = refl }
 
-second_answers : {F : Type 0} (may : May F) (before after : F) → may before starts (Wants 0) after → AnswersSo may (state before (at_positions 2 0) 0 (first_asked ∷ second_asked ∷ [])) second_asked starts (Wants 0) (state after (at_positions 2 0) 1 (first_asked ∷ second_answered ∷ []))
+second_answers : {F : Type 0} (may : May F) (before after : F) → may before starts (Wants 0) after →
+    AnswersSo may (state before (at_positions 2 0) 0 (first_asked ∷ second_asked ∷ [])) second_asked starts (Wants 0) (state after (at_positions 2 0) 1 (first_asked ∷ second_answered ∷ []))
 unfolding addresses meaning reading_of meant row reply_bytes error_bytes started_bytes fields.field_bytes
 second_answers may before after so = record {
   before = first_asked ∷ [];
@@ -99,7 +100,8 @@ second_answers may before after so = record {
   state = refl;
 }
 
-second_returns : {F : Type 0} (f : F) → ReturnsSo (state f (at_positions 2 0) 1 (first_asked ∷ second_answered ∷ [])) second_answered second_exchange true 0 second_used (le16 0) (state f (at_positions 2 1) 1 (first_asked ∷ []))
+second_returns : {F : Type 0} (f : F) →
+    ReturnsSo (state f (at_positions 2 0) 1 (first_asked ∷ second_answered ∷ [])) second_answered second_exchange true 0 second_used (le16 0) (state f (at_positions 2 1) 1 (first_asked ∷ []))
 unfolding addresses meaning reading_of meant row reply_bytes error_bytes started_bytes fields.field_bytes
 second_returns f = record {
   before = first_asked ∷ [];
@@ -114,7 +116,8 @@ second_returns f = record {
   state = refl;
 }
 
-first_answers : {F : Type 0} (may : May F) (before after : F) → may before looks (Failed 2) after → AnswersSo may (state before (at_positions 2 1) 1 (first_asked ∷ [])) first_asked looks (Failed 2) (state after (at_positions 2 1) 1 (first_answered ∷ []))
+first_answers : {F : Type 0} (may : May F) (before after : F) → may before looks (Failed 2) after →
+    AnswersSo may (state before (at_positions 2 1) 1 (first_asked ∷ [])) first_asked looks (Failed 2) (state after (at_positions 2 1) 1 (first_answered ∷ []))
 unfolding addresses meaning reading_of meant row last_name counted reply_bytes error_bytes fields.field_bytes
 first_answers may before after so = record {
   before = [];
