@@ -83,7 +83,8 @@ ended_len (Err e) = 0
 -- a workbench's listing ends by the entries so far
 abbrev pub EndsListing : Workbench → (ticket status len : ℕ) → Workbench → Type 0
 EndsListing b ticket status len b' =
-    (told : Result ℕ ChainError) × UnlessRefused (serial_error b.state b.serial ticket) told (b' ≡ b) (Ends b.state b'.state told) × OnErr told (b' ≡ b) × IsAllButPlace b b' × (status ≡ ended_status told) × (len ≡ ended_len told)
+    (told : Result ℕ ChainError) × UnlessRefused (serial_error b.state b.serial ticket) told (b' ≡ b) (Ends b.state b'.state told) × OnErr told (b' ≡ b) × IsAllButPlace b b' ×
+    (status ≡ ended_status told) × (len ≡ ended_len told)
 
 -- a handle's listing ends so
 abbrev pub EndsList : (ticket : ℕ) → Option Workbench → (status len : ℕ) → Option Workbench → Type 0

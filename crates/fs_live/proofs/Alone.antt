@@ -17,7 +17,8 @@ use Rattle.virtiofsd_fuse.specs.Serving.{May}
 use Rattle.fs_device.specs.Step.{State, Exchange, Exchanged, Calls}
 use Rattle.fs_device.specs.StepBy.{StepOfBy, ExchangesBy, Effects, AnswersBy, ReturnsFaultyBy, return_acts, return_stores, reply_stores, offered_by}
 use Rattle.fs_live.specs.Several.{LiveQueue}
-use Rattle.fs_live.specs.Live.{Phase, Faulty, Fetched, Asked, OutChain, LiveState, LiveEvent, Walks, Declines, Asks, Answers, Returns, Sleeps, Begins, Happens, LiveRun, WalksIn, GoesBackWith, new_chain, fault_of, room_of, calls_in, serving}
+use Rattle.fs_live.specs.Live.{Phase, Faulty, Fetched, Asked, OutChain, LiveState, LiveEvent, Walks, Declines, Asks, Answers, Returns}
+use Rattle.fs_live.specs.Live.{Sleeps, Begins, Happens, LiveRun, WalksIn, GoesBackWith, new_chain, fault_of, room_of, calls_in, serving}
 use Rattle.fs_live.specs.Runs.{ReturnedIsStepBy, IsAskedIn, after_alone, chain_loads}
 
 -- ---- lists of chains

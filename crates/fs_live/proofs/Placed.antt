@@ -13,7 +13,8 @@ use Rattle.fs_regions.specs.declared.step.Step.TheVariants as step
 use Rattle.fs_regions.specs.Walks.{Loaded}
 use Rattle.virtiofsd_fuse.specs.Serving.{May}
 use Rattle.fs_live.specs.Several.{LiveQueue, Ticket, took, gave, returning}
-use Rattle.fs_live.specs.Live.{Phase, Faulty, Fetched, Asked, OutChain, LiveState, LiveEvent, Walks, Declines, Asks, Answers, Returns, Sleeps, Begins, Happens, LiveRun, WalksIn, after_answer, after_asking, after_beginning, after_giving, asked_chain, fault_of, new_chain, room_in, why_declined}
+use Rattle.fs_live.specs.Live.{Phase, Faulty, Fetched, Asked, OutChain, LiveState, LiveEvent, Walks, Declines, Asks, Answers, Returns, Sleeps, Begins, Happens, LiveRun}
+use Rattle.fs_live.specs.Live.{WalksIn, after_answer, after_asking, after_beginning, after_giving, asked_chain, fault_of, new_chain, room_in, why_declined}
 use Rattle.fs_live.specs.Runs.{HasUsedEvent, IsEven, ReturnsHavePlaces, has_places, tickets_on}
 use Rattle.fs_live.proofs.Alone.{AllWalked, Walked, one_walked, run_keeps}
 use Rattle.fs_live.proofs.Declined.{has_events, seen_has_a_place}
@@ -157,7 +158,8 @@ module _ (m : Memory) (i : ℕ) where
   walks {F} s mid j v loaded ds (step.Chain head fault) at clear h kept =
       let goes = (fetched_fits s.places s.limit v.queue loaded ds head fault h.0).0 in
       subst (λ (k : LiveState F). Kept k) (sym h.1)
-      (takes s j v (new_chain s j v loaded ds head fault) refl at (subst (λ (k : Memory). return_fault k v.queue ≡ None) kept.0 goes) (subst (λ (k : Memory). HasUsedEvent k v) kept.0 (λ event. (has_events s.places v clear event).0)) kept)
+      (takes s j v (new_chain s j v loaded ds head fault) refl at (subst (λ (k : Memory). return_fault k v.queue ≡ None) kept.0 goes)
+          (subst (λ (k : Memory). HasUsedEvent k v) kept.0 (λ event. (has_events s.places v clear event).0)) kept)
 
   keeps : {F : Type 0} (may : May F) (s mid : LiveState F) (e : LiveEvent) → Happens may s e mid → Kept s → Kept mid
   keeps may s mid (Walks j loaded ds came) h kept = walks s mid j h.w loaded ds came h.there h.goes h.walks kept

@@ -54,7 +54,8 @@ first_asks : {F : Type 0} (f : F) → AsksSo (state f (stopped_at 1 0) 0 (first 
 unfolding addresses meaning reading_of meant row reply_bytes error_bytes fields.field_bytes
 first_asks f = record { before = []; behind = []; out = refl; fresh = refl; whole = refl; tells = refl; state = refl }
 
-first_answers : {F : Type 0} (may : May F) (before after : F) → may before told Done after → AnswersSo may (state before (stopped_at 1 0) 0 (first_asked ∷ [])) first_asked told Done (state after (stopped_at 1 0) 0 (first_answered ∷ []))
+first_answers : {F : Type 0} (may : May F) (before after : F) → may before told Done after →
+        AnswersSo may (state before (stopped_at 1 0) 0 (first_asked ∷ [])) first_asked told Done (state after (stopped_at 1 0) 0 (first_answered ∷ []))
 unfolding addresses meaning reading_of meant row reply_bytes error_bytes fields.field_bytes
 first_answers may before after so = record {
   before = [];

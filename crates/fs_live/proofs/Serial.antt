@@ -25,7 +25,8 @@ use Rattle.fs_device.specs.Run.{KickRun}
 use Rattle.fs_device.specs.Step.{State, Exchange, Exchanged, Step, Calls, answers_alone}
 use Rattle.fs_device.specs.StepBy.{Act, Effects, StepBy, StepOfBy, ExchangesBy, AreStepLoadsOf, IsOfMemory, FindFlags, MayStoreLast, after_stores, stores_among, offered_by, reply_stores, return_acts}
 use Rattle.fs_device.proofs.StepByLemmas.{step_by_is_step}
-use Rattle.fs_live.specs.Live.{Phase, Faulty, Fetched, Asked, OutChain, LiveState, LiveEvent, Walks, Declines, Asks, Answers, Returns, Sleeps, Begins, Happens, LiveRun, WalksSo, AsksSo, AnswersSo, ReturnsSo, calls_in, fault_of, new_chain, after_take, room_of, serving, acts_of, GoesBackWith}
+use Rattle.fs_live.specs.Live.{Phase, Faulty, Fetched, Asked, OutChain, LiveState, LiveEvent, Walks, Declines, Asks, Answers, Returns, Sleeps, Begins, Happens, LiveRun}
+use Rattle.fs_live.specs.Live.{WalksSo, AsksSo, AnswersSo, ReturnsSo, calls_in, fault_of, new_chain, after_take, room_of, serving, acts_of, GoesBackWith}
 use Rattle.fs_live.specs.Runs.{IsAskedIn, options_left, after_alone, chain_loads, request_in}
 use Rattle.fs_live.specs.Several.{LiveQueue, took, gave, returning, wants}
 use Rattle.fs_live.specs.Serial.{IsAtRest, SingleIsStep, SerialIsKick, return_in, IsOfChain, plain}

@@ -6,7 +6,8 @@ use Rattle.std.specs.Int.{w16, from_le_bytes}
 use Rattle.std.specs.Prelude.{◌==◌, nat_lt}
 use Rattle.std.proofs.lemmas.Bool.Decides.{nat_tests}
 use Rattle.fs_queue.specs.Returning.{Store, stores_after_reply}
-use Rattle.fs_live.specs.Several.{ByEvent, LiveQueue, Ticket, Event, Takes, Returns, RunsOver, UsedFrom, returns_among, took, gave, wants, IsSerial, StoresAsTaken, heads_taken, heads_returned, IsOldestFirst, AtTheirPlaces}
+use Rattle.fs_live.specs.Several.{ByEvent, LiveQueue, Ticket, Event, Takes, Returns, RunsOver, UsedFrom, returns_among, took, gave}
+use Rattle.fs_live.specs.Several.{wants, IsSerial, StoresAsTaken, heads_taken, heads_returned, IsOldestFirst, AtTheirPlaces}
 
 -- a take moves no return
 past_take : (w : LiveQueue) (rs : List (Ticket × ℕ × List Store)) → UsedFrom (took w) rs → UsedFrom w rs

@@ -3,7 +3,8 @@ use Rattle.fs_regions.specs.declared.step.Step.TheVariants as step
 use Rattle.fuse_fs.specs.Calls.{Destroy, Done}
 use Rattle.virtiofsd_fuse.specs.Examples.{le16}
 use Rattle.fs_live.specs.Live.{Answers, Asks, LiveEvent, LiveRun, Returns, Walks}
-use Rattle.fs_live.specs.Overlap.{at_positions, destroy, first, first_answered, first_asked, first_exchange, first_loads, first_table, first_used, second, second_asked, second_exchange, second_loads, second_table, second_used, state, unknown}
+use Rattle.fs_live.specs.Overlap.{at_positions, destroy, first, first_answered, first_asked, first_exchange, first_loads, first_table, first_used}
+use Rattle.fs_live.specs.Overlap.{second, second_asked, second_exchange, second_loads, second_table, second_used, state, unknown}
 use Rattle.chain_tests.proofs.worked_runs.overlapped.Goals as goal
 
 pub returns : goal.returns
