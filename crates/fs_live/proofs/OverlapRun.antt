@@ -87,7 +87,7 @@ unfolding addresses meaning reading_of meant row reply_bytes error_bytes fields.
 second_asks f = record { before = first_asked ∷ []; behind = []; out = refl; fresh = refl; whole = refl; tells = refl; state = refl }
 
 second_returns : {F : Type 0} (f : F) →
-        ReturnsSo (state f (at_positions 2 0) 1 (first_asked ∷ second_asked ∷ [])) second_asked second_exchange true 0 second_used (le16 0) (state f (at_positions 2 1) 1 (first_asked ∷ []))
+    ReturnsSo (state f (at_positions 2 0) 1 (first_asked ∷ second_asked ∷ [])) second_asked second_exchange true 0 second_used (le16 0) (state f (at_positions 2 1) 1 (first_asked ∷ []))
 unfolding addresses meaning reading_of meant row reply_bytes error_bytes fields.field_bytes
 second_returns f = record {
   before = first_asked ∷ [];
@@ -103,7 +103,7 @@ second_returns f = record {
 }
 
 first_answers : {F : Type 0} (may : May F) (before after : F) → may before Destroy Done after →
-        AnswersSo may (state before (at_positions 2 1) 1 (first_asked ∷ [])) first_asked Destroy Done (state after (at_positions 2 1) 0 (first_answered ∷ []))
+    AnswersSo may (state before (at_positions 2 1) 1 (first_asked ∷ [])) first_asked Destroy Done (state after (at_positions 2 1) 0 (first_answered ∷ []))
 unfolding addresses meaning reading_of meant row reply_bytes error_bytes fields.field_bytes
 first_answers may before after so = record {
   before = [];

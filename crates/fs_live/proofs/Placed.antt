@@ -159,7 +159,7 @@ module _ (m : Memory) (i : ℕ) where
       let goes = (fetched_fits s.places s.limit v.queue loaded ds head fault h.0).0 in
       subst (λ (k : LiveState F). Kept k) (sym h.1)
       (takes s j v (new_chain s j v loaded ds head fault) refl at (subst (λ (k : Memory). return_fault k v.queue ≡ None) kept.0 goes)
-          (subst (λ (k : Memory). HasUsedEvent k v) kept.0 (λ event. (has_events s.places v clear event).0)) kept)
+      (subst (λ (k : Memory). HasUsedEvent k v) kept.0 (λ event. (has_events s.places v clear event).0)) kept)
 
   keeps : {F : Type 0} (may : May F) (s mid : LiveState F) (e : LiveEvent) → Happens may s e mid → Kept s → Kept mid
   keeps may s mid (Walks j loaded ds came) h kept = walks s mid j h.w loaded ds came h.there h.goes h.walks kept

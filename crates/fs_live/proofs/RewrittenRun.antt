@@ -55,7 +55,7 @@ unfolding addresses meaning reading_of meant row reply_bytes error_bytes fields.
 first_asks f = record { before = []; behind = []; out = refl; fresh = refl; whole = refl; tells = refl; state = refl }
 
 first_answers : {F : Type 0} (may : May F) (before after : F) → may before told Done after →
-        AnswersSo may (state before (stopped_at 1 0) 0 (first_asked ∷ [])) first_asked told Done (state after (stopped_at 1 0) 0 (first_answered ∷ []))
+    AnswersSo may (state before (stopped_at 1 0) 0 (first_asked ∷ [])) first_asked told Done (state after (stopped_at 1 0) 0 (first_answered ∷ []))
 unfolding addresses meaning reading_of meant row reply_bytes error_bytes fields.field_bytes
 first_answers may before after so = record {
   before = [];
