@@ -138,7 +138,12 @@ static void ask_root(size_t ring) {
     expect("GETATTR", reply.error, 0);
 }
 
-/* A ring begins near the end of the positions, stops, goes on, and is disabled for a while. */
+/* The last request once more, and no kick: whoever goes on with the ring may have missed it. */
+static void offer_again(size_t ring) { front_offer(&front, ring, 0); }
+
+static bool is_served(size_t ring) { return atomic_load(index_at(&front, used_at(ring) + 2)) == front.rings[ring].offered; }
+
+/* A ring begins near the end of the positions, stops, goes on, and is disabled for a while. What was offered before is served first. */
 static void rings(void) {
     enum { FIRST = 65530 };
     uint32_t enable[2] = {2, 0};
@@ -148,11 +153,15 @@ static void rings(void) {
     atomic_store(index_at(&front, used_at(2) + 2), FIRST);
     for (uint16_t round = 0; round < 4; round++) {
         front_start_ring(&front, 2, (uint16_t)(FIRST + 5 * round));
-        for (int k = 0; k < 5; k++) ask_root(2);
+        for (int k = 0; k < 4; k++) ask_root(2);
+        offer_again(2);
         check("the position", front_stop_ring(&front, 2) == (uint16_t)(FIRST + 5 * (round + 1)));
+        check("a ring that stops has served what was offered", is_served(2));
     }
     front_start_ring(&front, 2, front.rings[2].offered);
+    for (int k = 0; k < RING_SIZE / 2; k++) offer_again(2);
     check("SET_VRING_ENABLE", front_tell(&front, SET_VRING_ENABLE, enable, sizeof enable, NULL, 0) == 0);
+    check("a ring that is disabled has served what was offered", is_served(2));
     front_send(&front, 2, FUSE_GETATTR, ROOT, &in, sizeof in, 16 + 104);
     check("a disabled ring stands still", !front_wait(&front, 2, 200));
     enable[1] = 1;

@@ -8,6 +8,7 @@ use std::fs::File;
 use std::io::{self, ErrorKind, Write};
 use std::os::fd::AsRawFd;
 use std::sync::{Arc, Condvar, Mutex, MutexGuard, PoisonError};
+use std::time::Duration;
 use vmm_sys_util::epoll::{ControlOperation, Epoll, EpollEvent, EventSet};
 use vmm_sys_util::eventfd::EventFd;
 
@@ -15,6 +16,8 @@ use vmm_sys_util::eventfd::EventFd;
 pub const SIZE_MAX: u32 = 32768;
 /// How long a chain waits for which memory was wanting.
 const AGAIN_MILLISECONDS: i32 = 100;
+/// How long a ring that is to stand waits until a thread has taken what was offered before.
+const LAST_CHAINS: Duration = Duration::from_secs(5);
 
 /// What an event comes from.
 #[derive(Debug, Clone, Copy, PartialEq, Eq)]
@@ -55,6 +58,8 @@ pub struct State {
     sleeping: u16,
     /// How many wait until no chain is out; meanwhile none is taken.
     held: usize,
+    /// The front-end's thread waits until chains are taken.
+    is_awaited: bool,
     kick: Option<File>,
     call: Option<File>,
     /// The driver was to be interrupted while nobody had said where: QEMU says so after it has started a ring that chains wait in.
@@ -240,8 +245,27 @@ impl Ring {
         Ok(())
     }
 
+    /// Has what the driver has offered taken, since the ring is to stand: who goes on with it in another place may look at a ring only when it is
+    /// kicked, as virtiofsd does, and the kicks for these came here. Chains that no thread takes in time stay in the ring.
+    fn take_last(&self, memory: &Table) {
+        let mut state = self.lock();
+        let Numbers { layout, position: first, .. } = state.numbers;
+        let Some(end) = memory.available_index(layout.available).filter(|_| state.is_live()) else { return };
+        state.is_awaited = true;
+        self.look();
+        let is_wanting =
+            |state: &mut State| state.is_live() && state.numbers.position.wrapping_sub(first) < end.wrapping_sub(first);
+        let waited = self.changed.wait_timeout_while(state, LAST_CHAINS, is_wanting);
+        let (mut state, timeout) = waited.unwrap_or_else(PoisonError::into_inner);
+        state.is_awaited = false;
+        if timeout.timed_out() {
+            warn!("queue {}: it stands, and chains wait", self.index);
+        }
+    }
+
     /// The ring ends, and says where it stood. Who goes on with it may not know that kicks can be unwanted.
     pub fn stop(&self, server: &mut impl Server, memory: &Arc<Table>) -> u16 {
+        self.take_last(memory);
         let mut state = self.state();
         if let Err(status) = state.want_kicks(true, server, memory) {
             warn!("queue {}: it ends, and the driver may not kick who goes on with it: {status}", self.index);
@@ -273,6 +297,9 @@ impl Ring {
 
     /// Chains are served or wait.
     pub fn enable(&self, enabled: bool, server: &mut impl Server, memory: &Arc<Table>) {
+        if !enabled {
+            self.take_last(memory);
+        }
         let mut state = self.state();
         let _ = state.want_kicks(true, server, memory); // a thread says it before it sleeps
         state.is_enabled = enabled;
@@ -365,6 +392,9 @@ impl Ring {
             // The memory is asked for under the lock: whoever changes it takes the lock afterwards.
             let table = memory();
             let looked = self.take(&mut state, server, &table);
+            if state.is_awaited {
+                self.changed.notify_all();
+            }
             if looked == Looked::Taken {
                 self.hand_on(&mut state, server, &table);
                 drop(state);
