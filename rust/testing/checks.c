@@ -138,7 +138,7 @@ static void ask_root(size_t ring) {
     expect("GETATTR", reply.error, 0);
 }
 
-/* The last request once more, and no kick: whoever goes on with the ring may have missed it. */
+/* The last request once more, and no kick: whoever goes on with the ring may hear none. */
 static void offer_again(size_t ring) { front_offer(&front, ring, 0); }
 
 static bool is_served(size_t ring) { return atomic_load(index_at(&front, used_at(ring) + 2)) == front.rings[ring].offered; }

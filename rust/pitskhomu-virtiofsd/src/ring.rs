@@ -245,8 +245,9 @@ impl Ring {
         Ok(())
     }
 
-    /// Has what the driver has offered taken, since the ring is to stand: who goes on with it in another place may look at a ring only when it is
-    /// kicked, as virtiofsd does, and the kicks for these came here. Chains that no thread takes in time stay in the ring.
+    /// Has what the driver has offered taken, since the ring is to stand, and the kicks for it came here. Who goes on with the ring may not look:
+    /// virtiofsd does so when it is kicked, and QEMU's one kick at the start is thrown away if virtiofsd reads it before the ring is enabled.
+    /// Chains that no thread takes in time stay in the ring.
     fn take_last(&self, memory: &Table) {
         let mut state = self.lock();
         let Numbers { layout, position: first, .. } = state.numbers;
