@@ -245,9 +245,9 @@ impl Ring {
         Ok(())
     }
 
-    /// Has what the driver has offered taken, since the ring is to stand, and the kicks for it came here. Who goes on with the ring may not look:
-    /// virtiofsd does so when it is kicked, and QEMU's one kick at the start is thrown away if virtiofsd reads it before the ring is enabled.
-    /// Chains that no thread takes in time stay in the ring.
+    /// The ring is to stand: waits until what the driver has offered is taken, for the kicks for it came here. Who goes on with the ring may not
+    /// look: virtiofsd does so when it is kicked, and throws QEMU's one kick at the start away if it reads that before the ring is enabled. Chains
+    /// that no thread takes in time stay in the ring.
     fn take_last(&self, memory: &Table) {
         let mut state = self.lock();
         let Numbers { layout, position: first, .. } = state.numbers;
@@ -439,7 +439,6 @@ mod tests {
     use std::os::fd::FromRawFd;
     use std::sync::mpsc::{channel, Sender};
     use std::thread;
-    use std::time::Duration;
 
     fn event() -> File {
         // SAFETY: no memory is touched.
