@@ -33,14 +33,20 @@ use Rattle.fs_live.specs.Handles.{HandleAsks, HandleCalls, HandleFaulty, HandleR
 use Rattle.fs_live.specs.Live.{
   Answers,
   Asks,
+  Abandons,
   Begins,
   Declines,
+  Drops,
+  Fills,
   Happens,
   HasPlace,
   LiveEvent,
   LiveRun,
   LiveState,
+  Maps,
+  Moves,
   OutChain,
+  Replies,
   Returns,
   Sleeps,
   Walks,
@@ -76,6 +82,12 @@ calls_behind (Answers c call answer) es fs is = ap (λ (calls : Calls). (call, a
 calls_behind (Returns c x notice last used seen) es fs is = is
 calls_behind (Sleeps i store) es fs is = is
 calls_behind (Begins i w) es fs is = is
+calls_behind (Fills c stores) es fs is = is
+calls_behind (Drops c) es fs is = is
+calls_behind (Abandons c) es fs is = is
+calls_behind (Replies c request reply options) es fs is = is
+calls_behind (Maps m) es fs is = is
+calls_behind (Moves m queues) es fs is = is
 
 calls_of_both : (es fs : List LiveEvent) → calls_among (es ++ fs) ≡ calls_among es ++ calls_among fs
 calls_of_both [] fs = refl
@@ -91,7 +103,7 @@ abbrev head_in : walked.WalkOutcome → ℕ
 head_in (says.Chain head n r) = head
 head_in _ = 0
 
-chain_is : (ds : List Descriptor) (came : comes.Step) (head n r : ℕ) → says.Chain head n r ≡ told_of ds came → came ≡ step.Chain head None
+pub chain_is : (ds : List Descriptor) (came : comes.Step) (head n r : ℕ) → says.Chain head n r ≡ told_of ds came → came ≡ step.Chain head None
 chain_is ds (step.Load walk) head n r is = absurd (subst IsAChain is tt)
 chain_is ds step.Idle head n r is = absurd (subst IsAChain is tt)
 chain_is ds (step.Refused e) head n r is = absurd (subst IsAChain is tt)

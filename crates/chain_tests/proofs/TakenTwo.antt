@@ -17,7 +17,7 @@ use Rattle.fs_chain.specs.declared.workbench.Workbench.{Workbench}
 use Rattle.fs_chain.proofs.WholeWalks.{walk_comes}
 use Rattle.fs_live.specs.Live.{Happens, LiveState, Walks}
 use Rattle.fs_live.specs.Runs.{events_on}
-use Rattle.fs_live.specs.Several.{heads_returned, heads_taken}
+use Rattle.fs_live.specs.Several.{heads_ended, heads_taken}
 
 abbrev IsAChain : walked.WalkOutcome → Type 0
 IsAChain (says.Chain head n r) = Unit {0}
@@ -55,10 +55,10 @@ goes_still old new before after head n r goes walked =
 -- two takes on one queue
 takes_two : (i head other : ℕ) (one two : Loaded) (ds more : List Descriptor) → (i == i) ≡ true
     → (heads_taken (events_on i (Walks i one ds (step.Chain head None) ∷ Walks i two more (step.Chain other None) ∷ [])) ≡ head ∷ other ∷ [])
-    × (heads_returned (events_on i (Walks i one ds (step.Chain head None) ∷ Walks i two more (step.Chain other None) ∷ [])) ≡ [])
+    × (heads_ended (events_on i (Walks i one ds (step.Chain head None) ∷ Walks i two more (step.Chain other None) ∷ [])) ≡ [])
 takes_two i head other one two ds more same = (rw same refl, rw same refl)
 
 pub two_takes : (i head other : ℕ) (one two : Loaded) (ds more : List Descriptor)
     → (heads_taken (events_on i (Walks i one ds (step.Chain head None) ∷ Walks i two more (step.Chain other None) ∷ [])) ≡ head ∷ other ∷ [])
-    × (heads_returned (events_on i (Walks i one ds (step.Chain head None) ∷ Walks i two more (step.Chain other None) ∷ [])) ≡ [])
+    × (heads_ended (events_on i (Walks i one ds (step.Chain head None) ∷ Walks i two more (step.Chain other None) ∷ [])) ≡ [])
 two_takes i head other one two ds more = takes_two i head other one two ds more (eq-eqb i i refl)

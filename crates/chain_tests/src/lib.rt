@@ -22,6 +22,8 @@ mod lives;
 #[cfg(test)]
 mod orders;
 #[cfg(test)]
+mod others;
+#[cfg(test)]
 mod regions;
 #[cfg(test)]
 mod returns;

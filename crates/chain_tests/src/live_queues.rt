@@ -1,6 +1,6 @@
 //! Runs of takes and returns on one queue, and of chains one after another.
 
-ghost use Rattle.std.specs.Prelude.{◌≡◌, ℕ, [], ◌∷◌, List, Some, None, slice_get};
+ghost use Rattle.std.specs.Prelude.{◌≡◌, ◌<◌, ◌^◌, ℕ, [], ◌∷◌, List, Some, None, slice_get};
 ghost use Rattle.vm_memory.specs.Memory.{Memory};
 ghost use Rattle.fs_queue.specs.Returning.{Store, next_position};
 ghost use Rattle.fs_device.specs.Run.{KickRun};
@@ -14,7 +14,7 @@ use fuse_fs::FileSystem;
 
 // Of two chains that are taken, if the first one goes back first, each goes back where it was taken.
 fn oldest_first()
-    ensures { (w : LiveQueue) (first second n m : ℕ) (stores more : List Store) → w.returned ≡ w.queue.position
+    ensures { (w : LiveQueue) (first second n m : ℕ) (stores more : List Store) → w.returned ≡ w.queue.position → w.queue.position < 2 ^ 16
         → AtTheirPlaces w (((w.queue.position, first), n, stores) ∷ ((next_position w.queue, second), m, more) ∷ []) }
 {
     law_queues();

@@ -1,16 +1,16 @@
 //! Chains of the worked runs, each by itself.
 
-ghost use Rattle.std.specs.Prelude.{◌≡◌, [], ◌∷◌, List, Some, slice_get, true};
+ghost use Rattle.std.specs.Prelude.{◌≡◌, [], ◌∷◌, ◌++◌, List, Some, slice_get, true};
 ghost use Rattle.fs_queue.specs.Loads.{Load};
 ghost use Rattle.fuse_fs.specs.Calls.{Destroy, Done, Failed, FileRun, Wants};
 ghost use Rattle.fs_device.specs.Examples.{blank};
 ghost use Rattle.fs_device.specs.Step.{Exchanged, State};
 ghost use Rattle.fs_device.specs.StepBy.{Effects, StepBy};
 ghost use Rattle.fs_live.specs.InitBeside as init;
-ghost use Rattle.fs_live.specs.Live.{LiveState};
-ghost use Rattle.fs_live.specs.Overlap.{first_answered, first_exchange};
+ghost use Rattle.fs_live.specs.Live.{LiveEvent, LiveRun, LiveState, Moves};
+ghost use Rattle.fs_live.specs.Overlap.{at_positions, first_answered, first_exchange, state};
 ghost use Rattle.fs_live.specs.Rewritten as rewritten;
-ghost use Rattle.fs_live.specs.Runs.{IsBefore, ReturnHasPlaces, after_alone, chain_loads};
+ghost use Rattle.fs_live.specs.Runs.{EachIsTold, IsBefore, ReturnHasPlaces, after_alone, chain_loads};
 ghost use Rattle.fs_live.specs.Several.{LiveQueue};
 
 use call_log::CallLog;
@@ -57,10 +57,31 @@ fn asked_before<F: FileSystem>()
     law_runs::<F, F>();
 }
 
+// Once both of its chains went back the device moves: whatever it does there it could have done here.
+fn moved<F: FileSystem>()
+    ensures { (before after : F) → F.may before Destroy Done after → (later : List LiveEvent) (end : LiveState F) → LiveRun F.may (state after (at_positions 2 2) 0 []) later end
+        → (es : List LiveEvent) × LiveRun F.may (state before (at_positions 0 0) 1 []) (es ++ Moves blank (at_positions 2 2 ∷ []) ∷ later) end
+        × LiveRun F.may (state before (at_positions 0 0) 1 []) (es ++ later) end }
+{
+    law_examples::<F>();
+    law_runs::<F, F>();
+}
+
+// The pages that its events mark are those that they tell.
+fn marked<F: FileSystem>()
+    ensures { (before after : F) → F.may before Destroy Done after → (es : List LiveEvent) × (run : LiveRun F.may (state before (at_positions 0 0) 1 []) es (state after (at_positions 2 2) 0 []))
+        × EachIsTold F.may (state before (at_positions 0 0) 1 []) es (state after (at_positions 2 2) 0 []) run }
+{
+    law_examples::<F>();
+    law_runs::<F, F>();
+}
+
 #[test]
 fn chains_of_the_worked_runs_are_steps() {
     overlapped::<CallLog>();
     placed::<CallLog>();
     kept::<CallLog>();
     asked_before::<CallLog>();
+    moved::<CallLog>();
+    marked::<CallLog>();
 }

@@ -1,14 +1,18 @@
 -- Each chain by itself.
-use Rattle.std.proofs.Common.{◌≡◌, ℕ, Bool, List, [], ◌∷◌, ◌++◌, length, filter, Option, Some, None, refl, subst, sym, ap}
-use Rattle.std.specs.Prelude.{All, not, ◌==◌, true, false}
-use Rattle.std.specs.List.{AllByRecursion}
-use Rattle.vm_memory.specs.Memory.{Memory}
+use Rattle.std.proofs.Common.{◌≡◌, ℕ, Bool, List, [], ◌∷◌, ◌++◌, length, filter, Option, Some, None, refl, subst, sym, ap, ◌∙◌}
+use Rattle.std.specs.Prelude.{All, not, ◌==◌, ◌≤◌, ◌+◌, ◌^◌, ◌&&◌, is_some, nat_lt, true, false}
+use Rattle.std.specs.List.{AllByRecursion, list_all, slice_index_or}
+use Rattle.vm_iotlb.specs.declared.permissions.Permissions.{Permissions}
+use Rattle.vm_iotlb.specs.declared.permissions.Permissions.TheVariants.{Read, Write}
+use Rattle.vm_memory_core.specs.Host.{Place, changed_at}
+use Rattle.vm_memory.specs.Memory.{Memory, addresses, location, reach}
 use Rattle.fs_queue.specs.Chain.{Descriptor}
 use Rattle.fs_queue.specs.Loads.{Load}
-use Rattle.fs_queue.specs.Queue.{Queue}
-use Rattle.fs_queue.specs.Returning.{Store, tells}
-use Rattle.fs_queue.specs.Taking.{Offer, Offers, CannotFetch, IsRequest, readable, total_len}
+use Rattle.fs_queue.specs.Queue.{Queue, avail_index_at, element_at, index_at, ring_entry_at}
+use Rattle.fs_queue.specs.Returning.{Store, advanced, tells}
+use Rattle.fs_queue.specs.Taking.{Offer, Offers, CannotFetch, IsRequest, addresses_of, all_reach, readable, total_len, writable}
 use Rattle.fs_queue.specs.declared.fault.ChainFault.{ChainFault}
+use Rattle.fs_queue.proofs.ConfinedLemmas.{only_places_count}
 use Rattle.fs_regions.specs.declared.step.Step as comes
 use Rattle.fs_regions.specs.declared.step.Step.TheVariants as step
 use Rattle.fs_regions.specs.Walks.{Loaded, FetchesBy, OffersBy, RingIsAsked, IsLost}
@@ -17,9 +21,9 @@ use Rattle.virtiofsd_fuse.specs.Serving.{May}
 use Rattle.fs_device.specs.Step.{State, Exchange, Exchanged, Calls}
 use Rattle.fs_device.specs.StepBy.{StepOfBy, ExchangesBy, Effects, AnswersBy, ReturnsFaultyBy, return_acts, return_stores, reply_stores, offered_by}
 use Rattle.fs_live.specs.Several.{LiveQueue}
-use Rattle.fs_live.specs.Live.{Phase, Faulty, Fetched, Asked, OutChain, LiveState, LiveEvent, Walks, Declines, Asks, Answers, Returns}
-use Rattle.fs_live.specs.Live.{Sleeps, Begins, Happens, LiveRun, WalksIn, GoesBackWith, new_chain, fault_of, room_of, calls_in, serving}
-use Rattle.fs_live.specs.Runs.{ReturnedIsStepBy, IsAskedIn, after_alone, chain_loads}
+use Rattle.fs_live.specs.Live.{Phase, Faulty, Fetched, Asked, Own, Lost, OutChain, LiveState, LiveEvent, Walks, Declines, Asks, Answers, Returns}
+use Rattle.fs_live.specs.Live.{Sleeps, Begins, Fills, Drops, Abandons, Replies, Maps, Moves, Happens, IsUnreplied, LiveRun, WalksIn, GoesBackWith, lost_chain, new_chain, fault_of, own_exchange, room_in, room_of, calls_in, serving}
+use Rattle.fs_live.specs.Runs.{OwnIsReturned, ReturnedIsStepBy, IsAskedIn, IsServed, after_alone, chain_loads, options_left}
 
 -- ---- lists of chains
 
@@ -48,17 +52,18 @@ module _ {A : Type 0} (P : A → Type 0) where
 
 abbrev pub IsWhole : Phase → List Descriptor → Type 0
 IsWhole (Asked request options calls) ds = length request ≡ total_len (readable ds)
+IsWhole (Own request reply) ds = (length request ≡ total_len (readable ds)) × (length reply ≤ length (addresses_of (writable ds)))
 IsWhole _ ds = Unit {0}
 
 -- its walk came to it by its loads, and its request is as long as it says
-abbrev pub Walked : Memory → ℕ → OutChain → Type 0
-Walked places limit c = FetchesBy places limit c.taken c.loaded c.descriptors c.head (fault_of c.phase) × IsWhole c.phase c.descriptors
+abbrev pub Walked : ℕ → OutChain → Type 0
+Walked limit c = FetchesBy c.places limit c.taken c.loaded c.descriptors c.head (fault_of c.phase) × IsWhole c.phase c.descriptors
 
 abbrev pub AllWalked : {F : Type 0} → LiveState F → Type 0
-AllWalked s = AllByRecursion (Walked s.places s.limit) s.outs
+AllWalked s = AllByRecursion (Walked s.limit) s.outs
 
 pub new_walked : {F : Type 0} (s : LiveState F) (i : ℕ) (w : LiveQueue) (loaded : Loaded) (ds : List Descriptor) (head : ℕ) (fault : Option ChainFault)
-    → FetchesBy s.places s.limit w.queue loaded ds head fault → Walked s.places s.limit (new_chain s i w loaded ds head fault)
+    → FetchesBy s.places s.limit w.queue loaded ds head fault → Walked s.limit (new_chain s i w loaded ds head fault)
 new_walked s i w loaded ds head None h = (h, tt)
 new_walked s i w loaded ds head (Some why) h = (h, tt)
 
@@ -69,47 +74,122 @@ walk_keeps {F} s after i w loaded ds step.Idle h all = subst (λ (k : LiveState 
 walk_keeps {F} s after i w loaded ds (step.Refused e) h all = subst (λ (k : LiveState F). AllWalked k) (sym h.1) all
 walk_keeps {F} s after i w loaded ds (step.Chain head fault) h all =
     subst (λ (k : LiveState F). AllWalked k) (sym h.1)
-    (all_both (Walked s.places s.limit) s.outs (new_chain s i w loaded ds head fault ∷ []) all (new_walked s i w loaded ds head fault h.0, tt))
+    (all_both (Walked s.limit) s.outs (new_chain s i w loaded ds head fault ∷ []) all (new_walked s i w loaded ds head fault h.0, tt))
 
 -- a chain that is out, and the others
 pub one_walked : {F : Type 0} (s : LiveState F) (before behind : List OutChain) (c : OutChain) → s.outs ≡ before ++ c ∷ behind → AllWalked s
-    → AllByRecursion (Walked s.places s.limit) before × Walked s.places s.limit c × AllByRecursion (Walked s.places s.limit) behind
+    → AllByRecursion (Walked s.limit) before × Walked s.limit c × AllByRecursion (Walked s.limit) behind
 one_walked s before behind c out all =
-    let split = subst (AllByRecursion (Walked s.places s.limit)) out all in
-    let right = all_right (Walked s.places s.limit) before (c ∷ behind) split in
-    (all_left (Walked s.places s.limit) before (c ∷ behind) split, right.0, right.1)
+    let split = subst (AllByRecursion (Walked s.limit)) out all in
+    let right = all_right (Walked s.limit) before (c ∷ behind) split in
+    (all_left (Walked s.limit) before (c ∷ behind) split, right.0, right.1)
 
-pub asked_walked : (places : Memory) (limit : ℕ) (c : OutChain) (request : List ℕ) (options : ℕ) (calls : Calls) → fault_of c.phase ≡ None → length request ≡ total_len (readable c.descriptors)
-    → Walked places limit c → Walked places limit (record c { phase = Asked request options calls })
-asked_walked places limit c request options calls good whole h =
-    (subst (λ (f : Option ChainFault). FetchesBy places limit c.taken c.loaded c.descriptors c.head f) good h.0, whole)
+pub asked_walked : (limit : ℕ) (c : OutChain) (request : List ℕ) (options : ℕ) (calls : Calls) → fault_of c.phase ≡ None → length request ≡ total_len (readable c.descriptors)
+    → Walked limit c → Walked limit (record c { phase = Asked request options calls })
+asked_walked limit c request options calls good whole h =
+    (subst (λ (f : Option ChainFault). FetchesBy c.places limit c.taken c.loaded c.descriptors c.head f) good h.0, whole)
+
+-- a chain that is lost keeps what it was fetched by
+lost_walked : (limit : ℕ) (c : OutChain) → Walked limit c → Walked limit (lost_chain c)
+lost_walked limit c h = (h.0, tt)
+
+-- so does one that its caller replies to, whose bytes have room
+own_walked : (limit : ℕ) (c : OutChain) (p : Phase) (request reply : List ℕ) → c.phase ≡ p → IsUnreplied c p request → length reply ≤ length (room_of c) → Walked limit c
+    → Walked limit (record c { phase = Own request reply })
+own_walked limit c (Faulty why) request reply is un few h = absurd un
+own_walked limit c Fetched request reply is un few h = (
+  subst (λ (f : Option ChainFault). FetchesBy c.places limit c.taken c.loaded c.descriptors c.head f) (ap fault_of is) h.0,
+  (un, subst (λ (p : Phase). length reply ≤ length (room_in p c.descriptors)) is few),
+)
+own_walked limit c (Asked asked options calls) request reply is un few h = (
+  subst (λ (f : Option ChainFault). FetchesBy c.places limit c.taken c.loaded c.descriptors c.head f) (ap fault_of is) h.0,
+  (
+    ap length un ∙ subst (λ (p : Phase). IsWhole p c.descriptors) is h.1,
+    subst (λ (p : Phase). length reply ≤ length (room_in p c.descriptors)) is few,
+  ),
+)
+own_walked limit c (Own a b) request reply is un few h = absurd un
+own_walked limit c (Lost fault) request reply is un few h = absurd un
 
 keeps : {F : Type 0} (may : May F) (s after : LiveState F) (e : LiveEvent) → Happens may s e after → AllWalked s → AllWalked after
 keeps may s after (Walks i loaded ds came) h all = walk_keeps s after i h.w loaded ds came h.walks all
 keeps {F} may s after (Declines i e) h all = subst (λ (k : LiveState F). AllWalked k) (sym h.state) all
 keeps {F} may s after (Asks c request told) h all =
-    let P = Walked s.places s.limit in
+    let P = Walked s.limit in
     let parts = one_walked s h.before h.behind c h.out all in
     subst (λ (k : LiveState F). AllWalked k) (sym h.state)
     (all_both P h.before (record c { phase = Asked request s.options [] } ∷ h.behind) parts.0
-    (asked_walked s.places s.limit c request s.options [] (ap fault_of h.fresh) h.whole parts.1, parts.2))
+    (asked_walked s.limit c request s.options [] (ap fault_of h.fresh) h.whole parts.1, parts.2))
 keeps {F} may s after (Answers c call answer) h all =
-    let P = Walked s.places s.limit in
+    let P = Walked s.limit in
     let parts = one_walked s h.before h.behind c h.out all in
     let whole : length h.request ≡ total_len (readable c.descriptors) = subst (λ (p : Phase). IsWhole p c.descriptors) h.asked parts.1.1 in
     subst (λ (k : LiveState F). AllWalked k) (sym h.state)
     (all_both P h.before (record c { phase = Asked h.request h.options (h.calls ++ (call, answer) ∷ []) } ∷ h.behind) parts.0
-    (asked_walked s.places s.limit c h.request h.options (h.calls ++ (call, answer) ∷ []) (ap fault_of h.asked) whole parts.1, parts.2))
+    (asked_walked s.limit c h.request h.options (h.calls ++ (call, answer) ∷ []) (ap fault_of h.asked) whole parts.1, parts.2))
 keeps {F} may s after (Returns c x notice last used seen) h all =
     let parts = one_walked s h.before h.behind c h.out all in
-    subst (λ (k : LiveState F). AllWalked k) (sym h.state) (all_both (Walked s.places s.limit) h.before h.behind parts.0 parts.2)
+    subst (λ (k : LiveState F). AllWalked k) (sym h.state) (all_both (Walked s.limit) h.before h.behind parts.0 parts.2)
 keeps {F} may s after (Sleeps i store) h all = subst (λ (k : LiveState F). AllWalked k) (sym h.state) all
 keeps {F} may s after (Begins i w) h all =
-    subst (λ (k : LiveState F). AllWalked k) (sym h.state) (all_filter (Walked s.places s.limit) (λ c. not (c.queue == i)) s.outs all)
+    subst (λ (k : LiveState F). AllWalked k) (sym h.state) (all_filter (Walked s.limit) (λ c. not (c.queue == i)) s.outs all)
+keeps {F} may s after (Fills c stores) h all = subst (λ (k : LiveState F). AllWalked k) (sym h.state) all
+keeps {F} may s after (Drops c) h all =
+    let parts = one_walked s h.before h.behind c h.out all in
+    subst (λ (k : LiveState F). AllWalked k) (sym h.state) (all_both (Walked s.limit) h.before h.behind parts.0 parts.2)
+keeps {F} may s after (Abandons c) h all =
+    let parts = one_walked s h.before h.behind c h.out all in
+    subst (λ (k : LiveState F). AllWalked k) (sym h.state)
+    (all_both (Walked s.limit) h.before (lost_chain c ∷ h.behind) parts.0 (lost_walked s.limit c parts.1, parts.2))
+keeps {F} may s after (Replies c request reply options) h all =
+    let parts = one_walked s h.before h.behind c h.out all in
+    subst (λ (k : LiveState F). AllWalked k) (sym h.state)
+    (all_both (Walked s.limit) h.before (record c { phase = Own request reply } ∷ h.behind) parts.0
+    (own_walked s.limit c c.phase request reply refl h.unreplied h.fits parts.1, parts.2))
+keeps {F} may s after (Maps m) h all = subst (λ (k : LiveState F). AllWalked k) (sym h.state) all
+keeps {F} may s after (Moves m queues) h all =
+    subst (λ (k : LiveState F). AllWalked k) (sym h.state) all
 
 pub run_keeps : {F : Type 0} (may : May F) (s after : LiveState F) (es : List LiveEvent) → LiveRun may s es after → AllWalked s → AllWalked after
 run_keeps {F} may s after [] run all = subst (λ (k : LiveState F). AllWalked k) (sym run) all
 run_keeps may s after (e ∷ es) run all = run_keeps may run.0 after es run.2 (keeps may s run.0 e run.1 all)
+
+-- ---- memories with the same places
+
+abbrev Located : Type 0
+Located = Permissions → ℕ → Option Place
+
+pub reach_same : (m n : Memory) → location m ≡ location n → (access : Permissions) (a k : ℕ) → reach m access a k ≡ reach n access a k
+reach_same m n same access a k = ap (λ (f : Located). nat_lt (a + k) (2 ^ 64) && list_all (λ x. is_some (f access x)) (addresses a k)) same
+
+pub all_reach_same : (m n : Memory) → location m ≡ location n → (access : Permissions) (ds : List Descriptor) → all_reach m access ds ≡ all_reach n access ds
+all_reach_same m n same access [] = refl
+all_reach_same m n same access (d ∷ ds) =
+    ap (λ (b : Bool). b && all_reach m access ds) (reach_same m n same access d.addr d.len)
+    ∙ ap (λ (b : Bool). reach n access d.addr d.len && b) (all_reach_same m n same access ds)
+
+-- what loads offer doesn't depend on what a memory holds
+lost_over : (m n : Memory) → location m ≡ location n → (lost : List Load) → All (IsLost n) lost → All (IsLost m) lost
+lost_over m n same lost all = λ k d few. let l = all k d few in (l.0, reach_same m n same Read (slice_index_or lost k d).address 16 ∙ l.1)
+
+offers_over : (m n : Memory) → location m ≡ location n → (limit : ℕ) (q : Queue) (loaded : Loaded) (request : List ℕ) (o : Offer) → OffersBy n limit q loaded request o
+    → OffersBy m limit q loaded request o
+offers_over m n same limit q loaded request o by =
+    let alike = only_places_count m n limit q loaded.index loaded.entry (loaded.entries ++ by.1) request
+    (record {
+      element = reach_same m n same Write (element_at q) 8;
+      index = reach_same m n same Write (index_at q) 2;
+      flags = reach_same m n same Read q.avail 2;
+      chain = λ hd ds found. (all_reach_same m n same Read (readable ds), all_reach_same m n same Write (writable ds));
+    }) in (
+      (
+        λ none. reach_same m n same Read (avail_index_at q) 2 ∙ by.0.0 none,
+        λ none asks. reach_same m n same Read (ring_entry_at q) 2 ∙ by.0.1 none asks,
+      ),
+      by.1,
+      lost_over m n same by.1 by.2,
+      alike ∙ by.3,
+    )
 
 -- ---- a chain that goes back
 
@@ -130,15 +210,16 @@ pub record Exchanging {G : Type 0} (other : May G) (m : State G) (files : G) (c 
   pub room : room_offered offer ≡ room_of c
   pub exchanges : ExchangesBy other m c.queue c.taken offer (calls_in c.phase) x (tells seen) (effects_of c x last seen) (after_alone m c files)
 
-pub exchange_of : {G : Type 0} (other : May G) (m : State G) (files : G) (i : ℕ) (q : Queue) (loaded : Loaded) (ds : List Descriptor) (head : ℕ) (p : Phase) (x : Exchange) (last : ℕ) (seen : List ℕ)
-    → Walked m.memory m.limit (record { queue = i; taken = q; loaded = loaded; descriptors = ds; head = head; phase = p })
+pub exchange_of : {G : Type 0} (other : May G) (m : State G) (files : G) (places : Memory) (i : ℕ) (q : Queue) (loaded : Loaded) (ds : List Descriptor) (head : ℕ) (p : Phase) (x : Exchange) (last : ℕ) (seen : List ℕ)
+    → location m.memory ≡ location places → IsServed p → Walked m.limit (record { places = places; queue = i; taken = q; loaded = loaded; descriptors = ds; head = head; phase = p })
     → IsAskedIn p m.options
-    → GoesBackWith m.page_size (record { queue = i; taken = q; loaded = loaded; descriptors = ds; head = head; phase = p }) p x
+    → GoesBackWith m.page_size (record { places = places; queue = i; taken = q; loaded = loaded; descriptors = ds; head = head; phase = p }) p x
     → length seen ≡ 2 → FileRun other m.files (calls_in p) files
-    → Exchanging other m files (record { queue = i; taken = q; loaded = loaded; descriptors = ds; head = head; phase = p }) x last seen
-exchange_of {G} other m files i q loaded ds head (Faulty why) x last seen walked options goes two run =
-    let c : OutChain = record { queue = i; taken = q; loaded = loaded; descriptors = ds; head = head; phase = Faulty why } in
-    let by : OffersBy m.memory m.limit q loaded [] (Offers head (CannotFetch why)) = walked.0 in
+    → Exchanging other m files (record { places = places; queue = i; taken = q; loaded = loaded; descriptors = ds; head = head; phase = p }) x last seen
+exchange_of {G} other m files places i q loaded ds head (Faulty why) x last seen at served walked options goes two run =
+    let c : OutChain = record { places = places; queue = i; taken = q; loaded = loaded; descriptors = ds; head = head; phase = Faulty why } in
+    let by : OffersBy m.memory m.limit q loaded [] (Offers head (CannotFetch why)) =
+    offers_over m.memory places at m.limit q loaded [] (Offers head (CannotFetch why)) walked.0 in
     let made : ReturnsFaultyBy m i q head why [] x (tells seen) (effects_of c x last seen) (after_alone m c files) = record {
       no_call = refl;
       files = run;
@@ -152,11 +233,14 @@ exchange_of {G} other m files i q loaded ds head (Faulty why) x last seen walked
       };
     } in
     record { lost = by.1; ring = by.0; all_lost = by.2; offer = Offers head (CannotFetch why); offered = by.3; room = refl; exchanges = made }
-exchange_of other m files i q loaded ds head Fetched x last seen walked options goes two run = absurd goes
-exchange_of {G} other m files i q loaded ds head (Asked request asked calls) x last seen walked options goes two run =
-    let c : OutChain = record { queue = i; taken = q; loaded = loaded; descriptors = ds; head = head; phase = Asked request asked calls } in
+exchange_of other m files places i q loaded ds head Fetched x last seen at served walked options goes two run = absurd goes
+exchange_of other m files places i q loaded ds head (Own request reply) x last seen at served walked options goes two run = absurd served
+exchange_of other m files places i q loaded ds head (Lost fault) x last seen at served walked options goes two run = absurd goes
+exchange_of {G} other m files places i q loaded ds head (Asked request asked calls) x last seen at served walked options goes two run =
+    let c : OutChain = record { places = places; queue = i; taken = q; loaded = loaded; descriptors = ds; head = head; phase = Asked request asked calls } in
     let room = room_of c in
-    let by : OffersBy m.memory m.limit q loaded request (Offers head (IsRequest request room)) = walked.0.1 request walked.1 in
+    let by : OffersBy m.memory m.limit q loaded request (Offers head (IsRequest request room)) =
+    offers_over m.memory places at m.limit q loaded request (Offers head (IsRequest request room)) (walked.0.1 request walked.1) in
     let made : AnswersBy other m i q head request room calls x (tells seen) (effects_of c x last seen) (after_alone m c files) = record {
       given = serving m.page_size asked asked request room calls;
       serves = record {
@@ -175,14 +259,18 @@ exchange_of {G} other m files i q loaded ds head (Asked request asked calls) x l
     } in
     record { lost = by.1; ring = by.0; all_lost = by.2; offer = Offers head (IsRequest request room); offered = by.3; room = refl; exchanges = made }
 
+-- a chain that is out of a run was walked
+pub walked_there : {F : Type 0} (may : May F) (s now : LiveState F) (es : List LiveEvent) (c : OutChain) (before behind : List OutChain) → s.outs ≡ [] → LiveRun may s es now
+    → now.outs ≡ before ++ c ∷ behind → Walked now.limit c
+walked_there may s now es c before behind none run out =
+    let start : AllWalked s = subst (AllByRecursion (Walked s.limit)) (sym none) tt in
+    (one_walked now before behind c out (run_keeps may s now es run start)).1
+
 pub returned_is_step_by : {F G : Type 0} (may : May F) (other : May G) → ReturnedIsStepBy may other
-returned_is_step_by {F} {G} may other s now after es c x notice last used seen m files none run h first calls =
-    let start : AllWalked s = subst (AllByRecursion (Walked s.places s.limit)) (sym none) tt in
-    let all : AllWalked now = run_keeps may s now es run start in
-    let walked : Walked now.places now.limit c = (one_walked now h.before h.behind c h.out all).1 in
-    let so : Walked m.memory m.limit c = subst (λ (k : Memory). Walked k m.limit c) (sym first.places) (subst (λ (k : ℕ). Walked now.places k c) (sym first.limit) walked) in
+returned_is_step_by {F} {G} may other s now after es c x notice last used seen m files none run h served first calls =
+    let so : Walked m.limit c = subst (λ (k : ℕ). Walked k c) (sym first.limit) (walked_there may s now es c h.before h.behind none run h.out) in
     let goes : GoesBackWith m.page_size c c.phase x = subst (λ (k : ℕ). GoesBackWith k c c.phase x) (sym first.page_size) h.goes in
-    let made = exchange_of other m files c.queue c.taken c.loaded c.descriptors c.head c.phase x last seen so first.options goes h.two calls in (
+    let made = exchange_of other m files c.places c.queue c.taken c.loaded c.descriptors c.head c.phase x last seen first.places served so first.options goes h.two calls in (
       h.w,
       h.there,
       record {
@@ -190,5 +278,34 @@ returned_is_step_by {F} {G} may other s now after es c x notice last used seen m
         step = subst (λ (k : Option Queue). StepOfBy other m c.queue k (chain_loads c made.lost) (calls_in c.phase) (Exchanged x (tells seen)) (effects_of c x last seen) (after_alone m c files)) (sym first.queue)
             (made.offer, made.offered, made.exchanges);
         acts = ap (λ (u : List Store). return_acts (reply_stores (room_of c) x.reply last ++ u) seen) h.used_is;
+      },
+    )
+
+-- a chain that goes back with its caller's own bytes
+pub own_is_returned : {F : Type 0} (G : Type 0) (may : May F) → OwnIsReturned G may
+own_is_returned {F} G may s now after es c x notice last used seen request reply m none run h is first =
+    let walked = walked_there may s now es c h.before h.behind none run h.out in
+    let whole : (length request ≡ total_len (readable c.descriptors)) × (length reply ≤ length (addresses_of (writable c.descriptors))) =
+    subst (λ (p : Phase). IsWhole p c.descriptors) is walked.1 in
+    let fetched : FetchesBy c.places now.limit c.taken c.loaded c.descriptors c.head None =
+    subst (λ (p : Phase). FetchesBy c.places now.limit c.taken c.loaded c.descriptors c.head (fault_of p)) is walked.0 in
+    let room : room_of c ≡ addresses_of (writable c.descriptors) = ap (λ (p : Phase). room_in p c.descriptors) is in
+    let exchange : x ≡ own_exchange c.head request reply = subst (λ (p : Phase). GoesBackWith now.page_size c p x) is h.goes in (
+      h.w,
+      h.there,
+      record {
+        offered = offers_over m.memory c.places first.places now.limit c.taken c.loaded request (Offers c.head (IsRequest request (room_of c)))
+            (subst (λ (r : List ℕ). OffersBy c.places now.limit c.taken c.loaded request (Offers c.head (IsRequest request r))) (sym room) (fetched.1 request whole.0));
+        fits = subst (λ (r : List ℕ). length reply ≤ length r) (sym room) whole.1;
+        returns = record {
+          exchange = exchange;
+          flags = seen;
+          flags_len = h.two;
+          acts = ap (λ (k : Exchange). return_acts (return_stores c.taken c.head (room_of c) k.reply last) seen) exchange;
+          state = ap (λ (o : ℕ). record m { queues = changed_at m.queues c.queue (λ _. advanced c.taken); options = o; files = m.files })
+              (ap (λ (p : Phase). options_left m.page_size m.options c p) is);
+          told = refl;
+        };
+        acts = λ notice. ap (λ (u : List Store). return_acts (reply_stores (room_of c) x.reply last ++ u) seen) h.used_is;
       },
     )

@@ -7,7 +7,7 @@ use Rattle.fs_regions.specs.Walks.{Loaded}
 use Rattle.fuse_fs.specs.Calls.{FileRun}
 use Rattle.virtiofsd_fuse.specs.Serving.{May}
 use Rattle.fs_live.specs.Several.{LiveQueue}
-use Rattle.fs_live.specs.Live.{LiveState, LiveEvent, Walks, Declines, Asks, Answers, Returns, Sleeps, Begins, Happens, WalksIn, calls_among}
+use Rattle.fs_live.specs.Live.{LiveState, LiveEvent, Walks, Declines, Asks, Answers, Returns, Sleeps, Begins, Fills, Drops, Abandons, Replies, Maps, Moves, Happens, WalksIn, calls_among}
 use Rattle.fs_live.specs.Runs.{CallsAreARun}
 
 walk_files : {F : Type 0} (s after : LiveState F) (i : ℕ) (w : LiveQueue) (loaded : Loaded) (ds : List Descriptor) (came : comes.Step) → WalksIn s i w loaded ds came after → after.files ≡ s.files
@@ -27,6 +27,12 @@ one_event {F} may s mid end (Answers c call answer) es h run =
 one_event {F} may s mid end (Returns c x notice last used seen) es h run = subst (λ (f : F). FileRun may f (calls_among es) end) (ap (λ (k : LiveState F). k.files) h.state) run
 one_event {F} may s mid end (Sleeps i store) es h run = subst (λ (f : F). FileRun may f (calls_among es) end) (ap (λ (k : LiveState F). k.files) h.state) run
 one_event {F} may s mid end (Begins i w) es h run = subst (λ (f : F). FileRun may f (calls_among es) end) (ap (λ (k : LiveState F). k.files) h.state) run
+one_event {F} may s mid end (Fills c stores) es h run = subst (λ (f : F). FileRun may f (calls_among es) end) (ap (λ (k : LiveState F). k.files) h.state) run
+one_event {F} may s mid end (Drops c) es h run = subst (λ (f : F). FileRun may f (calls_among es) end) (ap (λ (k : LiveState F). k.files) h.state) run
+one_event {F} may s mid end (Abandons c) es h run = subst (λ (f : F). FileRun may f (calls_among es) end) (ap (λ (k : LiveState F). k.files) h.state) run
+one_event {F} may s mid end (Replies c request reply options) es h run = subst (λ (f : F). FileRun may f (calls_among es) end) (ap (λ (k : LiveState F). k.files) h.state) run
+one_event {F} may s mid end (Maps m) es h run = subst (λ (f : F). FileRun may f (calls_among es) end) (ap (λ (k : LiveState F). k.files) h.state) run
+one_event {F} may s mid end (Moves m queues) es h run = subst (λ (f : F). FileRun may f (calls_among es) end) (ap (λ (k : LiveState F). k.files) h.state) run
 
 pub calls_are_a_run : {F : Type 0} (may : May F) → CallsAreARun may
 calls_are_a_run {F} may s after [] run = ap (λ (k : LiveState F). k.files) run

@@ -1,8 +1,8 @@
 -- What calls of handles give a run.
 use Rattle.std.proofs.Common.{◌≡◌, ℕ, Bool, List, [], ◌∷◌, ◌++◌, length, Option, Some, None, slice_get, refl, subst, sym, ap, ◌∙◌, arith}
 use Rattle.std.specs.Prelude.{◌==◌, drop, false, if◌then◌else◌, is_some, IsTrue, not, true, unwrap_or}
-use Rattle.std.specs.List.{AllByRecursion}
 use Rattle.vm_iotlb.specs.declared.permissions.Permissions.TheVariants.{Read, Write}
+use Rattle.vm_memory.specs.Layout.{Region}
 use Rattle.vm_memory.specs.Memory.{Memory, reach}
 use Rattle.fs_queue.specs.Chain.{Descriptor}
 use Rattle.fs_queue.specs.Queue.{Queue, with_stop}
@@ -78,7 +78,7 @@ use Rattle.fs_live.specs.Handles.{
   calls_told,
   live_of,
 }
-use Rattle.fs_live.proofs.Alone.{AllWalked, one_walked, run_keeps, Walked}
+use Rattle.fs_live.proofs.Alone.{Walked, walked_there}
 use Rattle.fs_live.proofs.Declined.{goes_there}
 use Rattle.fs_live.proofs.EachCall.{each_waits}
 use Rattle.fs_live.proofs.Left.{options_left_by, out_left, seen_left}
@@ -116,13 +116,13 @@ event_of s i before after loaded ds (step.Chain head (Some fault)) there left do
   there_same s.queues i i (λ _. several.took (live_of before)) (live_of before) refl there ∙ ap (λ (q : KeptQueue). Some (live_of q)) (sym left),
 )
 
-pub held_by : {F : Type 0} (s : LiveState F) (i : ℕ) (q : LiveQueue) (before : KeptQueue) (loaded : Loaded) (came : comes.Step) (w : Workbench) → q.queue ≡ queue_of (course_of before s.limit)
+pub held_by : {F : Type 0} (s : LiveState F) (i : ℕ) (q : LiveQueue) (before : KeptQueue) (loaded : Loaded) (came : comes.Step) (w : Workbench) → s.places ≡ places_in w.regions → q.queue ≡ queue_of (course_of before s.limit)
     → w.state ≡ state_after (course_of before s.limit) (ticket_of before) w.descriptors.items came → IsHeld s i q loaded came w
-held_by s i q before loaded (step.Load walk) w goes is = tt
-held_by s i q before loaded step.Idle w goes is = tt
-held_by s i q before loaded (step.Refused e) w goes is = tt
-held_by s i q before loaded (step.Chain head None) w goes is = record { kept = before; ticket = ticket_of before; taken = goes; state = is }
-held_by s i q before loaded (step.Chain head (Some why)) w goes is = record { kept = before; ticket = ticket_of before; taken = goes; state = is }
+held_by s i q before loaded (step.Load walk) w places goes is = tt
+held_by s i q before loaded step.Idle w places goes is = tt
+held_by s i q before loaded (step.Refused e) w places goes is = tt
+held_by s i q before loaded (step.Chain head None) w places goes is = record { kept = before; ticket = ticket_of before; places = places; taken = goes; state = is }
+held_by s i q before loaded (step.Chain head (Some why)) w places goes is = record { kept = before; ticket = ticket_of before; places = places; taken = goes; state = is }
 
 -- a walk to its end goes through a queue whose event index has its places: else it was refused by that
 abbrev pub IsUnrefused : went.Went → Workbench → KeptQueue → Type 0
@@ -190,7 +190,7 @@ handle_walks {F} may s i given old new before after told there places limit goes
     let room = walked_room given old new before after (wents.On told) walks in
     let clear : why_declined s.places (live_of before) ≡ None =
     subst (λ (m : Memory). why_declined m (live_of before) ≡ None) (sym places) (goes_there (places_in old.regions) before goes events) in
-    (loaded, made.1, came, keeps.0, record { w = live_of before; there = there; room = room; goes = clear; walks = event.0 }, event.1, held_by s i (live_of before) before loaded came new queue state_is)
+    (loaded, made.1, came, keeps.0, record { w = live_of before; there = there; room = room; goes = clear; walks = event.0 }, event.1, held_by s i (live_of before) before loaded came new (places ∙ ap (λ (l : List Region). places_in l) (sym keeps.4.0)) queue state_is)
 
 -- ---- walks without a load
 
@@ -303,11 +303,10 @@ told_calls s m behind out (asks.Fault e) st is tells = sym (ap (λ (k : Served).
 pub handle_asks : {F : Type 0} (may : May F) → HandleAsks may
 handle_asks {F} may s c before behind w w' session request front made reached small out fresh kept session_is asked is =
     let ds = c.descriptors in
-    let start : AllWalked reached.0 = subst (AllByRecursion (Walked reached.0.places reached.0.limit)) (sym reached.2) tt in
-    let walked : Walked s.places s.limit c = (one_walked s before behind c out (run_keeps may reached.0 s reached.1 reached.3 start)).1 in
-    let fetches : FetchesBy s.places s.limit c.taken c.loaded ds c.head None =
-    subst (λ (p : Phase). FetchesBy s.places s.limit c.taken c.loaded ds c.head (fault_of p)) fresh walked.0 in
-    let fits = fits_limit s.places s.limit c.taken c.loaded ds c.head small fetches.1 in
+    let walked : Walked s.limit c = walked_there may reached.0 s reached.1 c before behind reached.2 reached.3 out in
+    let fetches : FetchesBy c.places s.limit c.taken c.loaded ds c.head None =
+    subst (λ (p : Phase). FetchesBy c.places s.limit c.taken c.loaded ds c.head (fault_of p)) fresh walked.0 in
+    let fits = fits_limit c.places s.limit c.taken c.loaded ds c.head small fetches.1 in
     let o = out_of (course_of kept.kept s.limit) kept.ticket c.head ds in
     let by = subst (λ (st : state.State). FromTaken st (λ o. (o.request_len ≡ length request) × IsFront front request
     × TellsMeaning (setting session.page_size session.options.0 o.room_len) (meaning session.options.0 request o.room_len) (drop 80 request) o made w'.state
@@ -475,7 +474,7 @@ flags_back kept (at.Lists out l) used room behind flags acts last back = absurd 
 flags_back kept (at.Returning out) used room behind flags acts last back = absurd back
 
 -- where they stand, of a queue
-abbrev seen_of : (event_index : Bool) → Queue → ℕ
+abbrev pub seen_of : (event_index : Bool) → Queue → ℕ
 seen_of event_index q = seen_at (record { queue = q; returned = 0; most_out = 0; event_index = event_index })
 
 pub handle_returns : {F : Type 0} (may : May F) → HandleReturns may

@@ -1,6 +1,6 @@
 -- Each return of a run has places.
-use Rattle.std.proofs.Common.{arith, ◌≡◌, ℕ, zero, suc, ◌+◌, Bool, List, [], ◌∷◌, ◌++◌, length, filter, Some, None, slice_get, refl, subst, sym, ap, ◌∙◌, length-append, append-nil}
-use Rattle.std.specs.Prelude.{not, ◌==◌, true, false, ◌%◌, ◌^◌, if◌then◌else◌}
+use Rattle.std.proofs.Common.{arith, ◌≡◌, ℕ, zero, suc, ◌+◌, Bool, List, [], ◌∷◌, ◌++◌, length, filter, Option, Some, None, slice_get, refl, subst, sym, ap, ◌∙◌, length-append, append-nil}
+use Rattle.std.specs.Prelude.{not, ◌==◌, true, false, ◌-◌, ◌<◌, ◌%◌, ◌^◌, if◌then◌else◌}
 use Rattle.std.specs.List.{AllByRecursion}
 use Rattle.std.proofs.lemmas.Bool.{eq-eqb, eqb-true}
 use Rattle.vm_memory_core.specs.Host.{changed_at}
@@ -12,11 +12,12 @@ use Rattle.fs_regions.specs.declared.step.Step as comes
 use Rattle.fs_regions.specs.declared.step.Step.TheVariants as step
 use Rattle.fs_regions.specs.Walks.{Loaded}
 use Rattle.virtiofsd_fuse.specs.Serving.{May}
-use Rattle.fs_live.specs.Several.{LiveQueue, Ticket, took, gave, returning}
-use Rattle.fs_live.specs.Live.{Phase, Faulty, Fetched, Asked, OutChain, LiveState, LiveEvent, Walks, Declines, Asks, Answers, Returns, Sleeps, Begins, Happens, LiveRun}
-use Rattle.fs_live.specs.Live.{WalksIn, after_answer, after_asking, after_beginning, after_giving, asked_chain, fault_of, new_chain, room_in, why_declined}
+use Rattle.fs_live.specs.Several.{LiveQueue, Ticket, took, untook, gave, returning}
+use Rattle.fs_live.specs.Live.{Phase, Faulty, Fetched, Asked, Own, Lost, OutChain, LiveState, LiveEvent, Walks, Declines, Asks, Answers, Returns, Sleeps, Begins, Fills, Drops, Abandons, Replies, Maps, Moves, Happens, LiveRun}
+use Rattle.fs_live.specs.Live.{IfKeepsReturns, KeepsQueue, KeepsReturns, WalksIn, after_answer, after_asking, after_beginning, after_drop, after_giving, after_loss, after_own, asked_chain, fault_of, lost_chain, new_chain}
+use Rattle.fs_live.specs.Live.{room_in, why_declined}
 use Rattle.fs_live.specs.Runs.{HasUsedEvent, IsEven, ReturnsHavePlaces, has_places, tickets_on}
-use Rattle.fs_live.proofs.Alone.{AllWalked, Walked, one_walked, run_keeps}
+use Rattle.fs_live.proofs.Alone.{Walked, all_both, all_left, all_right, walked_there}
 use Rattle.fs_live.proofs.Declined.{has_events, seen_has_a_place}
 use Rattle.fs_live.proofs.Offered.{RoomFits, fetched_fits, goes_back}
 use Rattle.fs_live.proofs.Queues.{apart_of, dropped, goes_on, none_some, one_ticket, same_some, there_other, there_same, tickets-append}
@@ -24,18 +25,24 @@ use Rattle.fs_live.proofs.Queues.{apart_of, dropped, goes_on, none_some, one_tic
 -- ---- the returns that are to come
 
 -- the next return has places
-abbrev Next : Memory → LiveQueue → Type 0
-Next m w = (return_fault m (returning w) ≡ None) × HasUsedEvent m w
+abbrev pub Next : Memory → LiveQueue → Type 0
+Next m w = (return_fault m (returning w) ≡ None) × HasUsedEvent m w × (w.returned < 2 ^ 16)
 
 -- so have n returns from the next one on, and behind them is the position where the next chain is taken
-abbrev Ahead : Memory → LiveQueue → ℕ → Type 0
+abbrev pub Ahead : Memory → LiveQueue → ℕ → Type 0
 Ahead m w zero = IsEven w
 Ahead m w (suc n) = Next m w × Ahead m (gave w) n
 
+small_next : (p : ℕ) → (p + 1) % 2 ^ 16 < 2 ^ 16
+small_next p = omega arith
+
+even_took : (w : LiveQueue) → IsEven w → IsEven (gave (took w))
+even_took w even = (ap (λ (r : ℕ). (r + 1) % 2 ^ 16) even.0, small_next w.queue.position)
+
 ahead_took : (m : Memory) (w : LiveQueue) (n : ℕ) → return_fault m w.queue ≡ None → HasUsedEvent m w → Ahead m w n → Ahead m (took w) (suc n)
 ahead_took m w zero goes event even = (
-  (subst (λ (r : ℕ). return_fault m (record (w.queue) { position = r }) ≡ None) (sym even) goes, event),
-  ap (λ (r : ℕ). (r + 1) % 2 ^ 16) even,
+  (subst (λ (r : ℕ). return_fault m (record (w.queue) { position = r }) ≡ None) (sym even.0) goes, event, subst (λ (r : ℕ). r < 2 ^ 16) (sym even.0) even.1),
+  even_took w even,
 )
 ahead_took m w (suc n) goes event ahead = (ahead.0, ahead_took m (gave w) n goes event ahead.1)
 
@@ -51,6 +58,28 @@ ahead_refused : (m : Memory) (w : LiveQueue) (n : ℕ) (b : Bool) → Ahead m w 
 ahead_refused m w n true ahead = ahead_stopped m w n ahead
 ahead_refused m w n false ahead = ahead_same m w n ahead
 
+-- the youngest is given up
+back_one : (r p : ℕ) → r < 2 ^ 16 → (r + 1) % 2 ^ 16 ≡ p → r ≡ (p + (2 ^ 16 - 1)) % 2 ^ 16
+back_one r p small is = omega (arith, small, is)
+
+small_back : (p : ℕ) → (p + (2 ^ 16 - 1)) % 2 ^ 16 < 2 ^ 16
+small_back p = omega arith
+
+ahead_dropped : (m : Memory) (w : LiveQueue) (n : ℕ) → Ahead m w (suc n) → Ahead m (untook w) n
+ahead_dropped m w zero ahead = let even : IsEven (gave w) = ahead.1 in (back_one w.returned w.queue.position ahead.0.2 even.0, small_back w.queue.position)
+ahead_dropped m w (suc n) ahead = (ahead.0, ahead_dropped m (gave w) n ahead.1)
+
+-- by a memory that keeps a queue's returns there are as many ahead
+kept_gave : (m m' : Memory) (w : LiveQueue) → KeepsReturns m m' w → KeepsReturns m m' (gave w)
+kept_gave m m' w keeps = record { returns = keeps.returns; event = keeps.event }
+
+next_mapped : (m m' : Memory) (w : LiveQueue) → KeepsReturns m m' w → Next m w → Next m' w
+next_mapped m m' w keeps next = (keeps.returns w.returned ∙ next.0, λ event. keeps.event ∙ next.1 event, next.2)
+
+ahead_mapped : (m m' : Memory) (w : LiveQueue) (n : ℕ) → KeepsReturns m m' w → Ahead m w n → Ahead m' w n
+ahead_mapped m m' w zero keeps even = even
+ahead_mapped m m' w (suc n) keeps ahead = (next_mapped m m' w keeps ahead.0, ahead_mapped m m' (gave w) n (kept_gave m m' w keeps) ahead.1)
+
 -- ---- states
 
 even_at : (ws : List LiveQueue) (i : ℕ) (w : LiveQueue) → AllByRecursion IsEven ws → slice_get ws i ≡ Some w → IsEven w
@@ -58,7 +87,7 @@ even_at [] i w all there = absurd (none_some w there)
 even_at (v ∷ ws) zero w all there = subst IsEven (same_some v w there) all.0
 even_at (v ∷ ws) (suc i) w all there = even_at ws i w all.1 there
 
-kept_not : (f : OutChain → Bool) (c : OutChain) (cs : List OutChain) (b : Bool) → f c ≡ b → filter f (c ∷ cs) ≡ (if b then c ∷ filter f cs else filter f cs)
+pub kept_not : (f : OutChain → Bool) (c : OutChain) (cs : List OutChain) (b : Bool) → f c ≡ b → filter f (c ∷ cs) ≡ (if b then c ∷ filter f cs else filter f cs)
 kept_not f c cs true is = rw is refl
 kept_not f c cs false is = rw is refl
 
@@ -107,47 +136,44 @@ module _ (i : ℕ) where
       ap (λ (l : List Ticket). length l)
       (tickets-append i before behind ∙ sym (tickets-append i before (c ∷ behind) ∙ ap (λ (l : List Ticket). tickets_on i before ++ l) (one_ticket i c behind false is)))
 
-module _ (m : Memory) (i : ℕ) where
+module _ (i : ℕ) where
   -- the chains of queue i that are out have places ahead
-  abbrev Kept : {F : Type 0} → LiveState F → Type 0
-  Kept s = (s.places ≡ m) × ((w : LiveQueue) → slice_get s.queues i ≡ Some w → Ahead m w (out_on i s.outs))
+  abbrev pub Kept : {F : Type 0} → LiveState F → Type 0
+  Kept s = (w : LiveQueue) → slice_get s.queues i ≡ Some w → Ahead s.places w (out_on i s.outs)
 
   -- a queue is another one from now on
   changes : {F : Type 0} (s mid : LiveState F) (j : ℕ) (v v' : LiveQueue) (b : Bool) → (j == i) ≡ b → mid.places ≡ s.places → mid.queues ≡ changed_at s.queues j (λ _. v')
-      → slice_get s.queues j ≡ Some v → ((j == i) ≡ true → Ahead m v (out_on i s.outs) → Ahead m v' (out_on i mid.outs)) → ((j == i) ≡ false → out_on i mid.outs ≡ out_on i s.outs)
+      → slice_get s.queues j ≡ Some v → ((j == i) ≡ true → Ahead s.places v (out_on i s.outs) → Ahead s.places v' (out_on i mid.outs)) → ((j == i) ≡ false → out_on i mid.outs ≡ out_on i s.outs)
       → Kept s → Kept mid
   changes s mid j v v' true is places queues at mine others kept =
       let same : j ≡ i = eqb-true j i is in
       let here : slice_get s.queues i ≡ Some v = subst (λ (n : ℕ). slice_get s.queues n ≡ Some v) same at in
-      let now : slice_get mid.queues i ≡ Some v' = ap (λ (l : List LiveQueue). slice_get l i) queues ∙ there_same s.queues j i (λ _. v') v same here in (
-        places ∙ kept.0,
-        λ w there. subst (λ (k : LiveQueue). Ahead m k (out_on i mid.outs)) (same_some v' w (sym now ∙ there)) (mine is (kept.1 v here)),
-      )
+      let now : slice_get mid.queues i ≡ Some v' = ap (λ (l : List LiveQueue). slice_get l i) queues ∙ there_same s.queues j i (λ _. v') v same here in
+      λ w there.
+      subst (λ (k : Memory). Ahead k w (out_on i mid.outs)) (sym places)
+      (subst (λ (k : LiveQueue). Ahead s.places k (out_on i mid.outs)) (same_some v' w (sym now ∙ there)) (mine is (kept v here)))
   changes s mid j v v' false is places queues at mine others kept =
-      let now : slice_get mid.queues i ≡ slice_get s.queues i = ap (λ (l : List LiveQueue). slice_get l i) queues ∙ there_other s.queues j i (λ _. v') (apart_of j i is) in (
-        places ∙ kept.0,
-        λ w there. subst (λ (n : ℕ). Ahead m w n) (sym (others is)) (kept.1 w (sym now ∙ there)),
-      )
+      let now : slice_get mid.queues i ≡ slice_get s.queues i = ap (λ (l : List LiveQueue). slice_get l i) queues ∙ there_other s.queues j i (λ _. v') (apart_of j i is) in
+      λ w there. subst (λ (k : Memory). Ahead k w (out_on i mid.outs)) (sym places) (subst (λ (n : ℕ). Ahead s.places w n) (sym (others is)) (kept w (sym now ∙ there)))
 
   -- the queues and how many are out stay
   stays : {F : Type 0} (s mid : LiveState F) → mid.places ≡ s.places → mid.queues ≡ s.queues → tickets_on i mid.outs ≡ tickets_on i s.outs → Kept s → Kept mid
-  stays s mid places queues outs kept = (
-    places ∙ kept.0,
-    λ w there.
-        subst (λ (n : ℕ). Ahead m w n) (sym (ap (λ (l : List Ticket). length l) outs)) (kept.1 w (sym (ap (λ (l : List LiveQueue). slice_get l i) queues) ∙ there)),
-  )
+  stays s mid places queues outs kept =
+      λ w there.
+      subst (λ (k : Memory). Ahead k w (out_on i mid.outs)) (sym places)
+      (subst (λ (n : ℕ). Ahead s.places w n) (sym (ap (λ (l : List Ticket). length l) outs)) (kept w (sym (ap (λ (l : List LiveQueue). slice_get l i) queues) ∙ there)))
 
   refuses : {F : Type 0} (s : LiveState F) (j : ℕ) (v : LiveQueue) (stops : Bool) → slice_get s.queues j ≡ Some v → Kept s
       → Kept (record s { queues = changed_at s.queues j (λ _. record v { queue = if stops then with_stop v.queue else v.queue }) })
   refuses {F} s j v stops at kept =
       let v' : LiveQueue = record v { queue = if stops then with_stop v.queue else v.queue } in
-      changes s (record s { queues = changed_at s.queues j (λ _. v') }) j v v' (j == i) refl refl refl at (λ is ahead. ahead_refused m v (out_on i s.outs) stops ahead) (λ is. refl) kept
+      changes s (record s { queues = changed_at s.queues j (λ _. v') }) j v v' (j == i) refl refl refl at (λ is ahead. ahead_refused s.places v (out_on i s.outs) stops ahead) (λ is. refl) kept
 
-  takes : {F : Type 0} (s : LiveState F) (j : ℕ) (v : LiveQueue) (c : OutChain) → c.queue ≡ j → slice_get s.queues j ≡ Some v → return_fault m v.queue ≡ None → HasUsedEvent m v → Kept s
+  takes : {F : Type 0} (s : LiveState F) (j : ℕ) (v : LiveQueue) (c : OutChain) → c.queue ≡ j → slice_get s.queues j ≡ Some v → return_fault s.places v.queue ≡ None → HasUsedEvent s.places v → Kept s
       → Kept (record s { queues = changed_at s.queues j (λ _. took v); outs = s.outs ++ c ∷ [] })
   takes {F} s j v c of_queue at goes event kept =
       changes s (record s { queues = changed_at s.queues j (λ _. took v); outs = s.outs ++ c ∷ [] }) j v (took v) (j == i) refl refl refl at
-      (λ is ahead. subst (λ (n : ℕ). Ahead m (took v) n) (sym (one_more i s.outs c (ap (λ (n : ℕ). n == i) of_queue ∙ is))) (ahead_took m v (out_on i s.outs) goes event ahead))
+      (λ is ahead. subst (λ (n : ℕ). Ahead s.places (took v) n) (sym (one_more i s.outs c (ap (λ (n : ℕ). n == i) of_queue ∙ is))) (ahead_took s.places v (out_on i s.outs) goes event ahead))
       (λ is. none_more i s.outs c (ap (λ (n : ℕ). n == i) of_queue ∙ is)) kept
 
   walks : {F : Type 0} (s mid : LiveState F) (j : ℕ) (v : LiveQueue) (loaded : Loaded) (ds : List Descriptor) (came : comes.Step) → slice_get s.queues j ≡ Some v
@@ -158,8 +184,24 @@ module _ (m : Memory) (i : ℕ) where
   walks {F} s mid j v loaded ds (step.Chain head fault) at clear h kept =
       let goes = (fetched_fits s.places s.limit v.queue loaded ds head fault h.0).0 in
       subst (λ (k : LiveState F). Kept k) (sym h.1)
-      (takes s j v (new_chain s j v loaded ds head fault) refl at (subst (λ (k : Memory). return_fault k v.queue ≡ None) kept.0 goes)
-      (subst (λ (k : Memory). HasUsedEvent k v) kept.0 (λ event. (has_events s.places v clear event).0)) kept)
+      (takes s j v (new_chain s j v loaded ds head fault) refl at goes (λ event. (has_events s.places v clear event).0) kept)
+
+  -- a queue of which a chain is out keeps its returns
+  of_one : {F : Type 0} (s : LiveState F) (m' : Memory) (w : LiveQueue) (c : OutChain) → slice_get s.queues i ≡ Some w → (c.queue == i) ≡ true → KeepsQueue s m' c → KeepsReturns s.places m' w
+  of_one s m' w c there is keeps =
+      subst (λ (k : Option LiveQueue). IfKeepsReturns s.places m' k) (ap (λ (n : ℕ). slice_get s.queues n) (eqb-true c.queue i is) ∙ there) keeps
+
+  mapped_by : {F : Type 0} (s : LiveState F) (m' : Memory) (w : LiveQueue) (c : OutChain) (b : Bool) → slice_get s.queues i ≡ Some w → (c.queue == i) ≡ b → KeepsQueue s m' c → (cs : List OutChain)
+      → (Ahead s.places w (out_on i cs) → Ahead m' w (out_on i cs)) → Ahead s.places w (out_on i (c ∷ cs)) → Ahead m' w (out_on i (c ∷ cs))
+  mapped_by s m' w c true there is keeps cs rest ahead = ahead_mapped s.places m' w (out_on i (c ∷ cs)) (of_one s m' w c there is keeps) ahead
+  mapped_by s m' w c false there is keeps cs rest ahead =
+      let none : out_on i (c ∷ cs) ≡ out_on i cs = ap (λ (l : List Ticket). length l) (one_ticket i c cs false is) in
+      subst (λ (n : ℕ). Ahead m' w n) (sym none) (rest (subst (λ (n : ℕ). Ahead s.places w n) none ahead))
+
+  mapped_all : {F : Type 0} (s : LiveState F) (m' : Memory) (w : LiveQueue) (cs : List OutChain) → slice_get s.queues i ≡ Some w → AllByRecursion (KeepsQueue s m') cs
+      → Ahead s.places w (out_on i cs) → Ahead m' w (out_on i cs)
+  mapped_all s m' w [] there keeps ahead = ahead
+  mapped_all s m' w (c ∷ cs) there keeps ahead = mapped_by s m' w c (c.queue == i) there refl keeps.0 cs (λ rest. mapped_all s m' w cs there keeps.1 rest) ahead
 
   keeps : {F : Type 0} (may : May F) (s mid : LiveState F) (e : LiveEvent) → Happens may s e mid → Kept s → Kept mid
   keeps may s mid (Walks j loaded ds came) h kept = walks s mid j h.w loaded ds came h.there h.goes h.walks kept
@@ -178,41 +220,195 @@ module _ (m : Memory) (i : ℕ) where
       let out : out_on i s.outs ≡ out_on i (h.before ++ c ∷ h.behind) = ap (λ (cs : List OutChain). out_on i cs) h.out in
       subst (λ (k : LiveState F). Kept k) (sym h.state)
       (changes s mid' c.queue h.w (gave h.w) (c.queue == i) refl refl refl h.there
-      (λ is ahead. (subst (λ (n : ℕ). Ahead m h.w n) (out ∙ one_less i h.before h.behind c is) ahead).1) (λ is. none_less i h.before h.behind c is ∙ sym out) kept)
+      (λ is ahead. (subst (λ (n : ℕ). Ahead s.places h.w n) (out ∙ one_less i h.before h.behind c is) ahead).1) (λ is. none_less i h.before h.behind c is ∙ sym out) kept)
   keeps {F} may s mid (Sleeps j store) h kept = subst (λ (k : LiveState F). Kept k) (sym h.state) kept
   keeps {F} may s mid (Begins j v) h kept =
       subst (λ (k : LiveState F). Kept k) (sym h.state)
       (changes s (after_beginning s j v) j h.old v (j == i) refl refl refl h.there
-      (λ is ahead. subst (λ (l : List Ticket). Ahead m v (length l)) (sym (none_left i j s.outs is)) h.both)
+      (λ is ahead. subst (λ (l : List Ticket). Ahead s.places v (length l)) (sym (none_left i j s.outs is)) h.both)
       (λ is. ap (λ (l : List Ticket). length l) (dropped i j s.outs (apart_of j i is))) kept)
+  keeps {F} may s mid (Fills c stores) h kept = subst (λ (k : LiveState F). Kept k) (sym h.state) kept
+  keeps {F} may s mid (Drops c) h kept =
+      let out : out_on i s.outs ≡ out_on i (h.before ++ c ∷ h.behind) = ap (λ (cs : List OutChain). out_on i cs) h.out in
+      subst (λ (k : LiveState F). Kept k) (sym h.state)
+      (changes s (after_drop s h.before h.behind c h.w) c.queue h.w (untook h.w) (c.queue == i) refl refl refl h.there
+      (λ is ahead. ahead_dropped s.places h.w (out_on i (h.before ++ h.behind)) (subst (λ (n : ℕ). Ahead s.places h.w n) (out ∙ one_less i h.before h.behind c is) ahead))
+      (λ is. none_less i h.before h.behind c is ∙ sym out) kept)
+  keeps {F} may s mid (Abandons c) h kept =
+      subst (λ (k : LiveState F). Kept k) (sym h.state)
+      (stays s (after_loss s h.before h.behind c) refl refl
+      (goes_on i h.before h.behind c (lost_chain c) (c.queue == i) refl refl refl ∙ sym (ap (λ (l : List OutChain). tickets_on i l) h.out)) kept)
+  keeps {F} may s mid (Replies c request reply options) h kept =
+      subst (λ (k : LiveState F). Kept k) (sym h.state)
+      (stays s (after_own s h.before h.behind c request reply options) refl refl
+      (goes_on i h.before h.behind c (record c { phase = Own request reply }) (c.queue == i) refl refl refl ∙ sym (ap (λ (l : List OutChain). tickets_on i l) h.out)) kept)
+  keeps {F} may s mid (Maps m') h kept =
+      subst (λ (k : LiveState F). Kept k) (sym h.state) (λ w there. mapped_all s m' w s.outs there h.keeps (kept w there))
+  keeps {F} may s mid (Moves m' queues) h kept =
+      subst (λ (k : LiveState F). Kept k) (sym h.state)
+      (λ w there. subst (λ (cs : List OutChain). Ahead m' w (out_on i cs)) (sym h.none_out) (even_at queues i w h.even there))
 
-  run_kept : {F : Type 0} (may : May F) (s now : LiveState F) (es : List LiveEvent) → LiveRun may s es now → Kept s → Kept now
+  pub run_kept : {F : Type 0} (may : May F) (s now : LiveState F) (es : List LiveEvent) → LiveRun may s es now → Kept s → Kept now
   run_kept {F} may s now [] run kept = subst (λ (k : LiveState F). Kept k) (sym run) kept
   run_kept may s now (e ∷ es) run kept = run_kept may run.0 now es run.2 (keeps may s run.0 e run.1 kept)
 
--- ---- the room of a chain that is out
+  -- from no chain out on
+  pub started : {F : Type 0} (s : LiveState F) → s.outs ≡ [] → AllByRecursion IsEven s.queues → Kept s
+  started s none even = λ w there. subst (λ (cs : List OutChain). Ahead s.places w (out_on i cs)) (sym none) (even_at s.queues i w even there)
 
+-- ---- the places of chains that are out, and those of now
+
+-- their queues' returns have places by both
+abbrev Tied : (now : Memory) → List LiveQueue → OutChain → Type 0
+Tied now ws c = IfKeepsReturns c.places now (slice_get ws c.queue)
+
+abbrev AllTied : {F : Type 0} → LiveState F → Type 0
+AllTied s = AllByRecursion (Tied s.places s.queues) s.outs
+
+-- a queue whose parts stay keeps them so
+abbrev StaysLaid : LiveQueue → LiveQueue → Type 0
+StaysLaid v v' = (m m' : Memory) → KeepsReturns m m' v → KeepsReturns m m' v'
+
+refusal_moves : (v : LiveQueue) (stops : Bool) → StaysLaid v (record v { queue = if stops then with_stop v.queue else v.queue })
+refusal_moves v true m m' keeps = record { returns = keeps.returns; event = keeps.event }
+refusal_moves v false m m' keeps = record { returns = keeps.returns; event = keeps.event }
+
+one_tied : (now : Memory) (ws : List LiveQueue) (j : ℕ) (v v' : LiveQueue) (c : OutChain) (b : Bool) → (j == c.queue) ≡ b → slice_get ws j ≡ Some v → StaysLaid v v' → Tied now ws c
+    → Tied now (changed_at ws j (λ _. v')) c
+one_tied now ws j v v' c true is at moves tied =
+    let same : j ≡ c.queue = eqb-true j c.queue is in
+    let here : slice_get ws c.queue ≡ Some v = ap (λ (n : ℕ). slice_get ws n) (sym same) ∙ at in
+    subst (λ (k : Option LiveQueue). IfKeepsReturns c.places now k) (sym (there_same ws j c.queue (λ _. v') v same here))
+    (moves c.places now (subst (λ (k : Option LiveQueue). IfKeepsReturns c.places now k) here tied))
+one_tied now ws j v v' c false is at moves tied =
+    subst (λ (k : Option LiveQueue). IfKeepsReturns c.places now k) (sym (there_other ws j c.queue (λ _. v') (apart_of j c.queue is))) tied
+
+all_tied : (now : Memory) (ws : List LiveQueue) (j : ℕ) (v v' : LiveQueue) (cs : List OutChain) → slice_get ws j ≡ Some v → StaysLaid v v' → AllByRecursion (Tied now ws) cs
+    → AllByRecursion (Tied now (changed_at ws j (λ _. v'))) cs
+all_tied now ws j v v' [] at moves all = tt
+all_tied now ws j v v' (c ∷ cs) at moves all = (one_tied now ws j v v' c (j == c.queue) refl at moves all.0, all_tied now ws j v v' cs at moves all.1)
+
+-- one of those that are out is another one from now on, of the same walk
+one_changed : (now : Memory) (ws : List LiveQueue) (before behind : List OutChain) (c d : OutChain) (outs : List OutChain) → outs ≡ before ++ c ∷ behind → (Tied now ws c → Tied now ws d)
+    → AllByRecursion (Tied now ws) outs → AllByRecursion (Tied now ws) (before ++ d ∷ behind)
+one_changed now ws before behind c d outs is more all =
+    let P = Tied now ws in
+    let split = subst (AllByRecursion P) is all in
+    let right = all_right P before (c ∷ behind) split in
+    all_both P before (d ∷ behind) (all_left P before (c ∷ behind) split) (more right.0, right.1)
+
+-- or is out no more
+one_less_tied : (now : Memory) (ws : List LiveQueue) (before behind : List OutChain) (c : OutChain) (outs : List OutChain) → outs ≡ before ++ c ∷ behind → AllByRecursion (Tied now ws) outs
+    → AllByRecursion (Tied now ws) (before ++ behind)
+one_less_tied now ws before behind c outs is all =
+    let P = Tied now ws in
+    let split = subst (AllByRecursion P) is all in
+    all_both P before behind (all_left P before (c ∷ behind) split) (all_right P before (c ∷ behind) split).1
+
+tied_there : (now : Memory) (ws : List LiveQueue) (before behind : List OutChain) (c : OutChain) (outs : List OutChain) → outs ≡ before ++ c ∷ behind → AllByRecursion (Tied now ws) outs → Tied now ws c
+tied_there now ws before behind c outs is all = (all_right (Tied now ws) before (c ∷ behind) (subst (AllByRecursion (Tied now ws)) is all)).0
+
+-- a queue is begun anew: none of its chains is out
+one_left_tied : (now : Memory) (ws : List LiveQueue) (j : ℕ) (v : LiveQueue) (c : OutChain) (cs : List OutChain) (b : Bool) → (c.queue == j) ≡ b → Tied now ws c
+    → AllByRecursion (Tied now (changed_at ws j (λ _. v))) (filter (λ c. not (c.queue == j)) cs) → AllByRecursion (Tied now (changed_at ws j (λ _. v))) (filter (λ c. not (c.queue == j)) (c ∷ cs))
+one_left_tied now ws j v c cs true is tied rest =
+    subst (AllByRecursion (Tied now (changed_at ws j (λ _. v)))) (sym (kept_not (λ c. not (c.queue == j)) c cs false (ap not is))) rest
+one_left_tied now ws j v c cs false is tied rest =
+    let other : Tied now (changed_at ws j (λ _. v)) c =
+    subst (λ (k : Option LiveQueue). IfKeepsReturns c.places now k) (sym (there_other ws j c.queue (λ _. v) (λ same. apart_of c.queue j is (sym same)))) tied in
+    subst (AllByRecursion (Tied now (changed_at ws j (λ _. v)))) (sym (kept_not (λ c. not (c.queue == j)) c cs true (ap not is))) (other, rest)
+
+left_tied : (now : Memory) (ws : List LiveQueue) (j : ℕ) (v : LiveQueue) (cs : List OutChain) → AllByRecursion (Tied now ws) cs
+    → AllByRecursion (Tied now (changed_at ws j (λ _. v))) (filter (λ c. not (c.queue == j)) cs)
+left_tied now ws j v [] all = tt
+left_tied now ws j v (c ∷ cs) all = one_left_tied now ws j v c cs (c.queue == j) refl all.0 (left_tied now ws j v cs all.1)
+
+-- other places keep them
+joined_tied : (m now m' : Memory) (q : Option LiveQueue) → IfKeepsReturns m now q → IfKeepsReturns now m' q → IfKeepsReturns m m' q
+joined_tied m now m' None one two = tt
+joined_tied m now m' (Some w) one two = record { returns = λ p. two.returns p ∙ one.returns p; event = two.event ∙ one.event }
+
+mapped_tied : {F : Type 0} (s : LiveState F) (m' : Memory) (cs : List OutChain) → AllByRecursion (KeepsQueue s m') cs → AllByRecursion (Tied s.places s.queues) cs → AllByRecursion (Tied m' s.queues) cs
+mapped_tied s m' [] keeps all = tt
+mapped_tied s m' (c ∷ cs) keeps all = (joined_tied c.places s.places m' (slice_get s.queues c.queue) all.0 keeps.0, mapped_tied s m' cs keeps.1 all.1)
+
+refusal_tied : {F : Type 0} (s : LiveState F) (j : ℕ) (v : LiveQueue) (stops : Bool) → slice_get s.queues j ≡ Some v → AllTied s
+    → AllTied (record s { queues = changed_at s.queues j (λ _. record v { queue = if stops then with_stop v.queue else v.queue }) })
+refusal_tied s j v stops at all = all_tied s.places s.queues j v (record v { queue = if stops then with_stop v.queue else v.queue }) s.outs at (refusal_moves v stops) all
+
+walk_tied : {F : Type 0} (s mid : LiveState F) (j : ℕ) (v : LiveQueue) (loaded : Loaded) (ds : List Descriptor) (came : comes.Step) → slice_get s.queues j ≡ Some v → WalksIn s j v loaded ds came mid
+    → AllTied s → AllTied mid
+walk_tied s mid j v loaded ds (step.Load walk) at h all = absurd h
+walk_tied {F} s mid j v loaded ds step.Idle at h all = subst (λ (k : LiveState F). AllTied k) (sym h.1) all
+walk_tied {F} s mid j v loaded ds (step.Refused e) at h all = subst (λ (k : LiveState F). AllTied k) (sym h.1) (refusal_tied s j v (stops_queue e) at all)
+walk_tied {F} s mid j v loaded ds (step.Chain head fault) at h all =
+    let c = new_chain s j v loaded ds head fault in
+    let ws = changed_at s.queues j (λ _. took v) in
+    let mine : Tied s.places ws c =
+    subst (λ (k : Option LiveQueue). IfKeepsReturns s.places s.places k) (sym (there_same s.queues j j (λ _. took v) v refl at)) (record { returns = λ p. refl; event = refl }) in
+    subst (λ (k : LiveState F). AllTied k) (sym h.1)
+    (all_both (Tied s.places ws) s.outs (c ∷ []) (all_tied s.places s.queues j v (took v) s.outs at (λ m m' keeps. record { returns = keeps.returns; event = keeps.event }) all) (mine, tt))
+
+ties : {F : Type 0} (may : May F) (s mid : LiveState F) (e : LiveEvent) → Happens may s e mid → AllTied s → AllTied mid
+ties may s mid (Walks j loaded ds came) h all = walk_tied s mid j h.w loaded ds came h.there h.walks all
+ties {F} may s mid (Declines j e) h all = subst (λ (k : LiveState F). AllTied k) (sym h.state) (refusal_tied s j h.w (stops_queue e) h.there all)
+ties {F} may s mid (Asks c request told) h all =
+    subst (λ (k : LiveState F). AllTied k) (sym h.state)
+    (one_changed s.places s.queues h.before h.behind c (asked_chain c request s.options []) s.outs h.out (λ tied. tied) all)
+ties {F} may s mid (Answers c call answer) h all =
+    subst (λ (k : LiveState F). AllTied k) (sym h.state)
+    (one_changed s.places s.queues h.before h.behind c (asked_chain c h.request h.options (h.calls ++ (call, answer) ∷ [])) s.outs h.out (λ tied. tied) all)
+ties {F} may s mid (Returns c x notice last used seen) h all =
+    subst (λ (k : LiveState F). AllTied k) (sym h.state)
+    (all_tied s.places s.queues c.queue h.w (gave h.w) (h.before ++ h.behind) h.there (λ m m' keeps. record { returns = keeps.returns; event = keeps.event })
+    (one_less_tied s.places s.queues h.before h.behind c s.outs h.out all))
+ties {F} may s mid (Sleeps j store) h all = subst (λ (k : LiveState F). AllTied k) (sym h.state) all
+ties {F} may s mid (Begins j v) h all = subst (λ (k : LiveState F). AllTied k) (sym h.state) (left_tied s.places s.queues j v s.outs all)
+ties {F} may s mid (Fills c stores) h all = subst (λ (k : LiveState F). AllTied k) (sym h.state) all
+ties {F} may s mid (Drops c) h all =
+    subst (λ (k : LiveState F). AllTied k) (sym h.state)
+    (all_tied s.places s.queues c.queue h.w (untook h.w) (h.before ++ h.behind) h.there (λ m m' keeps. record { returns = keeps.returns; event = keeps.event })
+    (one_less_tied s.places s.queues h.before h.behind c s.outs h.out all))
+ties {F} may s mid (Abandons c) h all =
+    subst (λ (k : LiveState F). AllTied k) (sym h.state) (one_changed s.places s.queues h.before h.behind c (lost_chain c) s.outs h.out (λ tied. tied) all)
+ties {F} may s mid (Replies c request reply options) h all =
+    subst (λ (k : LiveState F). AllTied k) (sym h.state)
+    (one_changed s.places s.queues h.before h.behind c (record c { phase = Own request reply }) s.outs h.out (λ tied. tied) all)
+ties {F} may s mid (Maps m') h all = subst (λ (k : LiveState F). AllTied k) (sym h.state) (mapped_tied s m' s.outs h.keeps all)
+ties {F} may s mid (Moves m' queues) h all =
+    subst (λ (k : LiveState F). AllTied k) (sym h.state) (subst (AllByRecursion (Tied m' queues)) (sym h.none_out) tt)
+
+run_ties : {F : Type 0} (may : May F) (s now : LiveState F) (es : List LiveEvent) → LiveRun may s es now → AllTied s → AllTied now
+run_ties {F} may s now [] run all = subst (λ (k : LiveState F). AllTied k) (sym run) all
+run_ties may s now (e ∷ es) run all = run_ties may run.0 now es run.2 (ties may s run.0 e run.1 all)
+
+-- ---- a chain that goes back
+
+-- its room
 room_fits : (m : Memory) (ds : List Descriptor) (p : Phase) → RoomFits m ds (fault_of p) → has_places m (room_in p ds) ≡ true
 room_fits m ds (Faulty why) fits = refl
 room_fits m ds Fetched fits = fits
 room_fits m ds (Asked request options calls) fits = fits
+room_fits m ds (Own request reply) fits = fits
+room_fits m ds (Lost fault) fits = refl
+
+-- its return has places by those of its walk, as it has by those of now
+back_there : (now m : Memory) (w : LiveQueue) → KeepsReturns m now w → Next now w → Next m w
+back_there now m w keeps next = (sym (keeps.returns w.returned) ∙ next.0, λ event. sym keeps.event ∙ next.1 event, next.2)
 
 pub returns_have_places : {F : Type 0} (may : May F) → ReturnsHavePlaces may
 returns_have_places {F} may s now after es c x notice last used seen none even run h =
-    let m = s.places in
     let i = c.queue in
-    let start : Kept m i s = (
-      refl,
-      λ w there. subst (λ (cs : List OutChain). Ahead m w (out_on i cs)) (sym none) (even_at s.queues i w even there),
-    ) in
-    let kept = run_kept m i may s now es run start in
+    let kept = run_kept i may s now es run (started i s none even) in
     let out : out_on i now.outs ≡ suc (out_on i (h.before ++ h.behind)) = ap (λ (cs : List OutChain). out_on i cs) h.out ∙ one_less i h.before h.behind c (eq-eqb c.queue c.queue refl) in
-    let next = (subst (λ (n : ℕ). Ahead m h.w n) out (kept.1 h.w h.there)).0 in
-    let places = goes_back m (returning h.w) next.0 in
-    let start_walked : AllWalked s = subst (AllByRecursion (Walked s.places s.limit)) (sym none) tt in
-    let walked : Walked now.places now.limit c = (one_walked now h.before h.behind c h.out (run_keeps may s now es run start_walked)).1 in
-    let fetched = fetched_fits now.places now.limit c.taken c.loaded c.descriptors c.head (fault_of c.phase) walked.0 in
-    let room = room_fits now.places c.descriptors c.phase fetched.1 in (
+    let ahead : Next now.places h.w = (subst (λ (n : ℕ). Ahead now.places h.w n) out (kept h.w h.there)).0 in
+    let start : AllTied s = subst (AllByRecursion (Tied s.places s.queues)) (sym none) tt in
+    let tied : Tied now.places now.queues c = tied_there now.places now.queues h.before h.behind c now.outs h.out (run_ties may s now es run start) in
+    let next : Next c.places h.w =
+    back_there now.places c.places h.w (subst (λ (k : Option LiveQueue). IfKeepsReturns c.places now.places k) h.there tied) ahead in
+    let places = goes_back c.places (returning h.w) next.0 in
+    let walked : Walked now.limit c = walked_there may s now es c h.before h.behind none run h.out in
+    let fetched = fetched_fits c.places now.limit c.taken c.loaded c.descriptors c.head (fault_of c.phase) walked.0 in (
       h.w,
       h.there,
       record {
@@ -220,7 +416,7 @@ returns_have_places {F} may s now after es c x notice last used seen none even r
         index = places.1;
         flags = places.2;
         used_event = next.1;
-        seen = seen_has_a_place m h.w places.2 next.1;
-        room = subst (λ (k : Memory). has_places k (room_in c.phase c.descriptors) ≡ true) kept.0 room;
+        seen = seen_has_a_place c.places h.w places.2 next.1;
+        room = room_fits c.places c.descriptors c.phase fetched.1;
       },
     )

@@ -1,6 +1,6 @@
 -- One queue of a run.
 use Rattle.std.proofs.Common.{arith, ◌≡◌, ℕ, zero, suc, Bool, List, [], ◌∷◌, ◌++◌, length, filter, Option, Some, None, slice_get, refl, subst, sym, ap, ◌∙◌, append-nil}
-use Rattle.std.specs.Prelude.{not, ◌==◌, true, false, if◌then◌else◌, unwrap_or, IsTrue}
+use Rattle.std.specs.Prelude.{◌+◌, ◌%◌, ◌^◌, not, ◌==◌, true, false, if◌then◌else◌, unwrap_or, IsTrue}
 use Rattle.std.specs.List.{AllByRecursion}
 use Rattle.std.proofs.lemmas.Bool.{eqb-true, eq-eqb}
 use Rattle.vm_memory_core.specs.Host.{changed_at}
@@ -12,10 +12,11 @@ use Rattle.fs_regions.specs.declared.step.Step as comes
 use Rattle.fs_regions.specs.declared.step.Step.TheVariants as step
 use Rattle.fs_regions.specs.Walks.{Loaded}
 use Rattle.virtiofsd_fuse.specs.Serving.{May}
-use Rattle.fs_live.specs.Several.{LiveQueue, Ticket, Event, RunsOver, may_take, took, gave, returning}
+use Rattle.fs_live.specs.Several.{LiveQueue, Ticket, Event, RunsOver, may_take, took, untook, gave, returning}
 use Rattle.fs_live.specs.Several as several
 use Rattle.fs_live.proofs.SeveralRuns.{once, used_in_order}
-use Rattle.fs_live.specs.Live.{OutChain, LiveState, LiveEvent, Walks, Declines, Asks, Answers, Returns, Sleeps, Begins, Happens, LiveRun, WalksIn, after_answer, after_asking, after_beginning, asked_chain, new_chain}
+use Rattle.fs_live.specs.Live.{OutChain, LiveState, LiveEvent, Walks, Declines, Asks, Answers, Returns, Sleeps, Begins, Fills, Drops, Abandons, Replies, Maps, Moves, Happens, LiveRun, WalksIn}
+use Rattle.fs_live.specs.Live.{Own, after_answer, after_asking, after_beginning, after_drop, after_loss, after_own, asked_chain, lost_chain, new_chain}
 use Rattle.fs_live.specs.Runs.{RunsOnQueue, OncePerLiveChain, LiveUsedInOrder, NotAnew, event_on, events_on, tickets_on, going}
 
 -- ---- queues in their places
@@ -90,7 +91,7 @@ module _ (i : ℕ) where
       ∙ sym (tickets-append before (c ∷ behind))
 
   -- chains of another queue are out no more
-  kept_not : (f : OutChain → Bool) (c : OutChain) (cs : List OutChain) (b : Bool) → f c ≡ b → filter f (c ∷ cs) ≡ (if b then c ∷ filter f cs else filter f cs)
+  pub kept_not : (f : OutChain → Bool) (c : OutChain) (cs : List OutChain) (b : Bool) → f c ≡ b → filter f (c ∷ cs) ≡ (if b then c ∷ filter f cs else filter f cs)
   kept_not f c cs true is = rw is refl
   kept_not f c cs false is = rw is refl
 
@@ -200,6 +201,31 @@ module _ (i : ℕ) where
       (tickets-append before behind
       ∙ sym (ap (λ (l : List OutChain). tickets_on i l) out ∙ tickets-append before (c ∷ behind) ∙ ap (λ (l : List Ticket). tickets_on i before ++ l) (one_ticket c behind false is)))
 
+  -- a chain is given up
+  drops : {F : Type 0} (s : LiveState F) (before behind : List OutChain) (c : OutChain) (w v : LiveQueue) (b : Bool) → (c.queue == i) ≡ b
+      → slice_get s.queues i ≡ Some w → slice_get s.queues c.queue ≡ Some v → s.outs ≡ before ++ c ∷ behind → v.queue.position ≡ (c.taken.position + 1) % 2 ^ 16
+      → Carries s (after_drop s before behind c v) w (if b then several.Drops (c.taken.position, c.head) ∷ [] else [])
+  drops {F} s before behind c w v true is there at out youngest =
+      let same : c.queue ≡ i = eqb-true c.queue i is in
+      let one : v ≡ w = same_some v w (sym at ∙ ap (λ (n : ℕ). slice_get s.queues n) same ∙ there) in
+      let split : tickets_on i s.outs ≡ tickets_on i before ++ ticket_of c ∷ tickets_on i behind =
+      ap (λ (l : List OutChain). tickets_on i l) out ∙ tickets-append before (c ∷ behind) ∙ ap (λ (l : List Ticket). tickets_on i before ++ l) (one_ticket c behind true is) in
+      subst (λ (k : LiveQueue). Carries s (after_drop s before behind c v) k (several.Drops (c.taken.position, c.head) ∷ [])) one (
+        untook v,
+        there_same s.queues c.queue i (λ _. untook v) w same there,
+        λ es u outs run. (
+          tickets_on i before,
+          tickets_on i behind,
+          split,
+          youngest,
+          subst (λ (l : List Ticket). RunsOver (going (untook v)) l es u outs) (tickets-append before behind) run,
+        ),
+      )
+  drops {F} s before behind c w v false is there at out youngest =
+      stays s (after_drop s before behind c v) w w (there_other s.queues c.queue i (λ _. untook v) (apart_of c.queue i is) ∙ there) refl
+      (tickets-append before behind
+      ∙ sym (ap (λ (l : List OutChain). tickets_on i l) out ∙ tickets-append before (c ∷ behind) ∙ ap (λ (l : List Ticket). tickets_on i before ++ l) (one_ticket c behind false is)))
+
   not_true : (b : Bool) → (b ≡ true → ⊥) → b ≡ false
   not_true true never = absurd (never refl)
   not_true false never = refl
@@ -225,6 +251,19 @@ module _ (i : ℕ) where
       let apart = apart_of j i (not_true (j == i) anew) in
       subst (λ (k : LiveState F). Carries s k w []) (sym h.state) (stays s (after_beginning s j v) w w
       (there_other s.queues j i (λ _. v) apart ∙ there) refl (dropped j s.outs apart))
+  carries {F} may s mid w (Fills c stores) there anew h = subst (λ (k : LiveState F). Carries s k w []) (sym h.state) (stays s s w w there refl refl)
+  carries {F} may s mid w (Drops c) there anew h =
+      subst (λ (k : LiveState F). Carries s k w (event_on i (Drops c))) (sym h.state) (drops s h.before h.behind c w h.w (c.queue == i) refl there h.there h.out h.is_last)
+  carries {F} may s mid w (Abandons c) there anew h =
+      subst (λ (k : LiveState F). Carries s k w []) (sym h.state)
+      (stays s (after_loss s h.before h.behind c) w w there refl
+      (goes_on h.before h.behind c (lost_chain c) (c.queue == i) refl refl refl ∙ sym (ap (λ (l : List OutChain). tickets_on i l) h.out)))
+  carries {F} may s mid w (Replies c request reply options) there anew h =
+      subst (λ (k : LiveState F). Carries s k w []) (sym h.state)
+      (stays s (after_own s h.before h.behind c request reply options) w w there refl
+      (goes_on h.before h.behind c (record c { phase = Own request reply }) (c.queue == i) refl refl refl ∙ sym (ap (λ (l : List OutChain). tickets_on i l) h.out)))
+  carries {F} may s mid w (Maps m) there anew h = subst (λ (k : LiveState F). Carries s k w []) (sym h.state) (stays s (record s { places = m }) w w there refl refl)
+  carries may s mid w (Moves m queues) there anew h = absurd anew
 
   pub runs_on : {F : Type 0} (may : May F) (s after : LiveState F) (es : List LiveEvent) (w : LiveQueue) → slice_get s.queues i ≡ Some w → AllByRecursion (NotAnew i) es → LiveRun may s es after →
       (w' : LiveQueue) × (slice_get after.queues i ≡ Some w') × RunsOver (going w) (tickets_on i s.outs) (events_on i es) (going w') (tickets_on i after.outs)

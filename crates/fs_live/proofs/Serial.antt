@@ -1,19 +1,18 @@
 -- One chain at a time.
 use Rattle.std.proofs.Common.{◌≡◌, ℕ, zero, suc, ◌+◌, ◌%◌, ◌^◌, Bool, List, [], ◌∷◌, ◌++◌, length, map, Option, Some, None, slice_get, refl, subst, sym, ap, ◌∙◌}
-use Rattle.std.specs.Prelude.{false, All, IsTrue, nat_lt, ◌&&◌, is_some}
-use Rattle.std.specs.List.{AllByRecursion, list_all}
+use Rattle.std.specs.Prelude.{false, All, IsTrue}
+use Rattle.std.specs.List.{AllByRecursion}
 use Rattle.std.proofs.lemmas.List.Elements.{All-head, All-tail}
 use Rattle.std.proofs.lemmas.List.{map-append}
-use Rattle.vm_iotlb.specs.declared.permissions.Permissions.{Permissions}
 use Rattle.vm_iotlb.specs.declared.permissions.Permissions.TheVariants.{Read, Write}
-use Rattle.vm_memory_core.specs.Host.{Place, changed_at}
-use Rattle.vm_memory.specs.Memory.{Memory, addresses, location, reach}
+use Rattle.vm_memory_core.specs.Host.{changed_at}
+use Rattle.vm_memory.specs.Memory.{Memory, location, reach}
 use Rattle.fs_queue.specs.declared.fault.ChainFault.{ChainFault}
 use Rattle.fs_queue.specs.Chain.{Descriptor}
 use Rattle.fs_queue.specs.Loads.{Load, AreEntriesOf, IsEntryOf, IsLoadOf}
 use Rattle.fs_queue.specs.Queue.{Queue, avail_index_at, ring_entry_at, element_at, index_at}
 use Rattle.fs_queue.specs.Returning.{Store, stores_after_reply, tells, advanced}
-use Rattle.fs_queue.specs.Taking.{Offer, Offers, IsRequest, CannotFetch, Idle, Refuses, readable, writable, all_reach, total_len}
+use Rattle.fs_queue.specs.Taking.{Offer, Offers, IsRequest, CannotFetch, Idle, Refuses, readable, writable, total_len}
 use Rattle.fs_queue.proofs.ConfinedLemmas.{only_places_count}
 use Rattle.fs_regions.specs.Laws.{HasLoaded}
 use Rattle.fs_regions.specs.declared.step.Step.TheVariants as step
@@ -25,12 +24,12 @@ use Rattle.fs_device.specs.Run.{KickRun}
 use Rattle.fs_device.specs.Step.{State, Exchange, Exchanged, Step, Calls, answers_alone}
 use Rattle.fs_device.specs.StepBy.{Act, Effects, StepBy, StepOfBy, ExchangesBy, AreStepLoadsOf, IsOfMemory, FindFlags, MayStoreLast, after_stores, stores_among, offered_by, reply_stores, return_acts}
 use Rattle.fs_device.proofs.StepByLemmas.{step_by_is_step}
-use Rattle.fs_live.specs.Live.{Phase, Faulty, Fetched, Asked, OutChain, LiveState, LiveEvent, Walks, Declines, Asks, Answers, Returns, Sleeps, Begins, Happens, LiveRun}
+use Rattle.fs_live.specs.Live.{Phase, Faulty, Fetched, Asked, OutChain, LiveState, LiveEvent, Walks, Declines, Asks, Answers, Returns, Sleeps, Begins, Fills, Drops, Abandons, Replies, Maps, Moves, Happens, LiveRun}
 use Rattle.fs_live.specs.Live.{WalksSo, AsksSo, AnswersSo, ReturnsSo, calls_in, fault_of, new_chain, after_take, room_of, serving, acts_of, GoesBackWith}
-use Rattle.fs_live.specs.Runs.{IsAskedIn, options_left, after_alone, chain_loads, request_in}
+use Rattle.fs_live.specs.Runs.{IsAskedIn, IsServed, options_left, after_alone, chain_loads, request_in}
 use Rattle.fs_live.specs.Several.{LiveQueue, took, gave, returning, wants}
 use Rattle.fs_live.specs.Serial.{IsAtRest, SingleIsStep, SerialIsKick, return_in, IsOfChain, plain}
-use Rattle.fs_live.proofs.Alone.{Walked, IsWhole, Exchanging, asked_walked, new_walked, exchange_of, room_offered, effects_of}
+use Rattle.fs_live.proofs.Alone.{all_reach_same, reach_same, Walked, IsWhole, Exchanging, asked_walked, new_walked, exchange_of, room_offered, effects_of}
 use Rattle.fs_live.proofs.Queues.{none_some, same_some, there_same}
 use Rattle.fs_live.proofs.Options.{leaves_none, leaves_again}
 
@@ -82,7 +81,8 @@ pub record Alone {F : Type 0} (may : May F) (s : LiveState F) (queues : List Liv
   pub asked : IsAskedIn phase s.options
   pub options : k.options ≡ options_left s.page_size s.options (in_phase c phase) phase
   pub run : FileRun may s.files (calls_in phase) k.files
-  pub walked : Walked s.places s.limit (in_phase c phase)
+  pub walked : Walked s.limit (in_phase c phase)
+  pub served : IsServed phase
 
 asks_alone : {F : Type 0} (may : May F) (s : LiveState F) (queues : List LiveQueue) (c₀ : OutChain) (k mid : LiveState F) (c : OutChain) (request : List ℕ) (told : List FileCall)
     → Alone may s queues c₀ k → AsksSo k c request told mid → Alone may s queues c₀ mid
@@ -106,8 +106,9 @@ asks_alone {F} may s queues c₀ k mid c request told a h =
       options = ap (λ (x : LiveState F). x.options) h.state
           ∙ sym (leaves_none (setting s.page_size k.options (length room)) (meaning k.options request (length room)));
       run = ap (λ (x : LiveState F). x.files) h.state ∙ subst (λ (p : Phase). FileRun may s.files (calls_in p) k.files) fresh a.run;
-      walked = asked_walked s.places s.limit (in_phase c₀ a.phase) request k.options [] (ap fault_of fresh)
+      walked = asked_walked s.limit (in_phase c₀ a.phase) request k.options [] (ap fault_of fresh)
           (h.whole ∙ ap (λ (x : OutChain). total_len (readable x.descriptors)) one.1) a.walked;
+      served = tt;
     }
 
 answers_alone_too : {F : Type 0} (may : May F) (s : LiveState F) (queues : List LiveQueue) (c₀ : OutChain) (k mid : LiveState F) (c : OutChain) (call : FileCall) (answer : FileAnswer)
@@ -145,8 +146,9 @@ answers_alone_too {F} may s queues c₀ k mid c call answer a h =
           ∙ left;
       run = subst (λ (f : F). FileRun may s.files more f) (sym (ap (λ (x : LiveState F). x.files) h.state))
           (run_on may s.files k.files h.files h.calls call answer (subst (λ (p : Phase). FileRun may s.files (calls_in p) k.files) is a.run) h.is_one h.may_so);
-      walked = asked_walked s.places s.limit (in_phase c₀ a.phase) h.request h.options more (ap fault_of is)
+      walked = asked_walked s.limit (in_phase c₀ a.phase) h.request h.options more (ap fault_of is)
           (subst (λ (p : Phase). IsWhole p c₀.descriptors) is a.walked.1) a.walked;
+      served = tt;
     }
 
 pub between_alone : {F : Type 0} (may : May F) (s : LiveState F) (queues : List LiveQueue) (c : OutChain) (k after : LiveState F) (es : List LiveEvent) (back : LiveEvent)
@@ -161,6 +163,12 @@ between_alone may s queues c k after (Declines i e ∷ es) back of a run = absur
 between_alone may s queues c k after (Returns d x notice last used seen ∷ es) back of a run = absurd of.0
 between_alone may s queues c k after (Sleeps i store ∷ es) back of a run = absurd of.0
 between_alone may s queues c k after (Begins i w ∷ es) back of a run = absurd of.0
+between_alone may s queues c k after (Fills d stores ∷ es) back of a run = absurd of.0
+between_alone may s queues c k after (Drops d ∷ es) back of a run = absurd of.0
+between_alone may s queues c k after (Abandons d ∷ es) back of a run = absurd of.0
+between_alone may s queues c k after (Replies d request reply options ∷ es) back of a run = absurd of.0
+between_alone may s queues c k after (Maps m ∷ es) back of a run = absurd of.0
+between_alone may s queues c k after (Moves m ws ∷ es) back of a run = absurd of.0
 
 start_alone : {F : Type 0} (may : May F) (s mid : LiveState F) (i : ℕ) (v : LiveQueue) (loaded : Loaded) (ds : List Descriptor) (head : ℕ) (fault : Option ChainFault)
     → s.outs ≡ [] → FetchesBy s.places s.limit v.queue loaded ds head fault → mid ≡ after_take s i v (new_chain s i v loaded ds head fault)
@@ -176,6 +184,7 @@ start_alone {F} may s mid i v loaded ds head None none fetches is = record {
   options = ap (λ (x : LiveState F). x.options) is;
   run = ap (λ (x : LiveState F). x.files) is;
   walked = new_walked s i v loaded ds head None fetches;
+  served = tt;
 }
 start_alone {F} may s mid i v loaded ds head (Some why) none fetches is = record {
   phase = Faulty why;
@@ -188,21 +197,10 @@ start_alone {F} may s mid i v loaded ds head (Some why) none fetches is = record
   options = ap (λ (x : LiveState F). x.options) is;
   run = ap (λ (x : LiveState F). x.files) is;
   walked = new_walked s i v loaded ds head (Some why) fetches;
+  served = tt;
 }
 
 -- ---- over the memory that has what was loaded
-
-abbrev Located : Type 0
-Located = Permissions → ℕ → Option Place
-
-reach_same : (m n : Memory) → location m ≡ location n → (access : Permissions) (a k : ℕ) → reach m access a k ≡ reach n access a k
-reach_same m n same access a k = ap (λ (f : Located). nat_lt (a + k) (2 ^ 64) && list_all (λ x. is_some (f access x)) (addresses a k)) same
-
-all_reach_same : (m n : Memory) → location m ≡ location n → (access : Permissions) (ds : List Descriptor) → all_reach m access ds ≡ all_reach n access ds
-all_reach_same m n same access [] = refl
-all_reach_same m n same access (d ∷ ds) =
-    ap (λ (b : Bool). b && all_reach m access ds) (reach_same m n same access d.addr d.len)
-    ∙ ap (λ (b : Bool). reach n access d.addr d.len && b) (all_reach_same m n same access ds)
 
 load_is : (m : Memory) (a : ℕ) (came : Option (List ℕ)) → (came ≡ None → reach m Read a 2 ≡ false) → ((bs : List ℕ) → came ≡ Some bs → IsLoadOf m 2 (record { address = a; came = came }))
     → IsLoadOf m 2 (record { address = a; came = came })
@@ -348,7 +346,7 @@ single_is_step {F} may s after r m w none there rest of run found =
     let goes : GoesBackWith s.page_size d a.phase r.exchange =
     subst (λ (p : ℕ). GoesBackWith p d a.phase r.exchange) a.page_size (subst (λ (c : OutChain). GoesBackWith k.page_size c c.phase r.exchange) one.1 b.goes) in
     let made : Exchanging may base k.files d r.exchange r.last r.seen =
-    exchange_of may base k.files i v.queue r.loaded r.descriptors r.head a.phase r.exchange r.last r.seen a.walked a.asked goes b.two a.run in
+    exchange_of may base k.files s.places i v.queue r.loaded r.descriptors r.head a.phase r.exchange r.last r.seen refl a.served a.walked a.asked goes b.two a.run in
     let behind_is : r.used ≡ stores_after_reply v.queue r.head (length r.exchange.reply) =
     b.used_is ∙ ap (λ (u : LiveQueue). stores_after_reply (returning u) r.chain.head (length r.exchange.reply)) w_is
     ∙ ap (λ (c : OutChain). stores_after_reply (returning (took v)) c.head (length r.exchange.reply)) one.1

@@ -1,6 +1,6 @@
 -- What is stored before a sleep, and a queue that is begun anew, as events of a run.
 use Rattle.std.proofs.Common.{◌≡◌, ℕ, Bool, Some, None, refl, subst, sym, ap, ◌∙◌}
-use Rattle.std.specs.Prelude.{false, if◌then◌else◌, true}
+use Rattle.std.specs.Prelude.{◌<◌, ◌^◌, false, if◌then◌else◌, true}
 use Rattle.std.specs.Int.{w16, to_le_bytes}
 use Rattle.std.proofs.lemmas.Bool.{true≢false}
 use Rattle.fs_queue.specs.Returning.{Store}
@@ -38,11 +38,11 @@ handle_sleeps may s i kept wanted None there is =
     not_stored kept.event_index wanted event flags (sym is)
 
 pub handle_begins : {F : Type 0} (may : May F) → HandleBegins may
-handle_begins {F} may s i kept after layout position most_out event_index stopped there is some few none = (
+handle_begins {F} may s i kept after layout position most_out event_index stopped there is some few small none = (
   record {
     old = live_of kept;
     there = there;
-    both = ap (λ (q : KeptQueue). q.returned) is ∙ sym (ap (λ (q : KeptQueue). q.position) is);
+    both = (ap (λ (q : KeptQueue). q.returned) is ∙ sym (ap (λ (q : KeptQueue). q.position) is), subst (λ (q : KeptQueue). q.position < 2 ^ 16) (sym is) small);
     few = subst (λ (q : KeptQueue). MayBeOut (live_of q)) (sym is) (some, few);
     none_waits = none;
     state = refl;

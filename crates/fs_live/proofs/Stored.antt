@@ -1,5 +1,5 @@
 -- Where the stores of a run go.
-use Rattle.std.proofs.Common.{arith, ◌≡◌, ℕ, Bool, List, [], ◌∷◌, ◌++◌, length, take, drop, zip, flat_map, Option, Some, None, refl, subst, sym, ap, take-append-drop}
+use Rattle.std.proofs.Common.{arith, ◌≡◌, ℕ, Bool, List, [], ◌∷◌, ◌++◌, length, map, take, drop, zip, flat_map, Option, Some, None, refl, subst, sym, ap, take-append-drop}
 use Rattle.std.specs.Prelude.{true, false}
 use Rattle.std.specs.Int.{w16, to_le_bytes}
 use Rattle.std.specs.List.{AllByRecursion, Contains}
@@ -10,10 +10,10 @@ use Rattle.fs_queue.specs.Queue.{Queue, element_at, index_at}
 use Rattle.fs_queue.specs.Returning.{Store, writes_of, stores_after_reply}
 use Rattle.fs_queue.proofs.ReturnLemmas.{returns_by_stores}
 use Rattle.virtiofsd_fuse.specs.Serving.{May}
-use Rattle.fs_device.specs.StepBy.{reply_stores, return_acts, stores_among}
+use Rattle.fs_device.specs.StepBy.{Stores, reply_stores, return_acts, stores_among}
 use Rattle.fs_device.proofs.StepByLemmas.{reply_writes}
 use Rattle.fs_live.specs.Several.{LiveQueue, avail_event_at, returning, sleep_store}
-use Rattle.fs_live.specs.Live.{OutChain, LiveState, LiveEvent, Walks, Declines, Asks, Answers, Returns, Sleeps, Begins, Happens, ReturnsSo, SleepsSo, acts_of, room_of}
+use Rattle.fs_live.specs.Live.{OutChain, LiveState, LiveEvent, Walks, Declines, Asks, Answers, Returns, Sleeps, Begins, Fills, Drops, Abandons, Replies, Maps, Moves, FillsSo, Happens, IsStoredIn, ReturnsSo, SleepsSo, acts_of, room_of}
 use Rattle.fs_live.specs.Runs.{StoresStayThere, StoresThere, queue_addresses, sleep_addresses}
 
 abbrev AllThere : List ℕ → List (ℕ × ℕ) → Type 0
@@ -31,7 +31,7 @@ both_there : (target : List ℕ) (ws vs : List (ℕ × ℕ)) → AllThere target
 both_there target [] vs a b = b
 both_there target (w ∷ ws) vs a b = (a.0, both_there target ws vs a.1 b)
 
-among_return : (stores : List Store) (flags : List ℕ) → stores_among (return_acts stores flags) ≡ stores
+pub among_return : (stores : List Store) (flags : List ℕ) → stores_among (return_acts stores flags) ≡ stores
 among_return [] flags = refl
 among_return (store ∷ stores) flags = ap (λ (l : List Store). store ∷ l) (among_return stores flags)
 
@@ -84,6 +84,21 @@ sleep_there q returned most_out true false = tt
 sleep_there q returned most_out false true = two_there q.used 0
 sleep_there q returned most_out false false = two_there q.used 1
 
+-- stores in a room
+pub among_stores : (stores : List Store) → stores_among (map Stores stores) ≡ stores
+among_stores [] = refl
+among_stores (store ∷ stores) = ap (λ (l : List Store). store ∷ l) (among_stores stores)
+
+zipped_within : (room as' xs : List ℕ) → AllByRecursion (λ a. Contains room a) as' → AllThere room (zip as' xs)
+zipped_within room [] xs all = tt
+zipped_within room (a ∷ as') [] all = tt
+zipped_within room (a ∷ as') (x ∷ xs) all = (all.0, zipped_within room as' xs all.1)
+
+stores_within : (room : List ℕ) (stores : List Store) → AllByRecursion (IsStoredIn room) stores → AllThere room (flat_map writes_of stores)
+stores_within room [] all = tt
+stores_within room (store ∷ stores) all =
+    both_there room _ _ (zipped_within room (addresses store.address (length store.bytes)) store.bytes all.0) (stores_within room stores all.1)
+
 one_event : {F : Type 0} (may : May F) (s mid : LiveState F) (e : LiveEvent) → Happens may s e mid → StoresThere s e
 one_event may s mid (Walks i loaded ds came) h = (tt, tt)
 one_event may s mid (Declines i e) h = (tt, tt)
@@ -102,6 +117,16 @@ one_event may s mid (Sleeps i store) h =
           (subst (λ (k : Option Store). LandsThere so.w k) so.stores (sleep_there so.w.queue so.w.returned so.w.most_out so.w.event_index so.wanted)),
     )
 one_event may s mid (Begins i w) h = (tt, tt)
+one_event may s mid (Fills c stores) h =
+    let so : FillsSo s c stores mid = h in (
+      subst (λ (l : List OutChain). Contains l c) (sym so.out) (Contains-append_right so.before (c ∷ so.behind) c (0, omega arith, refl)),
+      subst (λ (l : List Store). AllThere (room_of c) (flat_map writes_of l)) (sym (among_stores stores)) (stores_within (room_of c) stores so.within),
+    )
+one_event may s mid (Drops c) h = (tt, tt)
+one_event may s mid (Abandons c) h = (tt, tt)
+one_event may s mid (Replies c request reply options) h = (tt, tt)
+one_event may s mid (Maps m) h = (tt, tt)
+one_event may s mid (Moves m queues) h = (tt, tt)
 
 pub stores_stay_there : {F : Type 0} (may : May F) → StoresStayThere may
 stores_stay_there may s after [] run = tt

@@ -1,5 +1,5 @@
 -- What calls of handles, each with its chain, give a run, whatever other chains are out.
-use Rattle.std.specs.Prelude.{◌≡◌, ◌≤◌, ◌+◌, ◌^◌, ℕ, suc, Bool, true, false, IsTrue, List, [], ◌∷◌, ◌++◌, length, drop, is_some, Option, Some, None, slice_get, option_map}
+use Rattle.std.specs.Prelude.{◌≡◌, ◌≤◌, ◌<◌, ◌+◌, ◌^◌, ℕ, suc, Bool, true, false, IsTrue, List, [], ◌∷◌, ◌++◌, length, drop, is_some, Option, Some, None, slice_get, option_map}
 use Rattle.std.specs.List.{AllByRecursion}
 use Rattle.fs_queue.specs.declared.fault.ChainFault.{ChainFault}
 use Rattle.fs_queue.specs.declared.fault.QueueError.{QueueError}
@@ -61,10 +61,11 @@ abbrev pub IsDone : walked.WalkOutcome → Type 0
 IsDone (says.Load n) = ⊥
 IsDone _ = Unit {0}
 
--- a chain of a run by this limit, as the handle has it that walked it
+-- a chain of a run by this limit, as the handle has it that walked it: its places are the handle's
 pub record IsOut (limit : ℕ) (c : OutChain) (w : Workbench) : Type 0 where
   pub kept : KeptQueue
   pub ticket : Ticket
+  pub places : c.places ≡ places_in w.regions
   pub taken : c.taken ≡ queue_of (course_of kept limit)
   pub state : w.state ≡ at.Taken (out_of (course_of kept limit) ticket c.head c.descriptors)
 
@@ -72,6 +73,7 @@ pub record IsOut (limit : ℕ) (c : OutChain) (w : Workbench) : Type 0 where
 pub record IsFaultyOut (limit : ℕ) (c : OutChain) (w : Workbench) : Type 0 where
   pub kept : KeptQueue
   pub ticket : Ticket
+  pub places : c.places ≡ places_in w.regions
   pub taken : c.taken ≡ queue_of (course_of kept limit)
   pub state : w.state ≡ at.HasReply (faulty_out (course_of kept limit) ticket c.head) no_reply
 
@@ -243,6 +245,6 @@ HandleSleeps {F} may =
 abbrev pub HandleBegins : {F : Type 0} → May F → Type 0
 HandleBegins {F} may =
     (s : LiveState F) (i : ℕ) (kept after : KeptQueue) (layout : QueueLayout) (position most_out : ℕ) (event_index : Bool) (stopped : Option QueueError) →
-    slice_get s.queues i ≡ Some (live_of kept) → after ≡ record (begun_anew kept layout position) { most_out = most_out; event_index = event_index; stopped = stopped } → 1 ≤ most_out → most_out ≤ layout.size →
+    slice_get s.queues i ≡ Some (live_of kept) → after ≡ record (begun_anew kept layout position) { most_out = most_out; event_index = event_index; stopped = stopped } → 1 ≤ most_out → most_out ≤ layout.size → position < 2 ^ 16 →
     AllByRecursion (λ c. NoneWaits s.page_size i c c.phase) s.outs →
     Happens may s (Begins i (live_of after)) (after_beginning s i (live_of after)) × (slice_get (after_beginning s i (live_of after)).queues i ≡ Some (live_of after))

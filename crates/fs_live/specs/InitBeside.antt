@@ -7,7 +7,7 @@ use Rattle.fs_regions.specs.Walks.{Loaded}
 use Rattle.fuse_fs.specs.Calls.{FileCall, Failed, Init, Lookup, Wants}
 use Rattle.virtiofsd_fuse.specs.Examples.{le16, le32, le64, in_header_bytes, nobody, zeros}
 use Rattle.virtiofsd_fuse.specs.Serving.{May}
-use Rattle.fs_device.specs.Examples.{descriptor_bytes, queue}
+use Rattle.fs_device.specs.Examples.{blank, descriptor_bytes, queue}
 use Rattle.fs_device.specs.Step.{Exchange}
 use Rattle.fs_live.specs.Live.{Fetched, Asked, OutChain, Walks, Asks, Answers, Returns, LiveRun}
 use Rattle.fs_live.specs.Overlap.{at_positions, entry, state}
@@ -46,11 +46,11 @@ second_table = record { addr = 0x3000; len = 56; flags = 1; next = 3 } ∷ recor
 
 -- the first chain, as it is taken
 abbrev pub first : OutChain
-first = record { queue = 0; taken = queue; loaded = first_loads; descriptors = first_table; head = 0; phase = Fetched }
+first = record { places = blank; queue = 0; taken = queue; loaded = first_loads; descriptors = first_table; head = 0; phase = Fetched }
 
 -- the second one
 abbrev pub second : OutChain
-second = record { queue = 0; taken = record queue { position = 1 }; loaded = second_loads; descriptors = second_table; head = 2; phase = Fetched }
+second = record { places = blank; queue = 0; taken = record queue { position = 1 }; loaded = second_loads; descriptors = second_table; head = 2; phase = Fetched }
 
 -- the first one was asked without options
 abbrev pub first_asked : OutChain

@@ -1,7 +1,9 @@
 pub mod Among
+pub mod Guest
 pub mod Handles
 pub mod InitBeside
 pub mod Live
+pub mod Others
 pub mod Overlap
 pub mod Rewritten
 pub mod Runs

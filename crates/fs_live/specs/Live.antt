@@ -1,15 +1,15 @@
 -- A run of chains that are out of several queues at once, in the order in which things happen, for a guest that writes meanwhile (VIRTIO 1.2, 2.7).
-use Rattle.std.specs.Prelude.{◌≡◌, ◌≤◌, ℕ, Bool, true, not, ◌==◌, IsTrue, List, [], ◌∷◌, ◌++◌, length, filter, Option, Some, None, slice_get, if◌then◌else◌}
-use Rattle.std.specs.List.{AllByRecursion}
+use Rattle.std.specs.Prelude.{◌≡◌, ◌≤◌, ◌<◌, ◌+◌, ◌%◌, ◌^◌, ℕ, Bool, true, not, map, ◌==◌, IsTrue, List, [], ◌∷◌, ◌++◌, length, filter, Option, Some, None, slice_get, if◌then◌else◌}
+use Rattle.std.specs.List.{AllByRecursion, Contains}
 use Rattle.vm_iotlb.specs.declared.permissions.Permissions.TheVariants.{Read, Write}
 use Rattle.vm_memory_core.specs.Host.{changed_at}
-use Rattle.vm_memory.specs.Memory.{Memory, reach}
+use Rattle.vm_memory.specs.Memory.{Memory, addresses, reach}
 use Rattle.fs_queue.specs.declared.fault.ChainFault.{ChainFault}
 use Rattle.fs_queue.specs.declared.fault.QueueError.{QueueError}
 use Rattle.fs_queue.specs.declared.fault.QueueError.TheVariants.{AvailFlagsUnreachable, Stopped, UsedUnreachable}
 use Rattle.fs_queue.specs.Chain.{Descriptor}
 use Rattle.fs_queue.specs.Queue.{Queue}
-use Rattle.fs_queue.specs.Taking.{Idle, Refuses, addresses_of, readable, writable, total_len, after_refusal}
+use Rattle.fs_queue.specs.Taking.{Idle, Refuses, addresses_of, readable, return_fault, writable, total_len, after_refusal}
 use Rattle.fs_queue.specs.Returning.{Store, stores_after_reply}
 use Rattle.fs_regions.specs.declared.step.Step as comes
 use Rattle.fs_regions.specs.declared.step.Step.TheVariants as step
@@ -19,18 +19,22 @@ use Rattle.virtiofsd_fuse.specs.Grammar.{meaning}
 use Rattle.virtiofsd_fuse.specs.Serving.{May, Served, served, setting}
 use Rattle.fs_device.specs.Step.{Exchange, Calls, answers_alone, calls_alone, faulty, served_exchange}
 use Rattle.fs_device.specs.StepBy.{Act, Stores, reply_stores, return_acts}
-use Rattle.fs_live.specs.Several.{LiveQueue, avail_event_at, gave, may_take, returning, sleep_store, took, used_event_at, wants}
+use Rattle.fs_live.specs.Several.{LiveQueue, avail_event_at, gave, may_take, returning, sleep_store, took, untook, used_event_at, wants}
 
 -- ---- states
 
--- how far a chain is that is out: at fault, so it goes back with nothing; not asked yet; or asked by a request as it was loaded, in the options of that moment, with the calls that were answered
+-- how far a chain is that is out: at fault, so it goes back with nothing; not asked yet; asked by a request as it was loaded, in the options of that moment, with the calls that were answered;
+-- replied by bytes of its caller's own; or lost, since its handle was freed: nothing more is done with it
 pub data Phase : Type 0 where
   Faulty : ChainFault → Phase
   Fetched : Phase
   Asked : (request : List ℕ) → (options : ℕ) → Calls → Phase
+  Own : (request reply : List ℕ) → Phase
+  Lost : Option ChainFault → Phase
 
--- a chain that is out: of which queue, as it was before the chain was taken; the loads of its walk, its descriptors and its head; and how far it is
+-- a chain that is out: the places as they were when it was taken; of which queue, as it was before the chain was taken; the loads of its walk, its descriptors and its head; and how far it is
 pub record OutChain : Type 0 where
+  pub places : Memory
   pub queue : ℕ
   pub taken : Queue
   pub loaded : Loaded
@@ -41,11 +45,13 @@ pub record OutChain : Type 0 where
 -- what is wrong with it
 abbrev pub fault_of : Phase → Option ChainFault
 fault_of (Faulty why) = Some why
+fault_of (Lost fault) = fault
 fault_of _ = None
 
--- the addresses of its room: a faulty chain has none
+-- the addresses of its room: a faulty chain has none, and a lost one needs none
 abbrev pub room_in : Phase → List Descriptor → List ℕ
 room_in (Faulty why) ds = []
+room_in (Lost fault) ds = []
 room_in _ ds = addresses_of (writable ds)
 
 -- a chain that was asked by this request, in these options, with these calls
@@ -61,7 +67,7 @@ abbrev pub calls_in : Phase → Calls
 calls_in (Asked request options calls) = calls
 calls_in _ = []
 
--- the device beside a guest that runs: of memory the places alone, which no store changes; the queues; the options of the session; the chains that are out, the first one taken first;
+-- the device beside a guest that runs: of memory the places alone, which no store changes, as they are now; the queues; the options of the session; the chains that are out, the first one taken first;
 -- and the file system
 pub record LiveState (F : Type 0) : Type 0 where
   pub places : Memory
@@ -90,6 +96,18 @@ pub data LiveEvent : Type 0 where
   Sleeps : (i : ℕ) → Store → LiveEvent
   -- queue i is begun anew
   Begins : (i : ℕ) → LiveQueue → LiveEvent
+  -- in the room of a chain that is out some bytes are stored before it goes back, which its reply may count or not
+  Fills : OutChain → List Store → LiveEvent
+  -- a chain that was taken last of its queue, and wasn't asked, is given up: it waits again
+  Drops : OutChain → LiveEvent
+  -- the handle of a chain is freed, wherever the chain is: it stays out
+  Abandons : OutChain → LiveEvent
+  -- a request is replied by bytes of the caller's own, in place of the asking or of the answer that its call waits for; the options of the session are his to set then
+  Replies : OutChain → (request reply : List ℕ) → (options : ℕ) → LiveEvent
+  -- addresses have other places from now on: regions, or mappings
+  Maps : Memory → LiveEvent
+  -- the device moves: a record of it is made here, and there, over these places, its queues are begun by it
+  Moves : Memory → List LiveQueue → LiveEvent
 
 -- what the server does for a chain by its answers so far, in the options at its asking; `now`: those that stand by the answer
 abbrev pub serving : (page_size options now : ℕ) → (request : List ℕ) → (room : List ℕ) → Calls → Served
@@ -109,7 +127,7 @@ phase_by (Some why) = Faulty why
 -- a chain as a walk comes to it
 abbrev pub new_chain : {F : Type 0} → LiveState F → ℕ → LiveQueue → Loaded → List Descriptor → (head : ℕ) → Option ChainFault → OutChain
 new_chain s i w loaded ds head fault =
-    record { queue = i; taken = w.queue; loaded = loaded; descriptors = ds; head = head; phase = phase_by fault }
+    record { places = s.places; queue = i; taken = w.queue; loaded = loaded; descriptors = ds; head = head; phase = phase_by fault }
 
 -- it is out, and the queue's next chain stands at the next position
 abbrev pub after_take : {F : Type 0} → LiveState F → ℕ → LiveQueue → OutChain → LiveState F
@@ -192,10 +210,16 @@ pub record AnswersSo {F : Type 0} (may : May F) (s : LiveState F) (c : OutChain)
   pub may_so : may s.files call answer files
   pub state : after ≡ after_answer s before behind c request options (calls ++ (call, answer) ∷ []) files
 
--- with what a chain goes back: nothing, if it is at fault; the reply, once no call waits
+-- a request is replied by bytes of the caller's own
+abbrev pub own_exchange : (head : ℕ) → (request reply : List ℕ) → Exchange
+own_exchange head request reply = record { head = head; request = request; reply = reply; fault = None }
+
+-- with what a chain goes back: nothing, if it is at fault; the reply, once no call waits; its caller's own bytes
 abbrev pub GoesBackWith : (page_size : ℕ) → OutChain → Phase → Exchange → Type 0
 GoesBackWith page_size c (Faulty why) x = x ≡ faulty c.head why
 GoesBackWith page_size c Fetched x = ⊥
+GoesBackWith page_size c (Own request reply) x = x ≡ own_exchange c.head request reply
+GoesBackWith page_size c (Lost fault) x = ⊥
 GoesBackWith page_size c (Asked request options calls) x =
     let given = serving page_size options options request (room_of c) calls in (given.calls ≡ calls_alone calls) × (x ≡ served_exchange c.head request given)
 
@@ -238,6 +262,10 @@ NoneWaits page_size i c _ = Unit {0}
 abbrev pub after_beginning : {F : Type 0} → LiveState F → ℕ → LiveQueue → LiveState F
 after_beginning s i w = record s { queues = changed_at s.queues i (λ _. w); outs = filter (λ c. not (c.queue == i)) s.outs }
 
+-- where the next chain is taken the next one goes back, at a position of 16 bits
+abbrev pub IsEven : LiveQueue → Type 0
+IsEven w = (w.returned ≡ w.queue.position) × (w.queue.position < 2 ^ 16)
+
 -- from one chain to as many as a queue has descriptors may be out of it
 abbrev pub MayBeOut : LiveQueue → Type 0
 MayBeOut w = (1 ≤ w.most_out) × (w.most_out ≤ w.queue.size)
@@ -246,10 +274,103 @@ MayBeOut w = (1 ≤ w.most_out) × (w.most_out ≤ w.queue.size)
 pub record BeginsSo {F : Type 0} (s : LiveState F) (i : ℕ) (w : LiveQueue) (after : LiveState F) : Type 0 where
   pub old : LiveQueue
   pub there : slice_get s.queues i ≡ Some old
-  pub both : w.returned ≡ w.queue.position
+  pub both : IsEven w
   pub few : MayBeOut w
   pub none_waits : AllByRecursion (λ c. NoneWaits s.page_size i c c.phase) s.outs
   pub state : after ≡ after_beginning s i w
+
+-- each address of a store is one of some
+abbrev pub IsStoredIn : List ℕ → Store → Type 0
+IsStoredIn room store = AllByRecursion (λ a. Contains room a) (addresses store.address (length store.bytes))
+
+-- stores in a chain's room change nothing of the state
+pub record FillsSo {F : Type 0} (s : LiveState F) (c : OutChain) (stores : List Store) (after : LiveState F) : Type 0 where
+  pub before : List OutChain
+  pub behind : List OutChain
+  pub out : s.outs ≡ before ++ c ∷ behind
+  pub within : AllByRecursion (IsStoredIn (room_of c)) stores
+  pub state : after ≡ s
+
+-- ---- chains that don't go back by an answer
+
+-- the state after a giving up
+abbrev pub after_drop : {F : Type 0} → LiveState F → (before behind : List OutChain) → OutChain → LiveQueue → LiveState F
+after_drop s before behind c w = record s { queues = changed_at s.queues c.queue (λ _. untook w); outs = before ++ behind }
+
+-- a chain that wasn't asked, and behind which none of its queue was taken, is out no more
+pub record DropsSo {F : Type 0} (s : LiveState F) (c : OutChain) (after : LiveState F) : Type 0 where
+  pub before : List OutChain
+  pub behind : List OutChain
+  pub out : s.outs ≡ before ++ c ∷ behind
+  pub fresh : c.phase ≡ Fetched
+  pub w : LiveQueue
+  pub there : slice_get s.queues c.queue ≡ Some w
+  pub is_last : w.queue.position ≡ (c.taken.position + 1) % 2 ^ 16
+  pub state : after ≡ after_drop s before behind c w
+
+-- a chain that is lost
+abbrev pub lost_chain : OutChain → OutChain
+lost_chain c = record c { phase = Lost (fault_of c.phase) }
+
+-- the state after the freeing of a handle
+abbrev pub after_loss : {F : Type 0} → LiveState F → (before behind : List OutChain) → OutChain → LiveState F
+after_loss s before behind c = record s { outs = before ++ lost_chain c ∷ behind }
+
+-- a chain is lost to its queue, wherever it was. What the file system did by then for a call that waits is its answer (`Answers`) before
+pub record AbandonsSo {F : Type 0} (s : LiveState F) (c : OutChain) (after : LiveState F) : Type 0 where
+  pub before : List OutChain
+  pub behind : List OutChain
+  pub out : s.outs ≡ before ++ c ∷ behind
+  pub state : after ≡ after_loss s before behind c
+
+-- the request of a chain that its caller may reply to: it wasn't asked, or it was by this one, whatever of its calls the file system has answered by then
+abbrev pub IsUnreplied : OutChain → Phase → (request : List ℕ) → Type 0
+IsUnreplied c Fetched request = length request ≡ total_len (readable c.descriptors)
+IsUnreplied c (Asked asked options calls) request = request ≡ asked
+IsUnreplied c _ request = ⊥
+
+-- the state after such a reply
+abbrev pub after_own : {F : Type 0} → LiveState F → (before behind : List OutChain) → OutChain → (request reply : List ℕ) → (options : ℕ) → LiveState F
+after_own s before behind c request reply options = record s { outs = before ++ (record c { phase = Own request reply }) ∷ behind; options = options }
+
+-- the caller's bytes have room, and the used element tells how many they are
+pub record RepliesSo {F : Type 0} (s : LiveState F) (c : OutChain) (request reply : List ℕ) (options : ℕ) (after : LiveState F) : Type 0 where
+  pub before : List OutChain
+  pub behind : List OutChain
+  pub out : s.outs ≡ before ++ c ∷ behind
+  pub unreplied : IsUnreplied c c.phase request
+  pub fits : length reply ≤ length (room_of c)
+  pub counts : length reply < 2 ^ 32
+  pub state : after ≡ after_own s before behind c request reply options
+
+-- ---- other places, and another host
+
+-- what a queue's chains go back by has places by another memory just if it has them by this one: its used ring, at whichever position, its used index, its available flags, and used_event
+pub record KeepsReturns (m m' : Memory) (w : LiveQueue) : Type 0 where
+  pub returns : (p : ℕ) → return_fault m' (record (w.queue) { position = p }) ≡ return_fault m (record (w.queue) { position = p })
+  pub event : reach m' Read (used_event_at w.queue) 2 ≡ reach m Read (used_event_at w.queue) 2
+
+abbrev pub IfKeepsReturns : (m m' : Memory) → Option LiveQueue → Type 0
+IfKeepsReturns m m' None = Unit {0}
+IfKeepsReturns m m' (Some w) = KeepsReturns m m' w
+
+-- so it is of the queue of a chain that is out
+abbrev pub KeepsQueue : {F : Type 0} → LiveState F → Memory → OutChain → Type 0
+KeepsQueue s m c = IfKeepsReturns s.places m (slice_get s.queues c.queue)
+
+-- addresses have other places from now on, or none: but those that the queue of a chain that is out is returned to by. A chain itself goes on over the places of its walk. While none is out they
+-- may be any
+pub record MapsSo {F : Type 0} (s : LiveState F) (m : Memory) (after : LiveState F) : Type 0 where
+  pub keeps : AllByRecursion (KeepsQueue s m) s.outs
+  pub state : after ≡ record s { places = m }
+
+-- a device of which no chain is out moves: each queue stands where it did, stopped or not, in a memory of other places. How many chains may be out, and the event index, no record tells
+pub record MovesSo {F : Type 0} (s : LiveState F) (m : Memory) (queues : List LiveQueue) (after : LiveState F) : Type 0 where
+  pub none_out : s.outs ≡ []
+  pub same : map (λ w. w.queue) queues ≡ map (λ w. w.queue) s.queues
+  pub even : AllByRecursion IsEven queues
+  pub few : AllByRecursion MayBeOut queues
+  pub state : after ≡ record s { places = m; queues = queues }
 
 -- an event leads from a state to a state
 abbrev pub Happens : {F : Type 0} → May F → LiveState F → LiveEvent → LiveState F → Type 0
@@ -260,6 +381,12 @@ Happens may s (Answers c call answer) after = AnswersSo may s c call answer afte
 Happens may s (Returns c x notice last used seen) after = ReturnsSo s c x notice last used seen after
 Happens may s (Sleeps i store) after = SleepsSo s i store after
 Happens may s (Begins i w) after = BeginsSo s i w after
+Happens may s (Fills c stores) after = FillsSo s c stores after
+Happens may s (Drops c) after = DropsSo s c after
+Happens may s (Abandons c) after = AbandonsSo s c after
+Happens may s (Replies c request reply options) after = RepliesSo s c request reply options after
+Happens may s (Maps m) after = MapsSo s m after
+Happens may s (Moves m queues) after = MovesSo s m queues after
 
 -- a run: events from a state to a state
 abbrev pub LiveRun : {F : Type 0} → May F → LiveState F → List LiveEvent → LiveState F → Type 0
@@ -272,6 +399,7 @@ LiveRun {F} may s (e ∷ es) after = (mid : LiveState F) × Happens may s e mid 
 abbrev pub acts_of : LiveEvent → List Act
 acts_of (Returns c x notice last used seen) = return_acts (reply_stores (room_of c) x.reply last ++ used) seen
 acts_of (Sleeps i store) = Stores store ∷ []
+acts_of (Fills c stores) = map Stores stores
 acts_of _ = []
 
 -- the calls of a run, in the order of their answers

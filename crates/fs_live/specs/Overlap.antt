@@ -51,11 +51,11 @@ state files w options outs = record { places = blank; limit = 0x101000; page_siz
 
 -- the first chain, as it is taken
 abbrev pub first : OutChain
-first = record { queue = 0; taken = queue; loaded = first_loads; descriptors = first_table; head = 0; phase = Fetched }
+first = record { places = blank; queue = 0; taken = queue; loaded = first_loads; descriptors = first_table; head = 0; phase = Fetched }
 
 -- the second one
 abbrev pub second : OutChain
-second = record { queue = 0; taken = record queue { position = 1 }; loaded = second_loads; descriptors = second_table; head = 2; phase = Fetched }
+second = record { places = blank; queue = 0; taken = record queue { position = 1 }; loaded = second_loads; descriptors = second_table; head = 2; phase = Fetched }
 
 -- it was asked in the options 1
 abbrev pub first_asked : OutChain

@@ -9,7 +9,7 @@ use Rattle.fs_regions.specs.Walks.{Loaded}
 use Rattle.fuse_fs.specs.Calls.{FileCall, Forget, Done}
 use Rattle.virtiofsd_fuse.specs.Examples.{le16, le32, le64, in_header_bytes, nobody}
 use Rattle.virtiofsd_fuse.specs.Serving.{May}
-use Rattle.fs_device.specs.Examples.{descriptor_bytes}
+use Rattle.fs_device.specs.Examples.{blank, descriptor_bytes}
 use Rattle.fs_device.specs.Step.{Exchange}
 use Rattle.fs_live.specs.Several.{LiveQueue}
 use Rattle.fs_live.specs.Live.{Fetched, Asked, OutChain, Walks, Asks, Answers, Returns, LiveRun}
@@ -49,7 +49,7 @@ table = record { addr = 0x1000; len = 48; flags = 0; next = 0 } ∷ []
 
 -- the chain, as it is taken
 abbrev pub first : OutChain
-first = record { queue = 0; taken = queue; loaded = first_loads; descriptors = table; head = 0; phase = Fetched }
+first = record { places = blank; queue = 0; taken = queue; loaded = first_loads; descriptors = table; head = 0; phase = Fetched }
 
 -- it was asked without options
 abbrev pub first_asked : OutChain

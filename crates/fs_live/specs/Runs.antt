@@ -1,20 +1,25 @@
 -- What holds of each run.
-use Rattle.std.specs.Prelude.{◌≡◌, ℕ, Bool, true, false, ◌==◌, List, [], ◌∷◌, ◌++◌, length, map, filter, flat_map, is_some, IsPermutation, Option, Some, None, slice_get, if◌then◌else◌}
-use Rattle.std.specs.List.{AllByRecursion, Contains, list_all}
+use Rattle.std.specs.Prelude.{◌≡◌, ◌≤◌, ◌/◌, ℕ, Bool, true, false, take, ◌==◌, List, [], ◌∷◌, ◌++◌, length, map, filter, flat_map, is_some, IsPermutation, Option, Some, None, slice_get, if◌then◌else◌}
+use Rattle.std.specs.List.{AllByRecursion, Contains, list_all, list_any}
 use Rattle.vm_iotlb.specs.declared.permissions.Permissions.TheVariants.{Read, Write}
 use Rattle.vm_memory_core.specs.Host.{changed_at}
 use Rattle.vm_memory.specs.Memory.{Memory, addresses, location, reach}
 use Rattle.fs_queue.specs.Loads.{Load}
 use Rattle.fs_queue.specs.Queue.{element_at, index_at}
 use Rattle.fs_queue.specs.Returning.{Store, writes_of, tells, advanced}
+use Rattle.fs_queue.specs.Taking.{IsRequest, Offers}
 use Rattle.fs_regions.specs.declared.step.Step.TheVariants as step
 use Rattle.fuse_fs.specs.Calls.{FileRun}
 use Rattle.virtiofsd_fuse.specs.Serving.{May}
+use Rattle.fs_device.specs.MarkedPages.{Marks, returned_addresses}
 use Rattle.fs_device.specs.Step.{State, Exchange, Exchanged}
-use Rattle.fs_device.specs.StepBy.{StepLoads, StepBy, return_acts, return_stores, stores_among}
-use Rattle.fs_live.specs.Several.{LiveQueue, Ticket, Event, RunsOver, UsedFrom, heads_taken, heads_returned, returns_among, returning, avail_event_at, seen_at, used_event_at}
+use Rattle.fs_regions.specs.Walks.{OffersBy}
+use Rattle.fs_device.specs.StepBy.{Act, StepLoads, StepBy, ReturnsBy, after_stores, return_acts, return_stores, stores_among}
+use Rattle.fs_live.specs.Several.{LiveQueue, Ticket, Event, RunsOver, UsedFrom, heads_taken, heads_ended, returns_among, returning, avail_event_at, seen_at, used_event_at}
 use Rattle.fs_live.specs.Several as several
-use Rattle.fs_live.specs.Live.{Phase, Asked, OutChain, LiveState, LiveEvent, Walks, Returns, Sleeps, Begins, Happens, LiveRun, acts_of, calls_among, calls_in, room_of, serving}
+pub use Rattle.fs_live.specs.Live.{IsEven}
+use Rattle.fs_live.specs.Live.{Phase, Asked, Own, OutChain, LiveState, LiveEvent, Walks, Returns, Sleeps, Begins, Fills, Drops, Maps, Moves, Happens, LiveRun, acts_of, calls_among, calls_in, room_of, serving}
+use Rattle.fs_live.specs.Live.{own_exchange}
 
 -- ---- the calls
 
@@ -27,6 +32,7 @@ CallsAreARun {F} may = (s after : LiveState F) (es : List LiveEvent) → LiveRun
 -- the request of a chain, as it was loaded
 abbrev pub request_in : Phase → List ℕ
 request_in (Asked request options calls) = request
+request_in (Own request reply) = request
 request_in _ = []
 
 -- the options are those of its asking
@@ -39,9 +45,14 @@ abbrev pub options_left : (page_size options : ℕ) → OutChain → Phase → �
 options_left page_size options c (Asked request asked calls) = (serving page_size asked asked request (room_of c) calls).options
 options_left page_size options c _ = options
 
--- the plain machine before a chain: the run's places, the queue as the chain was taken, the options at its asking
+-- a chain that the server answers, or that is faulty: the reply isn't its caller's own
+abbrev pub IsServed : Phase → Type 0
+IsServed (Own request reply) = ⊥
+IsServed _ = Unit {0}
+
+-- the plain machine before a chain: a memory with the places as the chain was taken, whatever bytes are there; the queue as it was taken; the options at its asking
 pub record IsBefore {F G : Type 0} (s : LiveState F) (c : OutChain) (m : State G) : Type 0 where
-  pub places : m.memory ≡ s.places
+  pub places : location m.memory ≡ location c.places
   pub limit : m.limit ≡ s.limit
   pub page_size : m.page_size ≡ s.page_size
   pub options : IsAskedIn c.phase m.options
@@ -68,8 +79,23 @@ pub record IsAStep {G : Type 0} (other : May G) (m : State G) (files : G) (w : L
 abbrev pub ReturnedIsStepBy : {F G : Type 0} → May F → May G → Type 0
 ReturnedIsStepBy {F} {G} may other =
     (s now after : LiveState F) (es : List LiveEvent) (c : OutChain) (x : Exchange) (notice : Bool) (last : ℕ) (used : List Store) (seen : List ℕ) (m : State G) (files : G) →
-    s.outs ≡ [] → LiveRun may s es now → Happens may now (Returns c x notice last used seen) after → IsBefore now c m → FileRun other m.files (calls_in c.phase) files →
+    s.outs ≡ [] → LiveRun may s es now → Happens may now (Returns c x notice last used seen) after → IsServed c.phase → IsBefore now c m → FileRun other m.files (calls_in c.phase) files →
     (w : LiveQueue) × (slice_get now.queues c.queue ≡ Some w) × IsAStep other m files w c x last used seen notice
+
+-- a chain that goes back with its caller's own bytes is offered by its loads, and they and the used element and index are stored as a step stores a reply: of its queue's next used position
+pub record IsAReturn {G : Type 0} (m : State G) (limit : ℕ) (w : LiveQueue) (c : OutChain) (request reply : List ℕ) (x : Exchange) (last : ℕ) (used : List Store) (seen : List ℕ) : Type 0 where
+  pub offered : OffersBy m.memory limit c.taken c.loaded request (Offers c.head (IsRequest request (room_of c)))
+  pub fits : length reply ≤ length (room_of c)
+  pub returns : ReturnsBy m c.queue c.taken (room_of c) (own_exchange c.head request reply) m.options x (tells seen)
+      (record { acts = return_acts (return_stores c.taken c.head (room_of c) x.reply last) seen; last = last }) (after_alone m c m.files)
+  pub acts : (notice : Bool) → acts_of (Returns c x notice last used seen) ≡ return_acts (return_stores (returning w) c.head (room_of c) x.reply last) seen
+
+-- so it is of each such chain of a run: no call is made, and the options stay
+abbrev pub OwnIsReturned : {F : Type 0} → (G : Type 0) → May F → Type 0
+OwnIsReturned {F} G may =
+    (s now after : LiveState F) (es : List LiveEvent) (c : OutChain) (x : Exchange) (notice : Bool) (last : ℕ) (used : List Store) (seen : List ℕ) (request reply : List ℕ) (m : State G) →
+    s.outs ≡ [] → LiveRun may s es now → Happens may now (Returns c x notice last used seen) after → c.phase ≡ Own request reply → IsBefore now c m →
+    (w : LiveQueue) × (slice_get now.queues c.queue ≡ Some w) × IsAReturn m now.limit w c request reply x last used seen
 
 -- ---- where stores go
 
@@ -86,12 +112,14 @@ sleep_addresses (Some w) = if w.event_index then addresses (avail_event_at w.que
 -- where an event may store
 abbrev pub may_store : {F : Type 0} → LiveState F → LiveEvent → List ℕ
 may_store s (Returns c x notice last used seen) = room_of c ++ queue_addresses (slice_get s.queues c.queue)
+may_store s (Fills c stores) = room_of c
 may_store s (Sleeps i store) = sleep_addresses (slice_get s.queues i)
 may_store s _ = []
 
--- the chain that goes back is out at that moment
+-- the chain that goes back, or whose room is stored in, is out at that moment
 abbrev pub IsOutThen : {F : Type 0} → LiveState F → LiveEvent → Type 0
 IsOutThen s (Returns c x notice last used seen) = Contains s.outs c
+IsOutThen s (Fills c stores) = Contains s.outs c
 IsOutThen s _ = Unit {0}
 
 -- it stores nothing elsewhere
@@ -127,22 +155,20 @@ pub record ReturnHasPlaces (m : Memory) (w : LiveQueue) (c : OutChain) : Type 0 
   pub seen : reach m Read (seen_at w) 2 ≡ true
   pub room : has_places m (room_of c) ≡ true
 
--- where the next chain is taken the next one goes back
-abbrev pub IsEven : LiveQueue → Type 0
-IsEven w = w.returned ≡ w.queue.position
-
--- from no chain out on, whichever chains go back first and whatever the guest writes, each return has places
+-- from no chain out on, whichever chains go back first or are given up, whatever the guest writes, and whichever other places it is given, each return has places by those that there were as its chain
+-- was walked, over which its handle goes on
 abbrev pub ReturnsHavePlaces : {F : Type 0} → May F → Type 0
 ReturnsHavePlaces {F} may =
     (s now after : LiveState F) (es : List LiveEvent) (c : OutChain) (x : Exchange) (notice : Bool) (last : ℕ) (used : List Store) (seen : List ℕ) →
     s.outs ≡ [] → AllByRecursion IsEven s.queues → LiveRun may s es now → Happens may now (Returns c x notice last used seen) after →
-    (w : LiveQueue) × (slice_get now.queues c.queue ≡ Some w) × ReturnHasPlaces s.places w c
+    (w : LiveQueue) × (slice_get now.queues c.queue ≡ Some w) × ReturnHasPlaces c.places w c
 
 -- ---- one queue of a run
 
--- what happens on queue i: the takes and the returns
+-- what happens on queue i: the takes, the givings up and the returns
 abbrev pub event_on : ℕ → LiveEvent → List Event
 event_on i (Walks j loaded ds (step.Chain head fault)) = if j == i then several.Takes head ∷ [] else []
+event_on i (Drops c) = if c.queue == i then several.Drops (c.taken.position, c.head) ∷ [] else []
 event_on i (Returns c x notice last used seen) = if c.queue == i then several.Returns (c.taken.position, c.head) (length x.reply) used ∷ [] else []
 event_on i _ = []
 
@@ -158,9 +184,10 @@ tickets_on i outs = map (λ c. (c.taken.position, c.head)) (filter (λ c. c.queu
 abbrev pub going : LiveQueue → LiveQueue
 going w = record w { queue = record (w.queue) { stopped = false } }
 
--- it isn't begun anew
+-- it isn't begun anew, by a record neither
 abbrev pub NotAnew : ℕ → LiveEvent → Type 0
 NotAnew i (Begins j w) = (j == i) ≡ true → ⊥
+NotAnew i (Moves m queues) = ⊥
 NotAnew i _ = Unit {0}
 
 -- queue i of a run is a run of takes and returns, whatever happens on the others
@@ -169,14 +196,80 @@ RunsOnQueue {F} may =
     (s after : LiveState F) (es : List LiveEvent) (i : ℕ) (w : LiveQueue) → slice_get s.queues i ≡ Some w → AllByRecursion (NotAnew i) es → LiveRun may s es after →
     (w' : LiveQueue) × (slice_get after.queues i ≡ Some w') × RunsOver (going w) (tickets_on i s.outs) (events_on i es) (going w') (tickets_on i after.outs)
 
--- so each chain that was taken of it went back once, or is out
+-- so each chain that was taken of it went back once, or was given up once, or is out
 abbrev pub OncePerLiveChain : {F : Type 0} → May F → Type 0
 OncePerLiveChain {F} may =
     (s after : LiveState F) (es : List LiveEvent) (i : ℕ) (w : LiveQueue) → slice_get s.queues i ≡ Some w → tickets_on i s.outs ≡ [] → AllByRecursion (NotAnew i) es → LiveRun may s es after →
-    IsPermutation (heads_returned (events_on i es) ++ map (λ t. t.1) (tickets_on i after.outs)) (heads_taken (events_on i es))
+    IsPermutation (heads_ended (events_on i es) ++ map (λ t. t.1) (tickets_on i after.outs)) (heads_taken (events_on i es))
 
 -- and its returns fill the used ring in order, whatever was taken when
 abbrev pub LiveUsedInOrder : {F : Type 0} → May F → Type 0
 LiveUsedInOrder {F} may =
     (s after : LiveState F) (es : List LiveEvent) (i : ℕ) (w : LiveQueue) → slice_get s.queues i ≡ Some w → AllByRecursion (NotAnew i) es → LiveRun may s es after →
     UsedFrom (going w) (returns_among (events_on i es))
+
+-- ---- pages
+
+-- a page of the guest's memory has 4096 bytes
+abbrev pub page_of : (address : ℕ) → ℕ
+page_of a = a / 4096
+
+-- the addresses that acts write, byte by byte
+abbrev pub written_by : List Act → List ℕ
+written_by acts = map (λ w. w.0) (flat_map writes_of (stores_among acts))
+
+-- what a queue's next return tells besides its room: the used element's 8 bytes and the used index's 2
+abbrev pub told_of_queue : Option LiveQueue → List ℕ
+told_of_queue None = []
+told_of_queue (Some w) = addresses (element_at (returning w)) 8 ++ addresses (index_at (returning w)) 2
+
+-- the addresses that an event tells its caller to mark: of a return as many of the room, from its first on, as the reply has bytes, the used element and the used index; of a sleep the two bytes of its store; of other stores in a room just those
+abbrev pub told_by : {F : Type 0} → LiveState F → LiveEvent → List ℕ
+told_by s (Returns c x notice last used seen) = take (length x.reply) (room_of c) ++ told_of_queue (slice_get s.queues c.queue)
+told_by s (Sleeps i store) = addresses store.address 2
+told_by s (Fills c stores) = flat_map (λ store. addresses store.address (length store.bytes)) stores
+told_by s _ = []
+
+-- over each memory an event's stores mark the pages of the addresses that it tells, of blocks or of I/O pages, and no others: so do those of the plain machine's step, which stores the same
+abbrev pub MarksAsTold : {F : Type 0} → LiveState F → LiveEvent → Type 0
+MarksAsTold s e = (m : Memory) → Marks m (told_by s e) (after_stores m (stores_among (acts_of e))).host
+
+-- and a log by the guest's pages has those that the stores write to, if what is told is marked
+abbrev pub LogsAsTold : {F : Type 0} → LiveState F → LiveEvent → Type 0
+LogsAsTold s e = (page : ℕ) → list_any (λ a. page_of a == page) (written_by (acts_of e)) ≡ list_any (λ a. page_of a == page) (told_by s e)
+
+-- so does each event of a run
+abbrev pub EachIsTold : {F : Type 0} → (may : May F) → (s : LiveState F) → (es : List LiveEvent) → (after : LiveState F) → LiveRun may s es after → Type 0
+EachIsTold may s [] after run = Unit {0}
+EachIsTold may s (e ∷ es) after run = (MarksAsTold s e × LogsAsTold s e) × EachIsTold may run.0 es after run.2
+
+abbrev pub PagesAreTold : {F : Type 0} → May F → Type 0
+PagesAreTold {F} may = (s after : LiveState F) (es : List LiveEvent) (run : LiveRun may s es after) → EachIsTold may s es after run
+
+-- what a return tells are the addresses that the plain machine's step writes, where its queue's next one goes back
+abbrev pub ReturnsTell : {F : Type 0} → May F → Type 0
+ReturnsTell {F} may =
+    (s after : LiveState F) (c : OutChain) (x : Exchange) (notice : Bool) (last : ℕ) (used : List Store) (seen : List ℕ) → Happens may s (Returns c x notice last used seen) after →
+    (w : LiveQueue) × (slice_get s.queues c.queue ≡ Some w) × (told_by s (Returns c x notice last used seen) ≡ returned_addresses (returning w) c.head (room_of c) x.reply)
+
+-- ---- standing still, and moves
+
+-- from no chain out on, a queue of which none is out stands where the next one goes back: one number tells both (GET_VRING_BASE), and to begin it there anew (SET_VRING_BASE) changes nothing
+abbrev pub StandsEven : {F : Type 0} → May F → Type 0
+StandsEven {F} may =
+    (s now : LiveState F) (es : List LiveEvent) (i : ℕ) (w : LiveQueue) → s.outs ≡ [] → AllByRecursion IsEven s.queues → LiveRun may s es now → slice_get now.queues i ≡ Some w →
+    tickets_on i now.outs ≡ [] → IsEven w × ((after : LiveState F) → Happens may now (Begins i w) after → after ≡ now)
+
+-- what no record tells of a queue
+abbrev pub untold : LiveQueue → ℕ × Bool
+untold w = (w.most_out, w.event_index)
+
+-- a device that moves between two chains, and is told there what no record tells, goes on as one that didn't move and whose guest's memory got these places: over the same places as if nothing had
+-- happened
+abbrev pub MovedGoesOn : {F : Type 0} → May F → Type 0
+MovedGoesOn {F} may =
+    (s now moved : LiveState F) (es : List LiveEvent) (m : Memory) (queues : List LiveQueue) → s.outs ≡ [] → AllByRecursion IsEven s.queues → LiveRun may s es now →
+    Happens may now (Moves m queues) moved → map untold queues ≡ map untold now.queues →
+    Happens may now (Maps m) moved × (m ≡ now.places → moved ≡ now)
+    × ((later : List LiveEvent) (end : LiveState F) → LiveRun may moved later end → LiveRun may s (es ++ Maps m ∷ later) end)
+    × (m ≡ now.places → (later : List LiveEvent) (end : LiveState F) → LiveRun may moved later end → LiveRun may s (es ++ later) end)

@@ -32,19 +32,26 @@ took w = record w { queue = advanced w.queue }
 abbrev pub gave : LiveQueue → LiveQueue
 gave w = record w { returned = next_position (returning w) }
 
+-- the chain that was taken last is given up: it is taken again
+abbrev pub untook : LiveQueue → LiveQueue
+untook w = record w { queue = record (w.queue) { position = (w.queue.position + (2 ^ 16 - 1)) % 2 ^ 16 } }
+
 -- a chain that is out: where it was taken, and its head
 abbrev pub Ticket : Type 0
 Ticket = ℕ × ℕ
 
--- what happens on a queue: a chain of this head is taken; a ticket goes back with so long a reply, by these stores
+-- what happens on a queue: a chain of this head is taken; a ticket goes back with so long a reply, by these stores; the ticket that was taken last is given up
 pub data Event : Type 0 where
   Takes : (head : ℕ) → Event
+  Drops : Ticket → Event
   Returns : Ticket → (len : ℕ) → List Store → Event
 
 -- a run: which tickets are out before and after
 abbrev pub RunsOver : LiveQueue → List Ticket → List Event → LiveQueue → List Ticket → Type 0
 RunsOver w outs [] w' outs' = (w' ≡ w) × (outs' ≡ outs)
 RunsOver w outs (Takes head ∷ es) w' outs' = IsTrue (may_take w) × RunsOver (took w) (outs ++ (w.queue.position, head) ∷ []) es w' outs'
+RunsOver w outs (Drops t ∷ es) w' outs' =
+    (before : List Ticket) × (behind : List Ticket) × (outs ≡ before ++ t ∷ behind) × (w.queue.position ≡ (t.0 + 1) % 2 ^ 16) × RunsOver (untook w) (before ++ behind) es w' outs'
 RunsOver w outs (Returns t len stores ∷ es) w' outs' =
     (before : List Ticket) × (behind : List Ticket) × (outs ≡ before ++ t ∷ behind) × (stores ≡ stores_after_reply (returning w) t.1 len) × RunsOver (gave w) (before ++ behind) es w' outs'
 
@@ -52,22 +59,25 @@ RunsOver w outs (Returns t len stores ∷ es) w' outs' =
 abbrev pub heads_taken : List Event → List ℕ
 heads_taken [] = []
 heads_taken (Takes head ∷ es) = head ∷ heads_taken es
+heads_taken (Drops t ∷ es) = heads_taken es
 heads_taken (Returns t len stores ∷ es) = heads_taken es
 
--- those that went back
-abbrev pub heads_returned : List Event → List ℕ
-heads_returned [] = []
-heads_returned (Takes head ∷ es) = heads_returned es
-heads_returned (Returns t len stores ∷ es) = t.1 ∷ heads_returned es
+-- those that went back, or were given up
+abbrev pub heads_ended : List Event → List ℕ
+heads_ended [] = []
+heads_ended (Takes head ∷ es) = heads_ended es
+heads_ended (Drops t ∷ es) = t.1 ∷ heads_ended es
+heads_ended (Returns t len stores ∷ es) = t.1 ∷ heads_ended es
 
--- each chain that was taken went back once, or is out
+-- each chain that was taken went back once, or was given up once, or is out
 abbrev pub OncePerChain : Type 0
-OncePerChain = (w w' : LiveQueue) (outs' : List Ticket) (es : List Event) → RunsOver w [] es w' outs' → IsPermutation (heads_returned es ++ map (λ t. t.1) outs') (heads_taken es)
+OncePerChain = (w w' : LiveQueue) (outs' : List Ticket) (es : List Event) → RunsOver w [] es w' outs' → IsPermutation (heads_ended es ++ map (λ t. t.1) outs') (heads_taken es)
 
 -- the stores of the returns, in their order
 abbrev pub returns_among : List Event → List (Ticket × ℕ × List Store)
 returns_among [] = []
 returns_among (Takes head ∷ es) = returns_among es
+returns_among (Drops t ∷ es) = returns_among es
 returns_among (Returns t len stores ∷ es) = (t, len, stores) ∷ returns_among es
 
 -- they are one used position after another, whatever was taken when
@@ -95,10 +105,11 @@ StoresAsTaken q _ = ⊥
 abbrev pub OneAtATime : Type 0
 OneAtATime = (w w' : LiveQueue) (outs' : List Ticket) (es : List Event) → w.returned ≡ w.queue.position → IsSerial es → RunsOver w [] es w' outs' → StoresAsTaken w.queue es
 
--- VIRTIO_F_IN_ORDER (2.7.9): only the oldest ticket goes back
+-- VIRTIO_F_IN_ORDER (2.7.9): only the oldest ticket goes back, and only the youngest is given up
 abbrev pub IsOldestFirst : LiveQueue → List Ticket → List Event → Type 0
 IsOldestFirst w outs [] = Unit {0}
 IsOldestFirst w outs (Takes head ∷ es) = IsOldestFirst (took w) (outs ++ (w.queue.position, head) ∷ []) es
+IsOldestFirst w outs (Drops t ∷ es) = (before : List Ticket) × (outs ≡ before ++ t ∷ []) × IsOldestFirst (untook w) before es
 IsOldestFirst w [] (Returns t len stores ∷ es) = ⊥
 IsOldestFirst w (first ∷ outs) (Returns t len stores ∷ es) = (t ≡ first) × IsOldestFirst (gave w) outs es
 
@@ -109,7 +120,7 @@ AtTheirPlaces w (r ∷ rs) = (r.0.0 ≡ w.returned) × AtTheirPlaces (gave w) rs
 
 -- of a queue of which none is out
 abbrev pub KeepsOrder : Type 0
-KeepsOrder = (w : LiveQueue) (es : List Event) → w.returned ≡ w.queue.position → IsOldestFirst w [] es → AtTheirPlaces w (returns_among es)
+KeepsOrder = (w : LiveQueue) (es : List Event) → w.returned ≡ w.queue.position → w.queue.position < 2 ^ 16 → IsOldestFirst w [] es → AtTheirPlaces w (returns_among es)
 
 -- ---- VIRTIO_F_EVENT_IDX (2.7.7.2, 2.7.10)
 

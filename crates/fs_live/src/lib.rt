@@ -2,11 +2,13 @@
 #![tactic(auto)]
 
 ghost use Rattle.fs_live.specs.Among.{HandleFindsStopped, HandleLoadsAmong, HandleWalksAmong, WantedAmongHasAPlace};
+ghost use Rattle.fs_live.specs.Guest.{PagesOfRun};
 ghost use Rattle.fs_live.specs.Handles.{HandleAnswers, HandleAsks, HandleBegins, HandleCalls, HandleDeclines, HandleFaulty, HandleLoads, HandleReturns, HandleSleeps, HandleWalks, OptionsStay};
 ghost use Rattle.fs_live.specs.InitBeside.{InitBeside};
+ghost use Rattle.fs_live.specs.Others.{AskedIsHeld, HandleAbandons, HandleDrops, HandleMaps, HandleMoves, HandleReplies, HandleRepliesInstead, HandleReturnsOwn};
 ghost use Rattle.fs_live.specs.Overlap.{Overlap};
 ghost use Rattle.fs_live.specs.Rewritten.{Rewritten};
-ghost use Rattle.fs_live.specs.Runs.{CallsAreARun, LiveUsedInOrder, OncePerLiveChain, ReturnedIsStepBy, ReturnsHavePlaces, RunsOnQueue, StoresStayThere};
+ghost use Rattle.fs_live.specs.Runs.{CallsAreARun, LiveUsedInOrder, MovedGoesOn, OncePerLiveChain, OwnIsReturned, PagesAreTold, ReturnedIsStepBy, ReturnsHavePlaces, ReturnsTell, RunsOnQueue, StandsEven, StoresStayThere};
 ghost use Rattle.fs_live.specs.Serial.{SingleIsStep, SerialIsKick};
 ghost use Rattle.fs_live.specs.Several.{ByEvent, KeepsOrder, OncePerChain, OneAtATime, UsedInOrder};
 
@@ -22,12 +24,20 @@ pub fn law_queues()
     ensures event { ByEvent }
 {}
 
-/// What holds of a run of several chains, whatever the guest writes meanwhile: the calls are a run of the file system; each chain that goes back is by
-/// itself the plain machine's step by its loads; stores stay where they may be, and those of a return have places; and each queue's chains are taken and go back as on one queue alone.
+/// What holds of a run of several chains, whatever the guest writes meanwhile, whichever chains are given up or lost, and whichever other places its memory gets: the calls are a
+/// run of the file system; each chain that goes back is by itself the plain machine's step by its loads, or with its caller's own bytes as a step's reply is stored; stores stay
+/// where they may be, those of a return have places, and the pages that an event tells are those that its stores mark; each queue's chains are taken and go back as on one queue
+/// alone; a queue of which none is out stands at one position; and a device that moves then goes on as one that didn't.
 pub fn law_runs<F: FileSystem, G: FileSystem>()
     ensures calls { CallsAreARun F.may }
     ensures step { ReturnedIsStepBy F.may G.may }
+    ensures own { OwnIsReturned G F.may }
     ensures stores { StoresStayThere F.may }
+    ensures pages { PagesAreTold F.may }
+    ensures tell { ReturnsTell F.may }
+    ensures log { PagesOfRun F.may }
+    ensures stands { StandsEven F.may }
+    ensures moves { MovedGoesOn F.may }
     ensures places { ReturnsHavePlaces F.may }
     ensures queue { RunsOnQueue F.may }
     ensures once { OncePerLiveChain F.may }
@@ -51,7 +61,8 @@ pub fn law_examples<F: FileSystem>()
 /// refused one too, leaves the queue as the contract says, and makes few loads. So is a walk between whose calls others went on with the queue, or of which calls were
 /// refused: its loads are as few, and what it wants has a place; one that finds its queue stopped meanwhile is declined. So are an asking, each answer (of the call, of a
 /// listing's look-ups, of a FORGET), a chain's return, a faulty one's too, a store before a sleep where it has a place, and a queue's beginning anew once no call of its
-/// chains waits.
+/// chains waits. So are a chain's giving up, the freeing of its handle, a reply of its caller's own bytes, and its return with them; and, while no chain is out, other
+/// regions, and a record that is made here and read elsewhere.
 pub fn law_handles<F: FileSystem>()
     ensures walks { HandleWalks F.may }
     ensures among { HandleWalksAmong F.may }
@@ -67,5 +78,13 @@ pub fn law_handles<F: FileSystem>()
     ensures faulty { HandleFaulty F.may }
     ensures sleeps { HandleSleeps F.may }
     ensures begins { HandleBegins F.may }
+    ensures drops { HandleDrops F.may }
+    ensures abandons { HandleAbandons F.may }
+    ensures replies { HandleReplies F.may }
+    ensures instead { HandleRepliesInstead F.may }
+    ensures held { AskedIsHeld }
+    ensures returns_own { HandleReturnsOwn F.may }
+    ensures maps { HandleMaps F.may }
+    ensures moves { HandleMoves F.may }
     ensures options { OptionsStay }
 {}

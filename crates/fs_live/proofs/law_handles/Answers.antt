@@ -3,6 +3,7 @@ use Rattle.fs_live.proofs.AmongLoads.{handle_loads_among}
 use Rattle.fs_live.proofs.Handles.{handle_answers, handle_asks, handle_calls, handle_declines, handle_faulty, handle_returns, handle_walks}
 use Rattle.fs_live.proofs.Loads.{handle_loads}
 use Rattle.fs_live.proofs.Options.{options_stay}
+use Rattle.fs_live.proofs.Others.{asked_is_held, handle_abandons, handle_drops, handle_maps, handle_moves, handle_replies, handle_replies_instead, handle_returns_own}
 use Rattle.fs_live.proofs.Sleeping.{handle_begins, handle_sleeps}
 use Rattle.fs_live.proofs.WantedAmong.{wanted_among_has_a_place}
 use Rattle.fs_live.proofs.law_handles.Goals as goal
@@ -51,3 +52,27 @@ returns-clause-wanted_among g c = wanted_among_has_a_place
 
 pub returns-clause-stopped : goal.returns-clause-stopped
 returns-clause-stopped g c = handle_finds_stopped g.F.FileSystemBase.may
+
+pub returns-clause-drops : goal.returns-clause-drops
+returns-clause-drops g c = handle_drops g.F.FileSystemBase.may
+
+pub returns-clause-abandons : goal.returns-clause-abandons
+returns-clause-abandons g c = handle_abandons g.F.FileSystemBase.may
+
+pub returns-clause-replies : goal.returns-clause-replies
+returns-clause-replies g c = handle_replies g.F.FileSystemBase.may
+
+pub returns-clause-instead : goal.returns-clause-instead
+returns-clause-instead g c = handle_replies_instead g.F.FileSystemBase.may
+
+pub returns-clause-held : goal.returns-clause-held
+returns-clause-held g c = asked_is_held
+
+pub returns-clause-returns_own : goal.returns-clause-returns_own
+returns-clause-returns_own g c = handle_returns_own g.F.FileSystemBase.may
+
+pub returns-clause-maps : goal.returns-clause-maps
+returns-clause-maps g c = handle_maps g.F.FileSystemBase.may
+
+pub returns-clause-moves : goal.returns-clause-moves
+returns-clause-moves g c = handle_moves g.F.FileSystemBase.may

@@ -1,5 +1,8 @@
 use Rattle.fs_live.proofs.Calls.{calls_are_a_run}
-use Rattle.fs_live.proofs.Alone.{returned_is_step_by}
+use Rattle.fs_live.proofs.Alone.{own_is_returned, returned_is_step_by}
+use Rattle.fs_live.proofs.GuestRun.{pages_of_run}
+use Rattle.fs_live.proofs.Moved.{moved_goes_on, stands_even}
+use Rattle.fs_live.proofs.Pages.{pages_are_told, returns_tell}
 use Rattle.fs_live.proofs.Placed.{returns_have_places}
 use Rattle.fs_live.proofs.Stored.{stores_stay_there}
 use Rattle.fs_live.proofs.Queues.{runs_on_queue, once_per_live_chain, live_used_in_order}
@@ -10,6 +13,24 @@ returns-clause-calls g c = calls_are_a_run _
 
 pub returns-clause-step : goal.returns-clause-step
 returns-clause-step g c = returned_is_step_by _ _
+
+pub returns-clause-own : goal.returns-clause-own
+returns-clause-own g c = own_is_returned _ _
+
+pub returns-clause-pages : goal.returns-clause-pages
+returns-clause-pages g c = pages_are_told _
+
+pub returns-clause-tell : goal.returns-clause-tell
+returns-clause-tell g c = returns_tell g.F.FileSystemBase.may
+
+pub returns-clause-log : goal.returns-clause-log
+returns-clause-log g c = pages_of_run g.F.FileSystemBase.may
+
+pub returns-clause-stands : goal.returns-clause-stands
+returns-clause-stands g c = stands_even _
+
+pub returns-clause-moves : goal.returns-clause-moves
+returns-clause-moves g c = moved_goes_on _
 
 pub returns-clause-stores : goal.returns-clause-stores
 returns-clause-stores g c = stores_stay_there _

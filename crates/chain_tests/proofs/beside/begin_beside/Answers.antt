@@ -9,6 +9,6 @@ returns g c =
     let after = c.begin_anew.new.self in
     record {
       begins = λ s i there some few none.
-          let law = c.law_handles.ensures.begins s i before after c.args.layout c.args.position before.most_out before.event_index None there c.begin_anew.ensures some few none in
+          let law = c.law_handles.ensures.begins s i before after c.args.layout c.args.position before.most_out before.event_index None there c.begin_anew.ensures some few c.ranges.position.fits none in
           (after_beginning s i (live_of after), law.0, law.1);
     }

@@ -22,6 +22,6 @@ returns g c before after so =
     let run : LiveRun may start es four.0 = (one.0, one.1, (two.0, two.1, (three.0, three.1, (four.0, four.1, refl)))) in (
       four.0,
       λ m files first calls.
-          let law = c.law_runs.ensures.step start four.0 five.0 es first_answered exchange true 0 used (le16 0) m files refl run five.1 first calls in
+          let law = c.law_runs.ensures.step start four.0 five.0 es first_answered exchange true 0 used (le16 0) m files refl run five.1 tt first calls in
           (law.2.lost, _, law.2.step),
     )

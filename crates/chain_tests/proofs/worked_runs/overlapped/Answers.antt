@@ -25,6 +25,6 @@ returns g c before after so =
     (one.0, one.1, (two.0, two.1, (three.0, three.1, (four.0, four.1, (five.0, five.1, (six.0, six.1, refl)))))) in (
       six.0,
       λ m files first calls.
-          let law = c.law_runs.ensures.step start six.0 seven.0 es first_answered first_exchange true 0 first_used (le16 0) m files refl run seven.1 first calls in
+          let law = c.law_runs.ensures.step start six.0 seven.0 es first_answered first_exchange true 0 first_used (le16 0) m files refl run seven.1 tt first calls in
           (law.2.lost, _, law.2.step),
     )

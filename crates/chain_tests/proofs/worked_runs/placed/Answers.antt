@@ -1,4 +1,4 @@
-use Rattle.std.proofs.Common.{[], ◌∷◌, List, true, None, refl}
+use Rattle.std.proofs.Common.{arith, [], ◌∷◌, List, true, None, refl}
 use Rattle.fs_regions.specs.declared.step.Step.TheVariants as step
 use Rattle.fuse_fs.specs.Calls.{Destroy, Done}
 use Rattle.virtiofsd_fuse.specs.Examples.{le16}
@@ -23,5 +23,5 @@ returns g c before after so =
     ∷ Returns second_asked second_exchange true 0 second_used (le16 0) ∷ Answers first_asked Destroy Done ∷ [] in
     let run : LiveRun may start es six.0 =
     (one.0, one.1, (two.0, two.1, (three.0, three.1, (four.0, four.1, (five.0, five.1, (six.0, six.1, refl)))))) in
-    let law = c.law_runs.ensures.places start six.0 seven.0 es first_answered first_exchange true 0 first_used (le16 0) refl (refl, tt) run seven.1 in
+    let law = c.law_runs.ensures.places start six.0 seven.0 es first_answered first_exchange true 0 first_used (le16 0) refl ((refl, omega arith), tt) run seven.1 in
     (six.0, law.0, law.1, law.2)
