@@ -2,8 +2,7 @@
 use Rattle.std.proofs.Common.{◌≡◌, ℕ, List, [], false, Option, Some, None, sym, subst, refl, arith}
 use Rattle.fs_queue.specs.declared.fault.QueueError.{QueueError}
 use Rattle.vm_memory_core.specs.Host.{Host}
-use Rattle.vm_memory.specs.Layout.{Region}
-use Rattle.vm_memory.specs.Memory.{Memory, memory_of}
+use Rattle.vm_memory.specs.Memory.{Memory}
 use Rattle.fs_queue.specs.Chain.{Descriptor}
 use Rattle.fs_queue.specs.Queue.{Queue}
 use Rattle.fs_queue.specs.Taking.{offer}
@@ -12,7 +11,7 @@ use Rattle.fs_regions.specs.declared.step.Step as comes
 use Rattle.fs_regions.specs.declared.step.Step.TheVariants as step
 use Rattle.fs_regions.specs.declared.walk.QueueWalk.{QueueWalk}
 use Rattle.fs_regions.specs.Laws.{HasLoaded, OffersAreTheMemorys}
-use Rattle.fs_regions.specs.Places.{places_in}
+use Rattle.fs_regions.specs.Places.{Mapped, memory_over, places_in}
 use Rattle.fs_regions.specs.Walks.{ComesBy, ComesTo, Loaded, StandsAt, nothing, queue_of}
 use Rattle.fs_chain.specs.declared.queue.KeptQueue.{KeptQueue}
 use Rattle.fs_chain.specs.declared.state.State as state
@@ -34,28 +33,28 @@ unasked m q loaded request has = record {
 }
 
 -- what a walk comes to is offered, as it is told
-comes_to : OffersAreTheMemorys → (h : Host) (regions : List Region) (limit : ℕ) (q : Queue) (loaded : Loaded) (ds : List Descriptor) (came : comes.Step) (request : List ℕ) → q.stopped ≡ false
-    → ComesTo (places_in regions) limit q loaded ds came → HasLoaded (memory_of h regions) q loaded request → IsTold ds (told_of ds came) request (offer (memory_of h regions) limit q)
+comes_to : OffersAreTheMemorys → (h : Host) (regions : Mapped) (limit : ℕ) (q : Queue) (loaded : Loaded) (ds : List Descriptor) (came : comes.Step) (request : List ℕ) → q.stopped ≡ false
+    → ComesTo (places_in regions) limit q loaded ds came → HasLoaded (memory_over h regions) q loaded request → IsTold ds (told_of ds came) request (offer (memory_over h regions) limit q)
 comes_to law h regions limit q loaded ds (step.Load walk) request runs came has = tt
 comes_to law h regions limit q loaded ds step.Idle request runs came has =
-    sym (law h regions limit q loaded [] _ runs came (unasked (memory_of h regions) q loaded request has))
+    sym (law h regions limit q loaded [] _ runs came (unasked (memory_over h regions) q loaded request has))
 comes_to law h regions limit q loaded ds (step.Refused e) request runs came has =
-    sym (law h regions limit q loaded [] _ runs came (unasked (memory_of h regions) q loaded request has))
+    sym (law h regions limit q loaded [] _ runs came (unasked (memory_over h regions) q loaded request has))
 comes_to law h regions limit q loaded ds (step.Chain head (Some fault)) request runs came has =
-    sym (law h regions limit q loaded [] _ runs came (unasked (memory_of h regions) q loaded request has))
+    sym (law h regions limit q loaded [] _ runs came (unasked (memory_over h regions) q loaded request has))
 comes_to law h regions limit q loaded ds (step.Chain head None) request runs came has =
     λ len. sym (law h regions limit q loaded request _ runs (came.1 request len) has)
 
 begins : OffersAreTheMemorys → (h : Host) (bytes request : List ℕ) (old new : Workbench) (before after : KeptQueue) (told : walked.WalkOutcome) → before.stopped ≡ None
-    → RefusalHasEvents told old before → old.state ≡ at.Free → WalksOn bytes old new before after told → HasLoaded (memory_of h old.regions) (queue_of (course_of before old.limit)) nothing request
-    → TellsOffer (memory_of h old.regions) (course_of before old.limit) new told request
+    → RefusalHasEvents told old before → old.state ≡ at.Free → WalksOn bytes old new before after told → HasLoaded (memory_over h old.regions) (queue_of (course_of before old.limit)) nothing request
+    → TellsOffer (memory_over h old.regions) (course_of before old.limit) new told request
 begins law h bytes request old new before after told running refusal free walks has =
     let course : Course = course_of before old.limit in
     let from : WalksFrom at.Free bytes old new before after told = subst (λ (s : state.State). WalksFrom s bytes old new before after told) free walks in
     let unless : BeginsUnless None old new before after told = subst (λ (o : Option QueueError). BeginsUnless o old new before after told) running from in
     let events : HasEvents old before = begun_has_events old new before after told refusal unless in
     let went : BeginsWhere None old new before after told = subst (λ (f : Option QueueError). BeginsWhere f old new before after told) events unless in
-    subst (λ (t : walked.WalkOutcome). TellsOffer (memory_of h old.regions) course new t request) (sym went.1.0)
+    subst (λ (t : walked.WalkOutcome). TellsOffer (memory_over h old.regions) course new t request) (sym went.1.0)
     (comes_to law h old.regions course.limit (queue_of course) nothing new.descriptors.items went.0 request refl went.2 has)
 
 goes_on : OffersAreTheMemorys → (loaded : Loaded) (course : Course) (ticket : Ticket) (walk : QueueWalk) (bytes : List ℕ) (old new : Workbench) (before after : KeptQueue) (told : walked.WalkOutcome)
@@ -70,7 +69,7 @@ goes_on law loaded course ticket walk bytes old new before after told running he
       after = by.after;
       adds = by.adds;
       offers = λ h request has.
-          subst (λ (t : walked.WalkOutcome). TellsOffer (memory_of h old.regions) course new t request) (sym went.1.0)
+          subst (λ (t : walked.WalkOutcome). TellsOffer (memory_over h old.regions) course new t request) (sym went.1.0)
           (comes_to law h old.regions course.limit (queue_of course) by.after new.descriptors.items went.0 request refl by.comes has);
     }
 

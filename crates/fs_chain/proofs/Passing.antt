@@ -5,11 +5,10 @@ use Rattle.std.proofs.lemmas.List.{take-append-drop}
 use Rattle.std.proofs.lemmas.List.Sums.{sum_by-append, sum_by-cons}
 use mathlib.Core.Bool.{beq}
 use Rattle.vm_memory_core.specs.Window.{Window}
-use Rattle.vm_memory.specs.Layout.{Region, place}
-use Rattle.vm_memory.specs.Memory.{located}
+use Rattle.vm_memory.specs.Memory.{located, location}
 use Rattle.fs_queue.specs.Chain.{Descriptor, is_writable}
 use Rattle.fs_queue.specs.Taking.{all_reach, total_len, access_of, of_direction}
-use Rattle.fs_regions.specs.Places.{places_in}
+use Rattle.fs_regions.specs.Places.{Mapped, places_in}
 use Rattle.fs_regions.specs.Windows.{IsWindowFrom, StandsIn}
 use Rattle.fs_regions.proofs.Directions.{Skips, skips_begin, skips_on, skips_other}
 use Rattle.fs_chain.specs.declared.passed.Passed.{Passed}
@@ -40,13 +39,13 @@ none_of true = refl
 none_of false = refl
 
 -- so many bytes are skipped by passing some descriptors
-skips_one : (l : List Region) (b x : Bool) (ds : List Descriptor) (from skip : ℕ) (d : Descriptor) (rest : List Descriptor) → beq (is_writable d) b ≡ x → counted x d ≤ skip
+skips_one : (l : Mapped) (b x : Bool) (ds : List Descriptor) (from skip : ℕ) (d : Descriptor) (rest : List Descriptor) → beq (is_writable d) b ≡ x → counted x d ≤ skip
     → Skips l b ds from skip (d ∷ rest) → Skips l b ds from (skip - counted x d) rest
 skips_one l b true ds from skip d rest this less s = skips_on l b ds from skip d rest this less s
 skips_one l b false ds from skip d rest this less s =
     subst (λ (n : ℕ). Skips l b ds from n rest) (omega arith) (skips_other l b ds from skip d rest this s)
 
-skips_front : (l : List Region) (b : Bool) (ds : List Descriptor) (from skip : ℕ) (front rest : List Descriptor) → len_of b front ≤ skip
+skips_front : (l : Mapped) (b : Bool) (ds : List Descriptor) (from skip : ℕ) (front rest : List Descriptor) → len_of b front ≤ skip
     → Skips l b ds from skip (front ++ rest) → Skips l b ds from (skip - len_of b front) rest
 skips_front l b ds from skip [] rest less s =
     let none = none_of b in
@@ -58,7 +57,7 @@ skips_front l b ds from skip (d ∷ front) rest less s =
     let behind = skips_front l b ds from (skip - counted x d) front rest (omega (arith, more, less)) on in
     subst (λ (n : ℕ). Skips l b ds from n rest) (omega (arith, more)) behind
 
-passed_skips : (l : List Region) (b : Bool) (ds : List Descriptor) (p : Passed) (from : ℕ) → HasPassed b ds p → p.bytes ≤ from
+passed_skips : (l : Mapped) (b : Bool) (ds : List Descriptor) (p : Passed) (from : ℕ) → HasPassed b ds p → p.bytes ≤ from
     → Skips l b ds from (from - p.bytes) (drop p.index ds)
 passed_skips l b ds p from passed below =
     let bytes = passed.1 in
@@ -68,7 +67,7 @@ passed_skips l b ds p from passed below =
     (skips_front l b ds from from (take p.index ds) (drop p.index ds) (omega (arith, bytes, below)) whole)
 
 -- a window behind what was skipped
-stands_behind : (l : List Region) (b : Bool) (ds : List Descriptor) (from skip : ℕ) (rest : List Descriptor) (d : Descriptor) (k : ℕ) → Skips l b ds from skip rest
+stands_behind : (l : Mapped) (b : Bool) (ds : List Descriptor) (from skip : ℕ) (rest : List Descriptor) (d : Descriptor) (k : ℕ) → Skips l b ds from skip rest
     → StandsIn (of_direction b rest) skip d k → StandsIn (of_direction b ds) from d k
 stands_behind l b ds from skip rest d k s is =
     let front = s.front in
@@ -82,7 +81,7 @@ stands_behind l b ds from skip rest d k s is =
       is.4,
     )
 
-window_behind : (l : List Region) (b : Bool) (ds : List Descriptor) (from skip : ℕ) (rest : List Descriptor) (w : Window) → Skips l b ds from skip rest
+window_behind : (l : Mapped) (b : Bool) (ds : List Descriptor) (from skip : ℕ) (rest : List Descriptor) (w : Window) → Skips l b ds from skip rest
     → IsWindowFrom l b rest skip w → IsWindowFrom l b ds from w
 window_behind l b ds from skip rest w s is =
     let count = s.count in
@@ -90,7 +89,7 @@ window_behind l b ds from skip rest w s is =
     let within = is.1 in (
       is.0,
       omega (arith, count, below, within),
-      ap (λ (xs : List ℕ). located (place l) (take w.len xs)) s.bytes ∙ is.2,
+      ap (λ (xs : List ℕ). located (location (places_in l) (access_of b)) (take w.len xs)) s.bytes ∙ is.2,
       is.3,
       is.4,
       stands_behind l b ds from skip rest is.3 is.4 s is.5,
@@ -98,19 +97,19 @@ window_behind l b ds from skip rest w s is =
     )
 
 -- so it is behind what was passed
-window_passed : (l : List Region) (b : Bool) (ds : List Descriptor) (p : Passed) (from : ℕ) (w : Window) → HasPassed b ds p → p.bytes ≤ from
+window_passed : (l : Mapped) (b : Bool) (ds : List Descriptor) (p : Passed) (from : ℕ) (w : Window) → HasPassed b ds p → p.bytes ≤ from
     → IsWindowFrom l b (drop p.index ds) (from - p.bytes) w → IsWindowFrom l b ds from w
 window_passed l b ds p from w passed below is = window_behind l b ds from (from - p.bytes) (drop p.index ds) w (passed_skips l b ds p from passed below) is
 
 -- by what the code answers
-pub windows_passed : (l : List Region) (b : Bool) (ds rest : List Descriptor) (p : Passed) (from : ℕ) (o : Option Window) → HasPassed b ds p → p.bytes ≤ from → rest ≡ drop p.index ds
+pub windows_passed : (l : Mapped) (b : Bool) (ds rest : List Descriptor) (p : Passed) (from : ℕ) (o : Option Window) → HasPassed b ds p → p.bytes ≤ from → rest ≡ drop p.index ds
     → IfSome o (IsWindowFrom l b rest (from - p.bytes)) → IfSome o (IsWindowFrom l b ds from)
 windows_passed l b ds rest p from None passed below left is = tt
 windows_passed l b ds rest p from (Some w) passed below left is =
     window_passed l b ds p from w passed below (subst (λ (xs : List Descriptor). IsWindowFrom l b xs (from - p.bytes) w) left is)
 
 -- and what ends there, ends
-pub end_passed : (l : List Region) (b : Bool) (ds rest : List Descriptor) (p : Passed) (from : ℕ) → HasPassed b ds p → p.bytes ≤ from → rest ≡ drop p.index ds
+pub end_passed : (l : Mapped) (b : Bool) (ds rest : List Descriptor) (p : Passed) (from : ℕ) → HasPassed b ds p → p.bytes ≤ from → rest ≡ drop p.index ds
     → (all_reach (places_in l) (access_of b) (of_direction b rest) ≡ true → total_len (of_direction b rest) ≤ from - p.bytes)
     → all_reach (places_in l) (access_of b) (of_direction b ds) ≡ true → total_len (of_direction b ds) ≤ from
 end_passed l b ds rest p from passed below left none all =

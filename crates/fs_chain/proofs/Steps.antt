@@ -1,6 +1,5 @@
 -- What a walk came to, by the descriptors that are kept of it.
 use Rattle.std.proofs.Common.{◌≡◌, ℕ, List, Option, Some, None, refl, subst, sym}
-use Rattle.vm_memory.specs.Layout.{Region}
 use Rattle.vm_memory.specs.Memory.{Memory}
 use Rattle.fs_queue.specs.declared.fault.QueueError.{QueueError}
 use Rattle.fs_queue.specs.Chain.{Descriptor}
@@ -9,7 +8,7 @@ use Rattle.fs_regions.specs.declared.course.Course.{Course}
 use Rattle.fs_regions.specs.declared.step.Step as comes
 use Rattle.fs_regions.specs.declared.step.Step.TheVariants as step
 use Rattle.fs_regions.specs.declared.walk.QueueWalk.{QueueWalk}
-use Rattle.fs_regions.specs.Places.{places_in}
+use Rattle.fs_regions.specs.Places.{Mapped, places_in}
 use Rattle.fs_regions.specs.Walks.{Loaded, ComesBy, ComesTo, StandsAt, queue_of}
 use Rattle.fs_chain.specs.declared.queue.KeptQueue.{KeptQueue}
 use Rattle.fs_chain.specs.declared.state.State as state
@@ -42,7 +41,7 @@ leaves_none (step.Chain head None) ds = tt
 leaves_none (step.Chain head (Some fault)) ds = refl
 
 -- a walk comes to the same that was taken out of its place
-pub comes_taken : (course : Course) (walk taken : QueueWalk) (bytes : List ℕ) (came : comes.Step) (regions : List Region) (ds left : List Descriptor) → taken ≡ walk
+pub comes_taken : (course : Course) (walk taken : QueueWalk) (bytes : List ℕ) (came : comes.Step) (regions : Mapped) (ds left : List Descriptor) → taken ≡ walk
     → ((loaded : Loaded) → StandsAt (places_in regions) (queue_of course) loaded ds taken
     → ComesBy (places_in regions) course.limit (queue_of course) loaded taken bytes left came)
     → (loaded : Loaded) → StandsAt (places_in regions) (queue_of course) loaded ds walk

@@ -4,13 +4,13 @@ use Rattle.std.specs.Prelude.{All, unwrap_or, flat_map}
 use Rattle.std.proofs.lemmas.List.Elements.{All-head, All-tail}
 use Rattle.vm_iotlb.specs.declared.permissions.Permissions.TheVariants.{Read}
 use Rattle.fs_queue.proofs.ConfinedLemmas.{only_places_count}
-use Rattle.vm_memory.specs.Memory.{Memory, memory_of, reach, bytes, stored_all}
+use Rattle.vm_memory.specs.Memory.{Memory, reach, bytes, stored_all}
 use Rattle.fs_queue.specs.Queue.{Queue, avail_index_at, ring_entry_at}
 use Rattle.fs_queue.specs.Loads.{Load, AreEntriesOf, IsEntryOf, IsLoadOf}
 use Rattle.fs_queue.specs.Taking.{Offer, Offers, IsRequest, writable, addresses_of}
 use Rattle.fs_queue.specs.Returning.{Store, tells, writes_of, wants_notice}
 use Rattle.fs_queue.specs.ReturningView.{stores_of}
-use Rattle.fs_regions.specs.Places.{places_in}
+use Rattle.fs_regions.specs.Places.{memory_over, places_in}
 use Rattle.fs_regions.specs.Walks.{queue_of, IsLost}
 use Rattle.virtiofsd_fuse.specs.Serving.{May}
 use Rattle.fs_chain.specs.declared.queue.KeptQueue.{KeptQueue}
@@ -135,7 +135,7 @@ answers_over {F} may m i q memory head request room calls x seen acts last optio
 pub chain_is_step : {F : Type 0} (may : May F) → ChainIsStep may
 chain_is_step {F} may given request calls acts last head i notice old new before s m files h room run first in_order session files_run having room_is apart =
     let q = queue_of (course_of before old.limit) in
-    let memory = memory_of h old.regions in
+    let memory = memory_over h old.regions in
     let left = after_stores memory (stores_among acts) in
     let rooms = addresses_of (writable run.walked_bench.descriptors.items) in
     let parts = chain_parts may given request calls acts last head i notice old new before s m files run first.goes first.bound session files_run in

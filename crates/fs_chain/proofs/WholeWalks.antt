@@ -1,6 +1,6 @@
 -- A walk by calls of the handle comes to what all its loads tell.
 use Rattle.std.proofs.Common.{◌≡◌, ◌+◌, ◌<◌, ℕ, ◌^◌, zero, suc, true, false, List, [], ◌∷◌, ◌++◌, length, length-append, Option, Some, None, refl, subst, sym, ap, ◌∙◌, arith}
-use Rattle.vm_memory.specs.Layout.{Region}
+use Rattle.vm_iotlb.specs.declared.permissions.Permissions.TheVariants.{Read}
 use Rattle.std.specs.Prelude.{is_some, nat_lt}
 use Rattle.std.specs.List.{list_all}
 use Rattle.std.proofs.lemmas.Bool.{and_parts, true≢false}
@@ -8,12 +8,11 @@ use Rattle.fs_queue.specs.declared.fault.QueueError.{QueueError}
 use Rattle.fs_regions.specs.declared.step.Step as comes
 use Rattle.fs_regions.specs.declared.step.Step.TheVariants as step
 use Rattle.fs_regions.specs.declared.walk.QueueWalk.{QueueWalk}
-use Rattle.fs_regions.specs.Places.{places_in}
+use Rattle.fs_regions.specs.Places.{Mapped, places_in}
 use Rattle.fs_regions.specs.Walks.{Loaded, nothing, asked_by, asked_len, queue_of, ComesBy, ComesTo, IsThere, StandsAt}
 use Rattle.fs_regions.specs.declared.course.Course.{Course}
 use Rattle.fs_regions.specs.declared.walk.QueueWalk.TheVariants as asks
-use Rattle.vm_memory.specs.Layout.{place}
-use Rattle.vm_memory.specs.Memory.{addresses}
+use Rattle.vm_memory.specs.Memory.{addresses, location}
 use Rattle.fs_chain.specs.declared.queue.KeptQueue.{KeptQueue}
 use Rattle.fs_chain.specs.declared.state.State as state
 use Rattle.fs_chain.specs.declared.state.State.TheVariants as at
@@ -72,16 +71,16 @@ few_still w new bs walk course ticket is more few =
     omega (arith, len, asked, few)
 
 -- each address of what is there has a place
-has_place : (l : List Region) (n a i : ℕ) → list_all (λ x. is_some (place l x)) (addresses a n) ≡ true → i < n → is_some (place l (a + i)) ≡ true
+has_place : (l : Mapped) (n a i : ℕ) → list_all (λ x. is_some (location (places_in l) Read x)) (addresses a n) ≡ true → i < n → is_some (location (places_in l) Read (a + i)) ≡ true
 unfolding addresses
 has_place l zero a i all lt = absurd (omega (arith, lt))
 has_place l (suc n) a zero all lt =
     let same : a ≡ a + 0 = omega arith in
-    subst (λ (k : ℕ). is_some (place l k) ≡ true) same (and_parts (is_some (place l a)) (list_all (λ x. is_some (place l x)) (addresses (a + 1) n)) all).0
+    subst (λ (k : ℕ). is_some (location (places_in l) Read k) ≡ true) same (and_parts (is_some (location (places_in l) Read a)) (list_all (λ x. is_some (location (places_in l) Read x)) (addresses (a + 1) n)) all).0
 has_place l (suc n) a (suc i) all lt =
     let same : a + 1 + i ≡ a + suc i = omega arith in
-    subst (λ (k : ℕ). is_some (place l k) ≡ true) same
-    (has_place l n (a + 1) i (and_parts (is_some (place l a)) (list_all (λ x. is_some (place l x)) (addresses (a + 1) n)) all).1 (omega (arith, lt)))
+    subst (λ (k : ℕ). is_some (location (places_in l) Read k) ≡ true) same
+    (has_place l n (a + 1) i (and_parts (is_some (location (places_in l) Read a)) (list_all (λ x. is_some (location (places_in l) Read x)) (addresses (a + 1) n)) all).1 (omega (arith, lt)))
 
 -- a walk that begins asks for no load yet, so that nothing is a part of one
 no_load : (w : Workbench) → w.state ≡ at.Free → load_len w.state ≡ 0
@@ -143,10 +142,10 @@ on_load bs l old w new before q after (wents.On told) goes wants call =
     let on : GoesOn course ticket walk all w new q after told =
     subst (λ (s : Option QueueError). GoesOnUnless s course ticket walk all w new q after told) (ap (λ (k : KeptQueue). k.stopped) wants.queue ∙ goes) unless in
     let there : StandsAt (places_in w.regions) (queue_of course) l w.descriptors.items walk =
-    subst (λ (r : List Region). StandsAt (places_in r) (queue_of course) l w.descriptors.items walk) (sym wants.regions) wants.stands in
+    subst (λ (r : Mapped). StandsAt (places_in r) (queue_of course) l w.descriptors.items walk) (sym wants.regions) wants.stands in
     let by : ComesBy (places_in w.regions) course.limit (queue_of course) l walk all new.descriptors.items on.0 = on.2 l there in
     let came : ComesTo (places_in old.regions) old.limit (queue_of course) by.after new.descriptors.items on.0 =
-    subst (λ (r : List Region). ComesTo (places_in r) old.limit (queue_of course) by.after new.descriptors.items on.0) wants.regions by.comes in
+    subst (λ (r : Mapped). ComesTo (places_in r) old.limit (queue_of course) by.after new.descriptors.items on.0) wants.regions by.comes in
     let adds : AddsSo w.state (wents.On told) new.descriptors.items l all by.after =
     subst (λ (s : state.State). AddsSo s (wents.On told) new.descriptors.items l all by.after) (sym wants.state) (on.0, on.1.0, by.adds) in
     let so : ComesSo by.after old new before after told = (
@@ -243,12 +242,12 @@ wanted_has_a_place given old new before after told goes walks wants lacks =
     let events = walk_has_events given old new before after told goes (wants_unrefused old before told wants) walks in
     let all = all_come given old new before after told goes events walks in
     let w = wanted all.0 old new before after told wants all.2 in
-    let none : came new < asked_len w.walk → place new.regions (asked_by w.walk + came new) ≡ None =
-    subst (λ (s : state.State). IfWalking s (λ walk. came new < asked_len walk → place new.regions (asked_by walk + came new) ≡ None)) w.state lacks in
-    let there = (and_parts (nat_lt (asked_by w.walk + asked_len w.walk) (2 ^ 64)) (list_all (λ x. is_some (place old.regions x)) (addresses (asked_by w.walk) (asked_len w.walk))) w.there).1 in
+    let none : came new < asked_len w.walk → location (places_in new.regions) Read (asked_by w.walk + came new) ≡ None =
+    subst (λ (s : state.State). IfWalking s (λ walk. came new < asked_len walk → location (places_in new.regions) Read (asked_by walk + came new) ≡ None)) w.state lacks in
+    let there = (and_parts (nat_lt (asked_by w.walk + asked_len w.walk) (2 ^ 64)) (list_all (λ x. is_some (location (places_in old.regions) Read x)) (addresses (asked_by w.walk) (asked_len w.walk))) w.there).1 in
     let some = has_place old.regions (asked_len w.walk) (asked_by w.walk) (came new) there w.few in
-    let lost : is_some (place old.regions (asked_by w.walk + came new)) ≡ false =
-    ap is_some (subst (λ (r : List Region). place r (asked_by w.walk + came new) ≡ None) w.regions (none w.few)) in
+    let lost : is_some (location (places_in old.regions) Read (asked_by w.walk + came new)) ≡ false =
+    ap is_some (subst (λ (r : Mapped). location (places_in r) Read (asked_by w.walk + came new) ≡ None) w.regions (none w.few)) in
     true≢false (sym some ∙ lost)
 
 -- ---- where the event index has no place

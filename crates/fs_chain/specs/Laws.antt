@@ -1,13 +1,13 @@
 -- What a walk of the handle says of the memories that have its loads.
 use Rattle.std.specs.Prelude.{◌≡◌, ℕ, List, length, None}
 use Rattle.vm_memory_core.specs.Host.{Host}
-use Rattle.vm_memory.specs.Memory.{Memory, memory_of}
+use Rattle.vm_memory.specs.Memory.{Memory}
 use Rattle.fs_queue.specs.Chain.{Descriptor}
 use Rattle.fs_queue.specs.Taking.{readable, writable, total_len, offer, Offer, Idle, Refuses, Offers, CannotFetch, IsRequest, addresses_of}
 use Rattle.fs_regions.specs.declared.course.Course.{Course}
 use Rattle.fs_regions.specs.declared.walk.QueueWalk.{QueueWalk}
 use Rattle.fs_regions.specs.Laws.{HasLoaded}
-use Rattle.fs_regions.specs.Places.{places_in}
+use Rattle.fs_regions.specs.Places.{memory_over, places_in}
 use Rattle.fs_regions.specs.declared.step.Step as comes
 use Rattle.fs_regions.specs.Walks.{Loaded, StandsAt, nothing, queue_of, AddsBytes}
 use Rattle.fs_chain.specs.declared.queue.KeptQueue.{KeptQueue}
@@ -36,13 +36,13 @@ pub record GoesOnByLoads (loaded : Loaded) (course : Course) (walk : QueueWalk) 
   pub told_so : told ≡ told_of new.descriptors.items came
   pub after : Loaded
   pub adds : AddsBytes walk bytes came loaded after
-  pub offers : (h : Host) (request : List ℕ) → HasLoaded (memory_of h old.regions) (queue_of course) after request → TellsOffer (memory_of h old.regions) course new told request
+  pub offers : (h : Host) (request : List ℕ) → HasLoaded (memory_over h old.regions) (queue_of course) after request → TellsOffer (memory_over h old.regions) course new told request
 
 -- what a call of walk tells, of a queue that wasn't stopped, is what the queue offers in each memory of the handle's regions that has all loads of the walk, and the request's bytes
 pub record WalksAreOffers : Type 0 where
   pub begins : (h : Host) (bytes request : List ℕ) (old new : Workbench) (before after : KeptQueue) (told : walked.WalkOutcome) → before.stopped ≡ None → RefusalHasEvents told old before → old.state ≡ at.Free
-      → WalksOn bytes old new before after told → HasLoaded (memory_of h old.regions) (queue_of (course_of before old.limit)) nothing request
-      → TellsOffer (memory_of h old.regions) (course_of before old.limit) new told request
+      → WalksOn bytes old new before after told → HasLoaded (memory_over h old.regions) (queue_of (course_of before old.limit)) nothing request
+      → TellsOffer (memory_over h old.regions) (course_of before old.limit) new told request
   pub goes_on : (loaded : Loaded) (course : Course) (ticket : Ticket) (walk : QueueWalk) (bytes : List ℕ) (old new : Workbench) (before after : KeptQueue) (told : walked.WalkOutcome)
       → before.stopped ≡ None → old.state ≡ at.Walking course ticket walk → WalksOn bytes old new before after told
       → StandsAt (places_in old.regions) (queue_of course) loaded old.descriptors.items walk → GoesOnByLoads loaded course walk bytes old new told

@@ -2,8 +2,10 @@
 use Rattle.std.specs.Prelude.{◌≡◌, ◌<◌, ◌+◌, ◌-◌, ◌⊎◌, ◌==◌, ℕ, List, [], ◌++◌, length, min, Some, None, if◌then◌else◌, vec_capacity}
 use Rattle.memory_requests.specs.Refused.{RoomWasRefused}
 use Rattle.vm_memory_core.specs.Window.{Window}
-use Rattle.vm_memory.specs.Layout.{place, left_at}
+use Rattle.vm_iotlb.specs.declared.permissions.Permissions.TheVariants.{Read}
+use Rattle.vm_memory.specs.Memory.{location}
 use Rattle.vm_memory.specs.Slices.{IsWindowAt}
+use Rattle.fs_regions.specs.Places.{left_in, places_in}
 use Rattle.fs_regions.specs.Walks.{asked_by, asked_len}
 use Rattle.fs_chain.specs.declared.error.ChainError.{ChainError}
 use Rattle.fs_chain.specs.declared.error.ChainError.TheVariants.{OutOfMemory, BadArgument}
@@ -17,12 +19,12 @@ use Rattle.fs_chain.specs.Walks.{IsAllBut, IsAllButPart, LacksRoom, WalksOn}
 -- the window of the bytes that a walk still asks for, after so many of them: as long as its region goes on
 abbrev pub IsLoadWindow : Workbench → (from : ℕ) → Window → Type 0
 IsLoadWindow w from v = IsWalking w.state × IfWalking w.state (λ walk.
-    (from < asked_len walk) × IsWindowAt (place w.regions) (asked_by walk + from) (asked_len walk - from) v
-    × (v.len ≡ min (asked_len walk - from) (left_at w.regions (asked_by walk + from))))
+    (from < asked_len walk) × IsWindowAt (location (places_in w.regions) Read) (asked_by walk + from) (asked_len walk - from) v
+    × (v.len ≡ min (asked_len walk - from) (left_in (places_in w.regions) (asked_by walk + from))))
 
 -- what a walk still asks for has no place
 abbrev pub HasNoPlace : Workbench → (from : ℕ) → Type 0
-HasNoPlace w from = IfWalking w.state (λ walk. from < asked_len walk → place w.regions (asked_by walk + from) ≡ None)
+HasNoPlace w from = IfWalking w.state (λ walk. from < asked_len walk → location (places_in w.regions) Read (asked_by walk + from) ≡ None)
 
 -- how many bytes of the load came
 abbrev pub came : Workbench → ℕ

@@ -2,7 +2,7 @@
 -- index: its step takes the two bytes that are seen after the stores for its flags. What the driver of a queue with the event index is told by them is said beside it.
 use Rattle.std.specs.Prelude.{false, All, ◌≡◌, ◌≤◌, ◌^◌, ℕ, Bool, List, [], ◌∷◌, ◌++◌, length, map, drop, Option, Some, None, slice_get}
 use Rattle.vm_memory_core.specs.Host.{Host, changed_at}
-use Rattle.vm_memory.specs.Memory.{Memory, bytes, memory_of}
+use Rattle.vm_memory.specs.Memory.{Memory, bytes}
 use Rattle.fs_queue.specs.declared.fault.ChainFault.{ChainFault}
 use Rattle.fs_queue.specs.declared.fault.QueueError.{QueueError}
 use Rattle.fs_queue.specs.declared.layout.QueueLayout.{QueueLayout}
@@ -13,7 +13,7 @@ use Rattle.fs_queue.specs.Taking.{Offers, CannotFetch, IsRequest, writable, addr
 use Rattle.fs_queue.specs.Returning.{advanced, tells, wants_notice}
 use Rattle.fs_queue.specs.ReturningView.{stores_of}
 use Rattle.fs_queue.specs.WalkingView.{at_position}
-use Rattle.fs_regions.specs.Places.{places_in}
+use Rattle.fs_regions.specs.Places.{memory_over, places_in}
 use Rattle.fs_regions.specs.declared.step.Step as comes
 use Rattle.fs_regions.specs.Walks.{Loaded, nothing, queue_of, AddsBytes, IsLost, OffersBy, RingIsAsked}
 use Rattle.fs_regions.specs.Laws.{HasLoaded}
@@ -340,7 +340,7 @@ abbrev pub ChainIsStep : {F : Type 0} → May F → Type 0
 ChainIsStep {F} may =
     (given : List (List ℕ)) (request : List ℕ) (calls : Calls) (acts : List Act) (last head i : ℕ) (notice : Bool)
     (old new : Workbench) (before : KeptQueue) (s : Session) (m : State F) (files : F) (h : Host) (room : List ℕ) →
-    let q = queue_of (course_of before old.limit) in let memory = memory_of h old.regions in let left = after_stores memory (stores_among acts) in
+    let q = queue_of (course_of before old.limit) in let memory = memory_over h old.regions in let left = after_stores memory (stores_among acts) in
     (run : ChainBy given request calls acts last head notice old new before s) → IsBefore old before i m → IsInOrder before run.back → IsSession s m → FileRun may m.files calls files →
     ((loaded : Loaded) → LoadsOfChain given request calls acts last head notice old new before s run loaded → HasLoaded memory q loaded request) →
     room ≡ addresses_of (writable run.walked_bench.descriptors.items) → MayStoreLast memory room last →

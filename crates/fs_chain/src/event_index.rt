@@ -6,7 +6,8 @@ ghost use Rattle.fs_chain.specs.Events.{avail_event_at, event_fault, kick_store,
 
 use crate::queue::KeptQueue;
 use fs_queue::{QueueError, QueueLayout, Return};
-use fs_regions::GuestRegions;
+use fs_regions::GuestMap;
+use vm_memory_core::Permissions;
 
 // The used flag by which the device wants no notification (VIRTIO 1.2, 2.7.10).
 const NO_NOTIFY: u16 = 1;
@@ -58,16 +59,16 @@ impl KeptQueue {
     }
 
     // Why it can't be walked: it has the event index, and no place for it.
-    pub(crate) fn event_fault(&self, regions: &GuestRegions) -> Option<QueueError>
+    pub(crate) fn event_fault(&self, regions: &GuestMap) -> Option<QueueError>
         ensures { result ≡ event_fault (places_in regions.now) self.now }
     {
         if !self.event_index {
             return None;
         }
-        if !regions.reaches(used_event_at(&self.layout), 2) {
+        if !regions.reaches(used_event_at(&self.layout), 2, Permissions::Read) {
             return Some(QueueError::AvailFlagsUnreachable);
         }
-        if !regions.reaches(avail_event_at(&self.layout), 2) {
+        if !regions.reaches(avail_event_at(&self.layout), 2, Permissions::Write) {
             return Some(QueueError::UsedUnreachable);
         }
         None

@@ -2,8 +2,10 @@
 
 ghost use Rattle.std.specs.Prelude.{◌≡◌, ◌⊎◌, ◌<◌, ◌+◌, ◌-◌, Some, None, IfErr, IfOk, OnOk, OnErr, IfSome, OnSome, length, min};
 ghost use Rattle.smallvec.specs.SmallVec.{HasRoomFor};
-ghost use Rattle.vm_memory.specs.Layout.{left_at, place};
+ghost use Rattle.vm_iotlb.specs.declared.permissions.Permissions.TheVariants.{Read};
+ghost use Rattle.vm_memory.specs.Memory.{location};
 ghost use Rattle.vm_memory.specs.Slices.{IsWindowAt};
+ghost use Rattle.fs_regions.specs.Places.{left_in, places_in};
 ghost use Rattle.fs_regions.specs.Walks.{asked_by, asked_len};
 ghost use Rattle.fs_chain.specs.Orders.{begin_error, give_error, walk_error, entries_asked, IfWalking, IsWalking};
 ghost use Rattle.fs_chain.specs.Walks.{LacksRoom, WalksOn, IsAllBut};
@@ -15,23 +17,23 @@ use crate::state::{State, Ticket};
 use crate::walking::WalkOutcome;
 use crate::workbench::Workbench;
 use fs_queue::{QueueError, Walk};
-use fs_regions::{Course, GuestRegions, QueueWalk, Step};
+use fs_regions::{Course, GuestMap, QueueWalk, Step};
 use memory_requests::reserve_small;
 use std::mem;
-use vm_memory_core::VolatileSlice;
+use vm_memory_core::{Permissions, VolatileSlice};
 
 // The longest window of the bytes that a walk asks for, from one of them on.
 #[inline(always)]
-fn window_of(regions: &GuestRegions, walk: &QueueWalk, from: usize) -> Option<VolatileSlice>
-    ensures some { IfSome result (λ w. (from < asked_len walk.now) × IsWindowAt (place regions.now) (asked_by walk.now + from) (asked_len walk.now - from) w) }
-    ensures longest { IfSome result (λ w. w.len ≡ min (asked_len walk.now - from) (left_at regions.now (asked_by walk.now + from))) }
-    ensures none { result ≡ None → from < asked_len walk.now → place regions.now (asked_by walk.now + from) ≡ None }
+fn window_of(regions: &GuestMap, walk: &QueueWalk, from: usize) -> Option<VolatileSlice>
+    ensures some { IfSome result (λ w. (from < asked_len walk.now) × IsWindowAt (location (places_in regions.now) Read) (asked_by walk.now + from) (asked_len walk.now - from) w) }
+    ensures longest { IfSome result (λ w. w.len ≡ min (asked_len walk.now - from) (left_in (places_in regions.now) (asked_by walk.now + from))) }
+    ensures none { result ≡ None → from < asked_len walk.now → location (places_in regions.now) Read (asked_by walk.now + from) ≡ None }
 {
     let len = walk.len();
     if len <= from {
         return None;
     }
-    regions.window_at(walk.address() + from as u64, len - from)
+    regions.window_at(walk.address() + from as u64, len - from, Permissions::Read)
 }
 
 // Takes a walk out of its place, where the beginning of one stays.
@@ -203,9 +205,9 @@ impl Workbench {
     #[inline(always)]
     pub fn load_window(&self, from: usize) -> Option<VolatileSlice>
         ensures some { IfSome result (λ w. IfWalking self.now.state (λ walk. (from < asked_len walk)
-            × IsWindowAt (place self.now.regions) (asked_by walk + from) (asked_len walk - from) w
-            × (w.len ≡ min (asked_len walk - from) (left_at self.now.regions (asked_by walk + from))))) }
-        ensures none { result ≡ None → IfWalking self.now.state (λ walk. from < asked_len walk → place self.now.regions (asked_by walk + from) ≡ None) }
+            × IsWindowAt (location (places_in self.now.regions) Read) (asked_by walk + from) (asked_len walk - from) w
+            × (w.len ≡ min (asked_len walk - from) (left_in (places_in self.now.regions) (asked_by walk + from))))) }
+        ensures none { result ≡ None → IfWalking self.now.state (λ walk. from < asked_len walk → location (places_in self.now.regions) Read (asked_by walk + from) ≡ None) }
         ensures walking { OnSome result (IsWalking self.now.state) }
     {
         match &self.state {

@@ -1,9 +1,10 @@
 //! What may be asked of a handle at any time, and changes nothing.
 
 ghost use Rattle.std.specs.Prelude.{◌≡◌, ◌<◌, ◌≤◌, IfSome, OnSome, None, true, min};
-ghost use Rattle.vm_memory.specs.Layout.{left_at, place};
+ghost use Rattle.vm_memory.specs.Memory.{location};
 ghost use Rattle.vm_memory.specs.Slices.{IsWindowAt};
 ghost use Rattle.fs_queue.specs.Taking.{total_len, of_direction};
+ghost use Rattle.fs_regions.specs.Places.{left_in, places_in};
 ghost use Rattle.fs_regions.specs.Walks.{asked_len};
 ghost use Rattle.fs_regions.specs.Windows.{IsRangeFrom};
 ghost use Rattle.fs_chain.specs.Orders.{is_free, is_listing, is_out, load_len, room_len};
@@ -12,17 +13,17 @@ use crate::state::State;
 use crate::workbench::Workbench;
 use fs_regions::range_from;
 use server_phases::Session;
-use vm_memory_core::VolatileSlice;
+use vm_memory_core::{Permissions, VolatileSlice};
 
 impl Workbench {
-    /// The longest window of at most `most` bytes from a guest address on. None if the address has no place.
-    pub fn window_at(&self, addr: u64, most: usize) -> Option<VolatileSlice>
+    /// The longest window of at most `most` bytes from a guest address on, for an access. None if the address has no place.
+    pub fn window_at(&self, addr: u64, most: usize, access: Permissions) -> Option<VolatileSlice>
         requires { 0 < most }
-        ensures none { result ≡ None → place self.now.regions addr ≡ None }
-        ensures some { IfSome result (IsWindowAt (place self.now.regions) addr most) }
-        ensures longest { IfSome result (λ w. w.len ≡ min most (left_at self.now.regions addr)) }
+        ensures none { result ≡ None → location (places_in self.now.regions) access addr ≡ None }
+        ensures some { IfSome result (IsWindowAt (location (places_in self.now.regions) access) addr most) }
+        ensures longest { IfSome result (λ w. w.len ≡ min most (left_in (places_in self.now.regions) addr)) }
     {
-        self.regions.window_at(addr, most)
+        self.regions.window_at(addr, most, access)
     }
 
     /// Whether no chain is walked, and none is out.

@@ -2,7 +2,7 @@
 
 ghost use Rattle.std.specs.Prelude.{◌≡◌, ◌≤◌, [], Some, None, IfErr, IfSome, OnOk, OnErr, OnSome, true, false};
 ghost use Rattle.fs_queue.specs.Taking.{all_reach, total_len, access_of, of_direction};
-ghost use Rattle.fs_regions.specs.Places.{places_in};
+ghost use Rattle.fs_regions.specs.Places.{places_in, untranslated};
 ghost use Rattle.fs_regions.specs.Windows.{IsWindowFrom};
 ghost use Rattle.fs_chain.specs.Orders.{is_out, memory_error};
 ghost use Rattle.fs_chain.specs.Passing.{HasPassed};
@@ -12,7 +12,7 @@ use crate::error::ChainError;
 use crate::passed::Passed;
 use crate::state::State;
 use fs_queue::{Descriptors, MOST_LIMIT};
-use fs_regions::{GuestRegions, window_from};
+use fs_regions::{GuestMap, window_from};
 use server_phases::Session;
 use std::alloc::Global;
 use virtiofsd_fuse::MAX_REQUEST_LEN;
@@ -24,7 +24,7 @@ use vm_memory_core::VolatileSlice;
 #[derive(Drop)]
 pub struct Workbench {
     pub(crate) alloc: Global,
-    pub(crate) regions: GuestRegions,
+    pub(crate) regions: GuestMap,
     pub(crate) limit: u32,
     pub(crate) descriptors: Descriptors,
     pub(crate) state: State,
@@ -39,7 +39,7 @@ pub struct Workbench {
 impl Workbench {
     /// A workbench over no memory.
     pub fn new(alloc: Global) -> Workbench
-        ensures regions { result.regions ≡ [] }
+        ensures regions { result.regions ≡ untranslated [] }
         ensures limit { result.limit ≡ 0x101000 }
         ensures descriptors { result.descriptors.items ≡ [] }
         ensures state { result.state ≡ at.Free }
@@ -50,7 +50,7 @@ impl Workbench {
     {
         Workbench {
             alloc,
-            regions: GuestRegions::none(alloc),
+            regions: GuestMap::none(alloc),
             limit: MAX_REQUEST_LEN,
             descriptors: Descriptors::new(alloc),
             state: State::Free,
@@ -63,7 +63,7 @@ impl Workbench {
 
     /// Over which memory the next walks go, and how many bytes a request or a room has at most: from 0x101000 to 2^31, else `BadArgument`.
     /// `ChainOut` unless the handle is free.
-    pub fn set_memory(&mut self, regions: GuestRegions, limit: u32) -> Result<(), ChainError>
+    pub fn set_memory(&mut self, regions: GuestMap, limit: u32) -> Result<(), ChainError>
         ensures error { IfErr result (λ e. memory_error self.old.state limit ≡ Some e) }
         ensures ok { OnOk result (memory_error self.old.state limit ≡ None) }
         ensures same { OnErr result (self.new ≡ self.old) }
@@ -78,7 +78,7 @@ impl Workbench {
     }
 
     // Keeps memory and limit, if the limit is one.
-    fn take_memory(&mut self, regions: GuestRegions, limit: u32) -> Result<(), ChainError>
+    fn take_memory(&mut self, regions: GuestMap, limit: u32) -> Result<(), ChainError>
         ensures error { IfErr result (λ e. memory_error at.Free limit ≡ Some e) }
         ensures ok { OnOk result (memory_error at.Free limit ≡ None) }
         ensures same { OnErr result (self.new ≡ self.old) }

@@ -3,7 +3,6 @@ use Rattle.std.proofs.Common.{◌≡◌, ◌+◌, ◌<◌, ℕ, Bool, List, [], 
 use Rattle.std.specs.Prelude.{true, false, is_some, length, not, ◌&&◌, ◌==◌, if◌then◌else◌}
 use Rattle.std.proofs.lemmas.Bool.{and_parts, eqb-true}
 use Rattle.vm_iotlb.specs.declared.permissions.Permissions.TheVariants.{Read, Write}
-use Rattle.vm_memory.specs.Layout.{Region}
 use Rattle.vm_memory.specs.Memory.{Memory, reach}
 use Rattle.fs_queue.specs.Chain.{Descriptor}
 use Rattle.fs_queue.specs.Queue.{Queue}
@@ -12,7 +11,7 @@ use Rattle.fs_queue.specs.WalkingView.{at_position}
 use Rattle.fs_queue.specs.declared.fault.QueueError.{QueueError}
 use Rattle.fs_queue.specs.declared.fault.QueueError.TheVariants as stop
 use Rattle.fs_queue.specs.declared.layout.QueueLayout.{QueueLayout}
-use Rattle.fs_regions.specs.Places.{places_in}
+use Rattle.fs_regions.specs.Places.{Mapped, places_in}
 use Rattle.fs_regions.specs.Walks.{ComesBy, ComesTo, IsThere, Loaded, StandsAt, asked_len, nothing, queue_of}
 use Rattle.fs_regions.specs.declared.step.Step as comes
 use Rattle.fs_regions.specs.declared.step.Step.TheVariants as step
@@ -157,10 +156,10 @@ on_unless None bs l old v new before now after told from on part there =
     let walk = from.walk in
     let all = whole v bs in
     let stands : StandsAt (places_in v.regions) (queue_of course) l v.descriptors.items walk =
-    subst (λ (r : List Region). StandsAt (places_in r) (queue_of course) l v.descriptors.items walk) (sym from.regions) from.stands in
+    subst (λ (r : Mapped). StandsAt (places_in r) (queue_of course) l v.descriptors.items walk) (sym from.regions) from.stands in
     let by : ComesBy (places_in v.regions) course.limit (queue_of course) l walk all new.descriptors.items on.0 = on.2 l stands in
     let came : ComesTo (places_in old.regions) old.limit (queue_of course) by.after new.descriptors.items on.0 =
-    subst (λ (r : List Region). ComesTo (places_in r) old.limit (queue_of course) by.after new.descriptors.items on.0) from.regions by.comes in
+    subst (λ (r : Mapped). ComesTo (places_in r) old.limit (queue_of course) by.after new.descriptors.items on.0) from.regions by.comes in
     let adds : AddsSo v.state (wents.On told) new.descriptors.items l all by.after =
     subst (λ (s : state.State). AddsSo s (wents.On told) new.descriptors.items l all by.after) (sym from.state) (on.0, on.1.0, by.adds) in (
       by.after,

@@ -20,14 +20,13 @@ use Rattle.fs_queue.specs.Taking as taking
 use Rattle.fs_queue.proofs.AnyLoadLemmas.{few_loads}
 use Rattle.fs_queue.proofs.LoadLemmas.{memory_with, reach_none}
 use Rattle.fs_queue.proofs.StillLemmas.{mapped}
-use Rattle.fs_regions.specs.Places.{places_in}
+use Rattle.fs_regions.specs.Places.{Mapped, places_in}
 use Rattle.fs_regions.specs.Walks.{AddsBytes, Brings, ComesBy, ComesTo, FetchesBy, IsLongestStretch, Loaded, OffersBy, StandsAt, nothing, queue_of}
 use Rattle.fs_regions.specs.declared.step.Step as comes
 use Rattle.fs_regions.specs.declared.step.Step.TheVariants as step
 use Rattle.fs_regions.specs.declared.walk.QueueWalk.{QueueWalk}
 use Rattle.fs_regions.specs.declared.walk.QueueWalk.TheVariants as asks
 use Rattle.fs_regions.proofs.Steps.{loses, lost_walked}
-use Rattle.vm_memory.specs.Layout.{Region}
 use Rattle.fs_chain.specs.Events.{event_fault}
 use Rattle.fs_chain.specs.Loads.{GoesSo, whole}
 use Rattle.fs_chain.specs.Orders.{load_len}
@@ -296,10 +295,10 @@ on_call k bs old w new before q after (wents.On told) goes from call =
     let on : GoesOn course ticket walk all w new q after told =
     subst (λ (s : Option QueueError). GoesOnUnless s course ticket walk all w new q after told) (ap (λ (k : KeptQueue). k.stopped) from.queue ∙ goes) unless in
     let there : StandsAt (places_in w.regions) (queue_of course) l w.descriptors.items walk =
-    subst (λ (r : List Region). StandsAt (places_in r) (queue_of course) l w.descriptors.items walk) (sym from.regions) from.stands in
+    subst (λ (r : Mapped). StandsAt (places_in r) (queue_of course) l w.descriptors.items walk) (sym from.regions) from.stands in
     let by : ComesBy (places_in w.regions) course.limit (queue_of course) l walk all new.descriptors.items on.0 = on.2 l there in
     let came : ComesTo (places_in old.regions) old.limit (queue_of course) by.after new.descriptors.items on.0 =
-    subst (λ (r : List Region). ComesTo (places_in r) old.limit (queue_of course) by.after new.descriptors.items on.0) from.regions by.comes in
+    subst (λ (r : Mapped). ComesTo (places_in r) old.limit (queue_of course) by.after new.descriptors.items on.0) from.regions by.comes in
     let one_more = made_more (places_in old.regions) (queue_of course) l by.after w.descriptors.items walk all on.0 from.stands by.adds in
     let few = from.come in
     subst (λ (t : walked.WalkOutcome). After (suc k) old new before after (wents.On t)) (sym on.1.0)

@@ -7,13 +7,12 @@ use Rattle.std.proofs.lemmas.List.Sums.{sum_by-cons, sum_by_push}
 use mathlib.Core.Bool.{beq}
 use Rattle.vm_memory_core.specs.Host.{Place}
 use Rattle.vm_memory_core.specs.Window.{Window}
-use Rattle.vm_memory.specs.Layout.{Region, left_at, place}
-use Rattle.vm_memory.specs.Memory.{addresses, located, reach}
+use Rattle.vm_memory.specs.Memory.{addresses, located, location, reach}
 use Rattle.vm_memory.specs.Slices.{IsWindowAt}
 use Rattle.vm_memory.proofs.Places.{addresses-append, length-addresses}
 use Rattle.fs_queue.specs.Chain.{Descriptor, is_writable}
 use Rattle.fs_queue.specs.Taking.{all_reach, total_len, access_of, addresses_of, of_direction}
-use Rattle.fs_regions.specs.Places.{places_in}
+use Rattle.fs_regions.specs.Places.{Mapped, left_in, places_in}
 use Rattle.fs_regions.specs.Windows.{IsWindowFrom, StandsIn}
 
 abbrev kept : Bool → Descriptor → List Descriptor → List Descriptor
@@ -35,17 +34,17 @@ none_of false = refl
 
 -- so many bytes of the descriptors that are left are still to be skipped: they begin with the bytes from one on, and have places if all have;
 -- the others come before
-pub record Skips (l : List Region) (b : Bool) (ds : List Descriptor) (from skip : ℕ) (rest : List Descriptor) : Type 0 where
+pub record Skips (l : Mapped) (b : Bool) (ds : List Descriptor) (from skip : ℕ) (rest : List Descriptor) : Type 0 where
   pub below : skip ≤ from
   pub count : from - skip + total_len (of_direction b rest) ≡ total_len (of_direction b ds)
   pub bytes : drop from (addresses_of (of_direction b ds)) ≡ drop skip (addresses_of (of_direction b rest))
   pub there : all_reach (places_in l) (access_of b) (of_direction b ds) ≡ true → all_reach (places_in l) (access_of b) (of_direction b rest) ≡ true
   pub front : (before : List Descriptor) × (of_direction b ds ≡ before ++ of_direction b rest) × (from ≡ total_len before + skip)
 
-pub skips_begin : (l : List Region) (b : Bool) (ds : List Descriptor) (from : ℕ) → Skips l b ds from from ds
+pub skips_begin : (l : Mapped) (b : Bool) (ds : List Descriptor) (from : ℕ) → Skips l b ds from from ds
 skips_begin l b ds from = record { below = omega arith; count = omega arith; bytes = refl; there = λ h. h; front = ([], refl, omega arith) }
 
-pub skips_other : (l : List Region) (b : Bool) (ds : List Descriptor) (from skip : ℕ) (d : Descriptor) (rest : List Descriptor) → beq (is_writable d) b ≡ false →
+pub skips_other : (l : Mapped) (b : Bool) (ds : List Descriptor) (from skip : ℕ) (d : Descriptor) (rest : List Descriptor) → beq (is_writable d) b ≡ false →
     Skips l b ds from skip (d ∷ rest) → Skips l b ds from skip rest
 skips_other l b ds from skip d rest other s =
     let same = direction b false d rest other in
@@ -60,7 +59,7 @@ drop_front (x ∷ xs) ys (suc k) long = drop_front xs ys k (omega (arith, long))
 all_tail : (p : Descriptor → Bool) (d : Descriptor) (ds : List Descriptor) → list_all p (d ∷ ds) ≡ true → (p d ≡ true) × (list_all p ds ≡ true)
 all_tail p d ds all = and_parts (p d) (list_all p ds) all
 
-pub skips_on : (l : List Region) (b : Bool) (ds : List Descriptor) (from skip : ℕ) (d : Descriptor) (rest : List Descriptor) → beq (is_writable d) b ≡ true →
+pub skips_on : (l : Mapped) (b : Bool) (ds : List Descriptor) (from skip : ℕ) (d : Descriptor) (rest : List Descriptor) → beq (is_writable d) b ≡ true →
     d.len ≤ skip → Skips l b ds from skip (d ∷ rest) →
     Skips l b ds from (skip - d.len) rest
 skips_on l b ds from skip d rest this long s =
@@ -83,7 +82,7 @@ skips_on l b ds from skip d rest this long s =
     }
 
 -- where the next byte stands, if the first descriptor that is left has it
-pub stands : (l : List Region) (b : Bool) (ds : List Descriptor) (from skip : ℕ) (d : Descriptor) (rest : List Descriptor) → beq (is_writable d) b ≡ true → skip < d.len →
+pub stands : (l : Mapped) (b : Bool) (ds : List Descriptor) (from skip : ℕ) (d : Descriptor) (rest : List Descriptor) → beq (is_writable d) b ≡ true → skip < d.len →
     Skips l b ds from skip (d ∷ rest) → StandsIn (of_direction b ds) from d skip
 stands l b ds from skip d rest this less s =
     let front : (before : List Descriptor) × (of_direction b ds ≡ before ++ d ∷ of_direction b rest) × (from ≡ total_len before + skip) = rw (direction b true d rest this) at s.front in
@@ -111,7 +110,7 @@ part a k n r more =
     none_left i j same = omega (arith, same)
 
 -- the addresses that a descriptor has from the byte on that is skipped to
-pub range_of : (l : List Region) (b : Bool) (ds : List Descriptor) (from skip : ℕ) (d : Descriptor) (rest : List Descriptor) → beq (is_writable d) b ≡ true → skip < d.len
+pub range_of : (l : Mapped) (b : Bool) (ds : List Descriptor) (from skip : ℕ) (d : Descriptor) (rest : List Descriptor) → beq (is_writable d) b ≡ true → skip < d.len
     → Skips l b ds from skip (d ∷ rest) → take (d.len - skip) (drop from (addresses_of (of_direction b ds))) ≡ addresses (d.addr + skip) (d.len - skip)
 range_of l b ds from skip d rest this less s =
     let same = direction b true d rest this in
@@ -121,9 +120,9 @@ range_of l b ds from skip d rest this less s =
     ∙ ap (λ n. take (d.len - skip) (drop skip (addresses d.addr n ++ addresses_of (of_direction b rest)))) whole
     ∙ part d.addr skip (d.len - skip) 0 (addresses_of (of_direction b rest))
 
-pub window_of : (l : List Region) (b : Bool) (ds : List Descriptor) (from skip : ℕ) (d : Descriptor) (rest : List Descriptor) (w : Window) →
+pub window_of : (l : Mapped) (b : Bool) (ds : List Descriptor) (from skip : ℕ) (d : Descriptor) (rest : List Descriptor) (w : Window) →
     beq (is_writable d) b ≡ true → skip < d.len → Skips l b ds from skip (d ∷ rest) →
-    IsWindowAt (place l) (d.addr + skip) (d.len - skip) w → w.len ≡ min (d.len - skip) (left_at l (d.addr + skip)) → IsWindowFrom l b ds from w
+    IsWindowAt (location (places_in l) (access_of b)) (d.addr + skip) (d.len - skip) w → w.len ≡ min (d.len - skip) (left_in (places_in l) (d.addr + skip)) → IsWindowFrom l b ds from w
 window_of l b ds from skip d rest w this less s at longest =
     let same = direction b true d rest this in
     let count : from - skip + total_len (d ∷ of_direction b rest) ≡ total_len (of_direction b ds) = rw same at s.count in
@@ -136,7 +135,7 @@ window_of l b ds from skip d rest w this less s at longest =
     ap (take w.len) bytes
     ∙ ap (λ n. take w.len (drop skip (addresses d.addr n ++ addresses_of (of_direction b rest)))) whole
     ∙ part d.addr skip w.len (d.len - skip - w.len) (addresses_of (of_direction b rest)) in
-    (at.0, omega (arith, count, sum, below, most, less), ap (located (place l)) cut ∙ at.3, d, skip, stands l b ds from skip d rest this less s, longest)
+    (at.0, omega (arith, count, sum, below, most, less), ap (located (location (places_in l) (access_of b))) cut ∙ at.3, d, skip, stands l b ds from skip d rest this less s, longest)
 
 -- an address of a range that is reached has a place
 placed : (n a k : ℕ) (p : ℕ → Bool) → list_all p (addresses a n) ≡ true → k < n → p (a + k) ≡ true
@@ -145,15 +144,15 @@ placed zero a k p all less = absurd (omega (arith, less))
 placed (suc n) a zero p all less = ap p (omega arith) ∙ (and_parts (p a) (list_all p (addresses (a + 1) n)) all).0
 placed (suc n) a (suc k) p all less = ap p (omega arith) ∙ placed n (a + 1) k p (and_parts (p a) (list_all p (addresses (a + 1) n)) all).1 (omega (arith, less))
 
-reached : (l : List Region) (b : Bool) (ds : List Descriptor) (from skip : ℕ) (d : Descriptor) (rest : List Descriptor) → beq (is_writable d) b ≡ true → Skips l b ds from skip (d ∷ rest) →
+reached : (l : Mapped) (b : Bool) (ds : List Descriptor) (from skip : ℕ) (d : Descriptor) (rest : List Descriptor) → beq (is_writable d) b ≡ true → Skips l b ds from skip (d ∷ rest) →
     all_reach (places_in l) (access_of b) (of_direction b ds) ≡ true → reach (places_in l) (access_of b) d.addr d.len ≡ true
 reached l b ds from skip d rest this s all = (all_tail (λ e. reach (places_in l) (access_of b) e.addr e.len) d (of_direction b rest) ((rw (direction b true d rest this) at s.there) all)).0
 
-pub no_overflow : (l : List Region) (b : Bool) (ds : List Descriptor) (from skip : ℕ) (d : Descriptor) (rest : List Descriptor) → beq (is_writable d) b ≡ true →
+pub no_overflow : (l : Mapped) (b : Bool) (ds : List Descriptor) (from skip : ℕ) (d : Descriptor) (rest : List Descriptor) → beq (is_writable d) b ≡ true →
     skip < d.len → Skips l b ds from skip (d ∷ rest) →
     all_reach (places_in l) (access_of b) (of_direction b ds) ≡ true → d.addr + skip < 2 ^ 64
 no_overflow l b ds from skip d rest this less s all =
-    let parts = and_parts (nat_lt (d.addr + d.len) (2 ^ 64)) (list_all (λ x. is_some (place l x)) (addresses d.addr d.len)) (reached l b ds from skip d rest this s all) in
+    let parts = and_parts (nat_lt (d.addr + d.len) (2 ^ 64)) (list_all (λ x. is_some (location (places_in l) (access_of b) x)) (addresses d.addr d.len)) (reached l b ds from skip d rest this s all) in
     let fits : d.addr + d.len < 2 ^ 64 = ltb-true (d.addr + d.len) (2 ^ 64) parts.0 in
     omega (arith, fits, less)
 
@@ -161,12 +160,12 @@ not_both : (o : Option Place) → is_some o ≡ true → o ≡ None → ⊥
 not_both None some none = cc
 not_both (Some p) some none = cc
 
-pub no_hole : (l : List Region) (b : Bool) (ds : List Descriptor) (from skip : ℕ) (d : Descriptor) (rest : List Descriptor) → beq (is_writable d) b ≡ true →
+pub no_hole : (l : Mapped) (b : Bool) (ds : List Descriptor) (from skip : ℕ) (d : Descriptor) (rest : List Descriptor) → beq (is_writable d) b ≡ true →
     skip < d.len → Skips l b ds from skip (d ∷ rest) →
-    all_reach (places_in l) (access_of b) (of_direction b ds) ≡ true → place l (d.addr + skip) ≡ None → ⊥
+    all_reach (places_in l) (access_of b) (of_direction b ds) ≡ true → location (places_in l) (access_of b) (d.addr + skip) ≡ None → ⊥
 no_hole l b ds from skip d rest this less s all none =
-    let parts = and_parts (nat_lt (d.addr + d.len) (2 ^ 64)) (list_all (λ x. is_some (place l x)) (addresses d.addr d.len)) (reached l b ds from skip d rest this s all) in
-    not_both (place l (d.addr + skip)) (placed d.len d.addr skip (λ x. is_some (place l x)) parts.1 less) none
+    let parts = and_parts (nat_lt (d.addr + d.len) (2 ^ 64)) (list_all (λ x. is_some (location (places_in l) (access_of b) x)) (addresses d.addr d.len)) (reached l b ds from skip d rest this s all) in
+    not_both (location (places_in l) (access_of b) (d.addr + skip)) (placed d.len d.addr skip (λ x. is_some (location (places_in l) (access_of b) x)) parts.1 less) none
 
 -- ---- by what the code answers
 
@@ -178,17 +177,17 @@ if_both : {X : Type 0} (P Q : X → Type 0) (o : Option X) → IfSome o P → If
 if_both P Q None p q = tt
 if_both P Q (Some x) p q = (p, q)
 
-pub window_if : (l : List Region) (b : Bool) (ds : List Descriptor) (from skip : ℕ) (d : Descriptor) (rest : List Descriptor) (o : Option Window) (addr len : ℕ) →
+pub window_if : (l : Mapped) (b : Bool) (ds : List Descriptor) (from skip : ℕ) (d : Descriptor) (rest : List Descriptor) (o : Option Window) (addr len : ℕ) →
     beq (is_writable d) b ≡ true → addr ≡ d.addr → len ≡ d.len →
-    skip < len → Skips l b ds from skip (d ∷ rest) → IfSome o (IsWindowAt (place l) (addr + skip) (len - skip)) →
-    IfSome o (λ w. w.len ≡ min (len - skip) (left_at l (addr + skip))) → IfSome o (IsWindowFrom l b ds from)
+    skip < len → Skips l b ds from skip (d ∷ rest) → IfSome o (IsWindowAt (location (places_in l) (access_of b)) (addr + skip) (len - skip)) →
+    IfSome o (λ w. w.len ≡ min (len - skip) (left_in (places_in l) (addr + skip))) → IfSome o (IsWindowFrom l b ds from)
 window_if l b ds from skip d rest o addr len this at long less s some longest =
-    let P : Window → Type 0 = IsWindowAt (place l) (d.addr + skip) (d.len - skip) in
-    let Q : Window → Type 0 = λ w. w.len ≡ min (d.len - skip) (left_at l (d.addr + skip)) in
+    let P : Window → Type 0 = IsWindowAt (location (places_in l) (access_of b)) (d.addr + skip) (d.len - skip) in
+    let Q : Window → Type 0 = λ w. w.len ≡ min (d.len - skip) (left_in (places_in l) (d.addr + skip)) in
     if_some (λ w. P w × Q w) (IsWindowFrom l b ds from) o (λ w is. window_of l b ds from skip d rest w this (rw long at less) s is.0 is.1)
     (if_both P Q o (rw (at, long) at some) (rw (at, long) at longest))
 
-pub hole_if : (l : List Region) (b : Bool) (ds : List Descriptor) (from skip : ℕ) (d : Descriptor) (rest : List Descriptor) (addr len : ℕ) →
+pub hole_if : (l : Mapped) (b : Bool) (ds : List Descriptor) (from skip : ℕ) (d : Descriptor) (rest : List Descriptor) (addr len : ℕ) →
     beq (is_writable d) b ≡ true → addr ≡ d.addr → len ≡ d.len →
-    skip < len → Skips l b ds from skip (d ∷ rest) → all_reach (places_in l) (access_of b) (of_direction b ds) ≡ true → place l (addr + skip) ≡ None → ⊥
+    skip < len → Skips l b ds from skip (d ∷ rest) → all_reach (places_in l) (access_of b) (of_direction b ds) ≡ true → location (places_in l) (access_of b) (addr + skip) ≡ None → ⊥
 hole_if l b ds from skip d rest addr len this at long less s all none = no_hole l b ds from skip d rest this (rw long at less) s all (rw at at none)

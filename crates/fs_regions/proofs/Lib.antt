@@ -1,4 +1,6 @@
 pub mod Finding
+pub mod Mapping
+pub mod Touching
 pub mod Offering
 pub mod Fetching
 pub mod Reaching

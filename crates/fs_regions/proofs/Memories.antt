@@ -3,13 +3,13 @@ use Rattle.std.proofs.Common.{◌≡◌, ℕ, false, ◌++◌, List, [], ◌∷�
 use Rattle.std.specs.Prelude.{All}
 use Rattle.std.proofs.lemmas.List.Elements.{All-head, All-tail}
 use Rattle.vm_iotlb.specs.declared.permissions.Permissions.TheVariants.{Read}
-use Rattle.vm_memory.specs.Memory.{Memory, memory_of, reach}
+use Rattle.vm_memory.specs.Memory.{Memory, reach}
 use Rattle.fs_queue.specs.Queue.{avail_index_at, ring_entry_at}
 use Rattle.fs_queue.specs.Loads.{Load, AreEntriesOf, IsEntryOf, IsLoadOf}
 use Rattle.fs_queue.proofs.OfferByLemmas.{offer_is_still}
 use Rattle.fs_queue.proofs.ConfinedLemmas.{only_places_count}
 use Rattle.fs_regions.specs.Laws.{OffersAreTheMemorys}
-use Rattle.fs_regions.specs.Places.{places_in}
+use Rattle.fs_regions.specs.Places.{memory_over, places_in}
 use Rattle.fs_regions.specs.Walks.{IsLost}
 
 load_is : (m : Memory) (a : ℕ) (came : Option (List ℕ)) → (came ≡ None → reach m Read a 2 ≡ false) → ((bs : List ℕ) → came ≡ Some bs → IsLoadOf m 2 (record { address = a; came = came })) →
@@ -30,7 +30,7 @@ both m (l ∷ ls) lost are more = (are.0, both m ls lost are.1 more)
 
 pub offers_are_the_memorys : OffersAreTheMemorys
 offers_are_the_memorys h regions limit q loaded request o runs by has =
-    let m = memory_of h regions in
+    let m = memory_over h regions in
     let ls = loaded.entries ++ by.1 in
     let same = only_places_count m (places_in regions) limit q loaded.index loaded.entry ls request
     (record { element = refl; index = refl; flags = refl; chain = λ head ds found. (refl, refl) }) in

@@ -9,7 +9,6 @@ use Rattle.std.proofs.lemmas.List.Elements.{All-cons, All-nil, All-push}
 use Rattle.smallvec.specs.SmallVec.{SmallVec, HasRoomFor}
 use Rattle.vm_iotlb.specs.declared.permissions.Permissions.TheVariants.{Read}
 use Rattle.vm_memory_core.specs.Window.{Window, places_of}
-use Rattle.vm_memory.specs.Layout.{Region, place}
 use Rattle.vm_memory.specs.Memory.{Memory, addresses, located, location, reach}
 use Rattle.vm_memory.specs.Slices.{IsWindowAt}
 use Rattle.vm_memory.proofs.Places.{addresses-append}
@@ -27,7 +26,7 @@ use Rattle.fs_regions.specs.declared.step.Step as comes
 use Rattle.fs_regions.specs.declared.step.Step.TheVariants as step
 use Rattle.fs_regions.specs.declared.entries.EntriesWalk.{EntriesWalk}
 use Rattle.fs_regions.specs.declared.walk.QueueWalk.TheVariants as at
-use Rattle.fs_regions.specs.Places.{places_in}
+use Rattle.fs_regions.specs.Places.{Mapped, places_in}
 use Rattle.fs_regions.specs.Stretches.{AsksFor, ReadsStretch}
 use Rattle.fs_regions.specs.Walks.{is_in, Brings, ComesBy, ComesTo, IsReadOut, Loaded, ReadOutOf, StandsAt, UsesUp, Waits}
 use Rattle.fs_regions.proofs.Finding.{brings_on, with_joining}
@@ -36,34 +35,34 @@ use Rattle.fs_regions.proofs.Steps.{waits_on}
 -- ---- a window's bytes can be read
 
 -- the first of some addresses that have places
-front_has : (l : List Region) (a n len : ℕ) (w : Window) → n ≤ len → located (place l) (addresses a len) ≡ Some (places_of w) → list_all (λ x. is_some (place l x)) (addresses a n) ≡ true
+front_has : (l : Mapped) (a n len : ℕ) (w : Window) → n ≤ len → located (location (places_in l) Read) (addresses a len) ≡ Some (places_of w) → list_all (λ x. is_some (location (places_in l) Read x)) (addresses a n) ≡ true
 front_has l a n len w within found =
     let split : n + (len - n) ≡ len = omega (arith, within) in
-    let all : list_all (λ x. is_some (place l x)) (addresses a (n + (len - n))) ≡ true =
-    ap (λ k. list_all (λ x. is_some (place l x)) (addresses a k)) split ∙ all_located (addresses a len) (place l) ∙ ap is_some found in
-    (and_parts (list_all (λ x. is_some (place l x)) (addresses a n)) (list_all (λ x. is_some (place l x)) (addresses (a + n) (len - n)))
-    (list_all-append (addresses a n) (addresses (a + n) (len - n)) (place l) ∙ ap (list_all (λ x. is_some (place l x))) (sym (addresses-append n (len - n) a)) ∙ all)).0
+    let all : list_all (λ x. is_some (location (places_in l) Read x)) (addresses a (n + (len - n))) ≡ true =
+    ap (λ k. list_all (λ x. is_some (location (places_in l) Read x)) (addresses a k)) split ∙ all_located (addresses a len) (location (places_in l) Read) ∙ ap is_some found in
+    (and_parts (list_all (λ x. is_some (location (places_in l) Read x)) (addresses a n)) (list_all (λ x. is_some (location (places_in l) Read x)) (addresses (a + n) (len - n)))
+    (list_all-append (addresses a n) (addresses (a + n) (len - n)) (location (places_in l) Read) ∙ ap (list_all (λ x. is_some (location (places_in l) Read x))) (sym (addresses-append n (len - n) a)) ∙ all)).0
 
-pub window_reaches : (l : List Region) (a n most : ℕ) (w : Window) → a + n < 2 ^ 64 → n ≤ w.len → IsWindowAt (place l) a most w → reach (places_in l) Read a n ≡ true
+pub window_reaches : (l : Mapped) (a n most : ℕ) (w : Window) → a + n < 2 ^ 64 → n ≤ w.len → IsWindowAt (location (places_in l) Read) a most w → reach (places_in l) Read a n ≡ true
 window_reaches l a n most w fits within window = reach-each (places_in l) Read a n fits ∙ front_has l a n w.len w within window.3
 
 one_or_within : (len n k : ℕ) → n ≡ max (len / 16) 1 → len / 16 ≡ k → (n ≡ 1) ⊎ (16 * n ≤ len)
 one_or_within len n zero is none = inl (omega (arith, is, none))
 one_or_within len n (suc k) is some = inr (omega (arith, is, some))
 
-whole_there : (l : List Region) (a n most : ℕ) (w : Window) → a + 16 * n < 2 ^ 64 → (n ≡ 1) ⊎ (16 * n ≤ w.len) → IsWindowAt (place l) a most w → reach (places_in l) Read a 16 ≡ true →
+whole_there : (l : Mapped) (a n most : ℕ) (w : Window) → a + 16 * n < 2 ^ 64 → (n ≡ 1) ⊎ (16 * n ≤ w.len) → IsWindowAt (location (places_in l) Read) a most w → reach (places_in l) Read a 16 ≡ true →
     reach (places_in l) Read a (16 * n) ≡ true
 whole_there l a n most w fits (inl one) window there = rw one there
 whole_there l a n most w fits (inr within) window there = window_reaches l a (16 * n) most w fits within window
 
 -- as many entries as a window has whole, or one
-pub entries_there : (l : List Region) (walk : ChainWalk) (a most n : ℕ) (w : Window) → a ≡ entry_address (visit_of walk) → n ≡ max (w.len / 16) 1 → 0 < most → walk.index + most ≤ walk.table.entries →
-    IsWindowAt (place l) a (16 * most) w → reach (places_in l) Read (entry_address (visit_of walk)) 16 ≡ true → reach (places_in l) Read (entry_address (visit_of walk)) (16 * n) ≡ true
+pub entries_there : (l : Mapped) (walk : ChainWalk) (a most n : ℕ) (w : Window) → a ≡ entry_address (visit_of walk) → n ≡ max (w.len / 16) 1 → 0 < most → walk.index + most ≤ walk.table.entries →
+    IsWindowAt (location (places_in l) Read) a (16 * most) w → reach (places_in l) Read (entry_address (visit_of walk)) 16 ≡ true → reach (places_in l) Read (entry_address (visit_of walk)) (16 * n) ≡ true
 entries_there l walk a most n w at is some inside window =
     let ends = walk.ends in
     let less = window.1 in
     let fits : entry_address (visit_of walk) + 16 * n < 2 ^ 64 = omega (arith, is, ends, inside, some, less) in
-    whole_there l (entry_address (visit_of walk)) n (16 * most) w fits (one_or_within w.len n (w.len / 16) is refl) (subst (λ x. IsWindowAt (place l) x (16 * most) w) at window)
+    whole_there l (entry_address (visit_of walk)) n (16 * most) w fits (one_or_within w.len n (w.len / 16) is refl) (subst (λ x. IsWindowAt (location (places_in l) Read) x (16 * most) w) at window)
 
 -- the load of an entry that stands somewhere in a stretch
 abbrev pub read_at : ChainWalk → (bs : List ℕ) → (offset : ℕ) → Load
@@ -103,11 +102,11 @@ fits (suc zero) m some more = omega (arith, some)
 fits (suc (suc k)) m some more = more (omega arith)
 
 -- an address without a place can't be read
-lost : (l : List Region) (a : ℕ) → place l a ≡ None → reach (places_in l) Read a 16 ≡ true → ⊥
+lost : (l : Mapped) (a : ℕ) → location (places_in l) Read a ≡ None → reach (places_in l) Read a 16 ≡ true → ⊥
 unfolding addresses
 lost l a none there =
     let parts = and_parts (nat_lt (a + 16) (2 ^ 64)) (list_all (λ x. is_some (location (places_in l) Read x)) (addresses a 16)) there in
-    let first : is_some (place l a) ≡ true = (and_parts (is_some (place l a)) (list_all (λ x. is_some (place l x)) (addresses (a + 1) 15)) parts.1).0 in
+    let first : is_some (location (places_in l) Read a) ≡ true = (and_parts (is_some (location (places_in l) Read a)) (list_all (λ x. is_some (location (places_in l) Read x)) (addresses (a + 1) 15)) parts.1).0 in
     not_some (sym (ap is_some none) ∙ first)
   where
     not_some : false ≡ true → ⊥
@@ -117,8 +116,8 @@ lost l a none there =
 pub most_whole : (n most left len k : ℕ) → k ≡ max (len / 16) 1 → len ≡ min (16 * most) left → n ≤ most → (1 < n → 16 * n ≤ left) → n ≤ k
 most_whole n most left len k is long few within = fits n k (omega (arith, is)) (λ one. let short = within one in omega (arith, is, long, few, short))
 
-pub none_whole : {A : Type 0} (l : List Region) (walk : ChainWalk) (a : ℕ) → a ≡ entry_address (visit_of walk) → place l a ≡ None → reach (places_in l) Read (entry_address (visit_of walk)) 16 ≡ true → A
-none_whole l walk a at none there = absurd (lost l (entry_address (visit_of walk)) (ap (place l) (sym at) ∙ none) there)
+pub none_whole : {A : Type 0} (l : Mapped) (walk : ChainWalk) (a : ℕ) → a ≡ entry_address (visit_of walk) → location (places_in l) Read a ≡ None → reach (places_in l) Read (entry_address (visit_of walk)) 16 ≡ true → A
+none_whole l walk a at none there = absurd (lost l (entry_address (visit_of walk)) (ap (location (places_in l) Read) (sym at) ∙ none) there)
 
 -- ---- entries that were read out
 

@@ -1,15 +1,14 @@
 -- What a walk over regions says of the memories that have them.
 use Rattle.std.specs.Prelude.{◌≡◌, ℕ, ◌<◌, false, List, length, Some}
 use Rattle.vm_memory_core.specs.Host.{Host}
-use Rattle.vm_memory.specs.Layout.{Region}
-use Rattle.vm_memory.specs.Memory.{Memory, memory_of}
+use Rattle.vm_memory.specs.Memory.{Memory}
 use Rattle.fs_queue.specs.Queue.{Queue}
 use Rattle.fs_queue.specs.NextAvail.{next_avail, Head}
 use Rattle.fs_queue.specs.Chain.{chain}
 use Rattle.fs_queue.specs.Loads.{Load, AreEntriesOf, IsLoadOf, index_load, entry_load}
 use Rattle.fs_queue.specs.OfferLoads.{request_in}
 use Rattle.fs_queue.specs.Taking.{Offer, offer}
-use Rattle.fs_regions.specs.Places.{places_in}
+use Rattle.fs_regions.specs.Places.{Mapped, memory_over, places_in}
 use Rattle.fs_regions.specs.Walks.{Loaded, OffersBy, ReadOutOf}
 
 -- what was loaded is what a memory has: of the ring, of the tables, and of a request
@@ -22,8 +21,8 @@ pub record HasLoaded (m : Memory) (q : Queue) (loaded : Loaded) (request : List 
 -- what is offered by the loads in some regions is offered in each memory of these regions that has them
 abbrev pub OffersAreTheMemorys : Type 0
 OffersAreTheMemorys =
-    (h : Host) (regions : List Region) (limit : ℕ) (q : Queue) (loaded : Loaded) (request : List ℕ) (o : Offer) → q.stopped ≡ false →
-    OffersBy (places_in regions) limit q loaded request o → HasLoaded (memory_of h regions) q loaded request → o ≡ offer (memory_of h regions) limit q
+    (h : Host) (regions : Mapped) (limit : ℕ) (q : Queue) (loaded : Loaded) (request : List ℕ) (o : Offer) → q.stopped ≡ false →
+    OffersBy (places_in regions) limit q loaded request o → HasLoaded (memory_over h regions) q loaded request → o ≡ offer (memory_over h regions) limit q
 
 -- a memory that has the bytes of a stretch has each entry that is read out of them
 abbrev pub ReadOutIsTheMemorys : Type 0

@@ -4,3 +4,4 @@ pub mod Walks
 pub mod Windows
 pub mod Laws
 pub mod Stretches
+pub mod Using

@@ -1,7 +1,10 @@
--- A guest's memory told by its regions alone: which addresses have places, and no byte (VIRTIO 1.2, 2.7).
-use Rattle.std.specs.Prelude.{◌≡◌, ℕ, ◌+◌, ◌%◌, ◌^◌, ◌==◌, ◌||◌, not, nat_lt, [], List, Option, Some, None, if◌then◌else◌}
+-- A guest's memory told by its regions, and by the table that translates its addresses, if one does: which addresses have places, and no byte (VIRTIO 1.2, 2.7).
+use Rattle.std.specs.Prelude.{◌≡◌, ℕ, ◌+◌, ◌%◌, ◌^◌, ◌==◌, ◌||◌, not, nat_lt, [], ◌∷◌, List, Option, Some, None, if◌then◌else◌, is_some, unwrap_or}
+use Rattle.vm_iotlb.specs.declared.range.IotlbRange.{IotlbRange}
+use Rattle.vm_memory_core.specs.Host.{Host}
 use Rattle.vm_memory.specs.Layout.{Region, IsLawful}
-use Rattle.vm_memory.specs.Memory.{Memory, memory_of}
+use Rattle.vm_memory.specs.Memory.{Memory, memory_behind}
+use Rattle.vm_memory.specs.Translated.{left_behind}
 
 -- a region isn't empty, its last address fits 64 bits, and it has whole pages of 4096 bytes
 abbrev pub HasWholePages : Region → Type 0
@@ -16,6 +19,23 @@ is_no_region start size r =
 abbrev pub region_if : (start size number : ℕ) → Option Region
 region_if start size number = is_no_region start size (Some (record { start = start; size = size; block = number }))
 
--- a memory with the places of some regions, in which nothing stands
-abbrev pub places_in : List Region → Memory
-places_in regions = memory_of (record { blocks = []; tables = []; io_marks = [] }) regions
+-- regions, and the table by which a device's addresses are translated to theirs, if there is one
+pub record Mapped : Type 0 where
+  pub layout : List Region
+  pub table : Option (List IotlbRange)
+
+-- regions without a table
+abbrev pub untranslated : List Region → Mapped
+untranslated regions = record { layout = regions; table = None }
+
+-- the memory that a host's blocks are by regions and their table; the tables that the host has don't matter
+abbrev pub memory_over : Host → Mapped → Memory
+memory_over h g = memory_behind (record h { tables = unwrap_or g.table [] ∷ [] }) g.layout 0 0 (is_some g.table)
+
+-- a memory with their places, in which nothing stands
+abbrev pub places_in : Mapped → Memory
+places_in g = memory_over (record { blocks = []; tables = []; io_marks = [] }) g
+
+-- how many addresses from one on a window has at most: it ends with its region, and with what is mapped as one
+abbrev pub left_in : Memory → ℕ → ℕ
+left_in m a = left_behind m.translates m.host m.layout m.table a

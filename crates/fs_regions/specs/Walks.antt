@@ -1,7 +1,6 @@
 -- What a walk over regions comes to by the loads so far (VIRTIO 1.2, 2.7.5, 2.7.6 and 2.7.13 from the device's side).
 use Rattle.std.specs.Prelude.{◌≡◌, ◌⊎◌, if◌then◌else◌, ℕ, ◌+◌, ◌*◌, ◌<◌, ◌≤◌, ◌&&◌, Bool, true, false, nat_le, List, [], ◌∷◌, ◌++◌, All, length, take, drop, Option, Some, None, option_map}
 use Rattle.vm_iotlb.specs.declared.permissions.Permissions.TheVariants.{Read}
-use Rattle.vm_memory.specs.Layout.{left_at}
 use Rattle.vm_memory.specs.Memory.{Memory, reach}
 use Rattle.fs_queue.specs.declared.fault.ChainFault.{ChainFault}
 use Rattle.fs_queue.specs.declared.chain_walk.Progress.{Progress}
@@ -16,6 +15,7 @@ use Rattle.fs_queue.specs.Taking.{readable, writable, total_len, IsRequest, Cann
 use Rattle.fs_queue.specs.RingingView.{Told, by_index, stage_of, stage_at, IfRingEntry}
 use Rattle.fs_queue.specs.SteppingView.{ahead_of, visit_of, IfWants}
 use Rattle.fs_queue.specs.WalkingView.{at_position}
+use Rattle.fs_regions.specs.Places.{left_in}
 use Rattle.fs_regions.specs.declared.walk.QueueWalk.{QueueWalk}
 use Rattle.fs_regions.specs.declared.walk.QueueWalk.TheVariants as at
 use Rattle.fs_regions.specs.declared.course.Course.{Course}
@@ -125,10 +125,10 @@ IsThere m w = reach m Read (asked_by w) (asked_len w) ≡ true
 abbrev pub most_of : DescriptorTable → ℕ
 most_of t = if t.indirect then 256 else 4
 
--- so many entries from one on may be asked for at once: none past their table's end, and no more than a load has; and more than one only in one region, and no more than descriptors may still
+-- so many entries from one on may be asked for at once: none past their table's end, and no more than a load has; and more than one only in one region and one mapping, and no more than descriptors may still
 -- join the chain
 abbrev pub MayBeAsked : Memory → Queue → List Descriptor → Visit → (n : ℕ) → Type 0
-MayBeAsked m q ds v n = (n ≤ most_of v.table) × (v.index + n ≤ v.table.entries) × (1 < n → (16 * n ≤ left_at m.layout (entry_address v)) × (length ds + n ≤ q.size))
+MayBeAsked m q ds v n = (n ≤ most_of v.table) × (v.index + n ≤ v.table.entries) × (1 < n → (16 * n ≤ left_in m (entry_address v)) × (length ds + n ≤ q.size))
 
 -- a stretch has the most that may be
 abbrev pub IsLongestStretch : Memory → Queue → List Descriptor → QueueWalk → Type 0

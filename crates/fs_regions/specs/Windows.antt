@@ -1,21 +1,21 @@
 -- Where the bytes of a chain's request and room stand.
 use Rattle.std.specs.Prelude.{◌≡◌, ℕ, ◌<◌, ◌≤◌, ◌+◌, ◌-◌, ◌%◌, ◌^◌, min, Bool, List, ◌∷◌, ◌++◌, take, drop, Some}
 use Rattle.vm_memory_core.specs.Window.{Window, places_of}
-use Rattle.vm_memory.specs.Layout.{Region, left_at, place}
-use Rattle.vm_memory.specs.Memory.{addresses, located}
+use Rattle.vm_memory.specs.Memory.{addresses, located, location}
 use Rattle.fs_queue.specs.Chain.{Descriptor}
-use Rattle.fs_queue.specs.Taking.{total_len, of_direction, addresses_of}
+use Rattle.fs_queue.specs.Taking.{total_len, access_of, of_direction, addresses_of}
+use Rattle.fs_regions.specs.Places.{Mapped, left_in, places_in}
 
 -- the descriptor in which one byte of some stands, and how many of its bytes come before that one
 abbrev pub StandsIn : List Descriptor → (from : ℕ) → (d : Descriptor) → (skip : ℕ) → Type 0
 StandsIn ds from d skip = (before behind : List Descriptor) × (ds ≡ before ++ d ∷ behind) × (from ≡ total_len before + skip) × (skip < d.len)
 
--- a window, not empty, that has the places of the bytes of one direction from one on, as far as their descriptor and their region go
-abbrev pub IsWindowFrom : List Region → (write_only : Bool) → List Descriptor → (from : ℕ) → Window → Type 0
+-- a window, not empty, that has the places of the bytes of one direction from one on, as far as their descriptor, their region and what is mapped as one go
+abbrev pub IsWindowFrom : Mapped → (write_only : Bool) → List Descriptor → (from : ℕ) → Window → Type 0
 IsWindowFrom regions write_only ds from w =
     (0 < w.len) × (from + w.len ≤ total_len (of_direction write_only ds))
-    × (located (place regions) (take w.len (drop from (addresses_of (of_direction write_only ds)))) ≡ Some (places_of w))
-    × (d : Descriptor) × (skip : ℕ) × StandsIn (of_direction write_only ds) from d skip × (w.len ≡ min (d.len - skip) (left_at regions (d.addr + skip)))
+    × (located (location (places_in regions) (access_of write_only)) (take w.len (drop from (addresses_of (of_direction write_only ds)))) ≡ Some (places_of w))
+    × (d : Descriptor) × (skip : ℕ) × StandsIn (of_direction write_only ds) from d skip × (w.len ≡ min (d.len - skip) (left_in (places_in regions) (d.addr + skip)))
 
 -- so many addresses, not none, that the bytes of one direction have from one on, as far as their descriptor goes; the first is told modulo 2^64
 abbrev pub IsRangeFrom : (write_only : Bool) → List Descriptor → (from guest len : ℕ) → Type 0

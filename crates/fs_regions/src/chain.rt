@@ -5,14 +5,25 @@ ghost use Rattle.fs_queue.specs.Taking.{all_reach, total_len, access_of, of_dire
 ghost use Rattle.fs_regions.specs.Places.{places_in};
 ghost use Rattle.fs_regions.specs.Windows.{IsRangeFrom, IsWindowFrom};
 
-use crate::regions::GuestRegions;
+use crate::map::GuestMap;
 use fs_queue::Descriptor;
-use vm_memory_core::VolatileSlice;
+use vm_memory_core::{Permissions, VolatileSlice};
 
-/// The longest window that has the bytes of one direction of a chain from one on, in one descriptor and one region. None past their end, or where
+// The access that a device needs to the bytes of one direction.
+fn access_of(write_only: bool) -> Permissions
+    ensures { result ≡ access_of write_only }
+{
+    if write_only {
+        Permissions::Write
+    } else {
+        Permissions::Read
+    }
+}
+
+/// The longest window that has the bytes of one direction of a chain from one on, in one descriptor, one region and what is mapped as one. None past their end, or where
 /// the first of them has no place.
 pub fn window_from(
-    regions: &GuestRegions,
+    regions: &GuestMap,
     descriptors: &[Descriptor],
     write_only: bool,
     from: u64,
@@ -29,7 +40,11 @@ pub fn window_from(
                 if skip > u64::MAX - descriptor.addr {
                     return None;
                 }
-                return regions.window_at(descriptor.addr + skip, (len - skip) as usize);
+                return regions.window_at(
+                    descriptor.addr + skip,
+                    (len - skip) as usize,
+                    access_of(write_only),
+                );
             }
             skip -= len;
         }

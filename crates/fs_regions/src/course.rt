@@ -13,7 +13,7 @@ ghost use Rattle.fs_regions.specs.Stretches.{AsksFor};
 ghost use Rattle.fs_regions.specs.Walks.{Loaded, nothing, asked_len, asked_entries, queue_of, IsCourseOf, TellsBy, StandsAfterIndex, HeadWaits, StandsAt, ComesBy, ComesTo, Waits, Brings, FindsBy};
 
 use crate::entries::{ENTRY_LEN, EntriesWalk};
-use crate::regions::GuestRegions;
+use crate::map::GuestMap;
 use crate::step::Step;
 use crate::stretch::{read_stretch, stretch_len};
 use crate::walk::QueueWalk;
@@ -21,6 +21,7 @@ use fs_queue::{
     ChainFault, ChainWalk, Descriptor, Descriptors, Progress, Queue, QueueError, QueueLayout, Walk,
     Walked, chain_fault, return_fault,
 };
+use vm_memory_core::Permissions;
 
 /// Where a walk goes: through what waits at a position of a queue. A request or a room of more than `limit` bytes makes a chain faulty.
 #[derive(Clone, Copy, Debug)]
@@ -65,14 +66,14 @@ impl Course {
 
     /// The walk from its beginning: no load was made. The list of descriptors is emptied.
     #[inline(always)]
-    pub fn begin(&self, regions: &GuestRegions, descriptors: &mut Descriptors) -> Step
+    pub fn begin(&self, regions: &GuestMap, descriptors: &mut Descriptors) -> Step
         ensures empty { descriptors.new.items ≡ [] }
         ensures comes { ComesTo (places_in regions.now) self.now.limit (queue_of self.now) nothing descriptors.new.items result }
     {
         descriptors.clear();
         match Walk::begin(self.layout, self.position) {
             Walk::Index(walk) => {
-                if regions.reaches(walk.address(), 2) {
+                if regions.reaches(walk.address(), 2, Permissions::Read) {
                     Step::Load(QueueWalk::Index(walk))
                 } else {
                     self.at_index(regions, walk.give(None), descriptors)
@@ -87,7 +88,7 @@ impl Course {
     #[inline(always)]
     pub fn give(
         &self,
-        regions: &GuestRegions,
+        regions: &GuestMap,
         walk: QueueWalk,
         bytes: &[u8],
         descriptors: &mut Descriptors,
@@ -112,7 +113,7 @@ impl Course {
     #[inline(always)]
     fn give_entries(
         &self,
-        regions: &GuestRegions,
+        regions: &GuestMap,
         stretch: EntriesWalk,
         bytes: &[u8],
         descriptors: &mut Descriptors,
@@ -129,13 +130,13 @@ impl Course {
 
     // What a walk comes to once the available index was loaded, or has no place.
     #[inline(always)]
-    fn at_index(&self, regions: &GuestRegions, walk: Walk, descriptors: &[Descriptor]) -> Step
+    fn at_index(&self, regions: &GuestMap, walk: Walk, descriptors: &[Descriptor]) -> Step
         ensures { (index : Option (List ℕ)) → StandsAfterIndex (places_in regions.now) (queue_of self.now) index walk → descriptors.now ≡ []
             → ComesTo (places_in regions.now) self.now.limit (queue_of self.now) (record nothing { index = index }) descriptors.now result }
     {
         match walk {
             Walk::RingEntry(walk) => {
-                if regions.reaches(walk.address(), 2) {
+                if regions.reaches(walk.address(), 2, Permissions::Read) {
                     Step::Load(QueueWalk::RingEntry(walk))
                 } else {
                     self.told(regions, walk.give(None), descriptors)
@@ -147,7 +148,7 @@ impl Course {
 
     // What a walk comes to where the ring told what waits.
     #[inline(always)]
-    fn told(&self, regions: &GuestRegions, walk: Walk, descriptors: &[Descriptor]) -> Step
+    fn told(&self, regions: &GuestMap, walk: Walk, descriptors: &[Descriptor]) -> Step
         ensures { (loaded : Loaded) → TellsBy (places_in regions.now) (queue_of self.now) loaded walk → descriptors.now ≡ []
             → ComesTo (places_in regions.now) self.now.limit (queue_of self.now) loaded descriptors.now result }
     {
@@ -163,7 +164,7 @@ impl Course {
     #[inline(always)]
     fn at_head(
         &self,
-        regions: &GuestRegions,
+        regions: &GuestMap,
         head: u16,
         progress: Progress,
         descriptors: &[Descriptor],
@@ -181,7 +182,7 @@ impl Course {
     #[inline(always)]
     fn at_progress(
         &self,
-        regions: &GuestRegions,
+        regions: &GuestMap,
         head: u16,
         progress: Progress,
         descriptors: &[Descriptor],
@@ -208,7 +209,7 @@ impl Course {
     #[inline(always)]
     fn at_entry(
         &self,
-        regions: &GuestRegions,
+        regions: &GuestMap,
         head: u16,
         walk: ChainWalk,
         descriptors: &[Descriptor],
@@ -218,7 +219,7 @@ impl Course {
             → ComesTo (places_in regions.now) self.now.limit (queue_of self.now) loaded descriptors.now result }
         ensures asks { AsksFor (Progress.Wants walk) result }
     {
-        if regions.reaches(walk.address(), ENTRY_LEN) {
+        if regions.reaches(walk.address(), ENTRY_LEN, Permissions::Read) {
             let entries = stretch_len(regions, &walk, self.may_join(descriptors));
             return Step::Load(QueueWalk::Entries(EntriesWalk {
                 head,
@@ -238,7 +239,7 @@ impl Course {
     #[inline(always)]
     fn ended(
         &self,
-        regions: &GuestRegions,
+        regions: &GuestMap,
         head: u16,
         walked: Walked,
         descriptors: &[Descriptor],

@@ -5,17 +5,16 @@ ghost use Rattle.vm_iotlb.specs.declared.permissions.Permissions.{Permissions};
 ghost use Rattle.vm_memory.specs.Layout.{left_at, place};
 ghost use Rattle.vm_memory.specs.Memory.{reach};
 ghost use Rattle.vm_memory.specs.Slices.{IsWindowAt};
-ghost use Rattle.fs_regions.specs.Places.{places_in};
+ghost use Rattle.fs_regions.specs.Places.{places_in, untranslated};
 ghost use Rattle.fs_regions.specs.Making.{Makes};
 
 use crate::region::MemoryRegion;
-use fs_queue::Places;
 use std::alloc::Global;
 use std::marker::Model;
 use vm_memory::{
     GuestMemoryBackend, GuestMemoryRegion, GuestRegionCollection, GuestRegionCollectionError,
 };
-use vm_memory_core::{GuestAddress, MemoryRegionAddress, Permissions, VolatileSlice};
+use vm_memory_core::{GuestAddress, MemoryRegionAddress, VolatileSlice};
 
 /// Why some regions are no memory of a guest.
 #[derive(Clone, Copy, Debug, PartialEq, Eq)]
@@ -73,7 +72,7 @@ impl GuestRegions {
 
     /// Whether each of `len` addresses from one on has a place, and their end is an address.
     pub fn reaches(&self, addr: u64, len: usize) -> bool
-        ensures { (access : Permissions) → result ≡ reach (places_in self.now) access addr len }
+        ensures { (access : Permissions) → result ≡ reach (places_in (untranslated self.now)) access addr len }
     {
         len as u64 <= u64::MAX - addr && self.regions.has_range(GuestAddress(addr), len)
     }
@@ -98,13 +97,5 @@ impl GuestRegions {
             }
             None => None,
         }
-    }
-}
-
-impl Places for GuestRegions {
-    ghost places = { λ r. places_in r };
-
-    fn has_places(&self, addr: u64, len: usize, _access: Permissions) -> bool {
-        self.reaches(addr, len)
     }
 }

@@ -3,18 +3,18 @@
 ghost use Rattle.std.specs.Prelude.{◌≡◌, ◌⊎◌, ℕ, ◌+◌, ◌*◌, ◌<◌, ◌≤◌, [], ◌∷◌, ◌++◌, List, Some, None, true, false, length, take, drop, IfSome};
 ghost use Rattle.smallvec.specs.SmallVec.{HasRoomFor};
 ghost use Rattle.vm_iotlb.specs.declared.permissions.Permissions.TheVariants.{Read};
-ghost use Rattle.vm_memory.specs.Layout.{left_at};
 ghost use Rattle.vm_memory.specs.Memory.{reach};
 ghost use Rattle.fs_queue.specs.Chain.{entry_address};
 ghost use Rattle.fs_queue.specs.Loads.{Load, Ahead, Reads};
 ghost use Rattle.fs_queue.specs.SteppingView.{ahead_of, load_of, visit_of, IfWants};
-ghost use Rattle.fs_regions.specs.Places.{places_in};
+ghost use Rattle.fs_regions.specs.Places.{left_in, places_in};
 ghost use Rattle.fs_regions.specs.Stretches.{ReadsStretch};
 ghost use Rattle.fs_regions.specs.Walks.{is_in, most_of, Brings};
 
 use crate::entries::{ENTRY_LEN, MOST_ENTRIES, MOST_OWN_ENTRIES};
-use crate::regions::GuestRegions;
+use crate::map::GuestMap;
 use fs_queue::{ChainWalk, DescriptorTable, Descriptors, Progress};
+use vm_memory_core::Permissions;
 
 // How many entries a load of a table has at most.
 fn most_of(table: DescriptorTable) -> u16
@@ -45,36 +45,40 @@ fn most_entries(walk: &ChainWalk, may_join: usize) -> u16
     most.max(1) as u16
 }
 
-// How many of some entries that follow one another in a table stand in the region of the first one; 1 if this one goes over its end.
-fn entries_in_region(regions: &GuestRegions, walk: &ChainWalk, most: u16) -> u16
+// How many of some entries that follow one another in a table stand in the region of the first one and are mapped as one with it; 1 if this one goes over its end.
+fn entries_in_region(regions: &GuestMap, walk: &ChainWalk, most: u16) -> u16
     requires some { 0 < most }
     requires inside { walk.now.index + most ≤ walk.now.table.entries }
     ensures some { 0 < result }
     ensures few { result ≤ most }
-    ensures region { 1 < result → 16 * result ≤ left_at regions.now (entry_address (visit_of walk.now)) }
+    ensures region { 1 < result → 16 * result ≤ left_in (places_in regions.now) (entry_address (visit_of walk.now)) }
     ensures most { reach (places_in regions.now) Read (entry_address (visit_of walk.now)) 16 ≡ true
-        → (n : ℕ) → n ≤ most → (1 < n → 16 * n ≤ left_at regions.now (entry_address (visit_of walk.now))) → n ≤ result }
+        → (n : ℕ) → n ≤ most → (1 < n → 16 * n ≤ left_in (places_in regions.now) (entry_address (visit_of walk.now))) → n ≤ result }
     ensures there { let m = places_in regions.now in let a = entry_address (visit_of walk.now) in reach m Read a 16 ≡ true → reach m Read a (16 * result) ≡ true }
 {
     if most == 1 {
         return 1;
     }
-    match regions.window_at(walk.address(), ENTRY_LEN * usize::from(most)) {
+    match regions.window_at(
+        walk.address(),
+        ENTRY_LEN * usize::from(most),
+        Permissions::Read,
+    ) {
         Some(window) => (window.len() / ENTRY_LEN).max(1) as u16,
         None => 1,
     }
 }
 
-/// How many entries a walk asks for at once: at least the one that it is at. More stand in one region, and are no more than a load of their table has, than
+/// How many entries a walk asks for at once: at least the one that it is at. More stand in one region, mapped as one, and are no more than a load of their table has, than
 /// the table has from there on, and than descriptors may still join the chain: as many as these bounds let it have.
-pub(crate) fn stretch_len(regions: &GuestRegions, walk: &ChainWalk, may_join: usize) -> u16
+pub(crate) fn stretch_len(regions: &GuestMap, walk: &ChainWalk, may_join: usize) -> u16
     ensures some { 0 < result }
     ensures few { result ≤ most_of walk.now.table }
     ensures low { result ≤ 256 }
     ensures inside { walk.now.index + result ≤ walk.now.table.entries }
-    ensures stretch { 1 < result → (16 * result ≤ left_at regions.now (entry_address (visit_of walk.now))) × (result ≤ may_join) }
+    ensures stretch { 1 < result → (16 * result ≤ left_in (places_in regions.now) (entry_address (visit_of walk.now))) × (result ≤ may_join) }
     ensures most { reach (places_in regions.now) Read (entry_address (visit_of walk.now)) 16 ≡ true → (n : ℕ) → n ≤ most_of walk.now.table → walk.now.index + n ≤ walk.now.table.entries
-        → (1 < n → (16 * n ≤ left_at regions.now (entry_address (visit_of walk.now))) × (n ≤ may_join)) → n ≤ result }
+        → (1 < n → (16 * n ≤ left_in (places_in regions.now) (entry_address (visit_of walk.now))) × (n ≤ may_join)) → n ≤ result }
     ensures there { let m = places_in regions.now in let a = entry_address (visit_of walk.now) in reach m Read a 16 ≡ true → reach m Read a (16 * result) ≡ true }
 {
     entries_in_region(regions, walk, most_entries(walk, may_join))

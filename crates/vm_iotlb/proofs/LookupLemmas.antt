@@ -7,7 +7,7 @@ use Rattle.vm_iotlb.specs.declared.permissions.Permissions.{Permissions}
 use Rattle.vm_iotlb.specs.declared.range.IotlbRange.{IotlbRange}
 use Rattle.vm_iotlb.specs.declared.iova.MappedRange.{MappedRange}
 use Rattle.vm_iotlb.specs.Table.{allows}
-use Rattle.vm_iotlb.specs.Keys.{AreKeyed, range_at, IsLastUpTo, NoneUpTo}
+use Rattle.vm_iotlb.specs.Keys.{AreKeyed, HasAddress, range_at, IsLastUpTo, NoneUpTo}
 use Rattle.std.specs.BTreeMap.{BTreeMap as SeenMap}
 use denote.Ref.{Bor}
 use Rattle.vm_iotlb.specs.declared.permissions.Permissions.TheVariants.{No}
@@ -16,7 +16,7 @@ use Rattle.vm_iotlb.proofs.Covering.{Cover}
 use Rattle.vm_iotlb.specs.Ranges.{mapping_in, table_kept, AreRanges, Agree}
 use Rattle.vm_iotlb.specs.AddressRuns.{may_all, may_pass, pieces}
 use Rattle.vm_iotlb.proofs.RangeLemmas.{table_inside}
-use Rattle.vm_iotlb.proofs.RunLemmas.{agree_rest, may_range, nothing_left}
+use Rattle.vm_iotlb.proofs.RunLemmas.{agree_rest, may_range, nothing_left, pieces_run, range_run}
 use Rattle.vm_iotlb.proofs.PieceLemmas.{cover, may_head, pieces_cover, stopped}
 use Rattle.vm_iotlb.proofs.MapLemmas.{is_at_key, none_at, pair_at, some_one, tail_at}
 
@@ -93,3 +93,35 @@ pub first_given : (res : Option MappedRange) (s t all : List MappedRange) → s 
     MatchOption res ⊥ (λ x. (l : List MappedRange) × (all ≡ x ∷ l))
 first_given None s t all is some gives = some (sym is ∙ gives.0)
 first_given (Some x) s t all is some gives = (t, sym is ∙ gives.0)
+
+-- ---- one address
+
+-- the range that has an address, and what it is mapped to
+pub range_having : (es : List (ℕ × IotlbRange)) (a : ℕ) (r : IotlbRange) → AreKeyed es → AreRanges (values_of es) → HasAddress es a (Some r) →
+    (table_kept (values_of es) a ≡ Some (mapping_in r a)) × (r.end < 2 ^ 64) × (r.target + (r.end - r.start) < 2 ^ 64)
+range_having es a r keyed are has =
+    let tail = tail_at es r.start r keyed are has.2 in
+    (tail.3 a has.0 ∙ table_inside r tail.0 a has.0 has.1, tail.1.0.1, tail.1.0.2)
+
+-- no range has it
+pub none_having : (es : List (ℕ × IotlbRange)) (a : ℕ) → AreKeyed es → AreRanges (values_of es) → HasAddress es a None → table_kept (values_of es) a ≡ None
+none_having es a keyed are none =
+    none_at es a keyed are (λ k s at low high.
+    let is = is_at_key es k s keyed are at in
+    absurd (omega (arith, none k s at (omega (arith, is.0)))))
+
+-- the first piece from an address on
+pub piece_having : (es : List (ℕ × IotlbRange)) (a most : ℕ) (r : IotlbRange) → 0 < most → AreKeyed es → AreRanges (values_of es) → HasAddress es a (Some r) →
+    (rest : List MappedRange) × (pieces (table_kept (values_of es)) a most ≡ record { base = record { 0 = r.target + (a - r.start) }; length = min (r.end - a) most } ∷ rest)
+piece_having es a most r some keyed are has =
+    let t = table_kept (values_of es) in
+    let tail = tail_at es r.start r keyed are has.2 in
+    let e : ℕ = a + most in
+    let b : ℕ = min r.end e in
+    let agree : Agree t (r ∷ tail.0) a e = λ x from to. tail.3 x (omega (arith, has.0)) in
+    let run = range_run t r tail.0 a b e tail.1 agree has.0 (omega (arith, has.1)) (omega arith) (omega arith) (λ more. omega arith) in
+    let to : t a ≡ Some (mapping_in r a) = tail.3 a has.0 ∙ table_inside r tail.0 a has.0 has.1 in
+    let all = pieces_run t a b (b - a) (e - a) (e - b) (mapping_in r a) run to in
+    let count : e - a ≡ most = omega arith in
+    let len : b - a ≡ min (r.end - a) most = omega (arith, has.1) in
+    (pieces t b (e - b), rw (count, len) at all)

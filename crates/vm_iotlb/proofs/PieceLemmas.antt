@@ -128,7 +128,7 @@ no_pieces t a (suc n) some none =
 
 -- ---- a look-up that fails
 
-between_some : (a e : ℕ) → a < e → between a e ≡ run_of a (e - a) ∷ []
+pub between_some : (a e : ℕ) → a < e → between a e ≡ run_of a (e - a) ∷ []
 between_some a e h = let test : nat_lt a e ≡ true = lt-ltb a e h in rw test refl
 
 between_none : (a e : ℕ) → e ≤ a → between a e ≡ []

@@ -1,20 +1,21 @@
 //! An IOMMU's table (vm-memory's `Iotlb`).
 
-ghost use Rattle.std.specs.Prelude.{◌≡◌, ℕ, ◌+◌, ◌<◌, ◌≤◌, ◌^◌, List, [], ◌∷◌, IfOk, MatchOption, true};
+ghost use Rattle.std.specs.Prelude.{◌≡◌, ℕ, ◌+◌, ◌<◌, ◌≤◌, ◌^◌, List, [], ◌∷◌, IfOk, IfSome, OnSome, None, MatchOption, true, false};
 ghost use Rattle.std.specs.Map.{values_of};
 ghost use Rattle.vm_iotlb.specs.Changes.{InvalidatesMapping, SetsMapping};
 ghost use Rattle.vm_iotlb.specs.Ranges.{AreRanges, EndsAbove, table_kept};
-ghost use Rattle.vm_iotlb.specs.AddressRuns.{LooksUp, may_all, pieces};
+ghost use Rattle.vm_iotlb.specs.AddressRuns.{LooksUp, may_all, may_pass, missing, pieces};
 ghost use Rattle.vm_iotlb.specs.Table.{AreSame};
+ghost use Rattle.vm_iotlb.specs.declared.iova.IovaRange.{IovaRange};
 ghost use Rattle.vm_iotlb.specs.declared.iova.MappedRange.{MappedRange};
 ghost use Rattle.vm_iotlb.specs.declared.permissions.Permissions.{Permissions};
 
 use crate::error::IommuError;
-use crate::iova::MappedRange;
-use crate::lookup::{IotlbIterator, LookupError, fails_among, is_covered, misses_whole};
+use crate::iova::{IovaRange, MappedRange};
+use crate::lookup::{IotlbIterator, LookupError, fails_among, first_gap, is_covered, misses_whole};
 use crate::permissions::Permissions;
 use crate::range::IotlbRange;
-use crate::ranges::{Ranges, key_from, last_up_to, map_range, take_out};
+use crate::ranges::{Ranges, having, key_from, last_up_to, map_range, take_out};
 use std::alloc::{AllocError, Global};
 use std::collections::BTreeMap;
 use std::collections::btree_map::Range;
@@ -179,6 +180,44 @@ impl Iotlb {
         ensures { MatchOption result ⊥ (λ p. (rest : List MappedRange) × (pieces (table_kept self.now) iova.0 length ≡ p ∷ rest)) }
     {
         IotlbIterator::over(&self.ranges, iova.0, iova.0 + length as u64).next()
+    }
+
+    /// What an address is mapped to, with those after it that are mapped as one with it, at most so many. None if the access may not go through it. It
+    /// takes no memory.
+    #[inline]
+    pub fn piece_at(
+        &self,
+        iova: GuestAddress,
+        most: usize,
+        access: Permissions,
+    ) -> Option<MappedRange>
+        requires some { 0 < most }
+        ensures none { result ≡ None → may_pass access (table_kept self.now iova.0) ≡ false }
+        ensures some { OnSome result (may_pass access (table_kept self.now iova.0) ≡ true) }
+        ensures piece { IfSome result (λ p. (rest : List MappedRange) × (pieces (table_kept self.now) iova.0 most ≡ p ∷ rest)) }
+        ensures fits { IfSome result (λ p. (p.base.0 + p.length < 2 ^ 64) × (iova.0 + p.length < 2 ^ 64)) }
+    {
+        let Some(range) = having(&self.ranges, iova.0) else {
+            return None;
+        };
+        if !range.perm.allow(access) {
+            return None;
+        }
+        let stop = (range.end - iova.0).min(most as u64);
+        Some(MappedRange {
+            base: GuestAddress(range.target + (iova.0 - range.start)),
+            length: stop as usize,
+        })
+    }
+
+    /// The first of `length` addresses without a mapping, with those after it that have none either. None if each has one, whatever it lets through. It
+    /// takes no memory.
+    pub fn first_miss(&self, iova: GuestAddress, length: usize) -> Option<IovaRange>
+        requires ends { iova.0 + length < 2 ^ 64 }
+        ensures { MatchOption result (missing (table_kept self.now) iova.0 length ≡ [])
+            (λ r. (rest : List IovaRange) × (missing (table_kept self.now) iova.0 length ≡ r ∷ rest)) }
+    {
+        first_gap(self.ranges_from(iova.0), iova.0, iova.0 + length as u64)
     }
 
     // The ranges that end above an address.

@@ -1,12 +1,13 @@
 //! What a look-up answers.
 
-ghost use Rattle.std.specs.Prelude.{◌≡◌, ◌+◌, ◌^◌, ◌-◌, ◌≤◌, ◌<◌, ◌++◌, ◌∷◌, [], IfOk, OnOk, MatchOption, length};
+ghost use Rattle.std.specs.Prelude.{◌≡◌, ◌+◌, ◌^◌, ◌-◌, ◌≤◌, ◌<◌, ◌++◌, ◌∷◌, List, [], IfOk, OnOk, MatchOption, length};
 ghost use Rattle.std.specs.Iterator.{at_most};
 ghost use Rattle.std.specs.Map.{values_of};
 ghost use Rattle.vm_iotlb.specs.Ranges.{Agree, AreRanges, EndsAbove, table_kept};
 ghost use Rattle.vm_iotlb.specs.Keys.{AreKeyed, IsLastUpTo, NoneUpTo};
 ghost use Rattle.vm_iotlb.specs.Table.{Table};
 ghost use Rattle.vm_iotlb.specs.Pieces.{AreMapped, IsFoundAt};
+ghost use Rattle.vm_iotlb.specs.declared.iova.IovaRange.{IovaRange};
 ghost use Rattle.vm_iotlb.specs.AddressRuns.{IsMissedWhole, between, lacking, may_all, missing, pieces};
 
 use crate::iova::{IovaRange, MappedRange};
@@ -185,6 +186,41 @@ pub(crate) fn is_covered(
         next = range.end.min(end);
     }
     end <= next
+}
+
+// The first addresses without a mapping from one up to another, as long as they go together.
+pub(crate) fn first_gap(
+    ranges: Range<'_, u64, IotlbRange>,
+    iova: u64,
+    end: u64,
+) -> Option<IovaRange>
+    requires ranges { AreRanges (values_of ranges) }
+    requires first { EndsAbove iova (values_of ranges) }
+    requires order { iova ≤ end }
+    ensures { (table : Table) → Agree table (values_of ranges.entry) iova end
+        → MatchOption result (missing table iova (end - iova) ≡ []) (λ r. (rest : List IovaRange) × (missing table iova (end - iova) ≡ r ∷ rest)) }
+{
+    let mut next = iova;
+    for (_, range) in ranges {
+        if end <= next {
+            return None;
+        }
+        if next < range.start {
+            let stop = range.start.min(end);
+            return Some(IovaRange {
+                base: GuestAddress(next),
+                length: (stop - next) as usize,
+            });
+        }
+        next = range.end.min(end);
+    }
+    if end <= next {
+        return None;
+    }
+    Some(IovaRange {
+        base: GuestAddress(next),
+        length: (end - next) as usize,
+    })
 }
 
 // The answer where the end of the asked range does not fit 64 bits.

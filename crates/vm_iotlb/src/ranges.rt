@@ -62,7 +62,7 @@ fn reaching_from(ranges: &Ranges, addr: u64) -> Option<IotlbRange>
 }
 
 // The range that has an address.
-fn having(ranges: &Ranges, addr: u64) -> Option<IotlbRange>
+pub(crate) fn having(ranges: &Ranges, addr: u64) -> Option<IotlbRange>
     requires keyed { AreKeyed ranges.now.entries }
     requires ranges { AreRanges (values_of ranges.now.entries) }
     ensures { HasAddress ranges.now.entries addr result }

@@ -13,7 +13,7 @@ returns-then-skip-len-clause-some c =
     window_if c.args.regions.now c.args.write_only c.args.descriptors.now c.args.from c.loop-descriptor.skip c.descriptor-item.result
     (drop (c.loop-descriptor.descriptor-index + 1) c.args.descriptors.now) c.window_at.result
     c.descriptor.inside.addr c.from-len.result this (ap (λ (d : Descriptor). d.addr) c.descriptor.view_is) (c.from-len.ensures ∙ ap (λ (d : Descriptor). d.len) c.descriptor.view_is) c.if-skip-len.true
-    (rw item at c.loop-descriptor.invariant) c.window_at.ensures.some c.window_at.ensures.longest
+    (rw item at c.loop-descriptor.invariant) (rw c.access_of.ensures at c.window_at.ensures.some) c.window_at.ensures.longest
 
 pub returns-then-skip-len-clause-none : goal.returns-then-skip-len-clause-none
 returns-then-skip-len-clause-none c = λ none all.
@@ -22,7 +22,7 @@ returns-then-skip-len-clause-none c = λ none all.
     absurd (hole_if c.args.regions.now c.args.write_only c.args.descriptors.now c.args.from c.loop-descriptor.skip c.descriptor-item.result
     (drop (c.loop-descriptor.descriptor-index + 1) c.args.descriptors.now)
     c.descriptor.inside.addr c.from-len.result this (ap (λ (d : Descriptor). d.addr) c.descriptor.view_is) (c.from-len.ensures ∙ ap (λ (d : Descriptor). d.len) c.descriptor.view_is) c.if-skip-len.true
-    (rw item at c.loop-descriptor.invariant) all (c.window_at.ensures.none none))
+    (rw item at c.loop-descriptor.invariant) all (rw c.access_of.ensures at (c.window_at.ensures.none none)))
 
 pub loop-descriptor-preserved : goal.loop-descriptor-preserved
 loop-descriptor-preserved c =

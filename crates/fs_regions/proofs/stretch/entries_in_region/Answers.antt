@@ -1,5 +1,5 @@
 use Rattle.std.proofs.Common.{◌∙◌, ◌*◌, ap, min, refl}
-use Rattle.vm_memory.specs.Layout.{left_at}
+use Rattle.fs_regions.specs.Places.{left_in, places_in}
 use Rattle.fs_regions.proofs.Stretching.{entries_there, most_whole, none_whole}
 use Rattle.fs_regions.proofs.stretch.entries_in_region.Goals as goal
 
@@ -11,7 +11,7 @@ returns-in-Some-clause-there c =
 pub returns-in-Some-clause-most : goal.returns-in-Some-clause-most
 returns-in-Some-clause-most c = λ there n few within.
     most_whole n c.args.most _ c.in-Some.window.len _ (rw c.len.ensures.len at c.max.ensures)
-    (rw c.from.ensures at (c.in-Some.ensures.longest ∙ ap (λ a. min (16 * c.from.result) (left_at c.args.regions.now a)) c.address.ensures.address)) few within
+    (rw c.from.ensures at (c.in-Some.ensures.longest ∙ ap (λ a. min (16 * c.from.result) (left_in (places_in c.args.regions.now) a)) c.address.ensures.address)) few within
 
 pub returns-in-None-clause-most : goal.returns-in-None-clause-most
 returns-in-None-clause-most c = λ there n few within.

@@ -13,7 +13,7 @@ use Rattle.fs_regions.proofs.course.Course.at_entry.Goals.{then-is_indirect, els
 pub returns-then-reaches-clause-comes : goal.returns-then-reaches-clause-comes
 returns-then-reaches-clause-comes c = λ loaded waits size brings.
     let there : reach (places_in c.args.regions.now) Read (entry_address (visit_of c.args.walk)) 16 ≡ true =
-    ap (λ a. reach (places_in c.args.regions.now) Read a 16) (sym c.address.ensures.address) ∙ sym (c.reaches.ensures Read) ∙ c.if-reaches.true in (
+    ap (λ a. reach (places_in c.args.regions.now) Read a 16) (sym c.address.ensures.address) ∙ sym c.reaches.ensures ∙ c.if-reaches.true in (
       (waits, size, brings),
       c.stretch_len-entries.ensures.there there,
       (
@@ -39,7 +39,7 @@ returns-then-reaches-clause-comes c = λ loaded waits size brings.
 pub returns-clause-comes : goal.returns-clause-comes
 returns-clause-comes c = λ loaded waits size brings.
     let away : reach (places_in c.args.regions.now) Read (entry_address (visit_of c.args.walk)) 16 ≡ false =
-    ap (λ a. reach (places_in c.args.regions.now) Read a 16) (sym c.address.ensures.address) ∙ sym (c.reaches.ensures Read) ∙ c.if-reaches.false in
+    ap (λ a. reach (places_in c.args.regions.now) Read a 16) (sym c.address.ensures.address) ∙ sym c.reaches.ensures ∙ c.if-reaches.false in
     let walked : c.if-is_indirect.walked ≡ lost_walked c.args.walk.table.indirect = elim c.if-is_indirect.branch [
       | then-is_indirect w ↦ w.walked-is ∙ ap lost_walked (sym (sym c.is_indirect.ensures ∙ w.if-is_indirect.true))
       | else-is_indirect w ↦ w.walked-is ∙ ap lost_walked (sym (sym c.is_indirect.ensures ∙ w.if-is_indirect.false))

@@ -18,7 +18,7 @@ returns-then-reaches c = λ index stands none.
     let asks : asks_entry (by_index q index) ≡ true = entry_asked (by_index q index) (ap stage_of (sym c.in-RingEntry.is) ∙ stands.stage) in
     let came = index_came q index stands.whole asks in (
       (at, ap (option_map length) came.1 ∙ ap Some came.2, asks, refl, refl, none),
-      ap (λ a. reach (places_in c.args.regions.now) Read a 2) (sym c.address.ensures.at) ∙ sym (c.reaches.ensures Read) ∙ c.if-reaches.true,
+      ap (λ a. reach (places_in c.args.regions.now) Read a 2) (sym c.address.ensures.at) ∙ sym c.reaches.ensures ∙ c.if-reaches.true,
       tt,
     )
 
@@ -31,7 +31,7 @@ returns-else-reaches c = λ index stands none.
     let asks : asks_entry (by_index q index) ≡ true = entry_asked (by_index q index) (ap stage_of (sym c.in-RingEntry.is) ∙ stands.stage) in
     let came = index_came q index stands.whole asks in
     let away : reach m Read (ring_entry_at q) 2 ≡ false =
-    ap (λ a. reach m Read a 2) (sym (c.address.ensures.at ∙ ap ring_entry_at at)) ∙ sym (c.reaches.ensures Read) ∙ c.if-reaches.false in
+    ap (λ a. reach m Read a 2) (sym (c.address.ensures.at ∙ ap ring_entry_at at)) ∙ sym c.reaches.ensures ∙ c.if-reaches.false in
     c.told.ensures (record nothing { index = index })
     (tells_both m q index None c.give.result stands.whole asks refl stands.asked (λ _. away) (begins_of w.layout w.position q c.give.result at c.give.ensures.chain)
     (entry_told (at_position w.layout w.position) q index None came.0 c.give.result at came.1 came.2 asks c.give.ensures.tells)) none

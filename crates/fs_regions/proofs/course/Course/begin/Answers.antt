@@ -15,6 +15,6 @@ returns-else-reaches-clause-comes c =
     let w = c.in-Index.walk in
     let at : at_position w.layout w.position ≡ q = index_begins c.args.self.now.layout c.args.self.now.position w c.in-Index.ensures in
     let away : reach m Read (avail_index_at q) 2 ≡ false =
-    ap (λ a. reach m Read a 2) (sym (c.address.ensures.at ∙ ap avail_index_at at)) ∙ sym (c.reaches.ensures Read) ∙ c.if-reaches.false in
+    ap (λ a. reach m Read a 2) (sym (c.address.ensures.at ∙ ap avail_index_at at)) ∙ sym c.reaches.ensures ∙ c.if-reaches.false in
     let comes = rw c.deref.ensures at c.at_index.ensures in
     comes None (after_index m q w.layout w.position None c.give.result at refl (λ _. away) c.give.ensures.stage c.give.ensures.same c.give.ensures.chain) c.clear.ensures.items

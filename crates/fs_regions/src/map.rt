@@ -1,0 +1,163 @@
+//! A guest's memory: its regions, and the table that translates a device's addresses, if one does.
+
+ghost use Rattle.std.specs.Prelude.{◌≡◌, ◌+◌, ◌<◌, ◌^◌, ℕ, List, [], ◌∷◌, IfSome, None, Some, MatchOption, is_some, min};
+ghost use Rattle.std.specs.List.{list_all};
+ghost use Rattle.vm_iotlb.specs.AddressRuns.{missing};
+ghost use Rattle.vm_iotlb.specs.Ranges.{table_kept};
+ghost use Rattle.vm_iotlb.specs.declared.iova.IovaRange.{IovaRange};
+ghost use Rattle.vm_iotlb.specs.declared.permissions.Permissions.{Permissions};
+ghost use Rattle.vm_iotlb.specs.declared.range.IotlbRange.{IotlbRange};
+ghost use Rattle.vm_memory.specs.Layout.{left_at};
+ghost use Rattle.vm_memory.specs.Memory.{addresses, location, reach};
+ghost use Rattle.vm_memory.specs.Slices.{IsWindowAt};
+ghost use Rattle.vm_memory.specs.Translated.{translated, translated_left};
+ghost use Rattle.fs_regions.specs.Places.{left_in, places_in, untranslated};
+
+use crate::regions::GuestRegions;
+use fs_queue::Places;
+use std::alloc::Global;
+use std::marker::Model;
+use vm_memory_core::{GuestAddress, Iotlb, IovaRange, Permissions, VolatileSlice};
+
+/// A guest's memory: its regions, and the table by which the addresses that a device uses are translated to theirs, if there is one.
+#[derive(Drop)]
+pub struct GuestMap {
+    regions: GuestRegions,
+    table: Option<Iotlb>,
+}
+
+impl Model for GuestMap {
+    ghost use Rattle.fs_regions.specs.Places.{Mapped};
+
+    ghost Value = { Mapped };
+
+    ghost view = { λ m. record { layout = m.regions; table = m.table } };
+}
+
+// Whether each of some addresses has a place by a table, for an access.
+fn reaches_by(
+    regions: &GuestRegions,
+    table: &Iotlb,
+    addr: u64,
+    len: usize,
+    access: Permissions,
+) -> bool
+    requires { addr + len < 2 ^ 64 }
+    ensures { result ≡ list_all (λ a. is_some (translated regions.now (table_kept table.now) 0 access a)) (addresses addr len) }
+{
+    let end = addr + len as u64;
+    let mut next = addr;
+    'pieces: while next < end {
+        let Some(piece) = table.piece_at(GuestAddress(next), (end - next) as usize, access) else {
+            return false;
+        };
+        if !regions.reaches(piece.base.0, piece.length) {
+            return false;
+        }
+        next += piece.length as u64;
+    }
+    true
+}
+
+// The longest window of at most `most` bytes from an address on, by a table, for an access. None if the address has no place.
+fn window_by(
+    regions: &GuestRegions,
+    table: &Iotlb,
+    addr: u64,
+    most: usize,
+    access: Permissions,
+) -> Option<VolatileSlice>
+    requires { 0 < most }
+    ensures none { result ≡ None → translated regions.now (table_kept table.now) 0 access addr ≡ None }
+    ensures some { IfSome result (IsWindowAt (translated regions.now (table_kept table.now) 0 access) addr most) }
+    ensures longest { IfSome result (λ w. w.len ≡ min most (translated_left regions.now (table_kept table.now) addr)) }
+{
+    let Some(piece) = table.piece_at(GuestAddress(addr), most, access) else {
+        return None;
+    };
+    match regions.window_at(piece.base.0, piece.length) {
+        Some(window) => Some(window.replace_bitmap(0, addr)),
+        None => None,
+    }
+}
+
+impl GuestMap {
+    /// No memory.
+    pub fn none(alloc: Global) -> GuestMap
+        ensures { result ≡ untranslated [] }
+    {
+        GuestMap {
+            regions: GuestRegions::none(alloc),
+            table: None,
+        }
+    }
+
+    /// Memory of some regions, whose addresses a device uses as they are.
+    pub fn of_regions(regions: GuestRegions) -> GuestMap
+        ensures { result ≡ untranslated regions }
+    {
+        GuestMap {
+            regions,
+            table: None,
+        }
+    }
+
+    /// Memory of some regions behind a table.
+    pub fn behind(regions: GuestRegions, table: Iotlb) -> GuestMap
+        ensures { result ≡ record { layout = regions; table = Some table } }
+    {
+        GuestMap {
+            regions,
+            table: Some(table),
+        }
+    }
+
+    /// Whether each of `len` addresses from one on has a place for an access, and their end is an address.
+    pub fn reaches(&self, addr: u64, len: usize, access: Permissions) -> bool
+        ensures { result ≡ reach (places_in self.now) access addr len }
+    {
+        match &self.table {
+            None => self.regions.reaches(addr, len),
+            Some(table) => {
+                len as u64 <= u64::MAX - addr && reaches_by(&self.regions, table, addr, len, access)
+            }
+        }
+    }
+
+    /// The longest window of at most `most` bytes from an address on, for an access: the number of its region as its block, and where it stands there.
+    /// None if the address has no place.
+    #[inline(always)]
+    pub fn window_at(&self, addr: u64, most: usize, access: Permissions) -> Option<VolatileSlice>
+        requires { 0 < most }
+        ensures none { result ≡ None → location (places_in self.now) access addr ≡ None }
+        ensures some { IfSome result (IsWindowAt (location (places_in self.now) access) addr most) }
+        ensures longest { IfSome result (λ w. w.len ≡ min most (left_in (places_in self.now) addr)) }
+    {
+        match &self.table {
+            None => self.regions.window_at(addr, most),
+            Some(table) => window_by(&self.regions, table, addr, most, access),
+        }
+    }
+
+    /// The first of `len` addresses that the table doesn't map, with those after it that it doesn't map either: what is to be asked for. None if each is
+    /// mapped, whatever that lets through, or if there is no table.
+    pub fn first_miss(&self, addr: u64, len: usize) -> Option<IovaRange>
+        requires { addr + len < 2 ^ 64 }
+        ensures none { self.now.table ≡ None → result ≡ None }
+        ensures first { (ranges : List IotlbRange) → self.now.table ≡ Some ranges → MatchOption result (missing (table_kept ranges) addr len ≡ [])
+            (λ r. (rest : List IovaRange) × (missing (table_kept ranges) addr len ≡ r ∷ rest)) }
+    {
+        match &self.table {
+            None => None,
+            Some(table) => table.first_miss(GuestAddress(addr), len),
+        }
+    }
+}
+
+impl Places for GuestMap {
+    ghost places = { λ m. places_in m };
+
+    fn has_places(&self, addr: u64, len: usize, access: Permissions) -> bool {
+        self.reaches(addr, len, access)
+    }
+}

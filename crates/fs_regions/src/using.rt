@@ -1,0 +1,32 @@
+//! Which addresses a chain uses: for who changes the table that translates them.
+
+ghost use Rattle.std.specs.Prelude.{◌≡◌, true, false, All};
+ghost use Rattle.fs_regions.specs.Using.{IsApart, Touches};
+
+use fs_queue::Descriptor;
+
+// Whether one of `len` addresses from one on is a descriptor's.
+fn touches(descriptor: &Descriptor, iova: u64, len: u64) -> bool
+    ensures yes { result ≡ true → Touches iova len descriptor.now }
+    ensures no { result ≡ false → IsApart iova len descriptor.now }
+{
+    if iova < descriptor.addr {
+        descriptor.addr - iova < len && 0 < descriptor.len
+    } else {
+        iova - descriptor.addr < u64::from(descriptor.len) && 0 < len
+    }
+}
+
+/// Whether a chain with these descriptors uses one of `len` addresses from one on. If it uses none, they may be mapped anew or taken out while the chain is
+/// out: all of its own addresses stay as they were (`law_others_stay`).
+pub fn uses(descriptors: &[Descriptor], iova: u64, len: u64) -> bool
+    ensures used { result ≡ true → All (IsApart iova len) descriptors.now → ⊥ }
+    ensures unused { result ≡ false → All (IsApart iova len) descriptors.now }
+{
+    for descriptor in descriptors {
+        if touches(descriptor, iova, len) {
+            return true;
+        }
+    }
+    false
+}
