@@ -1,4 +1,5 @@
 pub mod Ended
+pub mod LostAsked
 pub mod OthersBeside
 pub mod Served
 pub mod ServedBeside

@@ -2,11 +2,14 @@
 #![tactic(auto)]
 
 pub mod among;
+pub mod answers;
 pub mod beside;
 pub mod laws;
 pub mod listings;
 pub mod live_queues;
 pub mod lives;
+pub mod losses;
+pub mod notices;
 pub mod others;
 pub mod seen;
 pub mod wholes;
