@@ -86,7 +86,7 @@ own_goes_back (at.Lists out l) q len s flags room reply last can two back = absu
 own_goes_back (at.Returning out) q len s flags room reply last can two back = absurd (cc)
 
 -- the reply is kept
-own_kept : (st : state.State) (one two : Workbench) (d : OutChain) (reply : List ℕ) → IfOut st (λ out. IsOwn d reply (at.HasReply out (own_reply (length reply)))) →
+pub own_kept : (st : state.State) (one two : Workbench) (d : OutChain) (reply : List ℕ) → IfOut st (λ out. IsOwn d reply (at.HasReply out (own_reply (length reply)))) →
     IfUnanswered st (λ out. two ≡ record one { state = at.HasReply out (own_reply (length reply)) }) → IsOwn d reply two.state
 own_kept (at.Taken out) one two d reply own is = subst (λ (w : Workbench). IsOwn d reply w.state) (sym is) own
 own_kept (at.Waits out w) one two d reply own is = subst (λ (w : Workbench). IsOwn d reply w.state) (sym is) own
