@@ -1,4 +1,5 @@
 pub mod Ended
+pub mod InARowRun
 pub mod LostAsked
 pub mod MappedAmid
 pub mod OthersBeside
