@@ -2,6 +2,7 @@ pub mod Ended
 pub mod InARowRun
 pub mod LostAsked
 pub mod MappedAmid
+pub mod MovedAmid
 pub mod OthersBeside
 pub mod Served
 pub mod ServedBeside

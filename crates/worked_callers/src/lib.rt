@@ -10,6 +10,7 @@ pub mod listings;
 pub mod live_queues;
 pub mod lives;
 pub mod losses;
+pub mod moves;
 pub mod notices;
 pub mod others;
 pub mod remapped;

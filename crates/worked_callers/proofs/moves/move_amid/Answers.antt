@@ -1,0 +1,59 @@
+use Rattle.std.proofs.Common.{◌≡◌, ◌≤◌, ◌^◌, ℕ, List, [], ◌∷◌, ◌++◌, Some, slice_get, subst, sym, ap, ◌∙◌}
+use Rattle.vm_memory_core.specs.Host.{changed_at}
+use Rattle.fs_queue.specs.Queue.{Queue}
+use Rattle.fs_record.specs.Record.{IsRecord}
+use Rattle.fs_regions.specs.Places.{places_in}
+use Rattle.fs_live.specs.Handles.{live_of}
+use Rattle.fs_live.specs.Live.{LiveEvent, Moves}
+use Rattle.fs_live.specs.Others.{recorded}
+use Rattle.fs_live.specs.Several.{LiveQueue}
+use Rattle.worked_callers.proofs.MovedAmid.{reached_run}
+use Rattle.worked_callers.proofs.Served.{if_ok}
+use Rattle.worked_callers.proofs.ServedBeside.{reached_by}
+use Rattle.worked_callers.proofs.ServedCrossed.{run_both}
+use Rattle.worked_callers.proofs.moves.move_amid.Goals as goal
+
+pub returns : goal.returns
+returns g c =
+    let may = g.F.FileSystemBase.may in
+    let saved = c.in_ok-save_one.ensures in
+    let found = c.in_ok-restored.ensures in
+    let left = c.reply_beside.new.queue in
+    let begun = c.begin_by_record.new.queue in
+    let final = c.reply_beside-2.new.queue in
+    let m = places_in c.args.there.now.regions in
+    let q = c.in-Some.read.now in
+    let read_options = c.in_ok-restored.field-0-0.0 in
+    record {
+      run = if_ok c.reply_beside-2.result _ _
+          (λ notice last s reached none queues options places limit limit' small. (
+            saved.0,
+            found.0,
+            saved.2,
+            found.2,
+            λ same.
+                let one = c.in_ok-reply_beside.ensures.run s 0 reached (ap (λ (l : List LiveQueue). slice_get l 0) queues) places limit small in
+                let s₁ = one.1 in
+                let queues₁ : s₁.queues ≡ live_of left ∷ [] = one.5 ∙ ap (λ (l : List LiveQueue). changed_at l 0 (λ _. live_of left)) queues in
+                let made : IsRecord saved.0 saved.1 s₁.options (recorded left ∷ []) =
+                subst (λ (o : ℕ). IsRecord saved.0 saved.1 o (recorded left ∷ [])) (sym (one.6 ∙ options)) saved.3 in
+                let read : IsRecord saved.0 found.1 read_options (q ∷ []) =
+                subst (λ (bytes : List ℕ). IsRecord bytes found.1 read_options (q ∷ [])) same
+                (subst (λ (qs : List Queue). IsRecord found.0 found.1 read_options qs) (sym c.deref.ensures.value ∙ c.in-Some.ensures) found.3) in
+                let moved = c.begin_by_record.ensures.moves s₁ left m saved.0 saved.1 found.1 read_options (one.4 ∙ none) queues₁ made read in
+                let s₂ = moved.1 in
+                let event : LiveEvent = Moves m (live_of begun ∷ []) in
+                let limit₂ = moved.7 ∙ one.7 in
+                let two = last s₂ 0 (reached_by may s₁ s₂ event (reached_run may s s₁ one.0 reached one.2) moved.2) (ap (λ (l : List LiveQueue). slice_get l 0) moved.3) moved.4 (limit₂ ∙ limit')
+                (subst (λ (n : ℕ). n ≤ 2 ^ 31) (sym limit₂) small) in (
+                  one.0 ++ event ∷ two.0,
+                  two.1,
+                  run_both may s s₁ two.1 one.0 (event ∷ two.0) one.2 (s₂, moved.2, two.2),
+                  two.4 ∙ moved.5,
+                  two.5 ∙ ap (λ (l : List LiveQueue). changed_at l 0 (λ _. live_of final)) moved.3,
+                  two.6 ∙ moved.6 ∙ one.6 ∙ options,
+                  two.8 ∙ moved.4,
+                ),
+          ))
+          c.reply_beside-2.ensures.run;
+    }

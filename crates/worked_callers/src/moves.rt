@@ -1,0 +1,101 @@
+//! A device that moves to another host between two chains: a record of it is made here and read there.
+
+ghost use Rattle.std.specs.Prelude.{◌≡◌, ◌≤◌, ◌^◌, ℕ, [], ◌∷◌, IfOk, IfSome, List, None, OnOk};
+ghost use Rattle.std.specs.Io.KnownBytes.{Appends, Consumes};
+ghost use Rattle.fs_record.specs.Record.{HasKnownBits, IsRecord, Version};
+ghost use Rattle.fs_regions.specs.Places.{places_in};
+ghost use Rattle.fs_chain.specs.declared.state.State.TheVariants as at;
+ghost use Rattle.fs_live.specs.Handles.{IsReached, live_of};
+ghost use Rattle.fs_live.specs.Live.{LiveEvent, LiveRun, LiveState};
+ghost use Rattle.fs_live.specs.Others.{recorded};
+
+use crate::crossed::Asked;
+use crate::others::{begin_by_record, reply_beside};
+use fs_chain::{ChainError, KeptQueue, Workbench};
+use fs_queue::Queue;
+use fs_record::{RecordSink, RecordSource, restore_record, save_record};
+use fuse_base::FsOptions;
+use fuse_fs::FileSystem;
+use std::alloc::Global;
+
+/// Puts the record of a device of one queue into a sink.
+pub fn save_one<S: RecordSink>(
+    sink: &mut S,
+    options: FsOptions,
+    queue: &KeptQueue,
+) -> Result<(), ChainError>
+    requires known { HasKnownBits options.0 }
+    ensures { OnOk result ((sent : List ℕ) × (v : Version) × Appends (S.sent sink.old) (S.sent sink.new) sent × IsRecord sent v options.0 (recorded queue.now ∷ [])) }
+{
+    let saved = [Queue::resume(queue.layout, queue.position, queue.stopped.is_some())];
+    match save_record(sink, options, &saved, 4096, 0x101000) {
+        Ok(_) => Ok(()),
+        Err(_) => Err(ChainError::ShortBuffer),
+    }
+}
+
+/// The one queue of some.
+pub fn only(queues: &[Queue]) -> Option<&Queue>
+    ensures { IfSome result (λ q. queues.now ≡ q.now ∷ []) }
+{
+    if queues.len() == 1 {
+        Some(&queues[0])
+    } else {
+        None
+    }
+}
+
+/// The options and the queues of a record that is read from a source.
+pub fn restore_one<T: RecordSource>(
+    alloc: Global,
+    source: &mut T,
+) -> Result<(FsOptions, Vec<Queue>), ChainError>
+    ensures { IfOk result (λ v. (taken : List ℕ) × (v' : Version) × Consumes (T.left source.old) (T.left source.new) taken × IsRecord taken v' v.0.0 v.1.items) }
+{
+    match restore_record(alloc, source, 4096, 0x101000) {
+        Ok(read) => Ok(read),
+        Err(_) => Err(ChainError::BadArgument),
+    }
+}
+
+/// A chain goes back here, a record is made here and read there, the queue there is begun by it, and a chain goes back there: if what is read is what
+/// was put, that is a run, in which the queue goes on where it was.
+pub fn move_amid<F: FileSystem, S: RecordSink, T: RecordSource>(
+    alloc: Global,
+    here: &mut Workbench,
+    there: &mut Workbench,
+    queue: &mut KeptQueue,
+    moved: &mut KeptQueue,
+    options: FsOptions,
+    sink: &mut S,
+    source: &mut T,
+    one: &Asked<'_>,
+    two: &Asked<'_>,
+) -> Result<bool, ChainError>
+    requires here_free { here.old.state ≡ at.Free }
+    requires there_free { there.old.state ≡ at.Free }
+    requires goes { queue.old.stopped ≡ None }
+    requires some { 1 ≤ moved.old.most_out }
+    requires known { HasKnownBits options.0 }
+    ensures run { IfOk result (λ notice. (s : LiveState F) → IsReached F.may s → s.outs ≡ [] → s.queues ≡ live_of queue.old ∷ [] → s.options ≡ options.0
+        → s.places ≡ places_in here.old.regions → s.limit ≡ here.old.limit → s.limit ≡ there.old.limit → s.limit ≤ 2 ^ 31
+        → (sent : List ℕ) × (taken : List ℕ) × Appends (S.sent sink.old) (S.sent sink.new) sent × Consumes (T.left source.old) (T.left source.new) taken
+        × (taken ≡ sent → (es : List LiveEvent) × (end : LiveState F) × LiveRun F.may s es end × (end.outs ≡ []) × (end.queues ≡ live_of moved.new ∷ [])
+        × (end.options ≡ options.0) × (end.places ≡ places_in there.old.regions))) }
+{
+    reply_beside::<F>(here, queue, one.given, one.request, one.bytes)?;
+    save_one(sink, options, queue)?;
+    let (_, restored) = restore_one(alloc, source)?;
+    let Some(read) = only(&restored) else {
+        return Err(ChainError::BadArgument);
+    };
+    let layout = read.layout();
+    if layout.size() < moved.most_out {
+        return Err(ChainError::BadArgument);
+    }
+    begin_by_record::<F>(moved, read);
+    if moved.stopped.is_some() {
+        return Err(ChainError::WrongOrder);
+    }
+    reply_beside::<F>(there, moved, two.given, two.request, two.bytes)
+}
