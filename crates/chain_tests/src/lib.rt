@@ -24,6 +24,8 @@ mod lives;
 #[cfg(test)]
 mod losses;
 #[cfg(test)]
+mod moves;
+#[cfg(test)]
 mod notices;
 #[cfg(test)]
 mod orders;
