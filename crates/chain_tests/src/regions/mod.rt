@@ -1,5 +1,6 @@
 //! Tests of walks over regions.
 
 mod given;
+mod mapped;
 mod memories;
 mod walks;
