@@ -23,18 +23,23 @@ pub fn workbench(rt: &impl Abort, alloc: Global) -> Workbench
     workbench_over(rt, alloc, &[0])
 }
 
-/// A free workbench over pages at these addresses: the number of each is its place here.
-pub fn workbench_over(rt: &impl Abort, alloc: Global, pages: &[u64]) -> Workbench
-    ensures { result.state ≡ at.Free }
-{
+/// The memory of pages at these addresses: the number of each is its place here.
+pub fn memory_of(rt: &impl Abort, alloc: Global, pages: &[u64]) -> GuestMap {
     let mut regions = Vec::new(alloc);
     for page in pages {
         let region = MemoryRegion::new(*page, 0x1000, regions.len()).expect(rt, "a region");
         regions.push(region).expect(rt, "memory");
     }
-    let memory = GuestRegions::of_regions(alloc, regions).expect(rt, "memory");
+    let regions = GuestRegions::of_regions(alloc, regions).expect(rt, "memory");
+    GuestMap::of_regions(regions)
+}
+
+/// A free workbench over such pages.
+pub fn workbench_over(rt: &impl Abort, alloc: Global, pages: &[u64]) -> Workbench
+    ensures { result.state ≡ at.Free }
+{
+    let memory = memory_of(rt, alloc, pages);
     let mut workbench = Workbench::new(alloc);
-    let memory = GuestMap::of_regions(memory);
     workbench.set_memory(memory, 0x101000).expect(rt, "memory");
     workbench
 }
@@ -117,6 +122,13 @@ pub const RENAME: &[u8] = &[
 /// READDIR of at most 64 bytes from the beginning of the directory that is open as 3: node 1, unique number 7.
 pub const READDIR: &[u8] = &[
     80, 0, 0, 0, 28, 0, 0, 0, 7, 0, 0, 0, 0, 0, 0, 0, 1, 0, 0, 0, 0, 0, 0, 0, 10, 0, 0, 0, 11, 0,
+    0, 0, 12, 0, 0, 0, 0, 0, 0, 0, 3, 0, 0, 0, 0, 0, 0, 0, 0, 0, 0, 0, 0, 0, 0, 0, 64, 0, 0, 0, 0,
+    0, 0, 0, 0, 0, 0, 0, 0, 0, 0, 0, 0, 0, 0, 0, 0, 0, 0, 0,
+];
+
+/// READ of at most 64 bytes from the beginning of the file that is open as 3: node 1, unique number 7.
+pub const READ: &[u8] = &[
+    80, 0, 0, 0, 15, 0, 0, 0, 7, 0, 0, 0, 0, 0, 0, 0, 1, 0, 0, 0, 0, 0, 0, 0, 10, 0, 0, 0, 11, 0,
     0, 0, 12, 0, 0, 0, 0, 0, 0, 0, 3, 0, 0, 0, 0, 0, 0, 0, 0, 0, 0, 0, 0, 0, 0, 0, 64, 0, 0, 0, 0,
     0, 0, 0, 0, 0, 0, 0, 0, 0, 0, 0, 0, 0, 0, 0, 0, 0, 0, 0,
 ];

@@ -4,7 +4,11 @@
 #[cfg(test)]
 mod among;
 #[cfg(test)]
+mod answers;
+#[cfg(test)]
 mod beside;
+#[cfg(test)]
+mod crossed;
 #[cfg(test)]
 mod events;
 #[cfg(test)]
@@ -18,11 +22,17 @@ mod listings;
 #[cfg(test)]
 mod lives;
 #[cfg(test)]
+mod losses;
+#[cfg(test)]
+mod notices;
+#[cfg(test)]
 mod orders;
 #[cfg(test)]
 mod others;
 #[cfg(test)]
 mod regions;
+#[cfg(test)]
+mod remapped;
 #[cfg(test)]
 mod returns;
 #[cfg(test)]

@@ -6,8 +6,8 @@ use fuse_fs::{DirEntry, Entry, Timeout};
 use fuse_wire::{Attr, GuestGid, GuestUid};
 use worked_callers::listings::{Pair, serve_two};
 
-// The loads of a chain of head 1: 80 bytes at 0x100, and a room of 400 bytes at 0x200.
-const LOADS_OF_LIST: &[&[u8]] = &[
+/// The loads of a chain of head 1: 80 bytes at 0x100, and a room of 400 bytes at 0x200.
+pub const LOADS_OF_LIST: &[&[u8]] = &[
     &[0, 0],
     &[1, 0],
     &[
@@ -16,15 +16,15 @@ const LOADS_OF_LIST: &[&[u8]] = &[
     ],
 ];
 
-// READDIRPLUS of at most 400 bytes from the beginning of the directory that is open as 3: node 1, unique number 7.
-const READDIRPLUS: &[u8] = &[
+/// READDIRPLUS of at most 400 bytes from the beginning of the directory that is open as 3: node 1, unique number 7.
+pub const READDIRPLUS: &[u8] = &[
     80, 0, 0, 0, 44, 0, 0, 0, 7, 0, 0, 0, 0, 0, 0, 0, 1, 0, 0, 0, 0, 0, 0, 0, 10, 0, 0, 0, 11, 0,
     0, 0, 12, 0, 0, 0, 0, 0, 0, 0, 3, 0, 0, 0, 0, 0, 0, 0, 0, 0, 0, 0, 0, 0, 0, 0, 144, 1, 0, 0, 0,
     0, 0, 0, 0, 0, 0, 0, 0, 0, 0, 0, 0, 0, 0, 0, 0, 0, 0, 0,
 ];
 
-// A node of this number, an empty file.
-fn node(inode: u64) -> Entry<u64> {
+/// A node of this number, an empty file.
+pub fn node(inode: u64) -> Entry<u64> {
     Entry {
         inode,
         generation: 0,
@@ -51,8 +51,8 @@ fn node(inode: u64) -> Entry<u64> {
     }
 }
 
-// An entry of this number and name.
-fn named(ino: u64, type_: u32, name: &[u8]) -> DirEntry<'_> {
+/// An entry of this number and name.
+pub fn named(ino: u64, type_: u32, name: &[u8]) -> DirEntry<'_> {
     DirEntry {
         ino,
         offset: ino,

@@ -55,7 +55,7 @@ first_offers request whole = (
   ap (λ (b : Bool). option_map (Offers 0) (if b then Some (IsRequest request (addresses 0x2000 16)) else None)) (ap (λ (n : ℕ). n == 40) whole),
 )
 
-first_fetches : FetchesBy blank 0x101000 queue first_loads first_table 0 None
+pub first_fetches : FetchesBy blank 0x101000 queue first_loads first_table 0 None
 unfolding place addresses stored_all found_exactly
 first_fetches = (([], All-nil (IsLost blank), refl), first_offers)
 
@@ -68,7 +68,7 @@ second_offers request whole = (
   ap (λ (b : Bool). option_map (Offers 2) (if b then Some (IsRequest request (addresses 0x4000 16)) else None)) (ap (λ (n : ℕ). n == 40) whole),
 )
 
-second_fetches : FetchesBy blank 0x101000 (record queue { position = 1 }) second_loads second_table 2 None
+pub second_fetches : FetchesBy blank 0x101000 (record queue { position = 1 }) second_loads second_table 2 None
 unfolding place addresses stored_all found_exactly
 second_fetches = (([], All-nil (IsLost blank), refl), second_offers)
 

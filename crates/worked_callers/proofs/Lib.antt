@@ -1,5 +1,9 @@
 pub mod Ended
+pub mod InARowRun
+pub mod LostAsked
+pub mod MappedAmid
 pub mod OthersBeside
 pub mod Served
 pub mod ServedBeside
+pub mod ServedCrossed
 pub mod TakenTwo

@@ -1,8 +1,9 @@
 -- A chain that is walked and given up, or replied by bytes of its caller's own, as a run beside whatever other chains are out.
-use Rattle.std.proofs.Common.{◌≡◌, ℕ, ◌≤◌, ◌<◌, ◌^◌, Bool, List, [], ◌∷◌, ◌++◌, append-nil, length, Some, None, Result, Ok, Err, OnOk, slice_get, refl, subst, sym, ap, ◌∙◌}
+use Rattle.std.proofs.Common.{◌≡◌, ℕ, zero, suc, ◌≤◌, ◌<◌, ◌^◌, Bool, List, [], ◌∷◌, ◌++◌, append-nil, length, Some, None, Result, Ok, Err, OnOk, slice_get, refl, subst, sym, ap, ◌∙◌}
 use Rattle.std.specs.Prelude.{if◌then◌else◌, false, is_some, Option, true}
 use Rattle.std.proofs.lemmas.List.Elements.{All-head}
 use Rattle.vm_memory.specs.Memory.{Memory}
+use Rattle.vm_memory_core.specs.Host.{changed_at}
 use Rattle.fs_queue.specs.Queue.{Queue}
 use Rattle.fs_queue.specs.ReturningView.{stores_of}
 use Rattle.fs_queue.specs.declared.layout.QueueLayout.{QueueLayout}
@@ -16,7 +17,7 @@ use Rattle.virtiofsd_fuse.specs.Serving.{May}
 use Rattle.fs_chain.specs.Events.{tells_of}
 use Rattle.fs_chain.specs.Orders.{give_up_error, is_out, return_error}
 use Rattle.fs_chain.specs.OwnReplies.{IfUnanswered, own_error, own_reply}
-use Rattle.fs_chain.specs.Queues.{begun_anew, untook}
+use Rattle.fs_chain.specs.Queues.{begun_anew, gave, untook}
 use Rattle.fs_chain.specs.Returns.{IfHasReply, ReturnsBy}
 use Rattle.fs_chain.specs.Whole.{FromTaken, IsWalked}
 use Rattle.fs_chain.specs.declared.loads.Went.TheVariants as wents
@@ -86,7 +87,7 @@ own_goes_back (at.Lists out l) q len s flags room reply last can two back = absu
 own_goes_back (at.Returning out) q len s flags room reply last can two back = absurd (cc)
 
 -- the reply is kept
-own_kept : (st : state.State) (one two : Workbench) (d : OutChain) (reply : List ℕ) → IfOut st (λ out. IsOwn d reply (at.HasReply out (own_reply (length reply)))) →
+pub own_kept : (st : state.State) (one two : Workbench) (d : OutChain) (reply : List ℕ) → IfOut st (λ out. IsOwn d reply (at.HasReply out (own_reply (length reply)))) →
     IfUnanswered st (λ out. two ≡ record one { state = at.HasReply out (own_reply (length reply)) }) → IsOwn d reply two.state
 own_kept (at.Taken out) one two d reply own is = subst (λ (w : Workbench). IsOwn d reply w.state) (sym is) own
 own_kept (at.Waits out w) one two d reply own is = subst (λ (w : Workbench). IsOwn d reply w.state) (sym is) own
@@ -96,14 +97,21 @@ own_kept (at.Walking course ticket walk) one two d reply own is = absurd own
 own_kept (at.HasReply out r) one two d reply own is = absurd own
 own_kept (at.Returning out) one two d reply own is = absurd own
 
-pub replied_beside : {F : Type 0} (may : May F) (walks_law : HandleWalks may) (replies_law : HandleReplies may) (returns_law : HandleReturnsOwn may) (old one two : Workbench) (before after : KeptQueue)
-    (head n r serial : ℕ) (request reply : List ℕ) (notice : Bool) → before.stopped ≡ None → IsWalked old one before after (wents.On (says.Chain head n r))
+-- what changes twice changes at last
+changed_twice : {A : Type 0} (xs : List A) (i : ℕ) (x y : A) → changed_at (changed_at xs i (λ _. x)) i (λ _. y) ≡ changed_at xs i (λ _. y)
+changed_twice [] i x y = refl
+changed_twice (z ∷ zs) zero x y = refl
+changed_twice {A} (z ∷ zs) (suc i) x y = ap (λ (l : List A). z ∷ l) (changed_twice zs i x y)
+
+pub replied_beside : {F : Type 0} (may : May F) (walks_law : HandleWalks may) (replies_law : HandleReplies may) (returns_law : HandleReturnsOwn may) (old one two : Workbench)
+    (before after final : KeptQueue) (head n r serial : ℕ) (request reply : List ℕ) (notice : Bool) → before.stopped ≡ None → IsWalked old one before after (wents.On (says.Chain head n r))
     → FromTaken one.state (λ out. out.request_len ≡ length request) → own_error one.state one.serial serial (length reply) ≡ None
     → IfUnanswered one.state (λ out. two ≡ record one { state = at.HasReply out (own_reply (length reply)) })
-    → ((room bytes : List ℕ) (last : ℕ) → (acts : List Act) × GoesBackOwn after room bytes two.state acts last notice) → (s : LiveState F) (i : ℕ) → IsReached may s
-    → slice_get s.queues i ≡ Some (live_of before) → s.places ≡ places_in old.regions → s.limit ≡ old.limit → s.limit ≤ 2 ^ 31
+    → ((room bytes : List ℕ) (last : ℕ) → (acts : List Act) × GoesBackOwn after room bytes two.state acts last notice) → final ≡ gave after → (s : LiveState F) (i : ℕ)
+    → IsReached may s → slice_get s.queues i ≡ Some (live_of before) → s.places ≡ places_in old.regions → s.limit ≡ old.limit → s.limit ≤ 2 ^ 31
     → (es : List LiveEvent) × (end : LiveState F) × LiveRun may s es end × (calls_among es ≡ []) × (end.outs ≡ s.outs)
-replied_beside {F} may walks_law replies_law returns_law old one two before after head n r serial request reply notice goes walks len clear is_kept back s i reached there places limit small =
+    × (end.queues ≡ changed_at s.queues i (λ _. live_of final)) × (end.options ≡ s.options) × (end.limit ≡ s.limit) × (end.places ≡ s.places)
+replied_beside {F} may walks_law replies_law returns_law old one two before after final head n r serial request reply notice goes walks len clear is_kept back final_is s i reached there places limit small =
     let q = live_of before in
     let ds = one.descriptors.items in
     let walk = walks_law s i walks.0 old one before after (says.Chain head n r) there places limit goes tt walks.1 tt in
@@ -122,8 +130,17 @@ replied_beside {F} may walks_law replies_law returns_law old one two before afte
     let taken_is : took q ≡ live_of after = same_some (took q) (live_of after) (sym (there_same s.queues i i (λ _. took q) q refl there) ∙ there₁) in
     let goes_back = back (room_of d) reply 0 in
     let returned = returns_law s₂ d s.outs [] two.state after request reply goes_back.0 0 notice refl there₁ (taken_of before after goes taken_is) refl own goes_back.1 in
-    let s₃ : LiveState F = after_giving s₂ s.outs [] d (live_of after) in
-    (Walks i loaded ds came ∷ Replies c request reply s.options ∷ Returns d returned.0 notice 0 returned.1 returned.2 ∷ [], s₃, (s₁, first, (s₂, replied.0, (s₃, returned.4, refl))), refl, append-nil s.outs)
+    let s₃ : LiveState F = after_giving s₂ s.outs [] d (live_of after) in (
+      Walks i loaded ds came ∷ Replies c request reply s.options ∷ Returns d returned.0 notice 0 returned.1 returned.2 ∷ [],
+      s₃,
+      (s₁, first, (s₂, replied.0, (s₃, returned.4, refl))),
+      refl,
+      append-nil s.outs,
+      changed_twice s.queues i (took q) (live_of (gave after)) ∙ ap (λ (k : KeptQueue). changed_at s.queues i (λ _. live_of k)) (sym final_is),
+      refl,
+      refl,
+      refl,
+    )
 
 -- a queue that is begun where it stands is as it was
 pub begun_same : (q : KeptQueue) → q.stopped ≡ None → q.returned ≡ q.position → live_of (begun_anew q q.layout q.position) ≡ live_of q
@@ -157,7 +174,8 @@ pub moved_by : {F : Type 0} (may : May F) (law : HandleMoves may) (q after : Kep
     layout.desc ≡ read.desc → layout.avail ≡ read.avail → layout.used ≡ read.used → is_some stopped ≡ read.stopped → after ≡ record (begun_anew q layout read.position) { stopped = stopped } →
     1 ≤ q.most_out → q.most_out ≤ read.size → (s : LiveState F) (here : KeptQueue) (m : Memory) (bytes : List ℕ) (v v' : Version) (options : ℕ) → s.outs ≡ [] →
     s.queues ≡ live_of here ∷ [] → IsRecord bytes v s.options (recorded here ∷ []) → IsRecord bytes v' options (read ∷ []) →
-    (options ≡ s.options) × (next : LiveState F) × Happens may s (Moves m (live_of after ∷ [])) next × (next.queues ≡ live_of after ∷ []) × (next.places ≡ m)
+    (options ≡ s.options) × (next : LiveState F) × Happens may s (Moves m (live_of after ∷ [])) next × (next.queues ≡ live_of after ∷ []) × (next.places ≡ m) × (next.outs ≡ [])
+    × (next.options ≡ s.options) × (next.limit ≡ s.limit)
 moved_by {F} may law q after layout read stopped size desc avail used is after_is some few s here m bytes v v' options none queues made found =
     let small : read.position < 2 ^ 16 = (All-head IsSavedQueue read [] found.2.3).2 in
     let there : KeptQueue = record (begun_anew q layout read.position) { stopped = stopped } in
@@ -167,4 +185,4 @@ moved_by {F} may law q after layout read stopped size desc avail used is after_i
       few = (subst (λ (k : KeptQueue). MayBeOut (live_of k)) (sym after_is) (some, subst (λ (n : ℕ). q.most_out ≤ n) (sym size) few), tt);
     } in
     let moved = law s (here ∷ []) (after ∷ []) m bytes v v' options (read ∷ []) none queues made found begun in
-    (moved.0, record s { places = m; queues = live_of after ∷ [] }, moved.1, refl, refl)
+    (moved.0, record s { places = m; queues = live_of after ∷ [] }, moved.1, refl, refl, none, refl, refl)

@@ -131,3 +131,7 @@ if_ok (Err e) P Q more p = tt
 pub if_ok_so : {A E : Type 0} (r : Result A E) (P Q : A → Type 0) (S : Type 0) → ((a : A) → P a → S → Q a) → IfOk r P → OnOk r S → IfOk r Q
 if_ok_so (Ok a) P Q S more p s = more a p s
 if_ok_so (Err e) P Q S more p s = tt
+
+pub on_ok_more : {A E : Type 0} (r : Result A E) (P Q : Type 0) → (P → Q) → OnOk r P → OnOk r Q
+on_ok_more (Ok a) P Q more p = more p
+on_ok_more (Err e) P Q more p = tt

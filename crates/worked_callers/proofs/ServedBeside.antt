@@ -89,7 +89,7 @@ calls_behind (Replies c request reply options) es fs is = is
 calls_behind (Maps m) es fs is = is
 calls_behind (Moves m queues) es fs is = is
 
-calls_of_both : (es fs : List LiveEvent) → calls_among (es ++ fs) ≡ calls_among es ++ calls_among fs
+pub calls_of_both : (es fs : List LiveEvent) → calls_among (es ++ fs) ≡ calls_among es ++ calls_among fs
 calls_of_both [] fs = refl
 calls_of_both (e ∷ es) fs = calls_behind e es fs (calls_of_both es fs)
 
@@ -120,7 +120,7 @@ taken_of before after goes is =
 
 -- ---- the calls
 
-each_suits : {F : Type 0} (may : May F) (files files' : F) (calls : Calls) → FileRun may files calls files' → EachSuits calls
+pub each_suits : {F : Type 0} (may : May F) (files files' : F) (calls : Calls) → FileRun may files calls files' → EachSuits calls
 each_suits may files files' [] run = tt
 each_suits may files files' (step ∷ calls) run = (run.1, each_suits may run.0 files' calls run.3)
 
@@ -131,13 +131,13 @@ told_with_reply (asks.More n) w w' given has = absurd has
 told_with_reply asks.Nothing w w' given has = tt
 told_with_reply (asks.Fault e) w w' given has = tt
 
-kept_on : (page_size options : ℕ) (request : List ℕ) (c : OutChain) (earlier more : Calls) (made : told.Told) (w : Workbench)
+pub kept_on : (page_size options : ℕ) (request : List ℕ) (c : OutChain) (earlier more : Calls) (made : told.Told) (w : Workbench)
     → IsKept page_size options request (asked_chain c request options earlier) made w → IsKept page_size options request (asked_chain c request options more) made w
 kept_on page_size options request c earlier more made w kept =
     record { out = kept.out; head = kept.head; taken = kept.taken; room = kept.room; small = kept.small; tells = kept.tells; session = kept.session }
 
 -- the calls of a chain are answered one after another
-record AllAnswered {F : Type 0} (may : May F) (s : LiveState F) (before behind : List OutChain) (c : OutChain) (later : Calls) : Type 0 where
+pub record AllAnswered {F : Type 0} (may : May F) (s : LiveState F) (before behind : List OutChain) (c : OutChain) (later : Calls) (files : F) : Type 0 where
   pub es : List LiveEvent
   pub end : LiveState F
   pub run : LiveRun may s es end
@@ -146,14 +146,15 @@ record AllAnswered {F : Type 0} (may : May F) (s : LiveState F) (before behind :
   pub page_size : end.page_size ≡ s.page_size
   pub calls : calls_among es ≡ later
   pub anew : (i : ℕ) → AllByRecursion (NotAnew i) es
+  pub files_are : end.files ≡ files
 
 module _ {F : Type 0} (may : May F) (law : HandleCalls may) (w w' : Workbench) (request : List ℕ) (options : ℕ) (made : told.Told) (given : Given) (has : HasReply made w given w') where
-  abbrev all : Calls
+  abbrev pub all : Calls
   all = file_calls (drop 80 request) made given
 
-  answered_all : (s : LiveState F) (c : OutChain) (before behind : List OutChain) (earlier later : Calls) (files : F) → s.outs ≡ before ++ asked_chain c request options earlier ∷ behind
+  pub answered_all : (s : LiveState F) (c : OutChain) (before behind : List OutChain) (earlier later : Calls) (files : F) → s.outs ≡ before ++ asked_chain c request options earlier ∷ behind
       → IsKept s.page_size options request (asked_chain c request options earlier) made w → all ≡ earlier ++ later → FileRun may s.files later files
-      → AllAnswered may s before behind (asked_chain c request options all) later
+      → AllAnswered may s before behind (asked_chain c request options all) later files
   answered_all s c before behind earlier [] files out kept calls_are run = record {
     es = [];
     end = s;
@@ -163,6 +164,7 @@ module _ {F : Type 0} (may : May F) (law : HandleCalls may) (w w' : Workbench) (
     page_size = refl;
     calls = refl;
     anew = λ i. tt;
+    files_are = sym run;
   }
   answered_all s c before behind earlier ((call, answer) ∷ later) files out kept calls_are run =
       let d = asked_chain c request options earlier in
@@ -180,6 +182,7 @@ module _ {F : Type 0} (may : May F) (law : HandleCalls may) (w w' : Workbench) (
         page_size = rest.page_size;
         calls = ap (λ (calls : Calls). (call, answer) ∷ calls) rest.calls;
         anew = λ i. (tt, rest.anew i);
+        files_are = rest.files_are;
       }
 
 -- ---- the whole chain

@@ -2,12 +2,17 @@
 #![tactic(auto)]
 
 pub mod among;
+pub mod answers;
 pub mod beside;
+pub mod crossed;
 pub mod laws;
 pub mod listings;
 pub mod live_queues;
 pub mod lives;
+pub mod losses;
+pub mod notices;
 pub mod others;
+pub mod remapped;
 pub mod seen;
 pub mod wholes;
 pub mod worked_runs;

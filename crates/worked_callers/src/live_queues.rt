@@ -5,8 +5,11 @@ ghost use Rattle.vm_memory.specs.Memory.{Memory};
 ghost use Rattle.fs_queue.specs.Returning.{Store, next_position};
 ghost use Rattle.fs_device.specs.Run.{KickRun};
 ghost use Rattle.fs_live.specs.Live.{LiveState};
+ghost use Rattle.fs_live.specs.Overlap.{at_positions, state};
 ghost use Rattle.fs_live.specs.Serial.{IsAtRest, SerialRun, Single, plain, turn_of};
 ghost use Rattle.fs_live.specs.Several.{AtTheirPlaces, LiveQueue};
+ghost use Rattle.fuse_fs.specs.Calls.{Destroy, Done};
+ghost use Rattle.worked_callers.specs.InARow.{after_both, one, two, with_both};
 
 use fs_live::{law_queues, law_serial};
 use fuse_fs::FileSystem;
@@ -23,6 +26,14 @@ pub fn oldest_first()
 pub fn two_in_a_row<F: FileSystem>()
     ensures { (s after : LiveState F) (one two : Single) (m m' : Memory) (i : ℕ) (w : LiveQueue) → s.outs ≡ [] → slice_get s.queues i ≡ Some w → IsAtRest w
         → SerialRun F.may i m s (one ∷ two ∷ []) m' after → KickRun F.may (plain s m) i 2 (turn_of one ∷ turn_of two ∷ []) None (plain after m') }
+{
+    law_serial::<F>();
+}
+
+/// Two chains of one queue, one after the other, over a memory that has what is loaded of them: a kick of the plain machine, of these two turns.
+pub fn served_in_a_row<F: FileSystem>()
+    ensures { (before after : F) → F.may before Destroy Done after
+        → KickRun F.may (plain (state before (at_positions 0 0) 1 []) with_both) 0 2 (turn_of one ∷ turn_of two ∷ []) None (plain (state after (at_positions 2 2) 0 []) after_both) }
 {
     law_serial::<F>();
 }

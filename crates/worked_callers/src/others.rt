@@ -3,8 +3,10 @@
 ghost use Rattle.std.specs.Prelude.{◌≡◌, ◌≤◌, ◌^◌, ℕ, [], ◌∷◌, IfOk, is_some, List, None, OnOk, Some, slice_get};
 ghost use Rattle.std.specs.List.{AllByRecursion};
 ghost use Rattle.vm_memory.specs.Memory.{Memory};
+ghost use Rattle.vm_memory_core.specs.Host.{changed_at};
 ghost use Rattle.fs_record.specs.Record.{IsRecord, Version};
 ghost use Rattle.fs_regions.specs.Places.{places_in};
+ghost use Rattle.fs_chain.specs.Queues.{gave};
 ghost use Rattle.fs_chain.specs.declared.state.State.TheVariants as at;
 ghost use Rattle.fs_device.specs.StepBy.{Act};
 ghost use Rattle.fs_live.specs.Handles.{IsReached, live_of};
@@ -57,6 +59,7 @@ pub fn lose_beside<F: FileSystem>(
 /// A chain that its caller replied to goes back with his bytes, to a driver that wants to be told.
 pub fn give_own_back(workbench: &mut Workbench, queue: &mut KeptQueue) -> Result<bool, ChainError>
     ensures back { IfOk result (λ notice. (room reply : List ℕ) (last : ℕ) → (acts : List Act) × GoesBackOwn queue.old room reply workbench.old.state acts last notice) }
+    ensures queue { OnOk result (queue.new ≡ gave queue.old) }
 {
     let mut front = [0u8; 160];
     let _stores = workbench.begin_return(queue, &mut front)?;
@@ -75,7 +78,8 @@ pub fn reply_beside<F: FileSystem>(
     requires goes { queue.old.stopped ≡ None }
     ensures run { IfOk result (λ notice. (s : LiveState F) (i : ℕ) → IsReached F.may s → slice_get s.queues i ≡ Some (live_of queue.old)
         → s.places ≡ places_in workbench.old.regions → s.limit ≡ workbench.old.limit → s.limit ≤ 2 ^ 31
-        → (es : List LiveEvent) × (end : LiveState F) × LiveRun F.may s es end × (calls_among es ≡ []) × (end.outs ≡ s.outs)) }
+        → (es : List LiveEvent) × (end : LiveState F) × LiveRun F.may s es end × (calls_among es ≡ []) × (end.outs ≡ s.outs)
+        × (end.queues ≡ changed_at s.queues i (λ _. live_of queue.new)) × (end.options ≡ s.options) × (end.limit ≡ s.limit) × (end.places ≡ s.places)) }
 {
     law_handles::<F>();
     let (_, request_len, _) = walk_chain(workbench, queue, given)?;
@@ -117,7 +121,8 @@ pub fn begin_by_record<F: FileSystem>(queue: &mut KeptQueue, read: &Queue)
     requires few { queue.old.most_out ≤ read.now.size }
     ensures moves { (s : LiveState F) (here : KeptQueue) (m : Memory) (bytes : List ℕ) (v v' : Version) (options : ℕ) → s.outs ≡ [] → s.queues ≡ live_of here ∷ []
         → IsRecord bytes v s.options (recorded here ∷ []) → IsRecord bytes v' options (read.now ∷ [])
-        → (options ≡ s.options) × (next : LiveState F) × Happens F.may s (Moves m (live_of queue.new ∷ [])) next × (next.queues ≡ live_of queue.new ∷ []) × (next.places ≡ m) }
+        → (options ≡ s.options) × (next : LiveState F) × Happens F.may s (Moves m (live_of queue.new ∷ [])) next × (next.queues ≡ live_of queue.new ∷ []) × (next.places ≡ m)
+        × (next.outs ≡ []) × (next.options ≡ s.options) × (next.limit ≡ s.limit) }
 {
     law_handles::<F>();
     let layout = read.layout();

@@ -11,6 +11,7 @@ ghost use Rattle.fs_queue.specs.declared.fault.QueueError.{QueueError};
 ghost use Rattle.fs_regions.specs.Places.{places_in};
 ghost use Rattle.fs_regions.specs.Walks.{queue_of};
 ghost use Rattle.fs_chain.specs.Events.{event_fault};
+ghost use Rattle.fs_chain.specs.Queues.{gave};
 ghost use Rattle.fs_chain.specs.Walks.{HasEvents, course_of};
 ghost use Rattle.fs_chain.specs.Whole.{FromTaken, Given, GoesBackBy, HasReply, IsAskedBy, IsBefore, IsSession, IsWalked, WantsBytes, after_chain, data_behind, no_effects};
 ghost use Rattle.fs_chain.specs.declared.asking.Told as told;
@@ -119,6 +120,7 @@ pub fn reply(
 pub fn give_back(workbench: &mut Workbench, queue: &mut KeptQueue) -> Result<bool, ChainError>
     ensures back { IfOk result (λ notice. (room behind : List ℕ) → (acts : List Act) × (last : ℕ) × GoesBackBy queue.old room behind workbench.old.state acts last notice) }
     ensures session { OnOk result (workbench.new.session ≡ workbench.old.session) }
+    ensures queue { OnOk result (queue.new ≡ gave queue.old) }
 {
     let mut front = [0u8; 160];
     let _stores = workbench.begin_return(queue, &mut front)?;

@@ -1,0 +1,78 @@
+-- A chain that is walked and asked, and lost while its call waits.
+use Rattle.std.proofs.Common.{◌≡◌, ℕ, ◌≤◌, ◌^◌, List, [], ◌∷◌, ◌++◌, Some, None, slice_get, refl, subst, sym, ap, ◌∙◌}
+use Rattle.std.specs.Prelude.{drop, IsTrue}
+use Rattle.fs_regions.specs.Places.{places_in}
+use Rattle.fs_regions.specs.declared.step.Step as comes
+use Rattle.fs_regions.specs.declared.step.Step.TheVariants as step
+use Rattle.fuse_fs.specs.Calls.{FileAnswer, FileCall, suits}
+use Rattle.fuse_values.specs.Values.{call_of}
+use Rattle.fuse_values.specs.declared.call.FileCall as made_call
+use Rattle.virtiofsd_fuse.specs.Serving.{May}
+use Rattle.server_phases.specs.declared.session.Session.{Session}
+use Rattle.fs_chain.specs.Whole.{IsAskedBy, IsWalked}
+use Rattle.fs_chain.specs.declared.asking.Told.TheVariants as asks
+use Rattle.fs_chain.specs.declared.loads.Went.TheVariants as wents
+use Rattle.fs_chain.specs.declared.queue.KeptQueue.{KeptQueue}
+use Rattle.fs_chain.specs.declared.walking.WalkOutcome.TheVariants as says
+use Rattle.fs_chain.specs.declared.workbench.Workbench.{Workbench}
+use Rattle.fs_live.specs.Handles.{HandleAsks, HandleWalks, IsHeld, IsOut, IsReached, IsSessionOf, live_of}
+use Rattle.fs_live.specs.Live.{Abandons, Answers, Asks, Happens, LiveEvent, LiveRun, LiveState, OutChain, Walks, after_answer, after_asking, after_loss, after_walk, asked_chain, calls_among, new_chain}
+use Rattle.fs_live.specs.Others.{HandleAbandons}
+use Rattle.worked_callers.proofs.ServedBeside.{chain_is, reached_by}
+
+module _ {F : Type 0} (may : May F) (walks_law : HandleWalks may) (asks_law : HandleAsks may) (abandons_law : HandleAbandons may) (old one two : Workbench) (before after : KeptQueue) (head n r : ℕ)
+    (session : Session) (request : List ℕ) (made : made_call.FileCall) (goes : before.stopped ≡ None) (walks : IsWalked old one before after (wents.On (says.Chain head n r)))
+    (asked : IsAskedBy one session request request (asks.Call made) two) where
+  abbrev call : FileCall
+  call = call_of (drop 80 request) made
+
+  pub lost_asked : (s : LiveState F) (i : ℕ) → IsReached may s → slice_get s.queues i ≡ Some (live_of before) → s.places ≡ places_in old.regions → s.limit ≡ old.limit → s.limit ≤ 2 ^ 31 →
+      IsSessionOf s session →
+      ((es : List LiveEvent) × (end : LiveState F) × LiveRun may s es end × (calls_among es ≡ []) × (slice_get end.queues i ≡ Some (live_of after)))
+      × ((answer : FileAnswer) (files : F) → IsTrue (suits call answer) → may s.files call answer files →
+      (es : List LiveEvent) × (end : LiveState F) × LiveRun may s es end × (calls_among es ≡ (call, answer) ∷ []) × (end.files ≡ files) × (slice_get end.queues i ≡ Some (live_of after)))
+  lost_asked s i reached there places limit small in_session =
+      let q = live_of before in
+      let ds = one.descriptors.items in
+      let walk = walks_law s i walks.0 old one before after (says.Chain head n r) there places limit goes tt walks.1 tt in
+      let loaded = walk.0 in
+      let is = chain_is ds walk.2 head n r walk.3 in
+      let came = step.Chain head None in
+      let c : OutChain = new_chain s i q loaded ds head None in
+      let s₁ : LiveState F = after_walk s i q loaded ds came in
+      let first : Happens may s (Walks i loaded ds came) s₁ = subst (λ (k : comes.Step). Happens may s (Walks i loaded ds k) (after_walk s i q loaded ds k)) is walk.4 in
+      let there₁ : slice_get s₁.queues i ≡ Some (live_of after) = subst (λ (k : comes.Step). slice_get (after_walk s i q loaded ds k).queues i ≡ Some (live_of after)) is walk.5 in
+      let held : IsOut s.limit c one = subst (λ (k : comes.Step). IsHeld s i q loaded k one) is walk.6 in
+      let asking = asks_law s₁ c s.outs [] one two session request request (asks.Call made) (reached_by may s s₁ (Walks i loaded ds came) reached first) small refl refl held in_session asked tt in
+      let s₂ : LiveState F = after_asking s₁ s.outs [] c request in
+      let d : OutChain = asked_chain c request s.options [] in
+      let end : LiveState F = after_loss s₂ s.outs [] d in
+      let walked : LiveEvent = Walks i loaded ds came in
+      let told : LiveEvent = Asks c request (call ∷ []) in (
+        (walked ∷ told ∷ Abandons d ∷ [], end, (s₁, first, (s₂, asking.0, (end, (abandons_law s₂ d s.outs [] refl).0, refl))), refl, there₁),
+        λ answer files fits so.
+            let s₃ : LiveState F = after_answer s₂ s.outs [] d request s.options ((call, answer) ∷ []) files in
+            let e : OutChain = asked_chain c request s.options ((call, answer) ∷ []) in
+            let last : LiveState F = after_loss s₃ s.outs [] e in
+            let answered : Happens may s₂ (Answers d call answer) s₃ = record {
+              before = s.outs;
+              behind = [];
+              out = refl;
+              request = request;
+              options = s.options;
+              calls = [];
+              asked = refl;
+              waits = sym asking.0.tells;
+              is_one = fits;
+              files = files;
+              may_so = so;
+              state = refl;
+            } in (
+              walked ∷ told ∷ Answers d call answer ∷ Abandons e ∷ [],
+              last,
+              (s₁, first, (s₂, asking.0, (s₃, answered, (last, (abandons_law s₃ e s.outs [] refl).0, refl)))),
+              refl,
+              refl,
+              there₁,
+            ),
+      )

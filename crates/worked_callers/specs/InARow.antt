@@ -1,0 +1,88 @@
+-- Two chains of one queue, one after the other, over a memory that has what is loaded of them.
+use Rattle.std.specs.Prelude.{ℕ, true, List, [], ◌∷◌, ◌++◌, None}
+use Rattle.vm_memory.specs.Memory.{Memory}
+use Rattle.fs_queue.specs.Returning.{Store}
+use Rattle.fuse_fs.specs.Calls.{Destroy, Done}
+use Rattle.virtiofsd_fuse.specs.Examples.{le16, le32, zeros}
+use Rattle.fs_device.specs.Examples.{blank, descriptor_bytes, put}
+use Rattle.fs_device.specs.Step.{Exchange}
+use Rattle.fs_device.specs.StepBy.{after_stores, stores_among}
+use Rattle.fs_live.specs.Live.{Answers, Asked, Asks, OutChain, acts_of}
+use Rattle.fs_live.specs.Overlap.{destroy, first, first_loads, first_table, second, second_loads, second_table, unknown}
+use Rattle.fs_live.specs.Serial.{Single, return_in}
+
+-- the table's four descriptors
+abbrev pub table : List ℕ
+table = (descriptor_bytes 0x1000 40 1 1 ++ descriptor_bytes 0x2000 16 2 0) ++ (descriptor_bytes 0x3000 40 1 3 ++ descriptor_bytes 0x4000 16 2 0)
+
+-- both requests, the table, and an available ring with flags 0, index 2, and the heads 0 and 2
+abbrev pub with_both : Memory
+with_both = put (put (put (put blank 0x1000 unknown) 0x3000 destroy) 0 table) 0x100 (le16 0 ++ le16 2 ++ le16 0 ++ le16 2)
+
+-- the first chain, once it was asked in the options 1: it makes no call
+abbrev pub first_asked : OutChain
+first_asked = record first { phase = Asked unknown 1 [] }
+
+-- the second one
+abbrev pub second_asked : OutChain
+second_asked = record second { phase = Asked destroy 1 [] }
+
+-- and once DESTROY was answered
+abbrev pub second_answered : OutChain
+second_answered = record second { phase = Asked destroy 1 ((Destroy, Done) ∷ []) }
+
+-- ENOSYS
+abbrev pub first_exchange : Exchange
+first_exchange = record { head = 0; request = unknown; reply = 0x10 ∷ 0 ∷ 0 ∷ 0 ∷ 0xda ∷ 0xff ∷ 0xff ∷ 0xff ∷ 2 ∷ zeros 7; fault = None }
+
+-- no reply to DESTROY
+abbrev pub second_exchange : Exchange
+second_exchange = record { head = 2; request = destroy; reply = []; fault = None }
+
+-- head, length and index: the used ring's first element, and its second one
+abbrev pub first_used : List Store
+first_used = record { address = 0x204; bytes = le32 0 } ∷ record { address = 0x208; bytes = le32 16 } ∷ record { address = 0x202; bytes = le16 1 } ∷ []
+
+abbrev pub second_used : List Store
+second_used = record { address = 0x20c; bytes = le32 2 } ∷ record { address = 0x210; bytes = le32 0 } ∷ record { address = 0x202; bytes = le16 2 } ∷ []
+
+-- the first chain from its walk to its return
+abbrev pub one : Single
+one = record {
+  queue = 0;
+  loaded = first_loads;
+  descriptors = first_table;
+  head = 0;
+  fault = None;
+  between = Asks first unknown [] ∷ [];
+  chain = first_asked;
+  exchange = first_exchange;
+  notice = true;
+  last = 0;
+  used = first_used;
+  seen = le16 0;
+}
+
+-- the second one
+abbrev pub two : Single
+two = record {
+  queue = 0;
+  loaded = second_loads;
+  descriptors = second_table;
+  head = 2;
+  fault = None;
+  between = Asks second destroy (Destroy ∷ []) ∷ Answers second_asked Destroy Done ∷ [];
+  chain = second_answered;
+  exchange = second_exchange;
+  notice = true;
+  last = 0;
+  used = second_used;
+  seen = le16 0;
+}
+
+-- the memory between both, and behind them
+abbrev pub after_one : Memory
+after_one = after_stores with_both (stores_among (acts_of (return_in one)))
+
+abbrev pub after_both : Memory
+after_both = after_stores after_one (stores_among (acts_of (return_in two)))

@@ -1,0 +1,91 @@
+//! A chain whose answer has data, and one that lists a directory, beside whatever other chains are out.
+
+ghost use Rattle.std.specs.Prelude.{◌≡◌, ◌≤◌, ◌^◌, ℕ, [], ◌∷◌, drop, IfOk, length, List, None, OnOk, Some, slice_get, true};
+ghost use Rattle.fs_regions.specs.Places.{places_in};
+ghost use Rattle.fuse_fs.specs.Answers.{listed};
+ghost use Rattle.fuse_fs.specs.Calls.{Bytes, FileRun};
+ghost use Rattle.fuse_values.specs.Values.{call_of};
+ghost use Rattle.fuse_values.specs.declared.call.FileCall as value;
+ghost use Rattle.fs_chain.specs.Whole.{IsAnsweredBy};
+ghost use Rattle.fs_chain.specs.WholeListings.{EndsThere, listing_calls};
+ghost use Rattle.fs_chain.specs.declared.answering.Replied.{Replied};
+ghost use Rattle.fs_chain.specs.declared.state.State.TheVariants as at;
+ghost use Rattle.fs_device.specs.Step.{Calls};
+ghost use Rattle.fs_live.specs.Handles.{IsReached, IsSessionOf, live_of};
+ghost use Rattle.fs_live.specs.Live.{LiveEvent, LiveRun, LiveState, calls_among};
+
+use crate::listings::{Pair, ask_call, list_two};
+use crate::wholes::{give_back, walk_chain};
+use fs_chain::{ChainError, KeptQueue, Workbench};
+use fs_live::law_handles;
+use fuse_fs::{Entry, FileSystem};
+use fuse_values::FileAnswer;
+use server_phases::Session;
+
+/// The call that waits is answered by data, which its caller stores in the room behind the front.
+pub fn give_data(workbench: &mut Workbench, bytes: &[u8]) -> Result<(), ChainError>
+    ensures { OnOk result ((told : Replied) × IsAnsweredBy workbench.old (FileAnswer.Bytes (length bytes.now)) bytes.now told workbench.new) }
+{
+    let serial = workbench.serial();
+    let answer = FileAnswer::Bytes { len: bytes.len() };
+    match workbench.answer(serial, answer) {
+        Ok(_) => Ok(()),
+        Err(error) => Err(error),
+    }
+}
+
+/// A chain whose answer has data, from its walk to its return: the run's call has this data for its answer.
+pub fn read_beside<F: FileSystem>(
+    workbench: &mut Workbench,
+    queue: &mut KeptQueue,
+    given: &[&[u8]],
+    session: Session,
+    request: &[u8],
+    bytes: &[u8],
+) -> Result<bool, ChainError>
+    requires free { workbench.old.state ≡ at.Free }
+    requires goes { queue.old.stopped ≡ None }
+    ensures run { IfOk result (λ notice. (s : LiveState F) (i : ℕ) (files : F) → IsReached F.may s → slice_get s.queues i ≡ Some (live_of queue.old)
+        → s.places ≡ places_in workbench.old.regions → s.limit ≡ workbench.old.limit → s.limit ≤ 2 ^ 31 → IsSessionOf s session
+        → (made : value.FileCall) × (more : Calls) × (FileRun F.may s.files ((call_of (drop 80 request.now) made, Bytes bytes.now) ∷ more) files
+        → (es : List LiveEvent) × (end : LiveState F) × LiveRun F.may s es end × (calls_among es ≡ (call_of (drop 80 request.now) made, Bytes bytes.now) ∷ more) × (end.outs ≡ s.outs))) }
+{
+    law_handles::<F>();
+    let (_, request_len, _) = walk_chain(workbench, queue, given)?;
+    if request_len != request.len() {
+        return Err(ChainError::BadArgument);
+    }
+    ask_call(workbench, session, request)?;
+    give_data(workbench, bytes)?;
+    give_back(workbench, queue)
+}
+
+/// A chain that lists two entries with their nodes, from its walk to its return: the run's calls are the listing and its look-ups.
+pub fn list_beside<F: FileSystem>(
+    workbench: &mut Workbench,
+    queue: &mut KeptQueue,
+    given: &[&[u8]],
+    session: Session,
+    request: &[u8],
+    list: &mut [u8],
+    entries: &Pair<'_>,
+    nodes: (Entry<u64>, Entry<u64>),
+) -> Result<bool, ChainError>
+    requires free { workbench.old.state ≡ at.Free }
+    requires goes { queue.old.stopped ≡ None }
+    ensures run { IfOk result (λ notice. (s : LiveState F) (i : ℕ) (files : F) → IsReached F.may s → slice_get s.queues i ≡ Some (live_of queue.old)
+        → s.places ≡ places_in workbench.old.regions → s.limit ≡ workbench.old.limit → s.limit ≤ 2 ^ 31 → IsSessionOf s session
+        → (made : value.FileCall) × (let calls = listing_calls (call_of (drop 80 request.now) made) true
+        ((listed entries.now.first, nodes.0) ∷ (listed entries.now.second, nodes.1) ∷ []) EndsThere in
+        FileRun F.may s.files calls files
+        → (es : List LiveEvent) × (end : LiveState F) × LiveRun F.may s es end × (calls_among es ≡ calls) × (end.outs ≡ s.outs))) }
+{
+    law_handles::<F>();
+    let (_, request_len, _) = walk_chain(workbench, queue, given)?;
+    if request_len != request.len() {
+        return Err(ChainError::BadArgument);
+    }
+    ask_call(workbench, session, request)?;
+    let _len = list_two(workbench, list, entries, nodes)?;
+    give_back(workbench, queue)
+}

@@ -1,0 +1,71 @@
+//! Two chains of one queue, each by a handle: both are asked, and the second one is answered and goes back before the first one.
+
+ghost use Rattle.std.specs.Prelude.{◌≡◌, ◌≤◌, ◌^◌, ℕ, ◌∷◌, ◌++◌, drop, IfOk, List, None, Some, slice_get};
+ghost use Rattle.fs_regions.specs.Places.{places_in};
+ghost use Rattle.fuse_fs.specs.Calls.{Bytes, FileRun};
+ghost use Rattle.fuse_values.specs.Values.{call_of};
+ghost use Rattle.fuse_values.specs.declared.call.FileCall as value;
+ghost use Rattle.fs_chain.specs.declared.state.State.TheVariants as at;
+ghost use Rattle.fs_device.specs.Step.{Calls};
+ghost use Rattle.fs_live.specs.Handles.{IsReached, IsSessionOf, live_of};
+ghost use Rattle.fs_live.specs.Live.{LiveEvent, LiveRun, LiveState, calls_among};
+
+use crate::answers::give_data;
+use crate::listings::ask_call;
+use crate::wholes::{give_back, walk_chain};
+use fs_chain::{ChainError, KeptQueue, Workbench};
+use fs_live::law_handles;
+use fuse_fs::FileSystem;
+use server_phases::Session;
+
+/// What a chain is asked, by the loads of its walk and its request, and the data of its answer.
+#[derive(Drop)]
+pub struct Asked<'a> {
+    /// The loads.
+    pub given: &'a [&'a [u8]],
+    /// The request.
+    pub request: &'a [u8],
+    /// The data.
+    pub bytes: &'a [u8],
+}
+
+/// Two handles take a chain each and are asked; the second one's is answered and goes back, and then the first one's: a run, in which the calls are in
+/// the order of their answers.
+pub fn serve_crossed<F: FileSystem>(
+    first: &mut Workbench,
+    second: &mut Workbench,
+    queue: &mut KeptQueue,
+    sessions: (Session, Session),
+    one: &Asked<'_>,
+    two: &Asked<'_>,
+) -> Result<(bool, bool), ChainError>
+    requires first_free { first.old.state ≡ at.Free }
+    requires second_free { second.old.state ≡ at.Free }
+    requires goes { queue.old.stopped ≡ None }
+    ensures run { IfOk result (λ notices. (s : LiveState F) (i : ℕ) → IsReached F.may s → slice_get s.queues i ≡ Some (live_of queue.old)
+        → s.places ≡ places_in first.old.regions → s.places ≡ places_in second.old.regions → s.limit ≡ first.old.limit → s.limit ≡ second.old.limit → s.limit ≤ 2 ^ 31
+        → IsSessionOf s sessions.0 → IsSessionOf s sessions.1
+        → (made : value.FileCall) × (other : value.FileCall) × (more : Calls) × (rest : Calls)
+        × (let early = (call_of (drop 80 two.now.request.now) other, Bytes two.now.bytes.now) ∷ rest in
+        let late = (call_of (drop 80 one.now.request.now) made, Bytes one.now.bytes.now) ∷ more in
+        (between files : F) → FileRun F.may s.files early between → FileRun F.may between late files
+        → (es : List LiveEvent) × (end : LiveState F) × LiveRun F.may s es end × (calls_among es ≡ early ++ late) × (end.outs ≡ s.outs))) }
+{
+    law_handles::<F>();
+    let (of_first, of_second) = sessions;
+    let (_, first_len, _) = walk_chain(first, queue, one.given)?;
+    let (_, second_len, _) = walk_chain(second, queue, two.given)?;
+    if first_len != one.request.len() {
+        return Err(ChainError::BadArgument);
+    }
+    if second_len != two.request.len() {
+        return Err(ChainError::BadArgument);
+    }
+    ask_call(first, of_first, one.request)?;
+    ask_call(second, of_second, two.request)?;
+    give_data(second, two.bytes)?;
+    let early = give_back(second, queue)?;
+    give_data(first, one.bytes)?;
+    let late = give_back(first, queue)?;
+    Ok((early, late))
+}

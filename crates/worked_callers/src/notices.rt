@@ -1,0 +1,26 @@
+//! Whether the driver is notified of a chain that goes back, with the event index: just if the used index passes used_event (VIRTIO 1.2, 2.7.7.2).
+
+ghost use Rattle.std.specs.Prelude.{◌≡◌, IfOk, true};
+ghost use Rattle.fs_queue.specs.Returning.{next_position};
+ghost use Rattle.fs_live.specs.Handles.{live_of};
+ghost use Rattle.fs_live.specs.Several.{passes, returning};
+
+use crate::seen::give_back_by;
+use fs_chain::{ChainError, KeptQueue, Workbench};
+use fs_live::law_queues;
+
+/// A chain whose reply is known goes back, and this is used_event then: the driver is notified just if the used index passes it.
+pub fn notify_by_event(
+    workbench: &mut Workbench,
+    queue: &mut KeptQueue,
+    used_event: u16,
+) -> Result<bool, ChainError>
+    requires by_event { queue.old.event_index ≡ true }
+    ensures { IfOk result (λ notice. notice ≡ passes used_event queue.old.returned (next_position (returning (live_of queue.old)))) }
+{
+    law_queues();
+    let _returned = queue.returned;
+    let bytes = used_event.to_le_bytes();
+    let (notice, _) = give_back_by(workbench, queue, bytes)?;
+    Ok(notice)
+}

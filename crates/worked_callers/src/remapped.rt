@@ -1,0 +1,42 @@
+//! Other regions while a chain is in flight: it goes on over the places of its own walk, and the next walks go over the others.
+
+ghost use Rattle.std.specs.Prelude.{◌≡◌, ◌≤◌, ◌^◌, ℕ, [], IfOk, List, None, Some, slice_get};
+ghost use Rattle.fs_regions.specs.Places.{places_in};
+ghost use Rattle.fs_chain.specs.declared.state.State.TheVariants as at;
+ghost use Rattle.fs_live.specs.Handles.{IsReached, live_of};
+ghost use Rattle.fs_live.specs.Live.{KeepsReturns, LiveEvent, LiveRun, LiveState, calls_among};
+
+use crate::others::give_own_back;
+use crate::wholes::walk_chain;
+use fs_chain::{ChainError, KeptQueue, Workbench};
+use fs_live::law_handles;
+use fs_regions::GuestMap;
+use fuse_fs::FileSystem;
+
+/// A chain is walked by one handle, another one gets other regions, which have places for the queue's returns just where those of before have, and the
+/// chain goes back with bytes of its caller's own.
+pub fn map_amid<F: FileSystem>(
+    first: &mut Workbench,
+    second: &mut Workbench,
+    queue: &mut KeptQueue,
+    given: &[&[u8]],
+    request: &[u8],
+    bytes: &[u8],
+    regions: GuestMap,
+) -> Result<bool, ChainError>
+    requires free { first.old.state ≡ at.Free }
+    requires goes { queue.old.stopped ≡ None }
+    ensures run { IfOk result (λ notice. (s : LiveState F) (i : ℕ) → IsReached F.may s → s.outs ≡ [] → slice_get s.queues i ≡ Some (live_of queue.old)
+        → s.places ≡ places_in first.old.regions → s.limit ≡ first.old.limit → s.limit ≤ 2 ^ 31 → KeepsReturns s.places (places_in second.new.regions) (live_of queue.old)
+        → (es : List LiveEvent) × (end : LiveState F) × LiveRun F.may s es end × (calls_among es ≡ []) × (end.outs ≡ []) × (end.places ≡ places_in second.new.regions)) }
+{
+    law_handles::<F>();
+    let (_, request_len, _) = walk_chain(first, queue, given)?;
+    if request_len != request.len() {
+        return Err(ChainError::BadArgument);
+    }
+    second.set_memory(regions, 0x101000)?;
+    let serial = first.serial();
+    first.reply(serial, bytes.len())?;
+    give_own_back(first, queue)
+}
