@@ -1,49 +1,74 @@
-//! Finds the proved library, and has it linked.
+//! Finds the library's archive, and has it linked.
 //!
-//! - `PITSKHOMU_ARCHIVE`: the path of the archive of fs_chain_c. Unset: the repository's own, `crates/fs_chain_c/out/libfs_chain_c.a`.
-//! - `PITSKHOMU_HEAP`: the path of the toolchain's archive for the heap; empty if the first has it already. Unset: `liblibc_c.a` beside
-//!   the archive, or else in the folder `c` of the toolchain whose `rt` is in PATH, if it is there.
+//! - `PITSKHOMU_ARCHIVE`: the path of the archive of fs_chain_c. Unset: the newer one of the
+//!   repository's two, `crates/fs_chain_c/out/libfs_chain_c.a`, which is proved, and
+//!   `out/unproved/libfs_chain_c.a`, which isn't. Empty: nothing is linked, so that `cargo check`
+//!   and `cargo doc` need no archive.
+//! - `PITSKHOMU_HEAP`: the path of the toolchain's archive for the heap; empty if the first has it
+//!   already. Unset: `liblibc_c.a` beside the archive, or else in the folder `c` of the toolchain
+//!   whose `rt` is in PATH, if it is there.
 use std::env;
-use std::ffi::OsString;
 use std::fs;
 use std::path::{Path, PathBuf};
+use std::process;
 
+const PROVED: &str = "crates/fs_chain_c/out/libfs_chain_c.a";
+const UNPROVED: &str = "out/unproved/libfs_chain_c.a";
 const HEAP: &str = "liblibc_c.a";
 
 fn main() {
-    println!("cargo:rerun-if-changed=build.rs");
-    let set = variable("PITSKHOMU_ARCHIVE").map(PathBuf::from);
-    let archive = set.unwrap_or_else(of_repository);
-    // A file that isn't there counts as changed, so it is seen as soon as it was made.
-    println!("cargo:rerun-if-changed={}", archive.display());
-    if !archive.is_file() {
-        // Nothing is linked: so the crate can be checked and documented all the same.
-        println!(
-            "cargo:warning=there is no archive {}: set PITSKHOMU_ARCHIVE, or make it by `rt lib` in crates/fs_chain_c",
-            archive.display()
-        );
-        return;
-    }
-    link(&archive, "fs_chain_c");
-    let heap = match variable("PITSKHOMU_HEAP") {
-        Some(path) => Some(PathBuf::from(path)).filter(|path| !path.as_os_str().is_empty()),
-        None => heap_beside(&archive).or_else(heap_of_toolchain),
+    let archive = match env::var_os("PITSKHOMU_ARCHIVE").map(PathBuf::from) {
+        Some(path) if path.as_os_str().is_empty() => None,
+        Some(path) if path.is_file() => Some(path),
+        Some(path) => refuse(&format!("there is no archive {}, which PITSKHOMU_ARCHIVE names", path.display())),
+        None if env::var_os("DOCS_RS").is_some() => None,
+        None => Some(of_repository()),
     };
-    if let Some(heap) = heap {
-        link(&heap, "pitskhomu_heap");
+    let heap = match env::var_os("PITSKHOMU_HEAP") {
+        Some(path) => Some(PathBuf::from(path)).filter(|path| !path.as_os_str().is_empty()),
+        None => archive.as_deref().and_then(heap_beside).or_else(heap_of_toolchain),
+    };
+    // Nothing is printed before a refusal, which cargo would show beside it.
+    println!("cargo:rerun-if-changed=build.rs");
+    for name in ["PITSKHOMU_ARCHIVE", "PITSKHOMU_HEAP", "PATH"] {
+        println!("cargo:rerun-if-env-changed={name}");
+    }
+    if let Some(archive) = archive {
+        if archive.ends_with(UNPROVED) {
+            println!("cargo:warning=the library was built without proofs: {}", archive.display());
+        }
+        link(&archive, "fs_chain_c");
+        if let Some(heap) = heap {
+            link(&heap, "pitskhomu_heap");
+        }
     }
 }
 
-/// A variable of the environment; this runs again when it changes.
-fn variable(name: &str) -> Option<OsString> {
-    println!("cargo:rerun-if-env-changed={name}");
-    env::var_os(name)
+/// Ends with one sentence.
+fn refuse(why: &str) -> ! {
+    eprintln!("pitskhomu: {why}");
+    process::exit(1)
 }
 
+/// The top of the repository, if the package lies in one.
+fn top() -> PathBuf {
+    let package = env::var_os("CARGO_MANIFEST_DIR").map(PathBuf::from).unwrap_or_default();
+    package.ancestors().nth(2).map(Path::to_path_buf).unwrap_or_default()
+}
+
+/// The newer of the repository's two archives.
 fn of_repository() -> PathBuf {
-    let package = variable("CARGO_MANIFEST_DIR").map(PathBuf::from).unwrap_or_default();
-    let top = package.ancestors().nth(2).map(Path::to_path_buf).unwrap_or_default();
-    top.join("crates/fs_chain_c/out/libfs_chain_c.a")
+    let archives = [top().join(UNPROVED), top().join(PROVED)];
+    let newest = archives
+        .into_iter()
+        .filter(|path| path.is_file())
+        .max_by_key(|path| fs::metadata(path).and_then(|data| data.modified()).ok());
+    newest.unwrap_or_else(|| {
+        refuse(
+            "there is no archive to link: `./run --rust` at the top of the repository makes one in a minute, \
+             and PITSKHOMU_ARCHIVE names one that lies elsewhere",
+        )
+    })
 }
 
 fn heap_beside(archive: &Path) -> Option<PathBuf> {
@@ -51,7 +76,7 @@ fn heap_beside(archive: &Path) -> Option<PathBuf> {
 }
 
 fn heap_of_toolchain() -> Option<PathBuf> {
-    let paths = variable("PATH")?;
+    let paths = env::var_os("PATH")?;
     let command = env::split_paths(&paths).map(|folder| folder.join("rt")).find(|command| command.is_file())?;
     let toolchain = fs::canonicalize(command).ok()?.parent()?.parent()?.to_path_buf();
     Some(toolchain.join("c").join(HEAP)).filter(|heap| heap.is_file())
@@ -60,7 +85,7 @@ fn heap_of_toolchain() -> Option<PathBuf> {
 /// Has an archive linked under a name of its own, whatever its file is called.
 fn link(archive: &Path, name: &str) {
     println!("cargo:rerun-if-changed={}", archive.display());
-    let folder = variable("OUT_DIR").map(PathBuf::from).expect("cargo sets OUT_DIR");
+    let folder = env::var_os("OUT_DIR").map(PathBuf::from).expect("cargo sets OUT_DIR");
     fs::copy(archive, folder.join(format!("lib{name}.a")))
         .unwrap_or_else(|error| panic!("{} can't be copied: {error}", archive.display()));
     println!("cargo:rustc-link-search=native={}", folder.display());

@@ -1,7 +1,7 @@
 #!/usr/bin/env python3
 """Plays scripts made by chance on the script program and on a plain machine, and compares what they print.
 
-usage: fuzz.py SECONDS [SEED], with the path of a built program in PROGRAM, else it is built without proofs.
+usage: fuzz.py SECONDS [SEED], with the path of a built program in PROGRAM (./run --fuzz has one).
 Status 0 if nothing differed, 1 if something did, 2 if it couldn't begin."""
 
 import os
@@ -13,7 +13,7 @@ from pathlib import Path
 from guests import long_script, wraps
 from hostile import heavy
 from machine import TooMuchWork, play
-from programs import Built, Tried
+from programs import Built
 from scripts import made, stored
 from shrink import shrunk
 
@@ -40,7 +40,7 @@ class Fuzzer:
         store = stored()
         fixed = [(f"stored script {index}", script) for index, script in enumerate(store)]
         fixed += [("a script of 1 MiB", long_script(0)), ("a script that is too long", long_script(1))]
-        if self.end - time.monotonic() > SECONDS_TO_WRAP and self.program.prints_much:
+        if self.end - time.monotonic() > SECONDS_TO_WRAP:
             fixed += [("a script that wraps an index", wraps()), ("a script of kicks that cost much", heavy())]
         size = self.program.batch
         while fixed or time.monotonic() < self.end and self.differences < MOST_DIFFERENCES:
@@ -120,15 +120,13 @@ def main(arguments):
     """Plays for so many seconds."""
     try:
         seconds, seed = (*map(int, arguments), int.from_bytes(os.urandom(4), "little"))[:2]
-        if len(arguments) not in (1, 2):
+        if len(arguments) not in (1, 2) or "PROGRAM" not in os.environ:
             raise ValueError
     except ValueError:
         print(__doc__, file=sys.stderr)
         return 2
-    path = os.environ.get("PROGRAM")
-    program = Built(path) if path else Tried()
-    say(f"seed {seed}" + ("" if path else ": a batch of scripts, which may take some minutes, for each build without proofs"))
-    fuzzer = Fuzzer(program, seed, time.monotonic() + seconds)
+    say(f"seed {seed}")
+    fuzzer = Fuzzer(Built(os.environ["PROGRAM"]), seed, time.monotonic() + seconds)
     try:
         fuzzer.run()
     except KeyboardInterrupt:

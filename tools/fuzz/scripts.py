@@ -23,9 +23,9 @@ def stored():
     found = [path.read_bytes() for path in sorted(ROOT.glob("examples/*.fs"))]
     found += [path.read_bytes() for path in sorted(ROOT.glob("tools/fuzz/worked/*.fs"))]
     found.append((ROOT / "crates/virtio_fs_run/stdin").read_bytes())
-    tests = ROOT / "crates/machine_tests/src/program"
-    offered = transcripts((tests / "offered.rt").read_bytes())[0]
-    for path in sorted(tests.glob("*.rt")):
+    tests = ROOT / "tests/machine_tests/src/program"
+    offered = transcripts((tests / "offered.rt.txt").read_bytes())[0]
+    for path in sorted(tests.glob("*.rt.txt")):
         for lines in transcripts(path.read_bytes()):
             begins = any(line.startswith(b"queue") for line in lines[:3])
             found.append(b"\n".join(lines if begins else offered + lines) + b"\n")

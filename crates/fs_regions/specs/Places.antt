@@ -1,4 +1,5 @@
--- A guest's memory told by its regions, and by the table that translates its addresses, if one does: which addresses have places, and no byte (VIRTIO 1.2, 2.7).
+-- A guest's memory by its regions, and by the IOMMU's table that translates its addresses, if there is one: which addresses are mapped, and no byte
+-- (VIRTIO 1.2, 2.7).
 use Rattle.std.specs.Prelude.{◌≡◌, ℕ, ◌+◌, ◌%◌, ◌^◌, ◌==◌, ◌||◌, not, nat_lt, [], ◌∷◌, List, Option, Some, None, if◌then◌else◌, is_some, unwrap_or}
 use Rattle.vm_iotlb.specs.declared.range.IotlbRange.{IotlbRange}
 use Rattle.vm_memory_core.specs.Host.{Host}
@@ -19,7 +20,7 @@ is_no_region start size r =
 abbrev pub region_if : (start size number : ℕ) → Option Region
 region_if start size number = is_no_region start size (Some (record { start = start; size = size; block = number }))
 
--- regions, and the table by which a device's addresses are translated to theirs, if there is one
+-- regions, and the table that translates a device's addresses to theirs, if there is one
 pub record Mapped : Type 0 where
   pub layout : List Region
   pub table : Option (List IotlbRange)
@@ -32,7 +33,7 @@ untranslated regions = record { layout = regions; table = None }
 abbrev pub memory_over : Host → Mapped → Memory
 memory_over h g = memory_behind (record h { tables = unwrap_or g.table [] ∷ [] }) g.layout 0 0 (is_some g.table)
 
--- a memory with their places, in which nothing stands
+-- a memory that is mapped so, without a byte in it
 abbrev pub places_in : Mapped → Memory
 places_in g = memory_over (record { blocks = []; tables = []; io_marks = [] }) g
 

@@ -13,7 +13,7 @@ pub fn law_read_out()
     ensures { ReadOutIsTheMemorys }
 {}
 
-/// Addresses of a table that are taken out, or mapped anew, leave those of a chain that doesn't use them (`uses`) as they were.
+/// Removing or changing the mappings of addresses that a chain doesn't use (`uses`) leaves the chain's own as they were.
 pub fn law_others_stay()
     ensures { OthersStay }
 {}

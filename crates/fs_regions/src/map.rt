@@ -1,4 +1,4 @@
-//! A guest's memory: its regions, and the table that translates a device's addresses, if one does.
+//! A guest's memory: its regions, and an IOMMU's table, if there is one.
 
 ghost use Rattle.std.specs.Prelude.{◌≡◌, ◌+◌, ◌<◌, ◌^◌, ℕ, List, [], ◌∷◌, IfSome, None, Some, MatchOption, is_some, min};
 ghost use Rattle.std.specs.List.{list_all};
@@ -19,7 +19,8 @@ use std::alloc::Global;
 use std::marker::Model;
 use vm_memory_core::{GuestAddress, Iotlb, IovaRange, Permissions, VolatileSlice};
 
-/// A guest's memory: its regions, and the table by which the addresses that a device uses are translated to theirs, if there is one.
+/// A guest's memory: its regions, and an IOMMU's table, if there is one. The table translates the addresses that a
+/// device uses to addresses of the regions. Without a table a device uses the regions' own.
 #[derive(Drop)]
 pub struct GuestMap {
     regions: GuestRegions,
@@ -34,7 +35,7 @@ impl Model for GuestMap {
     ghost view = { λ m. record { layout = m.regions; table = m.table } };
 }
 
-// Whether each of some addresses has a place by a table, for an access.
+// Whether a table maps each of `len` addresses from one on into a region, for an access.
 fn reaches_by(
     regions: &GuestRegions,
     table: &Iotlb,
@@ -59,7 +60,8 @@ fn reaches_by(
     true
 }
 
-// The longest window of at most `most` bytes from an address on, by a table, for an access. None if the address has no place.
+// The longest window of at most `most` bytes from an address on, through a table, for an access. None if the table
+// doesn't map the address into a region for that access.
 fn window_by(
     regions: &GuestRegions,
     table: &Iotlb,
@@ -92,7 +94,7 @@ impl GuestMap {
         }
     }
 
-    /// Memory of some regions, whose addresses a device uses as they are.
+    /// Regions without a table.
     pub fn of_regions(regions: GuestRegions) -> GuestMap
         ensures { result ≡ untranslated regions }
     {
@@ -102,7 +104,7 @@ impl GuestMap {
         }
     }
 
-    /// Memory of some regions behind a table.
+    /// Regions behind a table.
     pub fn behind(regions: GuestRegions, table: Iotlb) -> GuestMap
         ensures { result ≡ record { layout = regions; table = Some table } }
     {
@@ -112,7 +114,7 @@ impl GuestMap {
         }
     }
 
-    /// Whether each of `len` addresses from one on has a place for an access, and their end is an address.
+    /// Whether each of `len` addresses from one on is mapped for an access, and their end is an address.
     pub fn reaches(&self, addr: u64, len: usize, access: Permissions) -> bool
         ensures { result ≡ reach (places_in self.now) access addr len }
     {
@@ -124,8 +126,8 @@ impl GuestMap {
         }
     }
 
-    /// The longest window of at most `most` bytes from an address on, for an access: the number of its region as its block, and where it stands there.
-    /// None if the address has no place.
+    /// The longest window of at most `most` bytes from an address on, for an access. Its block is the number of its
+    /// region. None if the address isn't mapped for that access.
     #[inline(always)]
     pub fn window_at(&self, addr: u64, most: usize, access: Permissions) -> Option<VolatileSlice>
         requires { 0 < most }
@@ -139,8 +141,8 @@ impl GuestMap {
         }
     }
 
-    /// The first of `len` addresses that the table doesn't map, with those after it that it doesn't map either: what is to be asked for. None if each is
-    /// mapped, whatever that lets through, or if there is no table.
+    /// The first of `len` addresses that the table doesn't map, with the unmapped ones right after it. None if the
+    /// table maps each of them, with any permission, or if there is no table.
     pub fn first_miss(&self, addr: u64, len: usize) -> Option<IovaRange>
         requires { addr + len < 2 ^ 64 }
         ensures none { self.now.table ≡ None → result ≡ None }

@@ -1,11 +1,11 @@
-//! Which addresses a chain uses: for who changes the table that translates them.
+//! Which addresses of a table a chain uses.
 
 ghost use Rattle.std.specs.Prelude.{◌≡◌, true, false, All};
 ghost use Rattle.fs_regions.specs.Using.{IsApart, Touches};
 
 use fs_queue::Descriptor;
 
-// Whether one of `len` addresses from one on is a descriptor's.
+// Whether a descriptor's buffer has one of `len` addresses from one on.
 fn touches(descriptor: &Descriptor, iova: u64, len: u64) -> bool
     ensures yes { result ≡ true → Touches iova len descriptor.now }
     ensures no { result ≡ false → IsApart iova len descriptor.now }
@@ -17,8 +17,8 @@ fn touches(descriptor: &Descriptor, iova: u64, len: u64) -> bool
     }
 }
 
-/// Whether a chain with these descriptors uses one of `len` addresses from one on. If it uses none, they may be mapped anew or taken out while the chain is
-/// out: all of its own addresses stay as they were (`law_others_stay`).
+/// Whether a chain with these descriptors uses one of `len` addresses from one on. If it uses none, a VMM may change or
+/// remove their mappings while the chain is in flight: the chain's own addresses stay as they were (`law_others_stay`).
 pub fn uses(descriptors: &[Descriptor], iova: u64, len: u64) -> bool
     ensures used { result ≡ true → All (IsApart iova len) descriptors.now → ⊥ }
     ensures unused { result ≡ false → All (IsApart iova len) descriptors.now }

@@ -182,8 +182,8 @@ impl Iotlb {
         IotlbIterator::over(&self.ranges, iova.0, iova.0 + length as u64).next()
     }
 
-    /// What an address is mapped to, with those after it that are mapped as one with it, at most so many. None if the access may not go through it. It
-    /// takes no memory.
+    /// Translates an address, and with it the next ones as long as their targets follow one another, at most `most` in
+    /// all. None if the table doesn't map the address, or doesn't allow the access there. It allocates nothing.
     #[inline]
     pub fn piece_at(
         &self,
@@ -210,8 +210,8 @@ impl Iotlb {
         })
     }
 
-    /// The first of `length` addresses without a mapping, with those after it that have none either. None if each has one, whatever it lets through. It
-    /// takes no memory.
+    /// The first of `length` addresses that isn't mapped, with the unmapped ones right after it. None if each is mapped,
+    /// with any permission. It allocates nothing.
     pub fn first_miss(&self, iova: GuestAddress, length: usize) -> Option<IovaRange>
         requires ends { iova.0 + length < 2 ^ 64 }
         ensures { MatchOption result (missing (table_kept self.now) iova.0 length ≡ [])

@@ -188,7 +188,7 @@ pub(crate) fn is_covered(
     end <= next
 }
 
-// The first addresses without a mapping from one up to another, as long as they go together.
+// The first unmapped addresses between two: the first one, and those right after it.
 pub(crate) fn first_gap(
     ranges: Range<'_, u64, IotlbRange>,
     iova: u64,

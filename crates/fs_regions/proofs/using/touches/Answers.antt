@@ -1,4 +1,4 @@
-use Rattle.std.proofs.Common.{◌≡◌, ◌-◌, ap, arith}
+use Rattle.std.proofs.Common.{◌-◌, ap, arith}
 use Rattle.std.proofs.lemmas.Bool.{ltb-true}
 use Rattle.fs_queue.specs.Chain.{Descriptor}
 use Rattle.fs_regions.proofs.using.touches.Goals as goal

@@ -1,9 +1,9 @@
-use Rattle.std.proofs.Common.{◌≡◌, ◌-◌, ◌∷◌, ◌++◌, List, [], sym, ◌∙◌, arith}
+use Rattle.std.proofs.Common.{◌-◌, ◌∷◌, List, [], ◌∙◌, arith}
 use Rattle.std.specs.Map.{values_of}
 use Rattle.vm_iotlb.specs.declared.permissions.Permissions.TheVariants.{No}
 use Rattle.vm_iotlb.specs.declared.range.IotlbRange.{IotlbRange}
 use Rattle.vm_iotlb.specs.Ranges.{AreRanges, Agree, EndsAbove}
-use Rattle.vm_iotlb.specs.AddressRuns.{between, missing}
+use Rattle.vm_iotlb.specs.AddressRuns.{missing}
 use Rattle.vm_iotlb.proofs.RunLemmas.{agree_rest, nothing_left}
 use Rattle.vm_iotlb.proofs.PieceLemmas.{above_rest, between_some, fails_end, gap_part, range_part}
 use Rattle.vm_iotlb.proofs.lookup.first_gap.Goals as goal

@@ -1,7 +1,6 @@
-use Rattle.std.proofs.Common.{◌≡◌, Some, None, ap, sym, ◌∙◌, arith}
+use Rattle.std.proofs.Common.{Some, None, ap, sym, ◌∙◌, arith}
 use Rattle.vm_iotlb.specs.Keys.{HasAddress}
 use Rattle.vm_iotlb.specs.AddressRuns.{may_pass}
-use Rattle.vm_iotlb.specs.declared.range.IotlbRange.{IotlbRange}
 use Rattle.vm_iotlb.proofs.LookupLemmas.{none_having, piece_having, range_having}
 use Rattle.vm_iotlb.proofs.iotlb.Iotlb.piece_at.Goals as goal
 

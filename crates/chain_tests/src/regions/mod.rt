@@ -1,5 +1,0 @@
-//! Tests of walks over regions.
-
-mod given;
-mod memories;
-mod walks;
