@@ -1,4 +1,4 @@
--- Two chains of one queue, one after the other, over a memory that has what is loaded of them.
+-- Two chains of one queue, one after the other, over a memory that has their bytes.
 use Rattle.std.specs.Prelude.{ℕ, true, List, [], ◌∷◌, ◌++◌, None}
 use Rattle.vm_memory.specs.Memory.{Memory}
 use Rattle.fs_queue.specs.Returning.{Store}

@@ -1,4 +1,4 @@
-//! A chain whose answer has data, and one that lists a directory, beside whatever other chains are out.
+//! A chain whose answer has data, and one that lists a directory, beside other chains in flight.
 
 ghost use Rattle.std.specs.Prelude.{◌≡◌, ◌≤◌, ◌^◌, ℕ, [], ◌∷◌, drop, IfOk, length, List, None, OnOk, Some, slice_get, true};
 ghost use Rattle.fs_regions.specs.Places.{places_in};
@@ -22,7 +22,7 @@ use fuse_fs::{Entry, FileSystem};
 use fuse_values::FileAnswer;
 use server_phases::Session;
 
-/// The call that waits is answered by data, which its caller stores in the room behind the front.
+/// Answers the pending call by data, which the caller stores in the reply buffer behind the reply's front.
 pub fn give_data(workbench: &mut Workbench, bytes: &[u8]) -> Result<(), ChainError>
     ensures { OnOk result ((told : Replied) × IsAnsweredBy workbench.old (FileAnswer.Bytes (length bytes.now)) bytes.now told workbench.new) }
 {
@@ -34,7 +34,8 @@ pub fn give_data(workbench: &mut Workbench, bytes: &[u8]) -> Result<(), ChainErr
     }
 }
 
-/// A chain whose answer has data, from its walk to its return: the run's call has this data for its answer.
+/// A chain whose answer has data, from its walk to its return: the run's call has this data for its answer,
+/// whichever other chains are in flight.
 pub fn read_beside<F: FileSystem>(
     workbench: &mut Workbench,
     queue: &mut KeptQueue,
@@ -60,7 +61,8 @@ pub fn read_beside<F: FileSystem>(
     give_back(workbench, queue)
 }
 
-/// A chain that lists two entries with their nodes, from its walk to its return: the run's calls are the listing and its look-ups.
+/// A chain that lists two entries with their nodes, from its walk to its return: the run's calls are the
+/// listing and its look-ups, whichever other chains are in flight.
 pub fn list_beside<F: FileSystem>(
     workbench: &mut Workbench,
     queue: &mut KeptQueue,

@@ -1,4 +1,5 @@
-//! Two chains of one queue, each by a handle: both are asked, and the second one is answered and goes back before the first one.
+//! Two chains of one queue, with a handle each: both requests are decoded, and the second chain is answered
+//! and returned before the first one.
 
 ghost use Rattle.std.specs.Prelude.{◌≡◌, ◌≤◌, ◌^◌, ℕ, ◌∷◌, ◌++◌, drop, IfOk, List, None, Some, slice_get};
 ghost use Rattle.fs_regions.specs.Places.{places_in};
@@ -18,7 +19,7 @@ use fs_live::law_handles;
 use fuse_fs::FileSystem;
 use server_phases::Session;
 
-/// What a chain is asked, by the loads of its walk and its request, and the data of its answer.
+/// The loads of a chain's walk, its request, and the data of its answer.
 #[derive(Drop)]
 pub struct Asked<'a> {
     /// The loads.
@@ -29,8 +30,8 @@ pub struct Asked<'a> {
     pub bytes: &'a [u8],
 }
 
-/// Two handles take a chain each and are asked; the second one's is answered and goes back, and then the first one's: a run, in which the calls are in
-/// the order of their answers.
+/// Two handles take a chain each and decode its request. The second one's chain is answered and returned, and
+/// then the first one's. That is a run, in which the calls are in the order of their answers.
 pub fn serve_crossed<F: FileSystem>(
     first: &mut Workbench,
     second: &mut Workbench,

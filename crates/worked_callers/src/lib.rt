@@ -1,4 +1,5 @@
-//! Callers of the handle, each by real calls: what they prove by the laws of chains shows that calls meet what the laws ask. `chain_tests` runs them.
+//! Callers of the handle. Each proves, by the theorems of `fs_chain` and `fs_live`, that its calls are a step
+//! or a run, so real calls meet the hypotheses of these theorems. `chain_tests` runs them.
 #![tactic(auto)]
 
 pub mod among;

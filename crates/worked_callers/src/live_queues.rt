@@ -30,7 +30,8 @@ pub fn two_in_a_row<F: FileSystem>()
     law_serial::<F>();
 }
 
-/// Two chains of one queue, one after the other, over a memory that has what is loaded of them: a kick of the plain machine, of these two turns.
+/// Two chains of one queue, one after the other, over a memory that has their bytes: a kick of the plain
+/// machine, of these two turns.
 pub fn served_in_a_row<F: FileSystem>()
     ensures { (before after : F) → F.may before Destroy Done after
         → KickRun F.may (plain (state before (at_positions 0 0) 1 []) with_both) 0 2 (turn_of one ∷ turn_of two ∷ []) None (plain (state after (at_positions 2 2) 0 []) after_both) }

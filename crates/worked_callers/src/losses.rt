@@ -17,8 +17,8 @@ use fuse_fs::FileSystem;
 use fuse_values::FileAnswer;
 use server_phases::Session;
 
-/// A chain is asked, its handle is freed, and the answer that comes late is refused: why. In the run the chain is lost, and the file system has answered
-/// its call by then, or not.
+/// A chain's request is decoded, its handle is freed, and the late answer is refused by the error that is
+/// returned. In the run the chain is lost: once with the file system's answer before that, and once without.
 pub fn lose_asked<F: FileSystem>(
     workbench: &mut Workbench,
     queue: &mut KeptQueue,

@@ -34,7 +34,7 @@ pub fn save_one<S: RecordSink>(
     }
 }
 
-/// The one queue of some.
+/// The queue of a list that has one.
 pub fn only(queues: &[Queue]) -> Option<&Queue>
     ensures { IfSome result (λ q. queues.now ≡ q.now ∷ []) }
 {
@@ -58,8 +58,9 @@ pub fn restore_one<T: RecordSource>(
     }
 }
 
-/// A chain goes back here, a record is made here and read there, the queue there is begun by it, and a chain goes back there: if what is read is what
-/// was put, that is a run, in which the queue goes on where it was.
+/// A chain is returned here, a record is made here and read there, the queue there begins by it, and a chain
+/// is returned there. If the bytes that are read are those that were put, that is a run, in which the queue
+/// goes on where it was.
 pub fn move_amid<F: FileSystem, S: RecordSink, T: RecordSource>(
     alloc: Global,
     here: &mut Workbench,

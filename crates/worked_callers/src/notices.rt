@@ -1,4 +1,5 @@
-//! Whether the driver is notified of a chain that goes back, with the event index: just if the used index passes used_event (VIRTIO 1.2, 2.7.7.2).
+//! With VIRTIO_F_EVENT_IDX the driver is notified of a returned chain just if the used index passes
+//! used_event (VIRTIO 1.2, 2.7.7.2).
 
 ghost use Rattle.std.specs.Prelude.{◌≡◌, IfOk, true};
 ghost use Rattle.fs_queue.specs.Returning.{next_position};
@@ -9,7 +10,8 @@ use crate::seen::give_back_by;
 use fs_chain::{ChainError, KeptQueue, Workbench};
 use fs_live::law_queues;
 
-/// A chain whose reply is known goes back, and this is used_event then: the driver is notified just if the used index passes it.
+/// Returns a chain whose reply is known, while used_event has this value. The driver is notified just if the
+/// used index passes it.
 pub fn notify_by_event(
     workbench: &mut Workbench,
     queue: &mut KeptQueue,

@@ -1,4 +1,5 @@
-//! Other regions while a chain is in flight: it goes on over the places of its own walk, and the next walks go over the others.
+//! Other regions while a chain is in flight: the chain keeps the places of its own walk, and the next walks
+//! go over the new regions.
 
 ghost use Rattle.std.specs.Prelude.{◌≡◌, ◌≤◌, ◌^◌, ℕ, [], IfOk, List, None, Some, slice_get};
 ghost use Rattle.fs_regions.specs.Places.{places_in};
@@ -13,8 +14,9 @@ use fs_live::law_handles;
 use fs_regions::GuestMap;
 use fuse_fs::FileSystem;
 
-/// A chain is walked by one handle, another one gets other regions, which have places for the queue's returns just where those of before have, and the
-/// chain goes back with bytes of its caller's own.
+/// One handle takes a chain, another handle gets other regions, and the chain is returned with its caller's
+/// own bytes. That is a run, if the new regions have places for the queue's returns just where the old ones
+/// have them.
 pub fn map_amid<F: FileSystem>(
     first: &mut Workbench,
     second: &mut Workbench,
