@@ -60,8 +60,24 @@ fn reaches_by(
     true
 }
 
+// Whether a table maps each of `len` addresses from one on into a region, for an access, and their end is an address. Apart
+// from `reaches`, so that a memory without a table has no more than a test there.
+#[inline(never)]
+fn reaches_behind(
+    regions: &GuestRegions,
+    table: &Iotlb,
+    addr: u64,
+    len: usize,
+    access: Permissions,
+) -> bool
+    ensures { result ≡ reach (places_in (record { layout = regions.now; table = Some table.now })) access addr len }
+{
+    len as u64 <= u64::MAX - addr && reaches_by(regions, table, addr, len, access)
+}
+
 // The longest window of at most `most` bytes from an address on, through a table, for an access. None if the table
 // doesn't map the address into a region for that access.
+#[inline(never)]
 fn window_by(
     regions: &GuestRegions,
     table: &Iotlb,
@@ -115,14 +131,13 @@ impl GuestMap {
     }
 
     /// Whether each of `len` addresses from one on is mapped for an access, and their end is an address.
+    #[inline(always)]
     pub fn reaches(&self, addr: u64, len: usize, access: Permissions) -> bool
         ensures { result ≡ reach (places_in self.now) access addr len }
     {
         match &self.table {
             None => self.regions.reaches(addr, len),
-            Some(table) => {
-                len as u64 <= u64::MAX - addr && reaches_by(&self.regions, table, addr, len, access)
-            }
+            Some(table) => reaches_behind(&self.regions, table, addr, len, access),
         }
     }
 
