@@ -1,5 +1,5 @@
 -- What an entry changes in a listing, by what its call ensures.
-use Rattle.std.proofs.Common.{◌≡◌, ◌∙◌, ℕ, Bool, true, false, List, [], ◌∷◌, ◌++◌, Some, Result, Ok, Err, OnOk, OnErr, IfErr, refl, sym, subst}
+use Rattle.std.proofs.Common.{◌≡◌, ◌∙◌, ℕ, Bool, true, false, List, [], ◌∷◌, ◌++◌, Some, Result, Ok, Err, OnOk, OnErr, IfErr, refl, sym, subst, if◌then◌else◌}
 use Rattle.server_phases.specs.declared.listing.Listing.{Listing}
 use Rattle.server_phases.specs.declared.listing.NotAdded as reason
 use Rattle.server_phases.specs.declared.listing.NotAdded.TheVariants as not_added

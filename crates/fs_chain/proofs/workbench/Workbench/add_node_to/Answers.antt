@@ -1,4 +1,4 @@
-use Rattle.std.proofs.Common.{◌∙◌, true, refl, ap}
+use Rattle.std.proofs.Common.{◌∙◌, true, length, refl, ap}
 use Rattle.fuse_fs.specs.Answers.{listed}
 use Rattle.fs_chain.specs.Listings.{told_added}
 use Rattle.fs_chain.proofs.Adding.{adds_by, found_kind}
@@ -11,7 +11,7 @@ returns-clause-adds c =
       (
         _,
         refl,
-        adds_by _ _ _ _ (listed c.args.entry.now, c.args.node) true _ _ add.outcome (found_kind _ _ _)
+        adds_by _ _ _ _ (listed c.args.entry.now, c.args.node) true _ _ add.outcome (found_kind c.args.listing (length c.args.list.now) (length c.args.entry.now.name.now))
             add.list add.holds add.full add.fails add.same add.stays,
       ),
     )

@@ -1,4 +1,4 @@
-use Rattle.std.proofs.Common.{◌∙◌, false, refl, ap}
+use Rattle.std.proofs.Common.{◌∙◌, false, length, refl, ap}
 use Rattle.fuse_fs.specs.Answers.{listed}
 use Rattle.server_replies.specs.Entries.{no_node}
 use Rattle.fs_chain.specs.Listings.{told_added}
@@ -12,7 +12,7 @@ returns-clause-adds c =
       (
         _,
         refl,
-        adds_by _ _ _ _ (listed c.args.entry.now, no_node (listed c.args.entry.now)) false _ _ add.outcome (plain_kind _ _ _)
+        adds_by _ _ _ _ (listed c.args.entry.now, no_node (listed c.args.entry.now)) false _ _ add.outcome (plain_kind c.args.listing (length c.args.list.now) (length c.args.entry.now.name.now))
             add.list add.holds add.full add.fails add.same add.stays,
       ),
     )
