@@ -9,7 +9,7 @@ use crate::kick::{
 use crate::measure::{Case, Label, Meter};
 use fs_chain::{ChainError, KeptQueue, Told, WalkOutcome, Went, Workbench};
 use fs_queue::QueueLayout;
-use fs_regions::{GuestRegions, MemoryRegion};
+use fs_regions::{GuestMap, GuestRegions, MemoryRegion};
 use fuse_values::{FileAnswer, FileCall};
 use fuse_wire::Errno;
 use guest_driver::ring::{Guest, Ring};
@@ -182,7 +182,7 @@ fn handle(alloc: Global) -> Result<Workbench, BenchFault> {
         return Err(BenchFault::Guest);
     };
     let mut workbench = Workbench::new(alloc);
-    match workbench.set_memory(regions, LIMIT) {
+    match workbench.set_memory(GuestMap::of_regions(regions), LIMIT) {
         Ok(()) => Ok(workbench),
         Err(_) => Err(BenchFault::Guest),
     }

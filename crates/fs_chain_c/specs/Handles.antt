@@ -2,6 +2,7 @@
 use Rattle.std.specs.Prelude.{◌≡◌, ◌⊎◌, ◌-◌, ◌^◌, ℕ, Bool, List, [], min, Option, Some, None}
 use Rattle.memory_requests.specs.Refused.{RoomWasRefused}
 use Rattle.vm_memory.specs.Layout.{Region}
+use Rattle.fs_regions.specs.Places.{untranslated}
 use Rattle.fs_chain.specs.declared.error.ChainError.{ChainError}
 use Rattle.fs_chain.specs.declared.error.ChainError.TheVariants.{BadArgument, OutOfMemory, WrongOrder}
 use Rattle.fs_chain.specs.declared.state.State.TheVariants as at
@@ -32,13 +33,13 @@ OnWorkbench Does Nothing (Some b) (Some b') = Does b b'
 -- a workbench that no chain was on, over no memory
 abbrev pub IsNewWorkbench : Workbench → Type 0
 IsNewWorkbench b =
-    (b.regions ≡ []) × (b.limit ≡ 0x101000) × (b.descriptors.items ≡ []) × (b.state ≡ at.Free) × (b.part.items ≡ [])
+    (b.regions ≡ untranslated []) × (b.limit ≡ 0x101000) × (b.descriptors.items ≡ []) × (b.state ≡ at.Free) × (b.part.items ≡ [])
     × (b.session.page_size ≡ 4096) × (b.session.options.0 ≡ 0) × (b.serial ≡ 1) × (b.list_len ≡ 0)
 
--- the next walks go over these regions, by the device's limit
+-- the next walks go over these regions, by the device's limit, and no table translates their addresses
 abbrev pub GoesOver : Workbench → FsDevice → List FsRegion → Workbench → Type 0
 GoesOver b d regions b' =
-    (memory_error b.state d.limit ≡ None) × IsDevice d × IsMemory regions b'.regions × (b'.limit ≡ d.limit)
+    (memory_error b.state d.limit ≡ None) × IsDevice d × IsMemory regions b'.regions.layout × (b'.regions.table ≡ None) × (b'.limit ≡ d.limit)
     × (b'.state ≡ b.state) × (b'.part ≡ b.part) × (b'.session ≡ b.session) × (b'.serial ≡ b.serial) × (b'.list_len ≡ b.list_len)
 
 -- why they don't, in this order: the device's numbers are none, the regions are no memory, or a chain is walked or out

@@ -1,8 +1,9 @@
 -- What C stores to be told of new chains, or of none.
-use Rattle.std.specs.Prelude.{◌≡◌, ◌⊎◌, ℕ, not, ◌==◌, List, Option, Some, None}
+use Rattle.std.specs.Prelude.{◌≡◌, ◌⊎◌, ℕ, not, ◌==◌, Option, Some, None}
 use Rattle.std.specs.Int.{w16, to_le_bytes}
-use Rattle.vm_memory.specs.Layout.{Region}
+use Rattle.vm_iotlb.specs.declared.permissions.Permissions.TheVariants.{Write}
 use Rattle.fs_queue.specs.Returning.{Store}
+use Rattle.fs_regions.specs.Places.{Mapped}
 use Rattle.fs_chain.specs.declared.error.ChainError.TheVariants.{BadArgument, WrongOrder}
 use Rattle.fs_chain.specs.declared.queue.KeptQueue.{KeptQueue}
 use Rattle.fs_chain.specs.declared.workbench.Workbench.{Workbench}
@@ -19,11 +20,11 @@ abbrev pub no_store : FsStore
 no_store = record { at = 0; value = 0; len = 0 }
 
 -- a store, told by where it is made here: two bytes; none, by length 0; if it has no place, that is told by 77
-abbrev pub TellsStore : List Region → Option Store → FsStore → (status : ℕ) → Type 0
+abbrev pub TellsStore : Mapped → Option Store → FsStore → (status : ℕ) → Type 0
 TellsStore regions None told status = (status ≡ 0) × (told ≡ no_store)
 TellsStore regions (Some s) told status =
-    ((status ≡ 0) × StandsHere regions s.address 2 told.at × (s.bytes ≡ to_le_bytes w16 told.value) × (told.len ≡ 2))
-    ⊎ ((status ≡ 77) × IsNotHere regions s.address 2 × (told ≡ no_store))
+    ((status ≡ 0) × StandsHere regions Write s.address 2 told.at × (s.bytes ≡ to_le_bytes w16 told.value) × (told.len ≡ 2))
+    ⊎ ((status ≡ 77) × IsNotHere regions Write s.address 2 × (told ≡ no_store))
 
 -- what is stored of a queue of C's; a bad argument, if its numbers are none
 abbrev pub AsksWorkbench : Workbench → FsQueue → (wanted : ℕ) → FsStore → (status : ℕ) → Type 0

@@ -2,8 +2,11 @@
 use Rattle.std.specs.Prelude.{◌≡◌, ◌⊎◌, ◌<◌, ℕ, true, false, List, length, min, Some, None, if◌then◌else◌}
 use Rattle.std.specs.Int.{w16, to_le_bytes}
 use Rattle.vm_memory_core.specs.Window.{Window}
-use Rattle.vm_memory.specs.Layout.{Region, left_at, place}
+use Rattle.vm_iotlb.specs.declared.permissions.Permissions.{Permissions}
+use Rattle.vm_iotlb.specs.declared.permissions.Permissions.TheVariants.{Read, Write}
+use Rattle.vm_memory.specs.Memory.{location}
 use Rattle.vm_memory.specs.Slices.{IsWindowAt}
+use Rattle.fs_regions.specs.Places.{Mapped, left_in, places_in}
 use Rattle.fs_chain.specs.declared.error.ChainError.{ChainError}
 use Rattle.fs_chain.specs.declared.error.ChainError.TheVariants.{BadArgument, ShortBuffer}
 use Rattle.fs_chain.specs.declared.queue.KeptQueue.{KeptQueue}
@@ -26,28 +29,30 @@ use Rattle.fs_chain_c.specs.Walking.{host_at}
 abbrev pub no_stores : FsStores
 no_stores = record { front_len = 0; id_at = 0; len_at = 0; id = 0; len = 0; index_at = 0; index = 0; seen_at = 0; element_guest = 0; index_guest = 0 }
 
--- so many bytes from a guest address on stand here from one on
-abbrev pub StandsHere : List Region → (guest len here : ℕ) → Type 0
-StandsHere regions guest len here = (v : Window) × IsWindowAt (place regions) guest len v × (v.len ≡ len) × (here ≡ host_at v)
+-- so many bytes from a guest address on stand here from one on, for an access
+abbrev pub StandsHere : Mapped → Permissions → (guest len here : ℕ) → Type 0
+StandsHere regions access guest len here =
+    (v : Window) × IsWindowAt (location (places_in regions) access) guest len v × (v.len ≡ len) × (here ≡ host_at v)
 
 -- the stores of a return, told by where they are made here, and by the guest addresses of element and index
-abbrev pub TellsStores : List Region → Stores → FsStores → Type 0
+abbrev pub TellsStores : Mapped → Stores → FsStores → Type 0
 TellsStores regions s told =
-    (told.front_len ≡ s.front_len) × StandsHere regions s.used.head.address 4 told.id_at × (told.id ≡ s.used.head.value)
-    × StandsHere regions s.used.len.address 4 told.len_at × (told.len ≡ s.used.len.value)
-    × StandsHere regions s.used.index.address 2 told.index_at × (told.index ≡ s.used.index.value)
-    × StandsHere regions s.seen_at 2 told.seen_at × (told.element_guest ≡ s.used.head.address) × (told.index_guest ≡ s.used.index.address)
+    (told.front_len ≡ s.front_len) × StandsHere regions Write s.used.head.address 4 told.id_at × (told.id ≡ s.used.head.value)
+    × StandsHere regions Write s.used.len.address 4 told.len_at × (told.len ≡ s.used.len.value)
+    × StandsHere regions Write s.used.index.address 2 told.index_at × (told.index ≡ s.used.index.value)
+    × StandsHere regions Read s.seen_at 2 told.seen_at × (told.element_guest ≡ s.used.head.address) × (told.index_guest ≡ s.used.index.address)
 
--- they don't: their first one has no place, or their region ends before them
-abbrev pub IsNotHere : List Region → (guest len : ℕ) → Type 0
-IsNotHere regions guest len =
-    (place regions guest ≡ None) ⊎ ((v : Window) × IsWindowAt (place regions) guest len v × (v.len ≡ min len (left_at regions guest)) × (v.len ≡ len → ⊥))
+-- they don't: their first one has no place, or what is mapped as one with it ends before them
+abbrev pub IsNotHere : Mapped → Permissions → (guest len : ℕ) → Type 0
+IsNotHere regions access guest len =
+    (location (places_in regions) access guest ≡ None)
+    ⊎ ((v : Window) × IsWindowAt (location (places_in regions) access) guest len v × (v.len ≡ min len (left_in (places_in regions) guest)) × (v.len ≡ len → ⊥))
 
 -- some of the stores have no place
-abbrev pub HaveNoPlaces : List Region → Stores → Type 0
+abbrev pub HaveNoPlaces : Mapped → Stores → Type 0
 HaveNoPlaces regions s =
-    IsNotHere regions s.used.head.address 4 ⊎ IsNotHere regions s.used.len.address 4 ⊎ IsNotHere regions s.used.index.address 2
-    ⊎ IsNotHere regions s.seen_at 2
+    IsNotHere regions Write s.used.head.address 4 ⊎ IsNotHere regions Write s.used.len.address 4 ⊎ IsNotHere regions Write s.used.index.address 2
+    ⊎ IsNotHere regions Read s.seen_at 2
 
 -- a chain whose reply is known goes back to its queue by these stores, with the front at the front of the buffer; if they have no places, that is told by 77
 abbrev pub ReturnsSo : Workbench → KeptQueue → (front : List ℕ) → FsStores → (status : ℕ) → Workbench → (front' : List ℕ) → Type 0

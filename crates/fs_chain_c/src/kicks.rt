@@ -10,6 +10,7 @@ use crate::returning::here;
 use crate::walking::NO_PLACE;
 use fs_chain::{ChainError, Workbench};
 use std::alloc::Global;
+use vm_memory_core::Permissions;
 
 /// A store of two bytes, or none.
 #[repr(C)]
@@ -49,7 +50,7 @@ fn ask_workbench(workbench: &Workbench, queue: &FsQueue, wanted: u32) -> (FsStor
     let Some(store) = kept.kick_store(wanted != 0) else {
         return (FsStore::nothing(), 0);
     };
-    match here(workbench, store.address, 2) {
+    match here(workbench, store.address, 2, Permissions::Write) {
         Some(at) => {
             let value = store.value;
             (FsStore { at, value, len: 2 }, 0)

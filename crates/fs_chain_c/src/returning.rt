@@ -6,6 +6,7 @@ ghost use Rattle.fs_chain_c.specs.Returning.{DropsWorkbench, DropsKept, EndsWork
 use crate::queue::FsQueue;
 use crate::walking::{NO_PLACE, host_at};
 use fs_chain::{ChainError, KeptQueue, Stores, Workbench};
+use vm_memory_core::Permissions;
 
 /// What is stored for a return, and loaded after it, in this order.
 #[repr(C)]
@@ -53,13 +54,18 @@ impl FsStores {
     }
 }
 
-// Where so many bytes from a guest address on stand here; None if they don't stand in one piece.
-pub(crate) fn here(workbench: &Workbench, guest: u64, len: usize) -> Option<usize>
+// Where so many bytes from a guest address on stand here, for an access; None if they don't stand in one piece.
+pub(crate) fn here(
+    workbench: &Workbench,
+    guest: u64,
+    len: usize,
+    access: Permissions,
+) -> Option<usize>
     requires { 0 < len }
-    ensures some { IfSome result (StandsHere workbench.now.regions guest len) }
-    ensures none { result ≡ None → IsNotHere workbench.now.regions guest len }
+    ensures some { IfSome result (StandsHere workbench.now.regions access guest len) }
+    ensures none { result ≡ None → IsNotHere workbench.now.regions access guest len }
 {
-    match workbench.window_at(guest, len) {
+    match workbench.window_at(guest, len, access) {
         Some(window) => {
             if window.len() == len {
                 Some(host_at(&window))
@@ -77,16 +83,16 @@ fn told_stores(workbench: &Workbench, stores: &Stores) -> Option<FsStores>
     ensures none { result ≡ None → HaveNoPlaces workbench.now.regions stores.now }
 {
     let used = &stores.used;
-    let Some(id_at) = here(workbench, used.head.address, 4) else {
+    let Some(id_at) = here(workbench, used.head.address, 4, Permissions::Write) else {
         return None;
     };
-    let Some(len_at) = here(workbench, used.len.address, 4) else {
+    let Some(len_at) = here(workbench, used.len.address, 4, Permissions::Write) else {
         return None;
     };
-    let Some(index_at) = here(workbench, used.index.address, 2) else {
+    let Some(index_at) = here(workbench, used.index.address, 2, Permissions::Write) else {
         return None;
     };
-    let Some(seen_at) = here(workbench, stores.seen_at, 2) else {
+    let Some(seen_at) = here(workbench, stores.seen_at, 2, Permissions::Read) else {
         return None;
     };
     Some(FsStores {

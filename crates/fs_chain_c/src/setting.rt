@@ -6,6 +6,7 @@ ghost use Rattle.fs_chain_c.specs.Handles.{GoesOver, IsNewWorkbench, MakesWorkbe
 use crate::device::FsDevice;
 use crate::memory::{FsRegion, memory_of};
 use fs_chain::{ChainError, Workbench};
+use fs_regions::GuestMap;
 use memory_requests::boxed;
 use std::alloc::Global;
 
@@ -24,7 +25,7 @@ fn go_over(
         return Err(ChainError::BadArgument);
     }
     match memory_of(alloc, regions) {
-        Ok(memory) => workbench.set_memory(memory, device.limit),
+        Ok(memory) => workbench.set_memory(GuestMap::of_regions(memory), device.limit),
         Err(error) => Err(error),
     }
 }
@@ -58,7 +59,7 @@ fn made(
     }
     let memory = memory_of(alloc, regions)?;
     let mut workbench = Workbench::new(alloc);
-    workbench.set_memory(memory, device.limit)?;
+    workbench.set_memory(GuestMap::of_regions(memory), device.limit)?;
     match boxed(alloc, workbench) {
         Ok(workbench) => Ok(workbench),
         Err(_) => Err(ChainError::OutOfMemory),

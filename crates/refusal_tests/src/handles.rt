@@ -4,7 +4,7 @@
 use crate::given::{Trial, Unmet, expect, expect_kept, met};
 use fs_chain::{KeptQueue, Told, WalkOutcome, Went, Workbench};
 use fs_queue::QueueLayout;
-use fs_regions::{GuestRegions, MemoryRegion, RegionsError};
+use fs_regions::{GuestMap, GuestRegions, MemoryRegion, RegionsError};
 use fuse_values::{FileAnswer, FileCall};
 use fuse_wire::Errno;
 use server_phases::Session;
@@ -217,6 +217,7 @@ fn serve(trial: Trial, workbench: &mut Workbench) -> Result<usize, Unmet> {
 // A handle over some memory serves the chains.
 fn serve_over(trial: Trial, memory: GuestRegions) -> Result<usize, Unmet> {
     let mut workbench = Workbench::new(trial.alloc);
+    let memory = GuestMap::of_regions(memory);
     met(workbench.set_memory(memory, 0x101000), Unmet::Answer)?;
     serve(trial, &mut workbench)
 }

@@ -9,5 +9,5 @@ returns-in-Ok-clause-ok c =
       b,
       search rules,
       goes_along b c.args.device.now c.args.regions.now c.set_memory.new.self c.in-Ok.workbench.value (search rules)
-          (c.in_ok-set_memory.ensures.ok, search rules, rw set.0 c.in_ok-memory.ensures.ok, set.1, set.2, set.3, set.4, set.5, set.6),
+          (c.in_ok-set_memory.ensures.ok, search rules, search rules, search rules, set.1, set.2, set.3, set.4, set.5, set.6),
     )
