@@ -455,9 +455,17 @@ struct pk_step {
  * The first load is of the available index. The two bytes of the last load of this queue's index may be given in its place, if that was made since the queue was
  * begun (pk_queue_begin, pk_restore; else since its first walk) and over the same memory, and told another number than `position` is now: so chains wait that
  * it told of. Otherwise the index is loaded. What the walk asks for next is loaded after that last load, which acquired (rule 3), by another thread too.
- * Errors: PK_WRONG_ORDER (no memory was told), PK_BAD_ARGUMENT (the queue's numbers are none; or `loaded` isn't as long as the load, whole or as
- * it was told: that is still wanted, and told again), PK_WRONG_ORDER (it is out), PK_OTHER_QUEUE (it walks another, or a chain was taken
- * or dropped since, or it was begun anew: drop or abandon the walk), PK_CHAIN_OUT; then in no order PK_OUT_OF_MEMORY, 1 to 8, PK_NO_PLACE. */
+ * Errors, in this order:
+ *   PK_WRONG_ORDER    no memory was set
+ *   PK_BAD_ARGUMENT   the queue's numbers are none: those of zeros, too
+ *   PK_WRONG_ORDER    the chain is in flight
+ *   PK_BAD_ARGUMENT   `loaded` is neither the whole load nor the part that was asked for: it is asked for
+ *                     again. At the beginning of a walk: `loaded` isn't empty
+ *   PK_OTHER_QUEUE    the walk is of another queue, or a chain was taken or dropped since it began, or the
+ *                     queue was begun again: drop or abandon the walk
+ *   PK_CHAIN_OUT      as many chains are in flight as may be
+ *   PK_OUT_OF_MEMORY, 1 to 8, PK_NO_PLACE, in no order
+ * A queue whose numbers you set without pk_queue_begin is taken as one that was begun zero times. */
 uint32_t pk_walk(struct pk_chain *chain, struct pk_queue *queue, const uint8_t *loaded, size_t loaded_len, struct pk_step *step)
     PK_CHECK PK_NONNULL PK_READS(3, 4) PK_FILLS(5);
 
@@ -539,7 +547,7 @@ struct pk_call {
  * PK_MORE as many as it needs (so it does if fewer came); load only the new ones, and call again with all. A buffer as long as the device's limit holds any; WRITE
  * never needs more than PK_FIRST. The library keeps no pointer, and wants the bytes no more; but `call` speaks of places in them.
  * A call whose `answer` is PK_ANSWER_NONE is answered: make it, if there is one, and go on with pk_return.
- * It takes no memory. Errors: PK_WRONG_ORDER (no memory was told), PK_BAD_ARGUMENT (page size or limit are none), PK_WRONG_ORDER (no chain, a faulty one,
+ * It isn't refused for want of memory. Errors: PK_WRONG_ORDER (no memory was told), PK_BAD_ARGUMENT (page size or limit are none), PK_WRONG_ORDER (no chain, a faulty one,
  * or it was asked), PK_BAD_ARGUMENT (more bytes than the request has); then `call` is zeros. */
 uint32_t pk_ask(struct pk_chain *chain, const struct pk_device *device, const uint8_t *request, size_t request_len, struct pk_call *call)
     PK_CHECK PK_NONNULL PK_READS(3, 4) PK_FILLS(5);
