@@ -11,12 +11,14 @@ use Rattle.fs_chain.specs.Orders.{memory_error}
 use Rattle.fs_chain.specs.Returns.{IsFreed}
 use Rattle.fs_chain.specs.declared.workbench.Workbench.{Workbench}
 use Rattle.fs_chain_c.specs.declared.device.FsDevice.{FsDevice}
+use Rattle.fs_chain_c.specs.declared.handle.FsChain.{FsChain}
 use Rattle.fs_chain_c.specs.declared.memory.FsRegion.{FsRegion}
 use Rattle.fs_chain_c.specs.declared.queue.FsQueue.{FsQueue}
 use Rattle.fs_chain_c.specs.declared.returning.FsStores.{FsStores}
 use Rattle.fs_chain_c.specs.declared.walking.FsStep.{FsStep}
 use Rattle.fs_chain_c.specs.declared.windows.FsWindow.{FsWindow}
 use Rattle.fs_chain_c.specs.Memory.{IsDevice, IsMemory, IsNoMemory}
+use Rattle.fs_chain_c.specs.Owned.{null}
 use Rattle.fs_chain_c.specs.Returning.{DropsWorkbench, EndsWorkbench, ReturnsWorkbench, no_stores}
 use Rattle.fs_chain_c.specs.Walking.{WalksWorkbench, no_step}
 use Rattle.fs_chain_c.specs.Windows.{Fills}
@@ -27,6 +29,10 @@ OnWorkbench Does Nothing None None = Nothing
 OnWorkbench Does Nothing None (Some b') = ⊥
 OnWorkbench Does Nothing (Some b) None = ⊥
 OnWorkbench Does Nothing (Some b) (Some b') = Does b b'
+
+-- a handle without a workbench, all of whose numbers are zero
+abbrev pub IsZeros : FsChain → Type 0
+IsZeros c = (c.value ≡ None) × (c.at ≡ null) × (c.full ≡ 0)
 
 -- ---- memory is told
 

@@ -1,7 +1,7 @@
 //! The functions on a chain that C calls. Each answers 0, or a number that says why not.
 
 ghost use Rattle.std.specs.Prelude.{◌≡◌, false, true, None};
-ghost use Rattle.fs_chain_c.specs.Handles.{Abandons, Drops, Ends, Returns, SetsMemory, TellsStretches, Walks};
+ghost use Rattle.fs_chain_c.specs.Handles.{Abandons, Drops, Ends, IsZeros, Returns, SetsMemory, TellsStretches, Walks};
 ghost use Rattle.fs_chain_c.specs.Queues.{BeginsQueue};
 
 use crate::device::FsDevice;
@@ -65,7 +65,7 @@ pub extern "C" fn pk_chain_set_memory(
 /// Frees what a handle holds; then it has no workbench. The queue of a chain that is out isn't told.
 #[unsafe(no_mangle)]
 pub extern "C" fn pk_chain_free(alloc: Global, chain: &mut FsChain)
-    ensures { chain.new.value ≡ None }
+    ensures { IsZeros chain.new }
 {
     *chain = FsChain::empty(alloc);
 }
