@@ -625,14 +625,17 @@ uint32_t pk_reply_init(struct pk_chain *chain, uint32_t ticket, struct pk_device
 /* READDIR: puts an entry behind those before it. They gather in `list`, a buffer of yours that stays the same until the reply, of
  * data_len bytes at most; begin nothing, clear nothing. Another one of the same length isn't noticed. next_offset is what READDIR brings as its offset to go
  * on behind this entry; type is DT_ of dirent.h. PK_FULL: it didn't fit, the list is as before; reply now. PK_LIST_FAILS: the same, but fail.
- * Errors: PK_BAD_ARGUMENT (a name that is empty or longer than 255), PK_WRONG_ORDER, PK_OTHER_CALL, PK_BAD_ARGUMENT (list_len isn't that of the list that has
- * entries), PK_OTHER_KIND, PK_SHORT_BUFFER (list ends before it). */
+ * Errors, in this order: PK_BAD_ARGUMENT (a name that is empty, longer than 255 bytes or has a slash: a Linux
+ * guest would answer EIO to the whole listing; a type that is none of DT_UNKNOWN, DT_FIFO, DT_CHR, DT_DIR,
+ * DT_BLK, DT_REG, DT_LNK, DT_SOCK), PK_WRONG_ORDER, PK_OTHER_CALL, PK_BAD_ARGUMENT (list_len isn't that of
+ * the list that has entries), PK_OTHER_KIND, PK_SHORT_BUFFER (the list ends before the entry). */
 uint32_t pk_add_direntry(struct pk_chain *chain, uint32_t ticket, uint8_t *list, size_t list_len, const uint8_t *name, size_t name_len, uint64_t ino,
                          uint64_t next_offset, uint32_t type) PK_CHECK PK_NONNULL PK_READS(5, 6);
 
 /* READDIRPLUS: an entry with its node, which the guest holds once more, as after LOOKUP. For "." and ".." entry->node is 0, and
  * nothing is held. PK_FULL, PK_LIST_FAILS, and any error: the look-up isn't told, so undo it. Type and ino are the attributes'.
- * Errors: pk_add_direntry's; PK_BAD_ARGUMENT also for nanoseconds of a second or more. */
+ * Errors: pk_add_direntry's, for the type of `mode`; PK_BAD_ARGUMENT also for nanoseconds of a second or
+ * more. */
 uint32_t pk_add_direntry_plus(struct pk_chain *chain, uint32_t ticket, uint8_t *list, size_t list_len, const uint8_t *name, size_t name_len,
                               const struct pk_entry *entry, uint64_t next_offset) PK_CHECK PK_NONNULL PK_READS(5, 6);
 
