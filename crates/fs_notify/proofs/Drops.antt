@@ -1,18 +1,16 @@
 -- Drops and returns of chains in flight.
-use Rattle.std.proofs.Common.{arith, ◌≡◌, ℕ, ◌+◌, ◌-◌, ◌%◌, ◌^◌, ◌<◌, ◌≤◌, ◌==◌, ◌&&◌, ◌||◌, Bool, true, false, not, Option, Some, None, IsTrue, refl, sym, ap, subst, ◌∙◌}
+use Rattle.std.proofs.Common.{arith, ◌≡◌, ℕ, ◌+◌, ◌-◌, ◌%◌, ◌^◌, ◌<◌, ◌==◌, ◌&&◌, ◌||◌, Bool, true, false, not, Some, None, refl, sym, ap, subst, ◌∙◌}
 use Rattle.std.specs.Prelude.{nat_lt, nat_le, if◌then◌else◌}
-use Rattle.std.proofs.lemmas.Bool.{and_parts}
 use Rattle.std.proofs.lemmas.Bool.Decides.{nat_tests}
-use Rattle.fs_chain.specs.declared.error.ChainError.{ChainError}
-use Rattle.fs_chain.specs.declared.error.ChainError.TheVariants.{BadArgument, ChainOut, OtherQueue, WrongOrder}
+use Rattle.fs_chain.specs.declared.error.ChainError.TheVariants.{ChainOut, OtherQueue, WrongOrder}
 use Rattle.fs_chain.specs.declared.queue.KeptQueue.{KeptQueue}
 use Rattle.fs_chain.specs.declared.state.Out.{Out}
 use Rattle.fs_chain.specs.declared.state.State as state
 use Rattle.fs_chain.specs.declared.state.State.TheVariants as at
-use Rattle.fs_chain.specs.Orders.{begin_error, end_error, give_up_error}
-use Rattle.fs_chain.specs.Queues.{gave, is_laid_out, is_last, is_out_of, may_take, out_count, untook}
-use Rattle.notify.specs.Threads.{Queue, Walker, Asker, is_free, walks, asks, may_act, after_act, DropsOne, SleepsNow, Returns}
-use Rattle.fs_notify.specs.Takers.{DropIsAnAct, FullIsAnAct, IsCounted, IsOf, ReturnIsAnAct, ways_of}
+use Rattle.fs_chain.specs.Orders.{end_error}
+use Rattle.fs_chain.specs.Queues.{gave, is_laid_out, is_last, is_out_of, out_count, untook}
+use Rattle.notify.specs.Threads.{Queue, Walker, is_free, walks, asks}
+use Rattle.fs_notify.specs.Takers.{DropIsAnAct, FullIsAnAct, ReturnIsAnAct}
 
 -- ---- how many are in flight
 

@@ -1,13 +1,11 @@
 -- Returns, as the giver's steps.
-use Rattle.std.proofs.Common.{arith, ◌≡◌, ℕ, ◌+◌, ◌%◌, ◌^◌, ◌<◌, ◌==◌, ◌||◌, Bool, true, false, not, List, [], ◌∷◌, ◌++◌, refl, sym, ap, subst, ◌∙◌, if◌then◌else◌}
+use Rattle.std.proofs.Common.{◌≡◌, ℕ, ◌+◌, ◌^◌, ◌<◌, ◌==◌, ◌||◌, Bool, true, false, not, List, [], ◌∷◌, refl, sym, ap, ◌∙◌, if◌then◌else◌}
 use Rattle.std.specs.Int.{w16, w32, to_le_bytes, from_le_bytes}
-use Rattle.fs_queue.specs.Queue.{has_bit, element_at, index_at}
-use Rattle.fs_queue.specs.Returning.{Store, tells}
-use Rattle.fs_chain.specs.declared.queue.KeptQueue.{KeptQueue}
-use Rattle.fs_chain.specs.Events.{tells_of}
+use Rattle.fs_queue.specs.Queue.{element_at}
+use Rattle.fs_queue.specs.Returning.{tells}
 use Rattle.fs_chain.specs.Orders.{reply_len}
 use Rattle.fs_chain.specs.Queues.{at_return}
-use Rattle.notify.specs.Kicks.{State, moved, must}
+use Rattle.notify.specs.Kicks.{moved, must}
 use Rattle.notify.proofs.Rings.{of_one_chain}
 use Rattle.fs_notify.specs.Givers.{ChecksBySeen, MachineChecks, PublishesByStore}
 use Rattle.fs_notify.specs.Takers.{SaysWish}

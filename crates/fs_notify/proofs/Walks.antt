@@ -1,5 +1,5 @@
 -- Whole walks: by which index they take a chain, and by which they find none.
-use Rattle.std.proofs.Common.{arith, ◌≡◌, ℕ, ◌+◌, ◌-◌, ◌%◌, ◌^◌, ◌<◌, ◌≤◌, ◌==◌, ◌&&◌, ◌||◌, Bool, true, false, not, List, [], ◌∷◌, ◌++◌, length, replicate, Option, Some, None, IsTrue, refl, sym, ap, subst, ◌∙◌, if◌then◌else◌}
+use Rattle.std.proofs.Common.{arith, ◌≡◌, ℕ, ◌+◌, ◌-◌, ◌%◌, ◌^◌, ◌<◌, ◌==◌, ◌&&◌, ◌||◌, Bool, true, false, not, List, [], ◌∷◌, ◌++◌, length, replicate, Option, Some, None, IsTrue, refl, sym, ap, subst, ◌∙◌, if◌then◌else◌}
 use Rattle.std.specs.Prelude.{is_some, nat_lt, nat_le, option_and_then, option_map}
 use Rattle.std.specs.Int.{w16, from_le_bytes}
 use Rattle.std.proofs.lemmas.Bool.{eqb-true}
@@ -9,36 +9,33 @@ use Rattle.std.proofs.lemmas.Nat.{mod_below}
 use Rattle.vm_iotlb.specs.declared.permissions.Permissions.TheVariants.{Read, Write}
 use Rattle.vm_memory.specs.Memory.{Memory, number, reach}
 use Rattle.fs_queue.specs.declared.layout.QueueLayout.{QueueLayout}
-use Rattle.fs_queue.specs.declared.fault.QueueError.TheVariants.{AvailFlagsUnreachable, AvailIndexUnreachable, AvailTooFar, RingEntryUnreachable, HeadOutOfTable, UsedUnreachable}
+use Rattle.fs_queue.specs.declared.fault.QueueError.TheVariants.{AvailFlagsUnreachable, AvailIndexUnreachable, RingEntryUnreachable, HeadOutOfTable, UsedUnreachable}
 use Rattle.fs_queue.specs.Chain.{Found, IsChain, HasFault, StopsQueue}
 use Rattle.fs_queue.specs.Queue.{Queue as Ring, avail_index_at, element_at, index_at, ring_entry_at}
 use Rattle.fs_queue.specs.NextAvail.{NextAvail, Idle, Head, Refused, next_avail}
 use Rattle.fs_queue.specs.Loads.{Load, holding, index_load, entry_load, asks_entry, is_whole, chain_exactly}
-use Rattle.fs_queue.specs.OfferLoads.{on_waits, offer_by, waits_by, with_loaded, with_request, without_chain, without_entry, without_request}
+use Rattle.fs_queue.specs.OfferLoads.{on_waits, waits_by, with_loaded, without_chain, without_entry, without_request}
 use Rattle.fs_queue.specs.WalkingView.{at_position}
 use Rattle.fs_queue.specs.Taking as taking
 use Rattle.fs_queue.specs.Taking.{Offer, RequestAndRoom, offer_of}
 use Rattle.fs_queue.proofs.RingLemmas.{IsPair, entry_tells, index_lost, index_tells, pick}
 use Rattle.fs_queue.specs.Taking.{total_len, readable, writable, addresses_of, IsRequest, CannotFetch, Offers}
 use Rattle.fs_queue.specs.Chain.{Descriptor}
-use Rattle.fs_queue.specs.declared.fault.ChainFault.{ChainFault}
 use Rattle.fs_regions.specs.declared.step.Step as comes
 use Rattle.fs_regions.specs.declared.step.Step.TheVariants as step
 use Rattle.fs_regions.specs.Places.{places_in}
 use Rattle.fs_regions.specs.Walks.{Loaded, ComesTo, OffersBy, queue_of}
-use Rattle.fs_chain.specs.declared.error.ChainError.{ChainError}
 use Rattle.fs_chain.specs.declared.error.ChainError.TheVariants.{BadArgument, ChainOut}
 use Rattle.fs_chain.specs.declared.loads.Went as went
 use Rattle.fs_chain.specs.declared.loads.Went.TheVariants as wents
 use Rattle.fs_chain.specs.declared.queue.KeptQueue.{KeptQueue}
 use Rattle.fs_chain.specs.declared.state.State as state
-use Rattle.fs_chain.specs.declared.state.State.TheVariants as at
 use Rattle.fs_chain.specs.declared.walking.WalkOutcome as walked
 use Rattle.fs_chain.specs.declared.walking.WalkOutcome.TheVariants as says
 use Rattle.fs_chain.specs.declared.workbench.Workbench.{Workbench}
 use Rattle.fs_chain.specs.Loads.{whole}
 use Rattle.fs_chain.specs.Orders.{begin_error, load_len, walk_error}
-use Rattle.fs_chain.specs.Queues.{may_take, out_count, took}
+use Rattle.fs_chain.specs.Queues.{may_take, took}
 use Rattle.fs_chain.specs.Walks.{course_of, queue_after, told_of}
 use Rattle.fs_chain.specs.Whole.{BeginsBy, LoadsOf, WalksBy}
 use Rattle.fs_chain.proofs.WholeChains.{came_is, faulty_is}
@@ -46,7 +43,7 @@ use Rattle.fs_chain.proofs.WholeWalks.{walk_comes}
 use Rattle.notify.specs.Kicks.{ahead}
 use Rattle.notify.specs.Threads.{Queue, Walker, Asker, walks, asks, may_act, after_act, TakesOne, SleepsNow}
 use Rattle.notify.proofs.Rings.{ahead_zero}
-use Rattle.fs_notify.specs.Takers.{FindsNoneByWalk, HasTaken, IsCounted, IsIndex, IsOf, SleepsInOrder, TakesByWalk, ways_of}
+use Rattle.fs_notify.specs.Takers.{FindsNoneByWalk, IsCounted, IsIndex, IsOf, SleepsInOrder, TakesByWalk, ways_of}
 
 -- ---- an offer by what waits
 

@@ -1,11 +1,11 @@
 -- A wish by its store.
-use Rattle.std.proofs.Common.{arith, ◌≡◌, ℕ, ◌^◌, ◌<◌, Bool, true, false, ◌||◌, Option, Some, None, IsTrue, refl, sym, ap, ◌∙◌}
-use Rattle.std.specs.Int.{w16, to_le_bytes, from_le_bytes}
+use Rattle.std.proofs.Common.{◌≡◌, Bool, true, false, ◌||◌, Some, IsTrue, refl, sym, ap, ◌∙◌}
+use Rattle.std.specs.Int.{w16, to_le_bytes}
 use Rattle.std.proofs.lemmas.Nat.{from_le_bytes-to_le_bytes_2}
 use Rattle.fs_queue.specs.Returning.{Store}
 use Rattle.fs_chain.specs.declared.queue.KeptQueue.{KeptQueue}
 use Rattle.fs_chain.specs.Events.{avail_event_at, kick_store}
-use Rattle.notify.specs.Threads.{Queue, Walker, walks, may_act, after_act, Wishes, WishIsThere, Silences}
+use Rattle.notify.specs.Threads.{Queue, Walker, walks, may_act, after_act, Wishes, WishIsThere}
 use Rattle.fs_notify.specs.Takers.{AsksByStore, IsCounted, IsOf, MutesBy, MutesByStore, SaysWish, ways_of, wish_at}
 
 abbrev AsksSo : KeptQueue → Queue → Type 0

@@ -3,7 +3,7 @@
 -- The model's state has two memory cells that the driver writes for the device: `event` and `muted`. With
 -- the event index the first is used_event, and the second means nothing; without it the second is bit 0 of
 -- the available ring's flags (VIRTIO 1.2, 2.7.7).
-use Rattle.std.specs.Prelude.{◌≡◌, ℕ, ◌++◌, ◌^◌, ◌<◌, ◌||◌, Bool, false, not, List, [], ◌∷◌}
+use Rattle.std.specs.Prelude.{◌≡◌, ℕ, ◌++◌, ◌^◌, ◌<◌, ◌||◌, false, List, [], ◌∷◌}
 use Rattle.std.specs.Int.{w16, to_le_bytes, from_le_bytes}
 use Rattle.vm_memory.specs.Memory.{Memory, number}
 use Rattle.fs_queue.specs.Queue.{Queue, has_bit, index_at}
@@ -13,7 +13,7 @@ use Rattle.fs_chain.specs.declared.queue.KeptQueue.{KeptQueue}
 use Rattle.fs_chain.specs.declared.returning.Stores.{Stores}
 use Rattle.fs_chain.specs.declared.state.Out.{Out}
 use Rattle.fs_chain.specs.declared.state.Reply.{Reply}
-use Rattle.fs_chain.specs.Events.{seen_at, tells_of}
+use Rattle.fs_chain.specs.Events.{tells_of}
 use Rattle.fs_chain.specs.Queues.{at_return, gave}
 use Rattle.fs_chain.specs.Returns.{ReturnsBy}
 use Rattle.notify.specs.Kicks.{Rules, right, State, Publishes, Checks, moved, must, after}
