@@ -436,6 +436,12 @@ uint32_t pk_chain_set_memory(struct pk_chain *chain, const struct pk_device *dev
  * lost to its queue, which counts it as out until it is begun anew, and lets no other go back if pk_return told its stores: return it before. */
 void pk_chain_free(struct pk_chain *chain) PK_NONNULL;
 
+/* Chooses the ticket of the chain's next walk: each later one is greater by 1, modulo 2^32. A new chain
+ * begins at 1, so two chains may have the same ticket. Let chain k of n begin at k * (2^32 / n): then an
+ * answer that is given to the wrong chain is refused (PK_OTHER_CALL, or PK_WRONG_ORDER if no call waits).
+ * Errors: PK_WRONG_ORDER (no memory was set), PK_CHAIN_OUT (a chain is walked or in flight). */
+uint32_t pk_chain_number_from(struct pk_chain *chain, uint32_t first) PK_CHECK PK_NONNULL;
+
 /* What a walk says: with PK_LOAD, `len` bytes at `at`, 1 to PK_LOAD_MAX; with PK_DONE, the chain. Where nothing was done, the load that a walk still wants,
  * but zeros if the queue's numbers are none. Else zeros. */
 struct pk_step {
@@ -581,7 +587,7 @@ struct pk_statfs {
 
 /* All of these answer the call that pk_ask told, by its ticket, once, and touch no memory; the reply is handed out by pk_return. From chain to chain of a
  * handle the ticket grows by 1, modulo 2^32: an answer that comes late, to a chain that was abandoned, is taken for no other of this
- * handle, unless 2^32 chains came between, or pk_chain_free. Another handle's chain may have the same ticket: answer the handle that asked. Errors, the same
+ * handle, unless 2^32 chains came between, or pk_chain_free. Another handle's chain may have the same ticket, unless pk_chain_number_from parts them. Errors, the same
  * for all: what stands beside each, then PK_WRONG_ORDER (nothing is asked, or it was answered), PK_OTHER_CALL, PK_OTHER_KIND; after these the call
  * waits still. PK_NO_ROOM isn't one: see there. No memory is wanted. */
 

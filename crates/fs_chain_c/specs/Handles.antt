@@ -1,13 +1,13 @@
 -- What the exports do with the workbench of a handle.
-use Rattle.std.specs.Prelude.{◌≡◌, ◌⊎◌, ◌-◌, ◌^◌, ℕ, Bool, List, [], min, Option, Some, None}
+use Rattle.std.specs.Prelude.{◌≡◌, ◌⊎◌, ◌-◌, ◌^◌, ℕ, Bool, true, false, List, [], min, Option, Some, None}
 use Rattle.memory_requests.specs.Refused.{RoomWasRefused}
 use Rattle.vm_memory.specs.Layout.{Region}
 use Rattle.fs_regions.specs.Places.{untranslated}
 use Rattle.fs_chain.specs.declared.error.ChainError.{ChainError}
-use Rattle.fs_chain.specs.declared.error.ChainError.TheVariants.{BadArgument, OutOfMemory, WrongOrder}
+use Rattle.fs_chain.specs.declared.error.ChainError.TheVariants.{BadArgument, ChainOut, OutOfMemory, WrongOrder}
 use Rattle.fs_chain.specs.declared.state.State.TheVariants as at
 use Rattle.fs_chain.specs.Numbers.{chain_error_number}
-use Rattle.fs_chain.specs.Orders.{memory_error}
+use Rattle.fs_chain.specs.Orders.{is_free, memory_error}
 use Rattle.fs_chain.specs.Returns.{IsFreed}
 use Rattle.fs_chain.specs.declared.workbench.Workbench.{Workbench}
 use Rattle.fs_chain_c.specs.declared.device.FsDevice.{FsDevice}
@@ -77,6 +77,16 @@ SetsMemory (Some b) d regions status None = ⊥
 SetsMemory (Some b) d regions status (Some b') = SetsWorkbench b d regions status b'
 
 -- ---- the other calls
+
+-- the next chain of a workbench gets this number; or a chain is walked or in flight, and nothing is done
+abbrev pub NumbersWorkbench : Workbench → (first status : ℕ) → Workbench → Type 0
+NumbersWorkbench b first status b' =
+    ((is_free b.state ≡ true) × (status ≡ 0) × (b' ≡ record b { serial = first }))
+    ⊎ ((is_free b.state ≡ false) × (status ≡ chain_error_number ChainOut) × (b' ≡ b))
+
+abbrev pub Numbers : Option Workbench → (first status : ℕ) → Option Workbench → Type 0
+Numbers before first status after =
+    OnWorkbench (λ b b'. NumbersWorkbench b first status b') (status ≡ chain_error_number WrongOrder) before after
 
 -- a handle's chain is walked
 abbrev pub Walks : Option Workbench → FsQueue → (loaded : List ℕ) → (status : ℕ) → FsStep → Option Workbench → FsQueue → Type 0
