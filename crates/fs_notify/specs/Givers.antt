@@ -3,7 +3,7 @@
 -- The model's state has two memory cells that the driver writes for the device: `event` and `muted`. With
 -- the event index the first is used_event, and the second means nothing; without it the second is bit 0 of
 -- the available ring's flags (VIRTIO 1.2, 2.7.7).
-use Rattle.std.specs.Prelude.{◌≡◌, ℕ, ◌++◌, ◌^◌, ◌<◌, ◌||◌, false, List, [], ◌∷◌}
+use Rattle.std.specs.Prelude.{◌≡◌, ℕ, ◌+◌, ◌≤◌, ◌++◌, ◌^◌, ◌<◌, ◌||◌, false, List, [], ◌∷◌}
 use Rattle.std.specs.Int.{w16, to_le_bytes, from_le_bytes}
 use Rattle.vm_memory.specs.Memory.{Memory, number}
 use Rattle.fs_queue.specs.Queue.{Queue, has_bit, index_at}
@@ -16,7 +16,7 @@ use Rattle.fs_chain.specs.declared.state.Reply.{Reply}
 use Rattle.fs_chain.specs.Events.{tells_of}
 use Rattle.fs_chain.specs.Queues.{at_return, gave}
 use Rattle.fs_chain.specs.Returns.{ReturnsBy}
-use Rattle.notify.specs.Kicks.{Rules, right, State, Publishes, Checks, moved, must, after}
+use Rattle.notify.specs.Kicks.{Rules, right, State, Publishes, IndexArrives, Checks, Runs, ahead, moved, must, after}
 use Rattle.fs_notify.specs.Takers.{SaysWish}
 
 -- the rules that a device keeps as the giver of this queue's used chains
@@ -46,6 +46,20 @@ ChecksBySeen =
     → u.unchecked ≡ 1
     → SaysWish q.event_index seen u.event u.muted
     → (after (rules_of q) u Checks).owes ≡ (u.owes || tells_of q seen)
+
+-- the store of the used index, the barrier and the load, in this order, are a run of the model, while the
+-- driver has made no more chains available than the queue has descriptors
+abbrev pub ReturnsInOrder : Type 0
+ReturnsInOrder =
+    (q : KeptQueue) (u : State)
+    → q.returned < 2 ^ 16
+    → u.published ≡ q.returned
+    → u.index ≡ u.published
+    → u.unchecked ≡ 0
+    → ahead u.published u.position + 1 ≤ q.layout.size
+    → let rules = rules_of q in
+    let end = after rules (after rules (after rules u (Publishes 1)) (IndexArrives 1)) Checks in
+    Runs rules u (Publishes 1 ∷ IndexArrives 1 ∷ Checks ∷ []) end × (end.published ≡ (gave q).returned)
 
 -- the plain machine has no event index: so it publishes and checks by the available ring's flags
 abbrev pub MachineChecks : Type 0

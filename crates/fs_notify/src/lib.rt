@@ -15,7 +15,7 @@
 //! | `end_return`, by a load behind the barrier | `Checks`, and `Returns` |
 #![tactic(auto)]
 
-ghost use Rattle.fs_notify.specs.Givers.{ChecksBySeen, MachineChecks, PublishesByStore};
+ghost use Rattle.fs_notify.specs.Givers.{ChecksBySeen, MachineChecks, PublishesByStore, ReturnsInOrder};
 ghost use Rattle.fs_notify.specs.Takers.{AsksByStore, DropIsAnAct, FindsNoneByWalk, FullIsAnAct, MutesByStore, ReturnIsAnAct};
 ghost use Rattle.fs_notify.specs.Takers.{SleepsInOrder, TakesByWalk};
 
@@ -32,9 +32,11 @@ pub fn law_takers()
     ensures order { SleepsInOrder }
 {}
 
-/// The steps of a device that gives used chains to the driver: by the handle, and by the plain machine.
+/// The steps of a device that gives used chains to the driver: by the handle, and by the plain machine. The store
+/// of the used index, the barrier and the load, in this order, are a run of the model.
 pub fn law_givers()
     ensures publishes { PublishesByStore }
     ensures checks { ChecksBySeen }
+    ensures order { ReturnsInOrder }
     ensures machine { MachineChecks }
 {}
