@@ -16,7 +16,8 @@ use Rattle.fs_chain.specs.declared.state.Reply.{Reply}
 use Rattle.fs_chain.specs.Events.{tells_of}
 use Rattle.fs_chain.specs.Queues.{at_return, gave}
 use Rattle.fs_chain.specs.Returns.{ReturnsBy}
-use Rattle.notify.specs.Kicks.{Rules, right, State, Publishes, IndexArrives, Checks, Runs, ahead, moved, must, after}
+use Rattle.notify.specs.Kicks.{Rules, right, State, Publishes, IndexArrives, Checks, Runs, ahead, moved}
+use Rattle.notify.specs.Kicks.{must, after}
 use Rattle.fs_notify.specs.Takers.{SaysWish}
 
 -- the rules that a device keeps as the giver of this queue's used chains

@@ -16,7 +16,8 @@
 #![tactic(auto)]
 
 ghost use Rattle.fs_notify.specs.Givers.{ChecksBySeen, MachineChecks, PublishesByStore, ReturnsInOrder};
-ghost use Rattle.fs_notify.specs.Takers.{AsksByStore, DropIsAnAct, FindsNoneByWalk, FullIsAnAct, MutesByStore, ReturnIsAnAct};
+ghost use Rattle.fs_notify.specs.Takers.{AsksByStore, DropIsAnAct, FindsNoneByWalk, FullIsAnAct};
+ghost use Rattle.fs_notify.specs.Takers.{MutesByStore, ReturnIsAnAct};
 ghost use Rattle.fs_notify.specs.Takers.{SleepsInOrder, TakesByWalk};
 
 /// The acts of a thread that holds the queue's lock: what its calls return allows the act and makes it. A
@@ -32,8 +33,8 @@ pub fn law_takers()
     ensures order { SleepsInOrder }
 {}
 
-/// The steps of a device that gives used chains to the driver: by the handle, and by the plain machine. The store
-/// of the used index, the barrier and the load, in this order, are a run of the model.
+/// The steps of a device that gives used chains to the driver: by the handle, and by the plain machine. The
+/// store of the used index, the barrier and the load, in this order, are a run of the model.
 pub fn law_givers()
     ensures publishes { PublishesByStore }
     ensures checks { ChecksBySeen }
