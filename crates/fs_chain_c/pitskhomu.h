@@ -110,10 +110,18 @@
  * SEVERAL CHAINS out of a queue, as many as its `most_out`, each by a `struct pk_chain` of its own. A queue's calls are one at a time: a lock is held from the
  * first pk_walk to PK_DONE, from pk_return to pk_returned, and from pk_ask_kicks (though the queue is const there) through its store and its barrier to the end
  * of the walk behind it. A walk between whose calls another chain is taken is refused (PK_OTHER_QUEUE): drop it, and begin again. Chains go back in any order.
- * With the event index the driver kicks for the chain at the stored position alone. So whoever takes a chain while another thread of the queue sleeps asks anew
- * before it lets the lock go, which is at the position behind that chain: pk_ask_kicks, the store, the barrier, and one more look, at the available index. A
- * chain that is there already brings no kick: wake a thread for it. Nor does one that waits while most_out are out, or that was dropped: whoever returns a chain,
- * or drops one, walks once more or wakes a thread. Without all this the one that sleeps may sleep on.
+ * A thread that takes a chain while another thread of the queue sleeps looks once more before it
+ * releases the lock, with event_index and without it:
+ *   a. It calls pk_ask_kicks(.., 1), makes the store and the barrier. With event_index the driver
+ *      notifies at the stored position alone, so the store is made again behind each chain. Without
+ *      event_index the store may be left out if the queue's last store was that of pk_ask_kicks(.., 1).
+ *   b. It loads the available index again, behind the barrier. An index that was loaded before may
+ *      show that a chain is available, but never that none is.
+ *   c. If a chain is available, it wakes a thread, or walks on itself.
+ * The driver notifies once for several chains that it publishes together. So without this look two
+ * chains can be available after one notification: one thread takes the first, and the other sleeps on.
+ * The driver doesn't notify again for a chain that was available while most_out were out, nor for one
+ * that was dropped. So a thread that returns or drops a chain walks once more, or wakes a thread.
  *
  * FEATURES of VIRTIO 1.2 that may be offered: VERSION_1 (32, insist on it), INDIRECT_DESC (28), EVENT_IDX (29, with `event_index` set), and IN_ORDER (35), if
  * you return the chains of a queue in the order of their walks. Not RING_PACKED (34), not ACCESS_PLATFORM (33).
@@ -679,9 +687,12 @@ struct pk_store {
 };
 
 /* What is stored to be told (1) of the next chain of a queue, or of none (0): the used flags, or with event_index the position as avail_event, and nothing
- * for 0 (VIRTIO 1.2, 2.7.10). To be told: before you sleep make this store, a full barrier (atomic_thread_fence(memory_order_seq_cst)), and one more walk, all
- * under the queue's lock; with event_index also when you took a chain and another thread of the queue sleeps (SEVERAL CHAINS, above). Of the chain only the
- * regions count, and it stays as it was. `wanted` other than 0 is 1. The guest address of the store is `used`, or with event_index used + 4 + 8 * size.
+ * for 0 (VIRTIO 1.2, 2.7.10). Before you sleep, and when you took a chain while another thread of the
+ * queue sleeps (SEVERAL CHAINS, above), with event_index and without it: make this store and a full
+ * barrier (atomic_thread_fence(memory_order_seq_cst)), and look once more, all under the queue's lock.
+ * That look is a new load of the available index: one that was made before the barrier doesn't show
+ * that no chain is available. Of the chain only the regions count, and it stays as it was. `wanted`
+ * other than 0 is 1. The guest address of the store is `used`, or with event_index used + 4 + 8 * size.
  * Errors: PK_WRONG_ORDER (no memory was told), PK_BAD_ARGUMENT (the queue's numbers are none), PK_NO_PLACE (these two bytes are in no region: a walk looks for
  * those of event_index as it begins, and for the used index behind the flags as it takes a chain); then `store` is zeros. */
 uint32_t pk_ask_kicks(struct pk_chain *chain, const struct pk_queue *queue, uint32_t wanted, struct pk_store *store)
