@@ -5,7 +5,7 @@ ghost use Rattle.fs_chain.specs.declared.state.State.TheVariants as at;
 
 use fs_chain::{KeptQueue, WalkOutcome, Went, Workbench};
 use fs_queue::QueueLayout;
-use fs_regions::{GuestRegions, MemoryRegion};
+use fs_regions::{GuestMap, GuestRegions, MemoryRegion};
 use server_phases::Session;
 use std::alloc::Global;
 use std::fmt::Debug;
@@ -34,6 +34,7 @@ pub fn workbench_over(rt: &impl Abort, alloc: Global, pages: &[u64]) -> Workbenc
     }
     let memory = GuestRegions::of_regions(alloc, regions).expect(rt, "memory");
     let mut workbench = Workbench::new(alloc);
+    let memory = GuestMap::of_regions(memory);
     workbench.set_memory(memory, 0x101000).expect(rt, "memory");
     workbench
 }

@@ -16,8 +16,6 @@ mod laws;
 #[cfg(test)]
 mod listings;
 #[cfg(test)]
-mod live_queues;
-#[cfg(test)]
 mod lives;
 #[cfg(test)]
 mod orders;
@@ -39,5 +37,3 @@ mod tables;
 mod walks;
 #[cfg(test)]
 mod wholes;
-#[cfg(test)]
-mod worked_runs;

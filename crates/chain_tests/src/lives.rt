@@ -1,41 +1,8 @@
-//! Chains that are out at once, by a handle each, are a run beside a guest that writes.
-
-ghost use Rattle.std.specs.Prelude.{◌≡◌, ℕ, List, [], ◌∷◌, map, IsPermutation, None, Some, IfOk, slice_get};
-ghost use Rattle.fs_regions.specs.Places.{places_in};
-ghost use Rattle.fs_chain.specs.declared.state.State.TheVariants as at;
-ghost use Rattle.fs_live.specs.Handles.{live_of};
-ghost use Rattle.fs_live.specs.Live.{LiveEvent, LiveRun, LiveState};
-ghost use Rattle.fs_live.specs.Runs.{tickets_on};
+//! Chains that are out at once, by a handle each.
 
 use crate::given::{expect_same, queue, workbench};
-use crate::wholes::walk_chain;
 use call_log::CallLog;
-use fs_chain::{ChainError, KeptQueue, Workbench};
-use fs_live::{law_handles, law_runs};
-use fuse_fs::FileSystem;
-
-// Two chains of one queue are taken by two handles: both are out then, each once.
-fn take_two<F: FileSystem>(
-    first: &mut Workbench,
-    second: &mut Workbench,
-    queue: &mut KeptQueue,
-    given: &[&[u8]],
-    more: &[&[u8]],
-) -> Result<(u16, u16), ChainError>
-    requires first_free { first.old.state ≡ at.Free }
-    requires second_free { second.old.state ≡ at.Free }
-    requires goes { queue.old.stopped ≡ None }
-    ensures out { IfOk result (λ heads. (s : LiveState F) (i : ℕ) → s.outs ≡ [] → slice_get s.queues i ≡ Some (live_of queue.old)
-        → s.places ≡ places_in first.old.regions → s.places ≡ places_in second.old.regions → s.limit ≡ first.old.limit → s.limit ≡ second.old.limit
-        → (es : List LiveEvent) × (next : LiveState F) × LiveRun F.may s es next
-        × IsPermutation (map (λ t. t.1) (tickets_on i next.outs)) (heads.0 ∷ heads.1 ∷ [])) }
-{
-    law_handles::<F>();
-    law_runs::<F, F>();
-    let (head, _, _) = walk_chain(first, queue, given)?;
-    let (other, _, _) = walk_chain(second, queue, more)?;
-    Ok((head, other))
-}
+use worked_callers::lives::take_two;
 
 // The loads of the first two chains of a queue: of head 1 as ever, and of head 3, with 46 bytes at 0x300 and no room.
 const FIRST: &[&[u8]] = &[

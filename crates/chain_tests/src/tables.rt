@@ -3,7 +3,7 @@
 use crate::given::{came_to, expect_same};
 use fs_chain::{KeptQueue, WalkOutcome, Workbench};
 use fs_queue::{ChainFault, QueueLayout};
-use fs_regions::{GuestRegions, MemoryRegion};
+use fs_regions::{GuestMap, GuestRegions, MemoryRegion};
 use std::alloc::Global;
 use std::process::Abort;
 
@@ -25,6 +25,7 @@ fn workbench(rt: &impl Abort, alloc: Global, ranges: &[(u64, u64)]) -> Workbench
     }
     let memory = GuestRegions::of_regions(alloc, regions).expect(rt, "memory");
     let mut workbench = Workbench::new(alloc);
+    let memory = GuestMap::of_regions(memory);
     workbench.set_memory(memory, 0x101000).expect(rt, "memory");
     workbench
 }

@@ -338,7 +338,7 @@ handle_walks_among {F} may s i given old new before now after told there places 
     ∙ among_events given old new before now after (wents.On told) goes refusal walks in
     let clear : why_declined s.places (live_of now) ≡ None = subst (λ (k : Memory). why_declined k (live_of now) ≡ None) (sym places) (goes_there m now still events) in
     let event = event_of s i now after loaded ds came there c.queue (subst IsDone c.told_is done) plain comes_so in
-    (loaded, so.1, came, c.told_is, record { w = live_of now; there = there; room = c.may; goes = clear; walks = event.0 }, event.1, held_by s i (live_of now) before loaded came new (places ∙ ap (λ (l : List Region). places_in l) (sym c.regions)) queue state_is)
+    (loaded, so.1, came, c.told_is, record { w = live_of now; there = there; room = c.may; goes = clear; walks = event.0 }, event.1, held_by s i (live_of now) before loaded came new (places ∙ ap (λ (r : Mapped). places_in r) (sym c.regions)) queue state_is)
 
 -- ---- a queue that was stopped meanwhile
 

@@ -2,7 +2,6 @@
 use Rattle.std.proofs.Common.{◌≡◌, ℕ, Bool, List, [], ◌∷◌, ◌++◌, length, Option, Some, None, slice_get, refl, subst, sym, ap, ◌∙◌, arith}
 use Rattle.std.specs.Prelude.{◌==◌, drop, false, if◌then◌else◌, is_some, IsTrue, not, true, unwrap_or}
 use Rattle.vm_iotlb.specs.declared.permissions.Permissions.TheVariants.{Read, Write}
-use Rattle.vm_memory.specs.Layout.{Region}
 use Rattle.vm_memory.specs.Memory.{Memory, reach}
 use Rattle.fs_queue.specs.Chain.{Descriptor}
 use Rattle.fs_queue.specs.Queue.{Queue, with_stop}
@@ -14,7 +13,7 @@ use Rattle.fs_queue.specs.declared.fault.QueueError.{QueueError}
 use Rattle.fs_queue.specs.declared.fault.QueueError.TheVariants as stop
 use Rattle.fs_regions.specs.declared.step.Step as comes
 use Rattle.fs_regions.specs.declared.step.Step.TheVariants as step
-use Rattle.fs_regions.specs.Places.{places_in}
+use Rattle.fs_regions.specs.Places.{Mapped, places_in}
 use Rattle.fs_regions.specs.Walks.{Loaded, ComesTo, FetchesBy, OffersBy, queue_of}
 use Rattle.fuse_fs.specs.Calls.{FileCall, FileRun, suits}
 use Rattle.fuse_values.specs.Answers.{answer_of}
@@ -190,7 +189,7 @@ handle_walks {F} may s i given old new before after told there places limit goes
     let room = walked_room given old new before after (wents.On told) walks in
     let clear : why_declined s.places (live_of before) ≡ None =
     subst (λ (m : Memory). why_declined m (live_of before) ≡ None) (sym places) (goes_there (places_in old.regions) before goes events) in
-    (loaded, made.1, came, keeps.0, record { w = live_of before; there = there; room = room; goes = clear; walks = event.0 }, event.1, held_by s i (live_of before) before loaded came new (places ∙ ap (λ (l : List Region). places_in l) (sym keeps.4.0)) queue state_is)
+    (loaded, made.1, came, keeps.0, record { w = live_of before; there = there; room = room; goes = clear; walks = event.0 }, event.1, held_by s i (live_of before) before loaded came new (places ∙ ap (λ (r : Mapped). places_in r) (sym keeps.4.0)) queue state_is)
 
 -- ---- walks without a load
 

@@ -1,7 +1,7 @@
 //! What the tests share: two regions, and walks by loads that are given.
 
 use fs_queue::{Descriptors, Queue, QueueLayout};
-use fs_regions::{Course, GuestRegions, MemoryRegion, Step};
+use fs_regions::{Course, GuestMap, GuestRegions, MemoryRegion, Step};
 use std::alloc::Global;
 use std::fmt::Debug;
 use std::process::Abort;
@@ -22,13 +22,14 @@ pub fn regions(rt: &impl Abort, alloc: Global, ranges: &[(u64, u64)]) -> Vec<Mem
 }
 
 /// A guest's memory: pages at 0 and 0x1000, and one at 0x4000.
-pub fn memory(rt: &impl Abort, alloc: Global) -> GuestRegions {
+pub fn memory(rt: &impl Abort, alloc: Global) -> GuestMap {
     let pages = regions(
         rt,
         alloc,
         &[(0, 0x1000), (0x1000, 0x1000), (0x4000, 0x1000)],
     );
-    GuestRegions::of_regions(alloc, pages).expect(rt, "memory")
+    let pages = GuestRegions::of_regions(alloc, pages).expect(rt, "memory");
+    GuestMap::of_regions(pages)
 }
 
 /// A queue of four descriptors: its table at 0, its rings at 0x50 and 0x60.
@@ -43,7 +44,7 @@ pub type Made = (u64, &'static [u8]);
 /// What a walk comes to by some loads, each of which it has to ask for.
 pub fn walk(
     rt: &impl Abort,
-    regions: &GuestRegions,
+    regions: &GuestMap,
     course: Course,
     loads: &[Made],
     descriptors: &mut Descriptors,

@@ -1,6 +1,0 @@
-use Rattle.fs_chain.specs.Whole.{IsWalked}
-use Rattle.chain_tests.proofs.wholes.walk_by.Given as goal
-
--- the calls so far are a walk
-abbrev pub invariant-loop-bytes : goal.invariant-loop-bytes
-invariant-loop-bytes l = IsWalked l.fn.workbench l.workbench l.fn.queue l.queue l.told

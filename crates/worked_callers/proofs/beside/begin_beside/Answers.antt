@@ -1,0 +1,14 @@
+use Rattle.std.proofs.Common.{None}
+use Rattle.fs_live.specs.Handles.{live_of}
+use Rattle.fs_live.specs.Live.{after_beginning}
+use Rattle.worked_callers.proofs.beside.begin_beside.Goals as goal
+
+pub returns : goal.returns
+returns g c =
+    let before = c.args.queue.now in
+    let after = c.begin_anew.new.self in
+    record {
+      begins = λ s i there some few none.
+          let law = c.law_handles.ensures.begins s i before after c.args.layout c.args.position before.most_out before.event_index None there c.begin_anew.ensures some few c.ranges.position.fits none in
+          (after_beginning s i (live_of after), law.0, law.1);
+    }

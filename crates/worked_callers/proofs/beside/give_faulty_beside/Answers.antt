@@ -1,0 +1,15 @@
+use Rattle.worked_callers.proofs.Served.{if_ok}
+use Rattle.worked_callers.proofs.ServedBeside.{faulty_beside}
+use Rattle.worked_callers.proofs.beside.give_faulty_beside.Goals as goal
+
+pub returns : goal.returns
+returns g c =
+    let handles = c.law_handles.ensures in
+    let walked = c.in_ok-_fault.ensures in
+    record {
+      run = if_ok c.give_back.result _ _
+          (λ notice back.
+          faulty_beside g.F.FileSystemBase.may handles.walks handles.faulty c.args.workbench.now c.take_faulty.new.workbench c.args.queue.now c.take_faulty.new.queue
+          c.in_ok-_fault.field-0-0 c.in_ok-_fault._fault notice c.requires.goes walked.walked back)
+          c.give_back.ensures.back;
+    }

@@ -1,0 +1,52 @@
+use Rattle.std.proofs.Common.{◌≡◌, length, ◌∙◌, arith}
+use Rattle.std.specs.Prelude.{drop}
+use Rattle.std.proofs.lemmas.Bool.Decides.{nat_tests}
+use Rattle.fs_chain.specs.Whole.{file_calls}
+use Rattle.fs_live.specs.Handles.{live_of}
+use Rattle.worked_callers.proofs.Served.{if_ok, more_taken, taken_so}
+use Rattle.worked_callers.proofs.ServedBeside.{served_beside}
+use Rattle.worked_callers.proofs.beside.serve_beside.Goals as goal
+
+pub reply-requires-clause-taken : goal.reply-requires-clause-taken
+reply-requires-clause-taken g c =
+    let n = c.in_ok-request_len.request_len in
+    let test = c.if-request_len-request.false in
+    let same : n ≡ length c.args.request.now = grind (arith, nat_tests, test) in
+    more_taken c.walk_chain.new.workbench.state _ _ (λ out is. is ∙ same)
+    (taken_so c.args.workbench.now c.walk_chain.new.workbench c.args.queue.now c.walk_chain.new.queue c.in_ok-request_len.field-0-0 n c.in_ok-request_len.field-0-2
+    c.requires.goes c.in_ok-request_len.ensures.walked)
+
+pub returns : goal.returns
+returns g c =
+    let may = g.F.FileSystemBase.may in
+    let handles = c.law_handles.ensures in
+    let runs = c.law_runs.ensures in
+    let old = c.args.workbench.now in
+    let one = c.walk_chain.new.workbench in
+    let before = c.args.queue.now in
+    let after = c.walk_chain.new.queue in
+    let walked = c.in_ok-request_len.ensures in
+    let replied = c.in_ok-reply.ensures.replied in
+    let request = c.args.request.now in
+    let calls = file_calls (drop 80 request) replied.0 replied.2 in
+    record {
+      run = if_ok c.give_back.result _ _
+          (λ notice back s i files reached there places limit small session. (
+            calls,
+            λ files_run.
+                let so = served_beside may handles.walks handles.asks handles.calls handles.returns old one replied.1 c.reply.new.workbench before after
+                c.in_ok-request_len.field-0-0 c.in_ok-request_len.request_len c.in_ok-request_len.field-0-2 c.args.session request replied.0 replied.2 notice c.requires.goes walked.walked
+                replied.3 replied.4 back s i files reached there places limit small session files_run in (
+                  so.es,
+                  so.end,
+                  so.run,
+                  so.calls_are,
+                  so.outs,
+                  runs.calls s so.end so.es so.run,
+                  runs.stores s so.end so.es so.run,
+                  runs.used s so.end so.es i (live_of before) there so.anew so.run,
+                  runs.queue s so.end so.es i (live_of before) there so.anew so.run,
+                ),
+          ))
+          c.give_back.ensures.back;
+    }

@@ -1,0 +1,12 @@
+use Rattle.std.proofs.Common.{[], ◌∷◌, refl}
+use Rattle.fs_chain.specs.Events.{store_of}
+use Rattle.fs_live.specs.Live.{Sleeps}
+use Rattle.worked_callers.proofs.ServedBeside.{sleep_is}
+use Rattle.worked_callers.proofs.beside.sleep_beside.Goals as goal
+
+pub returns : goal.returns
+returns g c =
+    let may = g.F.FileSystemBase.may in
+    record {
+      sleeps = sleep_is may c.args.queue.now c.args.wanted c.kick_store.result c.law_handles.ensures.sleeps c.law_runs.ensures.stores c.kick_store.ensures;
+    }

@@ -1,0 +1,14 @@
+use Rattle.fs_chain.specs.declared.loads.Went.TheVariants as wents
+use Rattle.worked_callers.proofs.Served.{if_ok}
+use Rattle.worked_callers.proofs.beside.walk_in_few_loads.Goals as goal
+
+pub returns : goal.returns
+returns g c =
+    let old = c.args.workbench.now in
+    let new = c.walk_to_end.new.workbench in
+    let before = c.args.queue.now in
+    let after = c.walk_to_end.new.queue in
+    record {
+      few = if_ok c.walk_to_end.result _ _ (λ told walks. (walks.0, walks.1, c.law_handles.ensures.loads walks.0 old new before after (wents.On told) c.requires.goes walks.1))
+          c.walk_to_end.ensures.walked;
+    }

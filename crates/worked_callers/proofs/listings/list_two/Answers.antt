@@ -1,0 +1,23 @@
+use Rattle.std.proofs.Common.{refl}
+use Rattle.worked_callers.proofs.Ended.{ended_ok}
+use Rattle.worked_callers.proofs.Served.{if_ok}
+use Rattle.worked_callers.proofs.listings.list_two.Goals as goal
+
+pub returns : goal.returns
+returns c =
+    let first = c.in_ok-bring.ensures in
+    let second = c.in_ok-bring-2.ensures in
+    let gathered = c.bring-2.new.workbench in
+    let list = c.bring-2.new.list in
+    if_ok c.end.result _ _
+    (λ n ended. record {
+      kind = first.kind;
+      first = c.args.list.now;
+      list = list;
+      gathered = gathered;
+      gathers = (c.bring.new.workbench, c.bring.new.list, first.brought, (gathered, list, second.brought, (refl, refl)));
+      len = n;
+      ends = ended;
+      told = refl;
+    })
+    (ended_ok c.end.result gathered c.end.new.self c.end.ensures.ended c.end.ensures.stays)
