@@ -110,10 +110,18 @@
  * SEVERAL CHAINS out of a queue, as many as its `most_out`, each by a `struct pk_chain` of its own. A queue's calls are one at a time: a lock is held from the
  * first pk_walk to PK_DONE, from pk_return to pk_returned, and from pk_ask_kicks (though the queue is const there) through its store and its barrier to the end
  * of the walk behind it. A walk between whose calls another chain is taken is refused (PK_OTHER_QUEUE): drop it, and begin again. Chains go back in any order.
- * With the event index the driver kicks for the chain at the stored position alone. So whoever takes a chain while another thread of the queue sleeps asks anew
- * before it lets the lock go, which is at the position behind that chain: pk_ask_kicks, the store, the barrier, and one more look, at the available index. A
- * chain that is there already brings no kick: wake a thread for it. Nor does one that waits while most_out are out, or that was dropped: whoever returns a chain,
- * or drops one, walks once more or wakes a thread. Without all this the one that sleeps may sleep on.
+ * A thread that takes a chain while another thread of the queue sleeps looks once more before it
+ * releases the lock, with event_index and without it:
+ *   a. It calls pk_ask_kicks(.., 1), makes the store and the barrier. With event_index the driver
+ *      notifies at the stored position alone, so the store is made again behind each chain. Without
+ *      event_index the store may be left out if the queue's last store was that of pk_ask_kicks(.., 1).
+ *   b. It loads the available index again, behind the barrier. An index that was loaded before may
+ *      show that a chain is available, but never that none is.
+ *   c. If a chain is available, it wakes a thread, or walks on itself.
+ * The driver notifies once for several chains that it publishes together. So without this look two
+ * chains can be available after one notification: one thread takes the first, and the other sleeps on.
+ * The driver doesn't notify again for a chain that was available while most_out were out, nor for one
+ * that was dropped. So a thread that returns or drops a chain walks once more, or wakes a thread.
  *
  * FEATURES of VIRTIO 1.2 that may be offered: VERSION_1 (32, insist on it), INDIRECT_DESC (28), EVENT_IDX (29, with `event_index` set), and IN_ORDER (35), if
  * you return the chains of a queue in the order of their walks. Not RING_PACKED (34), not ACCESS_PLATFORM (33).
@@ -428,6 +436,12 @@ uint32_t pk_chain_set_memory(struct pk_chain *chain, const struct pk_device *dev
  * lost to its queue, which counts it as out until it is begun anew, and lets no other go back if pk_return told its stores: return it before. */
 void pk_chain_free(struct pk_chain *chain) PK_NONNULL;
 
+/* Chooses the ticket of the chain's next walk: each later one is greater by 1, modulo 2^32. A new chain
+ * begins at 1, so two chains may have the same ticket. Let chain k of n begin at k * (2^32 / n): then an
+ * answer that is given to the wrong chain is refused (PK_OTHER_CALL, or PK_WRONG_ORDER if no call waits).
+ * Errors: PK_WRONG_ORDER (no memory was set), PK_CHAIN_OUT (a chain is walked or in flight). */
+uint32_t pk_chain_number_from(struct pk_chain *chain, uint32_t first) PK_CHECK PK_NONNULL;
+
 /* What a walk says: with PK_LOAD, `len` bytes at `at`, 1 to PK_LOAD_MAX; with PK_DONE, the chain. Where nothing was done, the load that a walk still wants,
  * but zeros if the queue's numbers are none. Else zeros. */
 struct pk_step {
@@ -447,9 +461,17 @@ struct pk_step {
  * The first load is of the available index. The two bytes of the last load of this queue's index may be given in its place, if that was made since the queue was
  * begun (pk_queue_begin, pk_restore; else since its first walk) and over the same memory, and told another number than `position` is now: so chains wait that
  * it told of. Otherwise the index is loaded. What the walk asks for next is loaded after that last load, which acquired (rule 3), by another thread too.
- * Errors: PK_WRONG_ORDER (no memory was told), PK_BAD_ARGUMENT (the queue's numbers are none; or `loaded` isn't as long as the load, whole or as
- * it was told: that is still wanted, and told again), PK_WRONG_ORDER (it is out), PK_OTHER_QUEUE (it walks another, or a chain was taken
- * or dropped since, or it was begun anew: drop or abandon the walk), PK_CHAIN_OUT; then in no order PK_OUT_OF_MEMORY, 1 to 8, PK_NO_PLACE. */
+ * Errors, in this order:
+ *   PK_WRONG_ORDER    no memory was set
+ *   PK_BAD_ARGUMENT   the queue's numbers are none: those of zeros, too
+ *   PK_WRONG_ORDER    the chain is in flight
+ *   PK_BAD_ARGUMENT   `loaded` is neither the whole load nor the part that was asked for: it is asked for
+ *                     again. At the beginning of a walk: `loaded` isn't empty
+ *   PK_OTHER_QUEUE    the walk is of another queue, or a chain was taken or dropped since it began, or the
+ *                     queue was begun again: drop or abandon the walk
+ *   PK_CHAIN_OUT      as many chains are in flight as may be
+ *   PK_OUT_OF_MEMORY, 1 to 8, PK_NO_PLACE, in no order
+ * A queue whose numbers you set without pk_queue_begin is taken as one that was begun zero times. */
 uint32_t pk_walk(struct pk_chain *chain, struct pk_queue *queue, const uint8_t *loaded, size_t loaded_len, struct pk_step *step)
     PK_CHECK PK_NONNULL PK_READS(3, 4) PK_FILLS(5);
 
@@ -531,7 +553,7 @@ struct pk_call {
  * PK_MORE as many as it needs (so it does if fewer came); load only the new ones, and call again with all. A buffer as long as the device's limit holds any; WRITE
  * never needs more than PK_FIRST. The library keeps no pointer, and wants the bytes no more; but `call` speaks of places in them.
  * A call whose `answer` is PK_ANSWER_NONE is answered: make it, if there is one, and go on with pk_return.
- * It takes no memory. Errors: PK_WRONG_ORDER (no memory was told), PK_BAD_ARGUMENT (page size or limit are none), PK_WRONG_ORDER (no chain, a faulty one,
+ * It isn't refused for want of memory. Errors: PK_WRONG_ORDER (no memory was told), PK_BAD_ARGUMENT (page size or limit are none), PK_WRONG_ORDER (no chain, a faulty one,
  * or it was asked), PK_BAD_ARGUMENT (more bytes than the request has); then `call` is zeros. */
 uint32_t pk_ask(struct pk_chain *chain, const struct pk_device *device, const uint8_t *request, size_t request_len, struct pk_call *call)
     PK_CHECK PK_NONNULL PK_READS(3, 4) PK_FILLS(5);
@@ -565,7 +587,7 @@ struct pk_statfs {
 
 /* All of these answer the call that pk_ask told, by its ticket, once, and touch no memory; the reply is handed out by pk_return. From chain to chain of a
  * handle the ticket grows by 1, modulo 2^32: an answer that comes late, to a chain that was abandoned, is taken for no other of this
- * handle, unless 2^32 chains came between, or pk_chain_free. Another handle's chain may have the same ticket: answer the handle that asked. Errors, the same
+ * handle, unless 2^32 chains came between, or pk_chain_free. Another handle's chain may have the same ticket, unless pk_chain_number_from parts them. Errors, the same
  * for all: what stands beside each, then PK_WRONG_ORDER (nothing is asked, or it was answered), PK_OTHER_CALL, PK_OTHER_KIND; after these the call
  * waits still. PK_NO_ROOM isn't one: see there. No memory is wanted. */
 
@@ -609,14 +631,17 @@ uint32_t pk_reply_init(struct pk_chain *chain, uint32_t ticket, struct pk_device
 /* READDIR: puts an entry behind those before it. They gather in `list`, a buffer of yours that stays the same until the reply, of
  * data_len bytes at most; begin nothing, clear nothing. Another one of the same length isn't noticed. next_offset is what READDIR brings as its offset to go
  * on behind this entry; type is DT_ of dirent.h. PK_FULL: it didn't fit, the list is as before; reply now. PK_LIST_FAILS: the same, but fail.
- * Errors: PK_BAD_ARGUMENT (a name that is empty or longer than 255), PK_WRONG_ORDER, PK_OTHER_CALL, PK_BAD_ARGUMENT (list_len isn't that of the list that has
- * entries), PK_OTHER_KIND, PK_SHORT_BUFFER (list ends before it). */
+ * Errors, in this order: PK_BAD_ARGUMENT (a name that is empty, longer than 255 bytes or has a slash: a Linux
+ * guest would answer EIO to the whole listing; a type that is none of DT_UNKNOWN, DT_FIFO, DT_CHR, DT_DIR,
+ * DT_BLK, DT_REG, DT_LNK, DT_SOCK), PK_WRONG_ORDER, PK_OTHER_CALL, PK_BAD_ARGUMENT (list_len isn't that of
+ * the list that has entries), PK_OTHER_KIND, PK_SHORT_BUFFER (the list ends before the entry). */
 uint32_t pk_add_direntry(struct pk_chain *chain, uint32_t ticket, uint8_t *list, size_t list_len, const uint8_t *name, size_t name_len, uint64_t ino,
                          uint64_t next_offset, uint32_t type) PK_CHECK PK_NONNULL PK_READS(5, 6);
 
 /* READDIRPLUS: an entry with its node, which the guest holds once more, as after LOOKUP. For "." and ".." entry->node is 0, and
  * nothing is held. PK_FULL, PK_LIST_FAILS, and any error: the look-up isn't told, so undo it. Type and ino are the attributes'.
- * Errors: pk_add_direntry's; PK_BAD_ARGUMENT also for nanoseconds of a second or more. */
+ * Errors: pk_add_direntry's, for the type of `mode`; PK_BAD_ARGUMENT also for nanoseconds of a second or
+ * more. */
 uint32_t pk_add_direntry_plus(struct pk_chain *chain, uint32_t ticket, uint8_t *list, size_t list_len, const uint8_t *name, size_t name_len,
                               const struct pk_entry *entry, uint64_t next_offset) PK_CHECK PK_NONNULL PK_READS(5, 6);
 
@@ -679,9 +704,12 @@ struct pk_store {
 };
 
 /* What is stored to be told (1) of the next chain of a queue, or of none (0): the used flags, or with event_index the position as avail_event, and nothing
- * for 0 (VIRTIO 1.2, 2.7.10). To be told: before you sleep make this store, a full barrier (atomic_thread_fence(memory_order_seq_cst)), and one more walk, all
- * under the queue's lock; with event_index also when you took a chain and another thread of the queue sleeps (SEVERAL CHAINS, above). Of the chain only the
- * regions count, and it stays as it was. `wanted` other than 0 is 1. The guest address of the store is `used`, or with event_index used + 4 + 8 * size.
+ * for 0 (VIRTIO 1.2, 2.7.10). Before you sleep, and when you took a chain while another thread of the
+ * queue sleeps (SEVERAL CHAINS, above), with event_index and without it: make this store and a full
+ * barrier (atomic_thread_fence(memory_order_seq_cst)), and look once more, all under the queue's lock.
+ * That look is a new load of the available index: one that was made before the barrier doesn't show
+ * that no chain is available. Of the chain only the regions count, and it stays as it was. `wanted`
+ * other than 0 is 1. The guest address of the store is `used`, or with event_index used + 4 + 8 * size.
  * Errors: PK_WRONG_ORDER (no memory was told), PK_BAD_ARGUMENT (the queue's numbers are none), PK_NO_PLACE (these two bytes are in no region: a walk looks for
  * those of event_index as it begins, and for the used index behind the flags as it takes a chain); then `store` is zeros. */
 uint32_t pk_ask_kicks(struct pk_chain *chain, const struct pk_queue *queue, uint32_t wanted, struct pk_store *store)

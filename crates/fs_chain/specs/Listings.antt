@@ -10,7 +10,7 @@ use Rattle.server_phases.specs.declared.listing.Listing.{Listing}
 use Rattle.server_phases.specs.declared.listing.ListingReply.{ListingReply}
 use Rattle.server_phases.specs.declared.listing.NotAdded as reason
 use Rattle.server_phases.specs.declared.listing.NotAdded.TheVariants as not_added
-use Rattle.server_phases.specs.Gathering.{Brought, EndsList, FailsList, Holds, IsListingFor, StaysBut, all_bytes, all_found, entries_of, error_of, look_up, look_ups, served_list}
+use Rattle.server_phases.specs.Gathering.{Brought, EndsList, FailsList, Holds, IsListingFor, StaysBut, all_bytes, all_found, bytes_of, entries_of, error_of, look_up, look_ups, put_at, served_list}
 use Rattle.server_phases.specs.Waiting.{first_call}
 use Rattle.fs_chain.specs.declared.error.ChainError.{ChainError}
 use Rattle.fs_chain.specs.declared.error.ChainError.TheVariants as error
@@ -31,8 +31,10 @@ told_added (Err not_added.NoRoom) = Ok added.NoRoom
 told_added (Err not_added.TooLong) = Ok added.TooLong
 told_added (Err not_added.ShortList) = Err error.ShortBuffer
 
--- what an entry changes in a listing and its list, and what follows if it isn't in
+-- what an entry changes in a listing and its list, and what follows if it isn't in. If it is in, its bytes are put over those of the list
+-- behind the entries before it, and no other byte of the list changes
 pub record Adds (old new : Listing) (list list' : List ℕ) (e : Brought) (outcome : Result (Unit {0}) reason.NotAdded) : Type 0 where
+  pub put : outcome ≡ Ok tt → list' ≡ put_at old.len (bytes_of old.with_nodes e) list
   pub holds : outcome ≡ Ok tt → (es : List Brought) → Holds old list es → Holds new list' (es ++ e ∷ [])
   pub full : outcome ≡ Err not_added.Full → EndsList old list e
   pub fails : (why : reason.NotAdded) (errno : ℕ) → outcome ≡ Err why → error_of why ≡ Some errno → FailsList old list e errno

@@ -139,8 +139,8 @@ impl Workbench {
         Ok(self.keep_front(out, request.len(), asked))
     }
 
-    /// Tells what a chain's request asks, by its first bytes, in this session, which is kept. A call that is told waits for its answer. It takes
-    /// no memory.
+    /// Tells what a chain's request asks, by its first bytes, in this session, which is kept. A call that is told waits
+    /// for its answer. No error of it is for want of memory.
     pub fn ask<'a>(&mut self, session: Session, request: &'a [u8]) -> Result<Told<'a>, ChainError>
         ensures error { IfErr result (λ e. ask_error self.old.state (length request.now) ≡ Some e) }
         ensures ok { OnOk result (ask_error self.old.state (length request.now) ≡ None) }

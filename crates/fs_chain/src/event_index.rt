@@ -74,9 +74,10 @@ impl KeptQueue {
         None
     }
 
-    /// What the device stores to be told of the next chain, or of none. To be told: before it sleeps, and then, behind a full barrier, it walks once
-    /// more; of a queue with several threads all of that stands under the queue's lock. With the event index nothing is stored to be told of none, and
-    /// the next chain alone is told: who takes one while another thread sleeps stores anew, at the position behind it, and looks once more.
+    /// What the device stores to enable the driver's notifications of new chains, or to disable them. With the event
+    /// index the driver notifies for the next chain alone, and nothing is stored to disable. A thread enables them
+    /// before it sleeps, and when it takes a chain while another thread of the queue sleeps: behind a full barrier it
+    /// then looks once more, by a new load of the available index. All of that is under the queue's lock.
     pub fn kick_store(&self, wanted: bool) -> Option<KickStore>
         ensures { option_map store_of result ≡ kick_store self.now wanted }
     {

@@ -1,6 +1,7 @@
 //! By which number an answer names its call.
 
-ghost use Rattle.std.specs.Prelude.{◌≡◌};
+ghost use Rattle.std.specs.Prelude.{◌≡◌, true, false, IfErr, OnErr, OnOk};
+ghost use Rattle.fs_chain.specs.Orders.{is_free};
 ghost use Rattle.fs_chain.specs.Serials.{freed, number_error, serial_error};
 
 use crate::error::ChainError;
@@ -24,6 +25,21 @@ impl Workbench {
         ensures { result ≡ self.now.serial }
     {
         self.serial
+    }
+
+    /// Chooses the number of the handle's next chain; it grows by 1 from there. Handles that begin far apart have no
+    /// number in common for as many chains, so an answer that is given to the wrong handle is refused (`OtherCall`).
+    /// `ChainOut` if a chain is walked or in flight.
+    pub fn number_from(&mut self, first: u32) -> Result<(), ChainError>
+        ensures error { IfErr result (λ e. (e ≡ ChainError.ChainOut) × (is_free self.old.state ≡ false)) }
+        ensures ok { OnOk result ((is_free self.old.state ≡ true) × (self.new ≡ record self.old { serial = first })) }
+        ensures same { OnErr result (self.new ≡ self.old) }
+    {
+        if !self.is_free() {
+            return Err(ChainError::ChainOut);
+        }
+        self.serial = first;
+        Ok(())
     }
 
     // No chain is out any more, and none is walked.

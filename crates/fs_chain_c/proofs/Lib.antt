@@ -2,6 +2,7 @@ mod ChainValues
 pub mod HandleLemmas
 pub mod MemoryLemmas
 pub mod NamePlaces
+pub mod NotifyLemmas
 pub mod QueueLemmas
 pub mod RangeLemmas
 pub mod RecordLemmas

@@ -1,22 +1,24 @@
 -- What the exports do with the workbench of a handle.
-use Rattle.std.specs.Prelude.{◌≡◌, ◌⊎◌, ◌-◌, ◌^◌, ℕ, Bool, List, [], min, Option, Some, None}
+use Rattle.std.specs.Prelude.{◌≡◌, ◌⊎◌, ◌-◌, ◌^◌, ℕ, Bool, true, false, List, [], min, Option, Some, None}
 use Rattle.memory_requests.specs.Refused.{RoomWasRefused}
 use Rattle.vm_memory.specs.Layout.{Region}
 use Rattle.fs_regions.specs.Places.{untranslated}
 use Rattle.fs_chain.specs.declared.error.ChainError.{ChainError}
-use Rattle.fs_chain.specs.declared.error.ChainError.TheVariants.{BadArgument, OutOfMemory, WrongOrder}
+use Rattle.fs_chain.specs.declared.error.ChainError.TheVariants.{BadArgument, ChainOut, OutOfMemory, WrongOrder}
 use Rattle.fs_chain.specs.declared.state.State.TheVariants as at
 use Rattle.fs_chain.specs.Numbers.{chain_error_number}
-use Rattle.fs_chain.specs.Orders.{memory_error}
+use Rattle.fs_chain.specs.Orders.{is_free, memory_error}
 use Rattle.fs_chain.specs.Returns.{IsFreed}
 use Rattle.fs_chain.specs.declared.workbench.Workbench.{Workbench}
 use Rattle.fs_chain_c.specs.declared.device.FsDevice.{FsDevice}
+use Rattle.fs_chain_c.specs.declared.handle.FsChain.{FsChain}
 use Rattle.fs_chain_c.specs.declared.memory.FsRegion.{FsRegion}
 use Rattle.fs_chain_c.specs.declared.queue.FsQueue.{FsQueue}
 use Rattle.fs_chain_c.specs.declared.returning.FsStores.{FsStores}
 use Rattle.fs_chain_c.specs.declared.walking.FsStep.{FsStep}
 use Rattle.fs_chain_c.specs.declared.windows.FsWindow.{FsWindow}
 use Rattle.fs_chain_c.specs.Memory.{IsDevice, IsMemory, IsNoMemory}
+use Rattle.fs_chain_c.specs.Owned.{null}
 use Rattle.fs_chain_c.specs.Returning.{DropsWorkbench, EndsWorkbench, ReturnsWorkbench, no_stores}
 use Rattle.fs_chain_c.specs.Walking.{WalksWorkbench, no_step}
 use Rattle.fs_chain_c.specs.Windows.{Fills}
@@ -27,6 +29,10 @@ OnWorkbench Does Nothing None None = Nothing
 OnWorkbench Does Nothing None (Some b') = ⊥
 OnWorkbench Does Nothing (Some b) None = ⊥
 OnWorkbench Does Nothing (Some b) (Some b') = Does b b'
+
+-- a handle without a workbench, all of whose numbers are zero
+abbrev pub IsZeros : FsChain → Type 0
+IsZeros c = (c.value ≡ None) × (c.at ≡ null) × (c.full ≡ 0)
 
 -- ---- memory is told
 
@@ -71,6 +77,16 @@ SetsMemory (Some b) d regions status None = ⊥
 SetsMemory (Some b) d regions status (Some b') = SetsWorkbench b d regions status b'
 
 -- ---- the other calls
+
+-- the next chain of a workbench gets this number; or a chain is walked or in flight, and nothing is done
+abbrev pub NumbersWorkbench : Workbench → (first status : ℕ) → Workbench → Type 0
+NumbersWorkbench b first status b' =
+    ((is_free b.state ≡ true) × (status ≡ 0) × (b' ≡ record b { serial = first }))
+    ⊎ ((is_free b.state ≡ false) × (status ≡ chain_error_number ChainOut) × (b' ≡ b))
+
+abbrev pub Numbers : Option Workbench → (first status : ℕ) → Option Workbench → Type 0
+Numbers before first status after =
+    OnWorkbench (λ b b'. NumbersWorkbench b first status b') (status ≡ chain_error_number WrongOrder) before after
 
 -- a handle's chain is walked
 abbrev pub Walks : Option Workbench → FsQueue → (loaded : List ℕ) → (status : ℕ) → FsStep → Option Workbench → FsQueue → Type 0

@@ -5,6 +5,7 @@ pub mod Kicks
 pub mod Listing
 pub mod Memory
 pub mod Names
+pub mod Notifying
 pub mod Numbers
 pub mod Owned
 pub mod Queues

@@ -1,5 +1,6 @@
 -- Listings that C answers entry by entry.
-use Rattle.std.specs.Prelude.{◌≡◌, ◌==◌, ◌/◌, ◌%◌, ◌&&◌, nat_le, ℕ, Bool, true, false, List, length, Option, Some, None, Result, Ok, Err, OnErr, if◌then◌else◌}
+use Rattle.std.specs.Prelude.{◌≡◌, ◌==◌, ◌/◌, ◌%◌, ◌&&◌, ◌||◌, not, nat_le, ℕ, Bool, true, false, List, length, Option, Some, None, Result, Ok, Err, OnErr, if◌then◌else◌}
+use Rattle.std.specs.List.{list_any}
 use Rattle.fuse_fs.specs.Calls.{Listed}
 use Rattle.fuse_fs.specs.declared.answers.Entry.{Entry}
 use Rattle.fuse_values.specs.declared.answer.FileAnswer.TheVariants as answer
@@ -37,15 +38,23 @@ AddsWorkbench b ticket e outcome list status b' list' =
     (told : Result Added ChainError) × UnlessRefused (adding_error b ticket (length list)) told ((b' ≡ b) × (list' ≡ list)) (AddsTo b.state b'.state list list' e outcome told)
     × (b'.list_len ≡ list_after b.list_len (length list) told) × IsAllButPlace b b' × (status ≡ added_status told)
 
--- whether a name has a length that a directory's may have
+-- whether a directory may have an entry of this name: 1 to 255 bytes, and no slash among them
 abbrev pub is_name : List ℕ → Bool
-is_name name = nat_le 1 (length name) && nat_le (length name) 255
+is_name name = nat_le 1 (length name) && nat_le (length name) 255 && not (list_any (λ b. b == 47) name)
+
+-- whether a number is a type of dirent.h: unknown, FIFO, character device, directory, block device, regular
+-- file, link, socket
+abbrev pub is_type : ℕ → Bool
+is_type t = t == 0 || t == 1 || t == 2 || t == 4 || t == 6 || t == 8 || t == 10 || t == 12
+
+abbrev pub is_entry : (name : List ℕ) → (type : ℕ) → Bool
+is_entry name type = is_name name && is_type type
 
 -- an entry, as it is listed
 abbrev pub listed_as : (name : List ℕ) → (ino offset type : ℕ) → Listed
 listed_as name ino offset type = record { ino = ino; offset = offset; kind = type; name = name }
 
--- an entry of READDIR is brought; a bad argument, if it has no name
+-- an entry of READDIR is brought; a bad argument, if it has no name or no type
 abbrev pub AddsEntry : (is : Bool) → Listed → (ticket : ℕ) → Option Workbench → (list : List ℕ) → (status : ℕ) → Option Workbench → (list' : List ℕ) → Type 0
 AddsEntry false d ticket before list status after list' = (status ≡ chain_error_number BadArgument) × (after ≡ before) × (list' ≡ list)
 AddsEntry true d ticket before list status after list' =
@@ -56,7 +65,7 @@ AddsEntry true d ticket before list status after list' =
 abbrev pub type_of : FsEntry → ℕ
 type_of e = e.attr.mode / 4096 % 16
 
--- an entry of READDIRPLUS is brought; a bad argument, if it has no name, or a time isn't one
+-- an entry of READDIRPLUS is brought; a bad argument, if it has no name or no type, or a time isn't one
 abbrev pub AddsNode : (is : Bool) → Listed → Option (Entry ℕ) → (ticket : ℕ) → Option Workbench → (list : List ℕ) → (status : ℕ) → Option Workbench → (list' : List ℕ) → Type 0
 AddsNode true d (Some entry) ticket before list status after list' =
     OnWorkbench (λ b b'. AddsWorkbench b ticket (d, entry) (λ l. added_found l (length list) (length d.name)) list status b' list')

@@ -1,13 +1,17 @@
 -- What the handle owns: a struct of a pointer and of the heap's allocator, which C may see.
 use base.Fml.{Fml, ftrue}
 use base.Stored.{Coded}
-use denote.RawPtr.{Ptr}
+use denote.RawPtr.{Ptr, null_ptr}
 use Rattle.std.specs.Prelude.{Option, Some, None}
 use Rattle.std.specs.Coded.{coded_option}
 use Rattle.std.specs.Box.Ownership.{box_owns}
 use Rattle.std.specs.Global.{Global}
 use Rattle.std_heap.specs.contracts.GlobalAllocator.TheImpl.{ghosts}
 use Rattle.fs_chain.specs.contracts.workbench.Workbench as workbench
+
+-- the null pointer
+abbrev pub null : Ptr
+null = null_ptr
 
 -- the box behind its pointer, if it has one
 abbrev pub chain_owns : Global → Ptr → Option (workbench.the_row).Denot → Fml

@@ -1,7 +1,7 @@
 //! The functions on a chain that C calls. Each answers 0, or a number that says why not.
 
 ghost use Rattle.std.specs.Prelude.{◌≡◌, false, true, None};
-ghost use Rattle.fs_chain_c.specs.Handles.{Abandons, Drops, Ends, Returns, SetsMemory, TellsStretches, Walks};
+ghost use Rattle.fs_chain_c.specs.Handles.{Abandons, Drops, Ends, IsZeros, Numbers, NumbersWorkbench, Returns, SetsMemory, TellsStretches, Walks};
 ghost use Rattle.fs_chain_c.specs.Queues.{BeginsQueue};
 
 use crate::device::FsDevice;
@@ -12,7 +12,7 @@ use crate::returning::{FsStores, drop_workbench, end_workbench, return_workbench
 use crate::setting::{make_workbench, set_workbench};
 use crate::walking::{FsStep, walk_workbench};
 use crate::windows::{FsWindow, fill};
-use fs_chain::ChainError;
+use fs_chain::{ChainError, Workbench};
 use std::alloc::Global;
 
 /// The header's number.
@@ -65,9 +65,32 @@ pub extern "C" fn pk_chain_set_memory(
 /// Frees what a handle holds; then it has no workbench. The queue of a chain that is out isn't told.
 #[unsafe(no_mangle)]
 pub extern "C" fn pk_chain_free(alloc: Global, chain: &mut FsChain)
-    ensures { chain.new.value ≡ None }
+    ensures { IsZeros chain.new }
 {
     *chain = FsChain::empty(alloc);
+}
+
+// Chooses the number of a workbench's next chain, and says a status.
+fn number_workbench(workbench: &mut Workbench, first: u32) -> u32
+    ensures { NumbersWorkbench workbench.old first result workbench.new }
+{
+    match workbench.number_from(first) {
+        Ok(()) => 0,
+        Err(error) => u32::from(error.number()),
+    }
+}
+
+/// Chooses the number of a handle's next chain: its ticket.
+#[unsafe(no_mangle)]
+pub extern "C" fn pk_chain_number_from(alloc: Global, chain: &mut FsChain, first: u32) -> u32
+    ensures { Numbers chain.old.value first result chain.new.value }
+{
+    let Some(mut workbench) = chain.take(alloc) else {
+        return wrong_order();
+    };
+    let status = number_workbench(&mut workbench, first);
+    *chain = FsChain::of_box(workbench);
+    status
 }
 
 /// Takes the next chain of a queue: at first without bytes, then with those of each load that was told.

@@ -2,7 +2,7 @@
 
 ghost use Rattle.std.specs.Prelude.{◌≡◌, Option, Some, None, is_some, option_map, if◌then◌else◌};
 ghost use Rattle.fs_chain.specs.declared.workbench.Workbench.{Workbench};
-ghost use Rattle.fs_chain_c.specs.Owned.{chain_owns, chain_value_coded};
+ghost use Rattle.fs_chain_c.specs.Owned.{chain_owns, chain_value_coded, null};
 
 use crate::parts::Parts;
 use fs_chain::Workbench;
@@ -28,7 +28,7 @@ impl Model for FsChain {
 impl FsChain {
     /// No workbench: a null pointer.
     pub fn empty(alloc: Global) -> FsChain
-        ensures { result.value ≡ None }
+        ensures { (result.value ≡ None) × (result.at ≡ null) × (result.full ≡ 0) }
     {
         FsChain {
             at: std::ptr::null_mut(),

@@ -1,5 +1,6 @@
 //! Laws of the definitions: contracts of functions that do nothing.
 
+ghost use Rattle.fs_chain_c.specs.Notifying.{NotifyIsACheck, StoresAWish};
 ghost use Rattle.fs_chain_c.specs.Spans.{AskedSpansHoldNames, SpansHoldNames};
 
 /// Each place in a request's bytes that a call is told with holds just its name, its value or its pairs: of each request of less than 2^32 bytes, in
@@ -7,4 +8,11 @@ ghost use Rattle.fs_chain_c.specs.Spans.{AskedSpansHoldNames, SpansHoldNames};
 pub fn law_spans()
     ensures meant { SpansHoldNames }
     ensures asked { AskedSpansHoldNames }
+{}
+
+/// What `pk_ask_kicks` and `pk_returned` tell C is the device's part of the model in which no notification is lost:
+/// the wish for the next chain, and the check of a chain that was returned.
+pub fn law_notifications()
+    ensures wish { StoresAWish }
+    ensures check { NotifyIsACheck }
 {}

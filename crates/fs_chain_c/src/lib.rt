@@ -28,8 +28,8 @@ mod walking;
 mod windows;
 
 pub use exports::{
-    pk_abandon, pk_chain_free, pk_chain_set_memory, pk_drop, pk_queue_begin, pk_request_windows,
-    pk_return, pk_returned, pk_room_windows, pk_version, pk_walk,
+    pk_abandon, pk_chain_free, pk_chain_number_from, pk_chain_set_memory, pk_drop, pk_queue_begin,
+    pk_request_windows, pk_return, pk_returned, pk_room_windows, pk_version, pk_walk,
 };
 pub use kicks::pk_ask_kicks;
 pub use listing::{pk_add_direntry, pk_add_direntry_plus, pk_reply_entries, pk_reply_err};

@@ -5,7 +5,7 @@ ghost use Rattle.fuse_fs.specs.Answers.{listed};
 ghost use Rattle.server_replies.specs.Entries.{no_node};
 ghost use Rattle.server_phases.specs.Gathering.{added_found, added_plain};
 ghost use Rattle.fs_chain_c.specs.Listing.{AddsEntry, AddsNode, AddsWorkbench, EndsList, EndsListing, FailsListing, FailsWorkbench, RepliesError};
-ghost use Rattle.fs_chain_c.specs.Listing.{added_status, errno_of, is_name, listed_as, type_of};
+ghost use Rattle.fs_chain_c.specs.Listing.{added_status, errno_of, is_entry, is_name, is_type, listed_as, type_of};
 ghost use Rattle.fs_chain.specs.Orders.{is_listing};
 ghost use Rattle.fs_chain_c.specs.Handles.{OnWorkbench};
 ghost use Rattle.fs_chain_c.specs.Replies.{entry_of};
@@ -45,11 +45,32 @@ fn added_status(told: Result<Added, ChainError>) -> u32
     }
 }
 
-// Whether a name has a length that a directory's may have.
+// Whether a directory may have an entry of this name.
 fn is_name(name: &[u8]) -> bool
     ensures { result ≡ is_name name.now }
 {
-    1 <= name.len() && name.len() <= NAME_MAX
+    1 <= name.len() && name.len() <= NAME_MAX && !name.contains(&b'/')
+}
+
+// Whether a number is a type of dirent.h.
+fn is_type(type_: u32) -> bool
+    ensures { result ≡ is_type type_ }
+{
+    type_ == 0
+        || type_ == 1
+        || type_ == 2
+        || type_ == 4
+        || type_ == 6
+        || type_ == 8
+        || type_ == 10
+        || type_ == 12
+}
+
+// Whether a directory may have an entry of this name and type.
+fn is_entry(name: &[u8], type_: u32) -> bool
+    ensures { result ≡ is_entry name.now type_ }
+{
+    is_name(name) && is_type(type_)
 }
 
 // Brings an entry of READDIR.
@@ -89,9 +110,9 @@ pub extern "C" fn pk_add_direntry(
     next_offset: u64,
     type_: u32,
 ) -> u32
-    ensures { AddsEntry (is_name name.now) (listed_as name.now ino next_offset type_) ticket chain.old.value list.old result chain.new.value list.new }
+    ensures { AddsEntry (is_entry name.now type_) (listed_as name.now ino next_offset type_) ticket chain.old.value list.old result chain.new.value list.new }
 {
-    if !is_name(name) {
+    if !is_entry(name, type_) {
         return u32::from(ChainError::BadArgument.number());
     }
     let Some(mut workbench) = chain.take(alloc) else {
@@ -141,16 +162,17 @@ pub extern "C" fn pk_add_direntry_plus(
     entry: &FsEntry,
     next_offset: u64,
 ) -> u32
-    ensures { AddsNode (is_name name.now) (listed_as name.now entry.now.attr.ino next_offset (type_of entry.now)) (entry_of entry.now) ticket
+    ensures { AddsNode (is_entry name.now (type_of entry.now)) (listed_as name.now entry.now.attr.ino next_offset (type_of entry.now)) (entry_of entry.now) ticket
         chain.old.value list.old result chain.new.value list.new }
 {
-    if !is_name(name) {
+    let type_ = entry.attr.mode / 4096 % 16;
+    if !is_entry(name, type_) {
         return u32::from(ChainError::BadArgument.number());
     }
     let listed = DirEntry {
         ino: entry.attr.ino,
         offset: next_offset,
-        type_: entry.attr.mode / 4096 % 16,
+        type_,
         name,
     };
     add_node(alloc, chain, ticket, list, &listed, entry_of(entry))

@@ -62,7 +62,7 @@ impl<'a> Listing<'a> {
     /// Adds an entry behind those before it; `false` if it doesn't fit, which ends the list. With nodes it is looked up first by
     /// `FileSystem::lookup`, but `.` and `..` aren't; what the guest isn't told after all is forgotten. Errors, which `readdir` answers in its
     /// turn: those of the look-up, `EINVAL` (the first entry doesn't fit: no entry at all would end the directory), `ENAMETOOLONG` (a name that
-    /// is empty or longer than 255 bytes), `EIO` (the room is shorter than the guest asked for).
+    /// is empty or longer than 255 bytes), `EIO` (the room is shorter than the guest asked for, or the name has a slash).
     pub fn add(&mut self, entry: DirectoryEntry<'_>) -> Answer<bool> {
         let name = entry.name.to_bytes();
         if name.is_empty() || name.len() > NAME_MAX {

@@ -243,6 +243,8 @@ extern "C" {
     pub fn pk_is_name(name: *const u8, name_len: usize) -> u8;
     pub fn pk_chain_set_memory(chain: &mut Chain, device: &Device, regions: *const Region, region_count: usize) -> u32;
     pub fn pk_chain_free(chain: &mut Chain);
+    #[allow(dead_code)] // a worker's answers go to its own chain
+    pub fn pk_chain_number_from(chain: &mut Chain, first: u32) -> u32;
     pub fn pk_walk(chain: &mut Chain, queue: &mut Queue, loaded: *const u8, loaded_len: usize, step: &mut Step) -> u32;
     pub fn pk_queue_begin(queue: &mut Queue, position: u16) -> u32;
     pub fn pk_abandon(chain: &mut Chain);

@@ -437,9 +437,16 @@ impl Worker {
     /// Says to the driver whether its kicks are wanted (VIRTIO 1.2, 2.7.10): they are before you sleep, and needn't be while a worker looks for
     /// chains anyway. Whether something was stored: where they are wanted look once more then, by `take`, since a chain may have come before
     /// the driver could know. It is no matter whether this worker has a chain. If several workers serve the queue, it is locked from here to
-    /// the end of that `take`. With an event index the next chain alone brings a kick: a worker that took one while another sleeps says it
-    /// anew before the queue is unlocked, and if the available index tells of a chain more, it wakes one that sleeps. Errors: `WrongOrder` (no
-    /// memory was told), `BadArgument` (the queue's numbers are none), `NoPlace` (the flags, or avail_event, aren't in the memory).
+    /// the end of that `take`.
+    ///
+    /// A worker that takes a chain while another worker of the queue sleeps looks once more before the
+    /// queue is unlocked, with an event index and without one: it calls this with `wanted`, and loads the
+    /// available index again behind it. An index that was loaded before may show that a chain is
+    /// available, but never that none is. If one is, the worker wakes one that sleeps, or takes it. The
+    /// driver notifies once for several chains, and with an event index for the next chain alone.
+    ///
+    /// Errors: `WrongOrder` (no memory was told), `BadArgument` (the queue's numbers are none), `NoPlace`
+    /// (the flags, or avail_event, aren't in the memory).
     pub fn ask_kicks(&mut self, queue: &Queue, wanted: bool, memory: &dyn GuestMemory) -> Result<bool, Status> {
         let store = self.chain.ask_kicks(queue, wanted)?;
         if store.len == 0 {

@@ -120,8 +120,8 @@ fn a_listing_that_fails() {
 
 #[test]
 fn names_that_no_directory_has() {
-    struct Long(&'static CStr);
-    impl FileSystem for Long {
+    struct Named(&'static CStr, Errno);
+    impl FileSystem for Named {
         fn lookup(&self, _: &Context, _: Node, _: &CStr) -> Answer<Entry> {
             Err(Errno::ENOENT)
         }
@@ -130,7 +130,7 @@ fn names_that_no_directory_has() {
         }
         fn readdir(&self, _: &Context, _: Node, _: ReadDirectory, list: &mut Listing<'_>) -> Answer<()> {
             let entry = DirectoryEntry { name: self.0, inode: 1, next_offset: 1, kind: FileKind::UNKNOWN };
-            assert_eq!(list.add(entry), Err(Errno::ENAMETOOLONG));
+            assert_eq!(list.add(entry), Err(self.1));
             list.add(entry).map(|_| ())
         }
     }
@@ -141,6 +141,8 @@ fn names_that_no_directory_has() {
     };
     let mut guest = Guest::new();
     for name in [c(b"\0"), c(&LONG)] {
-        assert_eq!(guest.ask(&Long(name), READDIR, 5, read(4096), 16 + 4096), Reply::Error(36));
+        assert_eq!(guest.ask(&Named(name, Errno::ENAMETOOLONG), READDIR, 5, read(4096), 16 + 4096), Reply::Error(36));
     }
+    // A Linux guest answers EIO to a listing that has such a name (parse_dirfile of fs/fuse/readdir.c).
+    assert_eq!(guest.ask(&Named(c(b"a/b\0"), Errno::EIO), READDIR, 5, read(4096), 16 + 4096), Reply::Error(5));
 }

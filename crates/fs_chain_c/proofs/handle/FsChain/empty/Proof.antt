@@ -40,4 +40,4 @@ empty_spec 𝓤 𝓛 𝓜 𝓡 wired =
     (qed 𝓛 Γ ∵ enter ! 𝓣.C 𝓣.Λ fn (h ∷ []) _ $ alloc_all ! (λ ls. pass_all ! refl (fits, tt) $
     sets ! (agg ! (and_then ! (lit ! tt) (and_then ! (get ! refl) (and_then ! (lit ! tt) (no_more !))))) refl (three_good null_ptr h 0 fits (lit< tt)) $
     returns ! (look_at ! 0 refl) $ free_all ! refl $ nothing ! $ chain_in ! made h (lit< tt) $
-    suffices ! _ (ends_at 𝓛 ended stayed c y (three null_ptr h 0) made (tt, tt) (tt, tt)) $ says ! refl $ nothing ! $ nothing ! $ fjoin ! $ join ! $ nothing ! $ join ! $ done !)))))
+    suffices ! _ (ends_at 𝓛 ended stayed c y (three null_ptr h 0) made (tt, tt) (tt, tt)) $ says ! (refl, refl, refl) $ nothing ! $ nothing ! $ fjoin ! $ join ! $ nothing ! $ join ! $ done !)))))

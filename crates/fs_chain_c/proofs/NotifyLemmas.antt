@@ -1,0 +1,70 @@
+-- What C is told of notifications.
+use Rattle.std.proofs.Common.{◌≡◌, ◌⊎◌, inl, inr, ℕ, ◌^◌, ◌<◌, ◌==◌, ◌||◌, Bool, true, false, List, Option, Some, None, refl, sym, ap, subst, ◌∙◌}
+use Rattle.std.specs.Int.{w16, to_le_bytes, from_le_bytes}
+use Rattle.std.proofs.lemmas.Nat.{from_le_bytes-to_le_bytes_2}
+use Rattle.fs_queue.specs.Returning.{Store}
+use Rattle.vm_iotlb.specs.declared.permissions.Permissions.TheVariants.{Write}
+use Rattle.fs_regions.specs.Places.{Mapped}
+use Rattle.fs_chain.specs.declared.error.ChainError.{ChainError}
+use Rattle.fs_chain.specs.declared.error.ChainError.TheVariants as error
+use Rattle.fs_chain.specs.Events.{tells_of}
+use Rattle.fs_chain.specs.Numbers.{chain_error_number}
+use Rattle.notify.specs.Threads.{Queue, Wishes, WishIsThere, after_act}
+use Rattle.fs_notify.proofs.Returns as givers
+use Rattle.fs_notify.proofs.Wishes as takers
+use Rattle.fs_notify.specs.Takers.{SaysWish, ways_of}
+use Rattle.fs_chain_c.specs.declared.kicks.FsStore.{FsStore}
+use Rattle.fs_chain_c.specs.Kicks.{TellsStore}
+use Rattle.fs_chain_c.specs.Notifying.{NotifyIsACheck, StoresAWish}
+use Rattle.fs_chain_c.specs.Queues.{flag}
+use Rattle.fs_chain_c.specs.Returning.{StandsHere}
+
+-- a refusal has a number
+refused : (e : ChainError) → 0 ≡ chain_error_number e → ⊥
+refused error.OutOfMemory is = cc
+refused error.BadArgument is = cc
+refused e is = cc
+
+-- a store that is told without an error
+told_store : (regions : Mapped) (store : Store) (told : FsStore) → TellsStore regions (Some store) told 0
+    → StandsHere regions Write store.address 2 told.at × (store.bytes ≡ to_le_bytes w16 told.value) × (told.len ≡ 2)
+told_store regions store told (inl done) = (done.1, done.2, done.3)
+told_store regions store told (inr lost) = absurd (never lost.0)
+  where
+    never : ◌≡◌ {A = ℕ} 0 77 → ⊥
+    never is = cc
+
+pub wishes : StoresAWish
+wishes b q told s (inl none) = absurd (refused error.BadArgument none.1)
+wishes b q told s (inr is) = (
+  is.1,
+  is.2,
+  λ counted of walker.
+      let asked = takers.asks is.1 s counted of walker in
+      let store = asked.0 in
+      let end : Queue = after_act (ways_of is.1) (after_act (ways_of is.1) s Wishes) WishIsThere in
+      let stored = told_store b.regions store told (subst (λ (x : Option Store). TellsStore b.regions x told 0) asked.1 is.3) in (
+        subst (λ (a : ℕ). StandsHere b.regions Write a 2 told.at) asked.2 stored.0,
+        stored.2,
+        subst (λ (bytes : List ℕ). SaysWish is.1.event_index bytes end.event end.muted) stored.1 asked.5,
+        asked.6,
+      ),
+)
+
+flag_is : (b : Bool) → (flag b == 1) ≡ b
+flag_is true = refl
+flag_is false = refl
+
+pub checks : NotifyIsACheck
+checks b b' q q' seen notify u (inl none) fits = absurd (refused error.BadArgument none.2.0)
+checks b b' q q' seen notify u (inr is) fits = elim is.3 [
+  | inl ended ↦ (
+    is.1,
+    is.2,
+    λ small at one says.
+        let same : from_le_bytes w16 (to_le_bytes w16 seen) ≡ seen = from_le_bytes-to_le_bytes_2 seen fits in
+        let check = givers.checks is.1 (to_le_bytes w16 seen) u small (subst (λ (n : ℕ). n < 2 ^ 16) (sym same) fits) at one says in
+        check ∙ ap (λ (n : Bool). u.owes || n) (sym (ap (λ (n : ℕ). n == 1) ended.2 ∙ flag_is (tells_of is.1 (to_le_bytes w16 seen)))),
+  )
+  | inr why ↦ absurd (refused why.0 why.3.0)
+]

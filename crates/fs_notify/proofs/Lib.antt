@@ -1,0 +1,4 @@
+pub mod Drops
+pub mod Returns
+pub mod Walks
+pub mod Wishes

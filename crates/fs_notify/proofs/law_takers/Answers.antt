@@ -1,0 +1,16 @@
+use Rattle.fs_notify.proofs.Drops.{drops, ends_return, full}
+use Rattle.fs_notify.proofs.Walks.{finds_none, sleeps, takes}
+use Rattle.fs_notify.proofs.Wishes.{asks, mutes}
+use Rattle.fs_notify.proofs.law_takers.Goals as goal
+
+pub returns : goal.returns
+returns c = record {
+  asks = asks;
+  mutes = mutes;
+  takes = takes;
+  none = finds_none;
+  full = full;
+  drops = drops;
+  returns = ends_return;
+  order = sleeps;
+}

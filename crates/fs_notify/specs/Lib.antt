@@ -1,0 +1,2 @@
+pub mod Givers
+pub mod Takers

@@ -1,0 +1,174 @@
+-- The calls of a thread that holds a queue's lock, as acts of the model of notifications.
+--
+-- The model's queue has two memory cells that the device writes for the driver: `event` and `muted`. With the
+-- event index the first is avail_event, and the second means nothing; without it the second is bit 0 of the
+-- used ring's flags (VIRTIO 1.2, 2.7.10).
+use Rattle.std.specs.Prelude.{◌≡◌, ℕ, ◌^◌, ◌<◌, Bool, true, false, IsTrue, List, [], ◌∷◌, Option, Some}
+use Rattle.std.specs.Prelude.{None, if◌then◌else◌}
+use Rattle.std.specs.Int.{w16, from_le_bytes}
+use Rattle.fs_queue.specs.Queue.{has_bit}
+use Rattle.fs_queue.specs.Returning.{Store}
+use Rattle.fs_regions.specs.Walks.{Loaded}
+use Rattle.fs_chain.specs.declared.error.ChainError.TheVariants.{ChainOut}
+use Rattle.fs_chain.specs.declared.loads.Went.TheVariants as wents
+use Rattle.fs_chain.specs.declared.queue.KeptQueue.{KeptQueue}
+use Rattle.fs_chain.specs.declared.state.State as state
+use Rattle.fs_chain.specs.declared.state.Out.{Out}
+use Rattle.fs_chain.specs.declared.state.State.TheVariants as at
+use Rattle.fs_chain.specs.declared.walking.WalkOutcome as walked
+use Rattle.fs_chain.specs.declared.walking.WalkOutcome.TheVariants as says
+use Rattle.fs_chain.specs.declared.workbench.Workbench.{Workbench}
+use Rattle.fs_chain.specs.Events.{avail_event_at, kick_store}
+use Rattle.fs_chain.specs.Orders.{begin_error, end_error, give_up_error}
+use Rattle.fs_chain.specs.Queues.{gave, out_count, untook}
+use Rattle.fs_chain.specs.Whole.{LoadsOf, WalksBy}
+use Rattle.notify.specs.Threads.{Ways, right_ways, Queue, Walker, Asker, Nobody, may_act, after_act, ActsOver}
+use Rattle.notify.specs.Threads.{Wishes, WishIsThere, Silences, TakesOne, DropsOne, SleepsNow, Returns}
+
+-- the ways that a queue's threads keep
+abbrev pub ways_of : KeptQueue → Ways
+ways_of q = right_ways q.layout.size q.most_out q.event_index
+
+-- the numbers of a queue are u16
+abbrev pub IsCounted : KeptQueue → Type 0
+IsCounted q = (q.position < 2 ^ 16) × (q.returned < 2 ^ 16) × (q.most_out < 2 ^ 16)
+
+-- the model's queue takes where this one does, and has as many chains in flight
+abbrev pub IsOf : KeptQueue → Queue → Type 0
+IsOf q s = (s.position ≡ q.position) × (s.out ≡ out_count q)
+
+-- ---- the wish
+
+-- where the device stores its wish
+abbrev pub wish_at : KeptQueue → ℕ
+wish_at q = if q.event_index then avail_event_at q.layout else q.layout.used
+
+-- these two bytes there are the wish that the model's memory has
+abbrev pub SaysWish : (event_index : Bool) → (bytes : List ℕ) → (event : ℕ) → (muted : Bool) → Type 0
+SaysWish true bytes event muted = from_le_bytes w16 bytes ≡ event
+SaysWish false bytes event muted = has_bit (from_le_bytes w16 bytes) 0 ≡ muted
+
+-- the store that asks for a notification is the wish for the next chain, once it has reached memory
+abbrev pub AsksByStore : Type 0
+AsksByStore =
+    (q : KeptQueue) (s : Queue)
+    → IsCounted q
+    → IsOf q s
+    → s.holder ≡ Walker
+    → let asking = after_act (ways_of q) s Wishes in
+    let asked = after_act (ways_of q) asking WishIsThere in
+    (store : Store)
+    × (kick_store q true ≡ Some store)
+    × (store.address ≡ wish_at q)
+    × IsTrue (may_act (ways_of q) s Wishes)
+    × IsTrue (may_act (ways_of q) asking WishIsThere)
+    × SaysWish q.event_index store.bytes asked.event asked.muted
+    × IsOf q asked
+
+-- the store that asks for none says so; with the event index there is none
+abbrev pub MutesBy : (event_index : Bool) → KeptQueue → Queue → Option Store → Type 0
+MutesBy true q s store = store ≡ None
+MutesBy false q s None = ⊥
+MutesBy false q s (Some store) =
+    let muted = after_act (ways_of q) s (Silences s.event) in
+    (store.address ≡ wish_at q) × SaysWish false store.bytes muted.event muted.muted × IsOf q muted
+
+abbrev pub MutesByStore : Type 0
+MutesByStore =
+    (q : KeptQueue) (s : Queue)
+    → IsOf q s
+    → s.holder ≡ Walker
+    → MutesBy q.event_index q s (kick_store q false) × IsTrue (may_act (ways_of q) s (Silences s.event))
+
+-- ---- the walk
+
+-- a walk took a chain
+abbrev pub HasTaken : walked.WalkOutcome → Type 0
+HasTaken (says.Chain head request_len room_len) = Unit {0}
+HasTaken (says.Faulty head fault) = Unit {0}
+HasTaken _ = ⊥
+
+-- the available index that a walk was given
+abbrev pub IsIndex : Loaded → (index : ℕ) → Type 0
+IsIndex loaded index = (bytes : List ℕ) × (loaded.index ≡ Some bytes) × (from_le_bytes w16 bytes ≡ index)
+
+-- a walk that takes a chain was given an index by which the model's thread may take it, now or earlier; the
+-- queue is then the model's
+abbrev pub TakesByWalk : Type 0
+TakesByWalk =
+    (given : List (List ℕ)) (old new : Workbench) (before after : KeptQueue)
+    (told : walked.WalkOutcome) (s : Queue)
+    → IsCounted before
+    → before.stopped ≡ None
+    → HasTaken told
+    → (walks : WalksBy given old new before after (wents.On told))
+    → IsOf before s
+    → s.holder ≡ Walker
+    → (loaded : Loaded)
+    × LoadsOf given old new before after (wents.On told) walks loaded
+    × (index : ℕ)
+    × IsIndex loaded index
+    × (s.known ≡ index
+    → IsTrue (may_act (ways_of before) s TakesOne) × IsOf after (after_act (ways_of before) s TakesOne))
+
+-- a walk that finds no chain was given an index by which the model's thread may sleep, if it has stored its
+-- wish, the barrier was made, and that is the index in memory: a load of now, and not an earlier one
+abbrev pub FindsNoneByWalk : Type 0
+FindsNoneByWalk =
+    (given : List (List ℕ)) (old new : Workbench) (before after : KeptQueue) (s : Queue)
+    → IsCounted before
+    → s.index < 2 ^ 16
+    → before.stopped ≡ None
+    → (walks : WalksBy given old new before after (wents.On says.Idle))
+    → IsOf before s
+    → s.holder ≡ Asker
+    → s.hidden ≡ false
+    → (loaded : Loaded)
+    × LoadsOf given old new before after (wents.On says.Idle) walks loaded
+    × (index : ℕ)
+    × IsIndex loaded index
+    × (s.index ≡ index
+    → IsTrue (may_act (ways_of before) s SleepsNow) × IsOf after (after_act (ways_of before) s SleepsNow))
+
+-- so may one whose walk is refused since as many chains are in flight as may be
+abbrev pub FullIsAnAct : Type 0
+FullIsAnAct =
+    (q : KeptQueue) (s : Queue)
+    → begin_error q 0 ≡ Some ChainOut
+    → IsOf q s
+    → s.holder ≡ Asker
+    → s.hidden ≡ false
+    → IsTrue (may_act (ways_of q) s SleepsNow) × IsOf q (after_act (ways_of q) s SleepsNow)
+
+-- a wish, its barrier and a walk that finds no chain, in this order, are a run of the model
+abbrev pub SleepsInOrder : Type 0
+SleepsInOrder =
+    (q : KeptQueue) (s : Queue)
+    → IsOf q s
+    → s.holder ≡ Walker
+    → s.index ≡ q.position
+    → let ways = ways_of q in
+    let end = after_act ways (after_act ways (after_act ways s Wishes) WishIsThere) SleepsNow in
+    ActsOver ways s (Wishes ∷ WishIsThere ∷ SleepsNow ∷ []) end × IsOf q end × (end.holder ≡ Nobody)
+
+-- ---- drops and returns
+
+-- a chain that is given up is dropped
+abbrev pub DropIsAnAct : Type 0
+DropIsAnAct =
+    (q : KeptQueue) (out : Out) (s : Queue)
+    → IsCounted q
+    → give_up_error (at.Taken out) q ≡ None
+    → IsOf q s
+    → s.holder ≡ Walker
+    → IsTrue (may_act (ways_of q) s DropsOne) × IsOf (untook q) (after_act (ways_of q) s DropsOne)
+
+-- a chain whose return ends is returned
+abbrev pub ReturnIsAnAct : Type 0
+ReturnIsAnAct =
+    (q : KeptQueue) (from : state.State) (s : Queue)
+    → IsCounted q
+    → end_error from q ≡ None
+    → IsOf q s
+    → s.holder ≡ Walker
+    → IsTrue (may_act (ways_of q) s (Returns 1)) × IsOf (gave q) (after_act (ways_of q) s (Returns 1))

@@ -1,0 +1,43 @@
+//! What the calls of a handle return are the device's steps of the model of notifications (crate `notify`),
+//! so that no notification of this library's queues is lost. Laws, as contracts of functions that do
+//! nothing.
+//!
+//! The model's steps of a device are those of its threads (`Act`), and of a giver of used chains (`Step`):
+//!
+//! | Call | Step |
+//! |---|---|
+//! | `kick_store(true)`, its store, the barrier | `Wishes`, `WishIsThere` |
+//! | `kick_store(false)`, its store | `Silences` |
+//! | `walk`: the load of the available index; a chain | `Loads`, `TakesOne` |
+//! | `walk` behind the barrier: no chain, or as many in flight as may be | `SleepsNow` |
+//! | `give_up` | `DropsOne` |
+//! | `begin_return`: its last store, that of the used index | `Publishes` |
+//! | `end_return`, by a load behind the barrier | `Checks`, and `Returns` |
+#![tactic(auto)]
+
+ghost use Rattle.fs_notify.specs.Givers.{ChecksBySeen, MachineChecks, PublishesByStore, ReturnsInOrder};
+ghost use Rattle.fs_notify.specs.Takers.{AsksByStore, DropIsAnAct, FindsNoneByWalk, FullIsAnAct};
+ghost use Rattle.fs_notify.specs.Takers.{MutesByStore, ReturnIsAnAct};
+ghost use Rattle.fs_notify.specs.Takers.{SleepsInOrder, TakesByWalk};
+
+/// The acts of a thread that holds the queue's lock: what its calls return allows the act and makes it. A
+/// wish and a look behind it, in this order, are a run of the model to a thread that sleeps.
+pub fn law_takers()
+    ensures asks { AsksByStore }
+    ensures mutes { MutesByStore }
+    ensures takes { TakesByWalk }
+    ensures none { FindsNoneByWalk }
+    ensures full { FullIsAnAct }
+    ensures drops { DropIsAnAct }
+    ensures returns { ReturnIsAnAct }
+    ensures order { SleepsInOrder }
+{}
+
+/// The steps of a device that gives used chains to the driver: by the handle, and by the plain machine. The
+/// store of the used index, the barrier and the load, in this order, are a run of the model.
+pub fn law_givers()
+    ensures publishes { PublishesByStore }
+    ensures checks { ChecksBySeen }
+    ensures order { ReturnsInOrder }
+    ensures machine { MachineChecks }
+{}
