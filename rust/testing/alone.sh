@@ -53,8 +53,9 @@ compile() {
 }
 
 alone() {
+    local threads
     SECONDS_EACH=${SECONDS_EACH:-60}
-    compile checks checks.c escape.c wild.c front.c
+    compile checks checks.c escape.c held.c wild.c front.c
     compile hostile hostile.c front.c
     compile state state.c front.c
     rm -rf "$work/starts"
@@ -72,6 +73,11 @@ alone() {
     try checks two 5
     try checks slow
     THREADS=4 try checks pool
+    for threads in 0 4; do
+        THREADS=$threads try checks held 20
+        grep -q 'queue 1: GET_VRING_BASE waits for chains in flight: .*opcode 14' "$work/checks-held.errors" ||
+            failure "held: the log doesn't say what is waited for"
+    done
     THREADS=4 try checks two 5
     try checks sleeps "${SLEEPS:-500000}"
     THREADS=4 try checks sleeps "${SLEEPS:-500000}"

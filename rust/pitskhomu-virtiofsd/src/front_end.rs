@@ -62,15 +62,13 @@ impl<F: Served> FrontEnd<F> {
         self.features & VhostUserVirtioFeatures::LOG_ALL.bits() != 0
     }
 
-    /// The log that pages are marked in as things stand.
-    fn active_log(&self) -> Option<&Arc<Log>> {
-        self.log.as_ref().filter(|_| self.logs())
+    /// Pages are marked in the log, if there is one and the features say so.
+    fn set_log(&self) {
+        self.core.memory().logging().set(self.log.clone().filter(|_| self.logs()));
     }
 
     fn set_memory(&mut self, table: io::Result<Table>) -> Result<()> {
-        let table = table.map_err(told)?;
-        table.set_log(self.active_log());
-        self.core.set_memory(table);
+        self.core.set_memory(table.map_err(told)?);
         Ok(())
     }
 
@@ -94,7 +92,7 @@ impl<F: Served> VhostUserBackendReqHandlerMut for FrontEnd<F> {
 
     fn reset_device(&mut self) -> Result<()> {
         self.enable_all(false);
-        self.core.rings.iter().for_each(|ring| ring.state().begin_anew());
+        self.core.rings.iter().for_each(|ring| ring.lock().begin_anew());
         self.core.end_session();
         Ok(())
     }
@@ -113,7 +111,7 @@ impl<F: Served> VhostUserBackendReqHandlerMut for FrontEnd<F> {
         }
         self.features = features;
         let has_event_index = features & (1 << VIRTIO_RING_F_EVENT_IDX) != 0;
-        self.core.rings.iter().for_each(|ring| ring.set_event_index(has_event_index));
+        self.core.rings.iter().for_each(|ring| ring.tell(|numbers| numbers.has_event_index = has_event_index));
         if features & VhostUserVirtioFeatures::PROTOCOL_FEATURES.bits() == 0 {
             self.enable_all(true);
         }
@@ -123,12 +121,12 @@ impl<F: Served> VhostUserBackendReqHandlerMut for FrontEnd<F> {
             self.migration.cancel();
             self.log = None;
         }
-        self.core.memory().set_log(self.active_log());
+        self.set_log();
         Ok(())
     }
 
     fn set_mem_table(&mut self, regions: &[VhostUserMemoryRegion], files: Vec<File>) -> Result<()> {
-        self.set_memory(Table::new(regions, files))
+        self.set_memory(self.core.memory().replaced(regions, files))
     }
 
     fn get_max_mem_slots(&mut self) -> Result<u64> {
@@ -146,7 +144,7 @@ impl<F: Served> VhostUserBackendReqHandlerMut for FrontEnd<F> {
     fn set_vring_num(&mut self, index: u32, num: u32) -> Result<()> {
         let size = Some(num).filter(|num| (1..=SIZE_MAX).contains(num) && num.is_power_of_two());
         let size = size.ok_or_else(|| told(io::Error::other("a size that no queue has")))?;
-        self.ring(index)?.state().tell(|numbers| numbers.layout.size = size as u16); // 2^15 at most
+        self.ring(index)?.tell(|numbers| numbers.layout.size = size as u16); // 2^15 at most
         Ok(())
     }
 
@@ -162,7 +160,7 @@ impl<F: Served> VhostUserBackendReqHandlerMut for FrontEnd<F> {
         let memory = self.core.memory();
         let at = |front_end| memory.guest_address(front_end).map_err(told);
         let (descriptors, available, used) = (at(descriptor)?, at(available)?, at(used)?);
-        self.ring(index)?.state().tell(|numbers| {
+        self.ring(index)?.tell(|numbers| {
             let size = numbers.layout.size;
             numbers.layout = pitskhomu::QueueLayout { size, descriptors, available, used };
         });
@@ -171,7 +169,7 @@ impl<F: Served> VhostUserBackendReqHandlerMut for FrontEnd<F> {
 
     fn set_vring_base(&mut self, index: u32, base: u32) -> Result<()> {
         let position = u16::try_from(base).map_err(|_| told(io::Error::other("a base that no split queue has")))?;
-        self.ring(index)?.state().tell(|numbers| numbers.position = position);
+        self.ring(index)?.tell(|numbers| numbers.position = position);
         Ok(())
     }
 
@@ -285,7 +283,7 @@ impl<F: Served> VhostUserBackendReqHandlerMut for FrontEnd<F> {
         })?;
         self.log = Some(Arc::new(log));
         info!("pages are logged");
-        self.core.memory().set_log(self.active_log());
+        self.set_log();
         Ok(())
     }
 }

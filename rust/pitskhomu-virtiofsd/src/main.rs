@@ -3,6 +3,7 @@
 mod adapter;
 mod capabilities;
 mod front_end;
+mod in_flight;
 mod marks;
 mod memory;
 mod migration;

@@ -29,7 +29,7 @@ pub fn scratch() -> io::Result<File> {
 /// Sends the state of a core whose rings stand.
 pub fn save<F: Served>(core: &Core<F>, pipe: File) -> io::Result<()> {
     // A ring that was never begun has no numbers to save.
-    let queues = core.rings.iter().map(|ring| ring.state().queue_if_begun());
+    let queues = core.rings.iter().map(|ring| ring.lock().queue_if_begun());
     send(&core.fs, &core.device, &queues.flatten().collect::<Vec<_>>(), pipe)
 }
 
