@@ -55,7 +55,7 @@ compile() {
 alone() {
     local threads
     SECONDS_EACH=${SECONDS_EACH:-60}
-    compile checks checks.c escape.c held.c wild.c front.c
+    compile checks checks.c escape.c held.c platform.c wild.c front.c
     compile hostile hostile.c front.c
     compile state state.c front.c
     rm -rf "$work/starts"
@@ -69,6 +69,9 @@ alone() {
     try checks log
     try checks rings
     try checks config
+    try checks platform
+    grep -q 'VIRTIO_F_ACCESS_PLATFORM in SET_FEATURES' "$work/checks-platform.errors" ||
+        failure "platform: the daemon doesn't say why it ended"
     try checks memory "${CHANGES:-500}"
     try checks two 5
     try checks slow

@@ -463,6 +463,8 @@ static void run(const char *what, const char *dir, unsigned count) {
         held(dir, count);
     else if (!strcmp(what, "groups"))
         groups(dir);
+    else if (!strcmp(what, "platform"))
+        platform();
     else if (!strcmp(what, "wild"))
         wild(count);
     else
@@ -480,7 +482,7 @@ static const char *const *options_for(const char *what) {
 }
 
 int main(int argc, char **argv) {
-    if (argc < 4) die("usage: checks DAEMON DIR escape|readonly|sleeps|pauses|log|rings|config|memory|two|slow|pool|held|groups|wild [N]");
+    if (argc < 4) die("usage: checks DAEMON DIR escape|readonly|sleeps|pauses|log|rings|config|memory|two|slow|pool|held|groups|platform|wild [N]");
     const char *what = argv[3], *dir = argv[2];
     front_begin(&front, argv[1], dir, options_for(what));
     if (!strcmp(what, "log")) front.features |= 1ull << 26;

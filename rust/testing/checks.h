@@ -23,6 +23,9 @@ void send_apart(size_t ring, unsigned k, uint32_t opcode, uint64_t node, const v
 /* In held.c: one request takes so many seconds, and each message and each other request is answered at once. */
 void held(const char *dir, unsigned seconds);
 
+/* In platform.c: a guest whose device accesses memory as the platform says; the daemon ends. */
+_Noreturn void platform(void);
+
 /* In escape.c: nothing outside the directory can be reached; nothing of one that mayn't be changed is. */
 void escape(const char *dir);
 void readonly(void);

@@ -124,7 +124,10 @@ rdinit=/init scenario=$scenario" "${disk[@]}" "$@") > "$run/qemu" 2>&1
 busybox=$root/usr/bin/busybox
 export root
 
-device() { echo "vhost-user-fs-pci,chardev=fs,tag=shared,queue-size=128,num-request-queues=${QUEUES:-1}"; }
+# PLATFORM=on: the guest's device accesses memory as the platform says, as each device of a confidential guest does.
+device() {
+    echo "vhost-user-fs-pci,chardev=fs,tag=shared,queue-size=128,num-request-queues=${QUEUES:-1},iommu_platform=${PLATFORM:-off}"
+}
 
 # Waits for a line of the guest's.
 wait_for() {
@@ -284,6 +287,8 @@ guest() {
     for name in whole whole-threads; do
         diff "$work/calls-whole-virtiofsd" "$work/calls-$name" || failure "$name: a call came out otherwise than over virtiofsd"
     done
+    PLATFORM=on whole ours whole-platform
+    grep -q '^FEATURES .\{33\}1' "$run/lines" || failure "whole-platform: the driver didn't take VIRTIO_F_ACCESS_PLATFORM"
     make_files
     run_guest readonly ours readonly --readonly
     list_sums | expect readonly SUM

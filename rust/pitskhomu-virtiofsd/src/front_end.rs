@@ -13,10 +13,17 @@ use std::fs::File;
 use std::io;
 use std::sync::Arc;
 use vhost::vhost_user::message::*;
-use vhost::vhost_user::{Error, GpuBackend, Result, VhostUserBackendReqHandlerMut};
-use virtio_bindings::bindings::virtio_config::VIRTIO_F_VERSION_1;
+use vhost::vhost_user::{Backend, Error, GpuBackend, Result, VhostUserBackendReqHandlerMut};
+use virtio_bindings::bindings::virtio_config::{VIRTIO_F_ACCESS_PLATFORM, VIRTIO_F_VERSION_1};
 use virtio_bindings::bindings::virtio_ring::{VIRTIO_RING_F_EVENT_IDX, VIRTIO_RING_F_INDIRECT_DESC};
 use virtiofsd::vhost_user::MAX_TAG_LEN;
+
+/// The bit that a guest takes whose device accesses memory as the platform says. QEMU keeps it for itself unless the
+/// guest has a vIOMMU in front of the device: only then it is in SET_FEATURES, and ring addresses are IOVAs.
+const ACCESS_PLATFORM: u64 = 1 << VIRTIO_F_ACCESS_PLATFORM;
+const NO_IOMMU: &str =
+    "the guest has a vIOMMU in front of this device (VIRTIO_F_ACCESS_PLATFORM in SET_FEATURES), and \
+                        no translation is served yet: leave the vIOMMU out, or this device out of it";
 
 /// What the daemon does on behalf of one front-end.
 pub struct FrontEnd<F> {
@@ -27,6 +34,8 @@ pub struct FrontEnd<F> {
     migration: Migration<F>,
     /// What rings are told with that stop.
     bench: Bench<F>,
+    /// The back-end's own channel. QEMU offers VIRTIO_F_ACCESS_PLATFORM to the guest only if there is one.
+    channel: Option<Backend>,
 }
 
 fn told(e: io::Error) -> Error {
@@ -45,7 +54,7 @@ impl<F: Served> FrontEnd<F> {
     /// `scratch` is state::scratch's.
     pub fn new(core: Arc<Core<F>>, tag: Option<String>, scratch: File) -> FrontEnd<F> {
         let (migration, bench) = (Migration::new(core.clone(), scratch), Bench::new(core.clone(), 0));
-        FrontEnd { core, tag, features: 0, log: None, migration, bench }
+        FrontEnd { core, tag, features: 0, log: None, migration, bench, channel: None }
     }
 
     fn ring(&self, index: impl Into<u32>) -> Result<&Ring> {
@@ -99,6 +108,7 @@ impl<F: Served> VhostUserBackendReqHandlerMut for FrontEnd<F> {
 
     fn get_features(&mut self) -> Result<u64> {
         Ok((1 << VIRTIO_F_VERSION_1)
+            | ACCESS_PLATFORM
             | (1 << VIRTIO_RING_F_INDIRECT_DESC)
             | (1 << VIRTIO_RING_F_EVENT_IDX)
             | VhostUserVirtioFeatures::PROTOCOL_FEATURES.bits()
@@ -108,6 +118,9 @@ impl<F: Served> VhostUserBackendReqHandlerMut for FrontEnd<F> {
     fn set_features(&mut self, features: u64) -> Result<()> {
         if features & !self.get_features()? != 0 {
             return Err(told(io::Error::other("features that weren't offered")));
+        }
+        if features & ACCESS_PLATFORM != 0 {
+            return Err(Error::InvalidOperation(NO_IOMMU)); // it ends the connection, since QEMU wants no answer
         }
         self.features = features;
         let has_event_index = features & (1 << VIRTIO_RING_F_EVENT_IDX) != 0;
@@ -203,6 +216,7 @@ impl<F: Served> VhostUserBackendReqHandlerMut for FrontEnd<F> {
     fn get_protocol_features(&mut self) -> Result<VhostUserProtocolFeatures> {
         let features = VhostUserProtocolFeatures::MQ
             | VhostUserProtocolFeatures::REPLY_ACK
+            | VhostUserProtocolFeatures::BACKEND_REQ
             | VhostUserProtocolFeatures::CONFIGURE_MEM_SLOTS
             | VhostUserProtocolFeatures::LOG_SHMFD
             | VhostUserProtocolFeatures::DEVICE_STATE
@@ -215,6 +229,10 @@ impl<F: Served> VhostUserBackendReqHandlerMut for FrontEnd<F> {
     fn set_protocol_features(&mut self, features: u64) -> Result<()> {
         debug!("the front-end takes protocol features {features:#x}");
         Ok(())
+    }
+
+    fn set_backend_req_fd(&mut self, channel: Backend) {
+        self.channel = Some(channel);
     }
 
     fn get_queue_num(&mut self) -> Result<u64> {
