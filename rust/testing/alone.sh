@@ -61,6 +61,7 @@ alone() {
     rm -rf "$work/starts"
     mkdir -p "$work/starts"
     timeout 300 python3 "$here/testing/starts.py" "$DAEMON" "$work/starts" || failure "starts"
+    timeout 300 python3 "$here/testing/options.py" "$DAEMON" || failure "options"
     try checks escape
     try checks groups
     try checks wild "$SECONDS_EACH"

@@ -267,15 +267,11 @@ all_are() {
     echo "$name: done, $count readings"
 }
 
-# Each option of virtiofsd's is served, or refused by its name.
+# Each option of virtiofsd's is served, or refused by its name; of wrong ones both say the same.
 options() {
-    local word
-    (other /usr/libexec/virtiofsd --help) > "$work/help.virtiofsd"
-    "$DAEMON" --help > "$work/help"
-    for word in $(grep -oE '^ +(-[a-zA-Z], )?--?[a-zA-Z0-9-]+' "$work/help.virtiofsd" | tr -d ,); do
-        grep -qE -e "(^| )$word([][,= ]|\$)" "$work/help" || failure "options: $word isn't known"
-    done
-    echo "options: done, those of $(other /usr/libexec/virtiofsd --version)"
+    printf '#!/usr/bin/env bash\n%s\nother "$@"\n' "$(declare -f other)" > "$work/other"
+    chmod 755 "$work/other"
+    python3 "$here/testing/options.py" "$DAEMON" "$work/other" /usr/libexec/virtiofsd || failure "options"
 }
 
 guest() {

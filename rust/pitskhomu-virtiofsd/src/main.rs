@@ -28,7 +28,7 @@ const CAPABILITIES: &str = r#"{
 }"#;
 
 fn main() -> ExitCode {
-    let options = Options::parse();
+    let options = Options::parse().with_compat().unwrap_or_else(|e| e.exit());
     if options.print_capabilities {
         println!("{CAPABILITIES}");
         return ExitCode::SUCCESS;
