@@ -57,7 +57,7 @@ alone() {
     SECONDS_EACH=${SECONDS_EACH:-60}
     compile checks checks.c escape.c held.c platform.c wild.c front.c
     compile hostile hostile.c front.c
-    compile state state.c front.c
+    compile state state.c moved.c front.c
     rm -rf "$work/starts"
     mkdir -p "$work/starts"
     timeout 300 python3 "$here/testing/starts.py" "$DAEMON" "$work/starts" || failure "starts"
@@ -98,6 +98,8 @@ alone() {
     grep -q 'lent is gone (SIGBUS)' "$work/hostile-cut.errors" || failure "cut: the daemon doesn't say why it ended"
     try state "$SECONDS_EACH"
     try state full
+    try state flags
+    try state writeback
     try state lost
     grep -q refused "$work/state-lost" || failure "lost: a file that no path leads to is taken"
 }

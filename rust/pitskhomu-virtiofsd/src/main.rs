@@ -7,6 +7,7 @@ mod in_flight;
 mod marks;
 mod memory;
 mod migration;
+mod open_flags;
 mod options;
 mod ring;
 mod serve;

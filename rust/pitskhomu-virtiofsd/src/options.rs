@@ -1,5 +1,5 @@
-//! The command line: virtiofsd's, where its options mean something here. One that is known and isn't served is refused with
-//! the reason.
+//! The command line: virtiofsd's, where its options mean something here. One that is known and
+//! isn't served is refused with the reason.
 mod compat;
 mod values;
 
@@ -14,7 +14,8 @@ use virtiofsd::passthrough::{CachePolicy, MigrationMode, MigrationOnError};
 use virtiofsd::sandbox::SandboxMode;
 use virtiofsd::soft_idmap::cmdline::IdMap;
 
-/// Shares a directory of the host with the guest of a virtual machine (virtio-fs), over a proved core. Its options are virtiofsd's.
+/// Shares a directory of the host with the guest of a virtual machine (virtio-fs), over a proved
+/// core. Its options are virtiofsd's.
 #[derive(Debug, Parser)]
 #[command(
     name = "pitskhomu-virtiofsd",
@@ -61,7 +62,8 @@ pub struct Options {
     /// Capabilities kept or given up, as in --modcaps=+sys_admin:-chown
     #[arg(long)]
     pub modcaps: Option<String>,
-    /// How many descriptors may be open; 0 leaves the limit as it is [default: min(1000000, '/proc/sys/fs/nr_open')]
+    /// How many descriptors may be open; 0 leaves the limit as it is [default: min(1000000,
+    /// '/proc/sys/fs/nr_open')]
     #[arg(long)]
     pub rlimit_nofile: Option<u64>,
     /// What the guest may keep: auto, always, metadata, never
@@ -103,8 +105,8 @@ pub struct Options {
     /// O_NOATIME of the guest holds for the host too
     #[arg(long)]
     pub preserve_noatime: bool,
-    /// When inodes are held by handles rather than by open descriptors: never, prefer (where the host's file system has
-    /// handles; "fallback" is the same, deprecated), mandatory
+    /// When inodes are held by handles rather than by open descriptors: never, prefer (where the
+    /// host's file system has handles; "fallback" is the same, deprecated), mandatory
     #[arg(long, require_equals = true, default_value = "never")]
     pub inode_file_handles: Handles,
     /// Users of the namespace, as `:inside:outside:count:` (not as root)
@@ -113,8 +115,9 @@ pub struct Options {
     /// Groups of the namespace, as `:inside:outside:count:` (not as root)
     #[arg(long)]
     pub gid_map: Vec<GidMap>,
-    /// Users of the guest that are others on the host, as TYPE:FIRST:FIRST:COUNT: guest:GUEST:HOST:COUNT (in this
-    /// direction alone), host:HOST:GUEST:COUNT, squash-guest:GUEST:HOST:COUNT (all to one), squash-host:HOST:GUEST:COUNT,
+    /// Users of the guest that are others on the host, as TYPE:FIRST:FIRST:COUNT:
+    /// guest:GUEST:HOST:COUNT (in this direction alone), host:HOST:GUEST:COUNT,
+    /// squash-guest:GUEST:HOST:COUNT (all to one), squash-host:HOST:GUEST:COUNT,
     /// forbid-guest:GUEST:COUNT, map:GUEST:HOST:COUNT (both ways). May be given several times
     #[arg(long, conflicts_with = "posix_acl")]
     pub translate_uid: Vec<IdMap>,

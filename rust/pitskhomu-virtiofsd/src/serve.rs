@@ -3,6 +3,7 @@
 use crate::adapter::Adapter;
 use crate::in_flight::Doing;
 use crate::memory::Table;
+use crate::open_flags::{Descriptors, OpenFlags};
 use crate::ring::{Ring, Server, LAST_CHAINS};
 use log::{debug, error};
 use pitskhomu::{Queue, Status};
@@ -25,19 +26,38 @@ pub struct Core<F> {
     pub device: pitskhomu::Device,
     /// The high-priority queue, and behind it the request queues.
     pub rings: Vec<Ring>,
+    /// Which flags of the guest's hold on the host.
+    pub flags: OpenFlags,
+    /// The daemon's own descriptors.
+    pub descriptors: Descriptors,
     memory: RwLock<Arc<Table>>,
+}
+
+/// What a core is made with.
+pub struct Parts<F> {
+    /// virtiofsd's file system.
+    pub fs: F,
+    /// How many request queues there are.
+    pub request_queues: usize,
+    /// How many threads serve each.
+    pub threads: u16,
+    /// Which flags of the guest's hold on the host.
+    pub flags: OpenFlags,
+    /// The daemon's own descriptors.
+    pub descriptors: Descriptors,
 }
 
 impl<F: Served> Core<F> {
     /// A device without memory whose rings aren't started. Each request queue is served by so many
     /// threads.
-    pub fn new(fs: F, request_queues: usize, threads: u16) -> io::Result<Core<F>> {
+    pub fn new(parts: Parts<F>) -> io::Result<Core<F>> {
+        let Parts { fs, request_queues, threads, flags, descriptors } = parts;
         if pitskhomu::version() != pitskhomu::VERSION {
             return Err(io::Error::other("the archive is of another version than the wrapper"));
         }
         let ring = |index| Ring::new(index, if index == 0 { 1 } else { threads });
         let rings = (0..=request_queues).map(ring).collect::<io::Result<_>>()?;
-        Ok(Core { fs, device: pitskhomu::Device::default(), rings, memory: RwLock::default() })
+        Ok(Core { fs, device: pitskhomu::Device::default(), rings, flags, descriptors, memory: RwLock::default() })
     }
 
     /// The memory as it is.
@@ -127,7 +147,7 @@ impl<F: Served> Server for Bench<F> {
     /// What a guest makes the file system panic at is answered EIO, and costs it no more.
     fn answer(&mut self, doing: &Doing) {
         let (core, Some(memory)) = (&self.core, &self.memory) else { return };
-        let adapter = Adapter { fs: &core.fs, memory, doing };
+        let adapter = Adapter { fs: &core.fs, memory, doing, flags: core.flags };
         let mut answer = || self.worker.answer(&core.device, &adapter, &**memory);
         let answered = catch_unwind(AssertUnwindSafe(&mut answer)).or_else(|_| {
             debug!("queue {}: a call panicked, and is answered EIO", self.index); // start::log tells the panic

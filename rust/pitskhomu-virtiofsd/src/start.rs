@@ -1,8 +1,9 @@
 //! From options to a served directory.
 use crate::capabilities;
 use crate::front_end::FrontEnd;
+use crate::open_flags::{Descriptors, OpenFlags};
 use crate::options::Options;
-use crate::serve::{Bench, Core, Served};
+use crate::serve::{Bench, Core, Parts, Served};
 use crate::socket::Socket;
 use crate::state;
 use log::{debug, error, info, warn};
@@ -27,14 +28,15 @@ use virtiofsd::seccomp::enable_seccomp;
 /// What goes wrong before the directory is served.
 type Failure = Box<dyn Error>;
 
-/// Descriptors that aren't the guest's: memory, rings, a migration, virtiofsd's own for a while. Each thread opens one before
-/// it counts it.
+/// Descriptors that aren't the guest's: memory, rings, a migration, virtiofsd's own for a while.
+/// Each thread opens one before it counts it.
 const OWN_DESCRIPTORS: u64 = 609;
 /// With fewer for the guest there is a warning.
 const FEW_DESCRIPTORS: u64 = 128;
 const DAY: Duration = Duration::from_secs(24 * 60 * 60);
 
-/// So many panics are told: a guest that finds one may have it as often as it likes, and is to fill no log.
+/// So many panics are told: a guest that finds one may have it as often as it likes, and is to fill
+/// no log.
 const PANICS_TOLD: u32 = 100;
 
 fn tell_panic(panic: &PanicHookInfo<'_>) {
@@ -46,7 +48,8 @@ fn tell_panic(panic: &PanicHookInfo<'_>) {
     }
 }
 
-/// Has messages go where the options say, a panic's too: a backtrace would want system calls that the filter refuses.
+/// Has messages go where the options say, a panic's too: a backtrace would want system calls that
+/// the filter refuses.
 pub fn log(options: &Options) -> Result<(), Failure> {
     std::panic::set_hook(Box::new(tell_panic));
     if options.syslog {
@@ -70,8 +73,8 @@ extern "C" fn end(_signal: libc::c_int) {
     unsafe { libc::_exit(0) }
 }
 
-/// A page of lent memory isn't there any more (or the host's own is faulty): no thread can go on that looks at it, and whoever lent it
-/// is the only one that is served.
+/// A page of lent memory isn't there any more (or the host's own is faulty): no thread can go on
+/// that looks at it, and whoever lent it is the only one that is served.
 extern "C" fn end_for_lost_memory(_signal: libc::c_int) {
     const WHY: &[u8] =
         b"pitskhomu-virtiofsd: memory that the front-end lent is gone (SIGBUS), so nothing more can be served\n";
@@ -82,8 +85,9 @@ extern "C" fn end_for_lost_memory(_signal: libc::c_int) {
     }
 }
 
-/// As the first process of its namespace the daemon would be deaf to the first three signals without a handler. A guest that writes more than
-/// a file may have (RLIMIT_FSIZE) is answered EFBIG.
+/// As the first process of its namespace the daemon would be deaf to the first three signals
+/// without a handler. A guest that writes more than a file may have (RLIMIT_FSIZE) is answered
+/// EFBIG.
 fn handle_signals() {
     let end = end as *const () as libc::sighandler_t;
     let lost = end_for_lost_memory as *const () as libc::sighandler_t;
@@ -103,14 +107,14 @@ fn timeout(cache: &CachePolicy) -> Duration {
     }
 }
 
-fn config(options: Options, sandbox: &mut Sandbox, guest_descriptors: u64) -> Config {
+fn config(options: Options, sandbox: &mut Sandbox, proc_self_fd: Option<File>, guest_descriptors: u64) -> Config {
     let timeout = timeout(&options.cache);
     Config {
         entry_timeout: timeout,
         attr_timeout: timeout,
         root_dir: sandbox.get_root_dir(),
         mountinfo_prefix: sandbox.get_mountinfo_prefix(),
-        proc_sfd_rawfd: sandbox.get_proc_self_fd(),
+        proc_sfd_rawfd: proc_self_fd,
         proc_mountinfo_rawfd: sandbox.get_mountinfo_fd(),
         guest_fd_limit: guest_descriptors,
         writeback: options.writeback,
@@ -201,14 +205,24 @@ pub fn run(mut options: Options) -> Result<(), Failure> {
     let Socket { listener, number: _number } = Socket::open(&options)?;
     let listener = sandbox.enter(listener).map_err(|e| format!("Error entering sandbox: {}", sandbox_error(e)))?;
 
-    let serving = Serving::new(&mut options, capabilities, listener, scratch);
+    let proc_self_fd = sandbox.get_proc_self_fd();
+    let descriptors = Descriptors::new(proc_self_fd.as_ref()).map_err(|e| format!("/proc/self/fd: {e}"))?;
+
+    let serving = Serving::new(&mut options, listener, Kept { capabilities, scratch, descriptors });
     let readonly = options.readonly;
-    let config = config(options, &mut sandbox, guest_descriptors);
+    let config = config(options, &mut sandbox, proc_self_fd, guest_descriptors);
     if readonly {
         serving.serve(PassthroughFsRo::new(config).map_err(no_file_system)?)
     } else {
         serving.serve(PassthroughFs::new(config).map_err(no_file_system)?)
     }
+}
+
+/// What was made before the sandbox was entered, or as it was.
+struct Kept {
+    capabilities: capabilities::Changes,
+    scratch: File,
+    descriptors: Descriptors,
 }
 
 /// What is left of the options once there is a file system.
@@ -221,10 +235,13 @@ struct Serving {
     capabilities: capabilities::Changes,
     seccomp: crate::options::Seccomp,
     syslog: bool,
+    flags: OpenFlags,
+    descriptors: Descriptors,
 }
 
 impl Serving {
-    fn new(options: &mut Options, capabilities: capabilities::Changes, listener: Listener, scratch: File) -> Serving {
+    fn new(options: &mut Options, listener: Listener, kept: Kept) -> Serving {
+        let Kept { capabilities, scratch, descriptors } = kept;
         Serving {
             listener,
             scratch,
@@ -234,11 +251,18 @@ impl Serving {
             capabilities,
             seccomp: options.seccomp,
             syslog: options.syslog,
+            flags: OpenFlags {
+                allow_direct_io: options.allow_direct_io,
+                preserve_noatime: options.preserve_noatime,
+                writeback: options.writeback,
+            },
+            descriptors,
         }
     }
 
     fn serve<F: Served>(self, fs: F) -> Result<(), Failure> {
-        let core = Arc::new(Core::new(fs, self.request_queues, self.threads)?);
+        let Serving { request_queues, threads, flags, descriptors, .. } = self;
+        let core = Arc::new(Core::new(Parts { fs, request_queues, threads, flags, descriptors })?);
         capabilities::give_up(&self.capabilities)?;
         if let Some(action) = self.seccomp.action() {
             enable_seccomp(action, self.syslog)?; // threads have it from this one

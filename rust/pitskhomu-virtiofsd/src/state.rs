@@ -44,7 +44,9 @@ fn send(fs: &impl SerializableFileSystem, device: &p::Device, queues: &[p::Queue
 
 /// Takes a state over, from a daemon as this one or from virtiofsd.
 pub fn load<F: Served>(core: &Core<F>, scratch: &File, pipe: File) -> io::Result<()> {
-    receive(&core.fs, &core.device, scratch, pipe)
+    let before = core.descriptors.open()?;
+    receive(&core.fs, &core.device, scratch, pipe)?;
+    core.descriptors.mend_since(&before, core.flags) // virtiofsd's own has the flags that the guest asked for
 }
 
 /// A state in its two parts: virtiofsd's own, and the library's record, if it has one.
