@@ -98,6 +98,7 @@ alone() {
     grep -q 'lent is gone (SIGBUS)' "$work/hostile-cut.errors" || failure "cut: the daemon doesn't say why it ended"
     try state "$SECONDS_EACH"
     try state full
+    try state cut
     try state flags
     try state writeback
     try state lost
