@@ -57,6 +57,7 @@ make_image() {
     cp "$busybox" "$work/root/bin/busybox"
     gcc -std=c11 -O2 -static -pthread -o "$work/root/bin/ask" "$here"/testing/guest/{ask,calls}.c
     gcc -std=c11 -O2 -static -o "$work/root/bin/hold" "$here/testing/guest/hold.c"
+    gcc -std=c11 -O2 -static -o "$work/root/bin/flags" "$here/testing/guest/flags.c"
     cp "$here"/testing/guest/{init,scenarios.sh,suites} "$work/root/"
     chmod 755 "$work/root/init"
     for name in virtio_pci virtiofs virtio_blk ext4; do take_module $name; done

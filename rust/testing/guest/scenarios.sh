@@ -294,6 +294,7 @@ scenario_migrate() {
     mkdir -p /mnt/work/moved
     exec 7> /mnt/work/moved/held
     echo before >&7
+    flags /mnt/work/moved /mnt/work/over &
     (
         i=0
         while [ ! -e /mnt/work/over ]; do
