@@ -157,7 +157,7 @@ lent() {
 
 # The monitor's commands of a scenario, once the guest is ready.
 meddle() {
-    local run=$1 scenario=$2
+    local run=$1 scenario=$2 holder
     case $scenario in
     pause)
         wait_for "$run" READY || return
@@ -182,6 +182,19 @@ meddle() {
         done
         cat "$run/lent-then" >> "$run/lent"
         ;;
+    slow)
+        echo slow > "$share/work/slow"
+        python3 -c 'import fcntl, signal, sys, time
+signal.signal(signal.SIGIO, signal.SIG_IGN)
+with open(sys.argv[1], "r+") as file:
+    fcntl.fcntl(file, fcntl.F_SETLEASE, fcntl.F_WRLCK)
+    time.sleep(300)' "$share/work/slow" &
+        holder=$!
+        wait_for "$run" READY || return
+        say "$run" 'object_add memory-backend-memfd,id=m1,size=256M,share=on' 'device_add pc-dimm,id=d1,memdev=m1'
+        wait_for "$run" ^PLUGGED
+        kill "$holder"
+        ;;
     reset)
         wait_for "$run" READY || return
         sleep 2
@@ -203,7 +216,7 @@ run_guest() {
     run=$work/run-$name
     rm -rf "$run"
     mkdir -p "$run"
-    case $scenario in hotplug | descriptors) memory=256M,slots=2,maxmem=2G ;; esac
+    case $scenario in hotplug | descriptors | slow) memory=256M,slots=2,maxmem=2G ;; esac
     start_server "$kind" "$run/socket" "$run/server" "$@" || return 0
     meddle "$run" "$scenario" > "$run/meddle" 2>&1 &
     local meddler=$! reboot=(-no-reboot)
@@ -304,6 +317,7 @@ guest() {
     all_are reset READER "$(sum "$share/files/m8")"
     grep -q '^AGAIN' "$run/lines" || failure "reset: the guest didn't come again"
     hotplug
+    slow
     descriptors
     run_guest killed ours killed
     grep '^AFTER' "$run/lines" || echo "killed: calls of the guest wait"
@@ -317,6 +331,16 @@ hotplug() {
     grep -q '^PLUGGED in' "$run/lines" || failure "hotplug: no memory came"
     grep -q '^PLUGGED out' "$run/lines" || failure "hotplug: no memory went"
     [ "$(cat "$run/lent")" = $'524288\n262144' ] || failure "hotplug: the daemon has other memory mapped than it was lent: $(cat "$run/lent")"
+}
+
+# A file on which the host has a lease takes long to open; memory that comes then doesn't wait for it, nor do other reads.
+slow() {
+    make_files
+    THREADS=4 run_guest slow ours slow
+    all_are slow READER "$(sum "$share/files/m8")"
+    grep -q '^PLUGGED in' "$run/lines" || failure "slow: no memory came"
+    grep -q '^STILL SLOW' "$run/lines" || failure "slow: memory came when the file was open"
+    grep -q '^SLOW slow' "$run/lines" || failure "slow: the file isn't read"
 }
 
 # The guest takes all descriptors: it is told ENFILE or EMFILE, memory still comes, and files are read when some are free again.

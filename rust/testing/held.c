@@ -1,5 +1,6 @@
-/* While one request takes long, each message of the front-end and each other request is answered at once. With THREADS of the
- * environment other threads of the same ring go on too; without, other rings do. */
+/* While one request takes long, each message of the front-end and each other request is answered at
+ * once. With THREADS of the environment other threads of the same ring go on too; without, other
+ * rings do. */
 #define _GNU_SOURCE
 #include "checks.h"
 #include <fcntl.h>
@@ -25,12 +26,20 @@ enum {
     ADD_MEM_REG = 37,
     REM_MEM_REG = 38
 };
-enum { LOG_LEN = 1 << 18, AT_ONCE = 100, FEW = 3, ELSEWHERE = 0x800, SLOW_SLOT = 1, QUICK_SLOT = 2 };
+enum {
+    LOG_LEN = 1 << 18,
+    AT_ONCE = 100,
+    FEW = 3,
+    ELSEWHERE = 0x800,
+    SLOW_SLOT = 1,
+    QUICK_SLOT = 2
+};
 
 static bool has_threads;
 static int lease = -1;
 static unsigned longest; /* milliseconds of a request beside the one that takes long */
-static unsigned late;    /* how many took more than they may: of thousands a few, where other programs have the processors */
+static unsigned late; /* how many took more than they may: of thousands a few, where other programs
+                         have the processors */
 
 static uint64_t now(void) {
     struct timespec t;
@@ -54,11 +63,13 @@ static void ask_beside(size_t ring) {
     uint16_t count = (uint16_t)(returned(ring) + 1);
     uint64_t before = now();
     send_apart(ring, QUICK_SLOT, FUSE_GETATTR, ROOT, &in, sizeof in, 16 + 104);
-    if (!is_returned(ring, count)) die("GETATTR of ring %zu waits for a request that takes long", ring);
+    if (!is_returned(ring, count))
+        die("GETATTR of ring %zu waits for a request that takes long", ring);
     unsigned took = (unsigned)(now() - before);
     longest = took > longest ? took : longest;
     late += took >= AT_ONCE;
-    if (late > FEW || took >= 1000) die("GETATTR of ring %zu takes %u ms beside a request that takes long", ring, took);
+    if (late > FEW || took >= 1000)
+        die("GETATTR of ring %zu takes %u ms beside a request that takes long", ring, took);
 }
 
 static void ask_all_beside(void) {
@@ -73,12 +84,14 @@ static void *ask_until_over(void *none) {
 
 /* ------------------------------------------------------------- messages */
 
-static void tell_at_once(const char *what, uint32_t message, const void *body, uint32_t len, const int *fds, size_t fd_count) {
+static void tell_at_once(const char *what, uint32_t message, const void *body, uint32_t len,
+                         const int *fds, size_t fd_count) {
     uint64_t before = now();
     check(what, front_tell(&front, message, body, len, fds, fd_count) == 0);
     unsigned took = (unsigned)(now() - before);
     late += took >= AT_ONCE;
-    if (late > FEW || took >= 1000) die("%s takes %u ms beside a request that takes long", what, took);
+    if (late > FEW || took >= 1000)
+        die("%s takes %u ms beside a request that takes long", what, took);
     ask_all_beside();
 }
 
@@ -87,7 +100,12 @@ static void tell_addresses(const char *what, uint64_t elsewhere) {
     struct {
         uint32_t index, flags;
         uint64_t desc, used, avail, log;
-    } address = {1, 1, user + desc_at(1), user + used_at(1) + elsewhere, user + avail_at(1), used_at(1) + elsewhere};
+    } address = {1,
+                 1,
+                 user + desc_at(1),
+                 user + used_at(1) + elsewhere,
+                 user + avail_at(1),
+                 used_at(1) + elsewhere};
     tell_at_once(what, SET_VRING_ADDR, &address, sizeof address, NULL, 0);
 }
 
@@ -97,8 +115,10 @@ static void tell_memory(const uint64_t *regions, uint32_t count) {
         uint64_t regions[REGIONS][4];
     } table = {.count = count};
     int fds[REGIONS] = {front.memory_fd, front.memory_fd, front.memory_fd};
-    for (uint32_t k = 0; k < count; k++) memcpy(table.regions[k], regions + 4 * k, sizeof table.regions[k]);
-    check("SET_MEM_TABLE", front_tell(&front, SET_MEM_TABLE, &table, 8 + 32 * count, fds, count) == 0);
+    for (uint32_t k = 0; k < count; k++)
+        memcpy(table.regions[k], regions + 4 * k, sizeof table.regions[k]);
+    check("SET_MEM_TABLE",
+          front_tell(&front, SET_MEM_TABLE, &table, 8 + 32 * count, fds, count) == 0);
 }
 
 static void change_memory(void) {
@@ -155,7 +175,8 @@ static void close_slow(uint64_t node) {
     struct fuse_open_out out;
     struct fuse_release_in in = {.flags = O_RDONLY};
     uint16_t count = (uint16_t)(returned(1) + 1);
-    memcpy(&out, front_at(&front, room_at(1) + 0x1000 * SLOW_SLOT) + sizeof(struct fuse_out_header), sizeof out);
+    memcpy(&out, front_at(&front, room_at(1) + 0x1000 * SLOW_SLOT) + sizeof(struct fuse_out_header),
+           sizeof out);
     in.fh = out.fh;
     send_apart(1, QUICK_SLOT, FUSE_RELEASE, node, &in, sizeof in, 16);
     check("RELEASE", is_returned(1, count));
@@ -167,8 +188,8 @@ static void want_interrupt(void) {
     atomic_store(index_at(&front, avail_at(1) + 4 + 2 * RING_SIZE), returned(1));
 }
 
-/* Each message, again and again; then the chain is returned over the memory that it was taken from, to the driver where it is
- * interrupted now, and marked in the log that is read now. */
+/* Each message, again and again; then the chain is returned over the memory that it was taken from,
+ * to the driver where it is interrupted now, and marked in the log that is read now. */
 static void messages(const char *dir, uint64_t node, unsigned seconds) {
     int call = eventfd(0, EFD_NONBLOCK | EFD_CLOEXEC), log_fd = memfd_create("log", MFD_CLOEXEC);
     uint64_t word, page = room_at(1) + 0x1000 * SLOW_SLOT;
@@ -180,20 +201,25 @@ static void messages(const char *dir, uint64_t node, unsigned seconds) {
     do tell_all(call, log_fd);
     while (rounds++, now() < end);
     uint16_t before = returned(1);
-    while (read(call, &word, sizeof word) > 0) {}
-    while (read(front.rings[1].call, &word, sizeof word) > 0) {}
+    while (read(call, &word, sizeof word) > 0) {
+    }
+    while (read(front.rings[1].call, &word, sizeof word) > 0) {
+    }
     memset(log, 0, LOG_LEN);
     want_interrupt();
     close(lease);
-    check("the slow one is returned", is_returned(1, (uint16_t)(before + 1)) && is_slow_one(used_at(1)));
+    check("the slow one is returned",
+          is_returned(1, (uint16_t)(before + 1)) && is_slow_one(used_at(1)));
     usleep(50000);
     check("the driver is interrupted where it is to be now", read(call, &word, sizeof word) > 0);
     check("and not where it was to be", read(front.rings[1].call, &word, sizeof word) < 0);
     check("the slow one's page is marked", log[page / 4096 / 8] >> page / 4096 % 8 & 1);
-    check("the used ring's page is marked", log[used_at(1) / 4096 / 8] >> used_at(1) / 4096 % 8 & 1);
+    check("the used ring's page is marked",
+          log[used_at(1) / 4096 / 8] >> used_at(1) / 4096 % 8 & 1);
     front_tell(&front, SET_FEATURES, &front.features, sizeof front.features, NULL, 0);
     close_slow(node);
-    printf("held for %u s: %u rounds of messages; the longest request beside it took %u ms\n", seconds, rounds, longest);
+    printf("held for %u s: %u rounds of messages; the longest request beside it took %u ms\n",
+           seconds, rounds, longest);
 }
 
 static void kick(size_t ring) {
@@ -201,7 +227,8 @@ static void kick(size_t ring) {
     if (write(front.rings[ring].kick, &one, sizeof one) < 0) die("no kick");
 }
 
-/* A ring whose parts lie elsewhere from now on: the chain in flight is returned where it was taken, the next one elsewhere. */
+/* A ring whose parts lie elsewhere from now on: the chain in flight is returned where it was taken,
+ * the next one elsewhere. */
 static void moved(const char *dir, uint64_t node) {
     bool had_threads = has_threads;
     struct fuse_getattr_in in = {0};
@@ -210,12 +237,16 @@ static void moved(const char *dir, uint64_t node) {
     has_threads = false; /* with other numbers the next chain waits for the one in flight */
     tell_addresses("SET_VRING_ADDR elsewhere", ELSEWHERE);
     close(lease);
-    check("it is returned where it was taken", is_returned(1, (uint16_t)(before + 1)) && is_slow_one(used_at(1)));
+    check("it is returned where it was taken",
+          is_returned(1, (uint16_t)(before + 1)) && is_slow_one(used_at(1)));
     send_apart(1, QUICK_SLOT, FUSE_GETATTR, ROOT, &in, sizeof in, 16 + 104);
     kick(1); /* what is said there of kicks means nothing any more */
-    for (uint64_t end = now() + 20000; now() < end && atomic_load(index_at(&front, used_at(1) + ELSEWHERE + 2)) != (uint16_t)(before + 2);)
+    for (uint64_t end = now() + 20000;
+         now() < end &&
+         atomic_load(index_at(&front, used_at(1) + ELSEWHERE + 2)) != (uint16_t)(before + 2);)
         usleep(100);
-    check("the next one is returned elsewhere", atomic_load(index_at(&front, used_at(1) + ELSEWHERE + 2)) == (uint16_t)(before + 2));
+    check("the next one is returned elsewhere",
+          atomic_load(index_at(&front, used_at(1) + ELSEWHERE + 2)) == (uint16_t)(before + 2));
     check("and not there", returned(1) == (uint16_t)(before + 1));
     atomic_store(index_at(&front, used_at(1) + 2), (uint16_t)(before + 2));
     tell_addresses("SET_VRING_ADDR back", 0);
@@ -258,7 +289,8 @@ static void lost(const char *dir, uint64_t node) {
     pthread_create(&closer, NULL, release_later, &milliseconds);
     tell_memory(high, 1);
     check("it waits for the request", now() - before >= milliseconds);
-    check("the slow one is returned", returned(1) == front.rings[1].offered && is_slow_one(used_at(1)));
+    check("the slow one is returned",
+          returned(1) == front.rings[1].offered && is_slow_one(used_at(1)));
     pthread_join(closer, NULL);
     front_set_memory(&front);
     for (size_t ring = 1; ring < RINGS; ring++) {

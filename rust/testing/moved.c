@@ -1,5 +1,5 @@
-/* Files that the guest has open when it moves, with flags that don't hold on the host: state DAEMON DIR flags. With --writeback
- * among OPTIONS, also of a file that it opened for writing alone. */
+/* Files that the guest has open when it moves, with flags that don't hold on the host: state DAEMON
+ * DIR flags. With --writeback among OPTIONS, also of a file that it opened for writing alone. */
 #define _GNU_SOURCE
 #include "moved.h"
 #include <errno.h>
@@ -9,7 +9,13 @@
 #include <string.h>
 
 /* Flags whose number in the state is as long with the two more. */
-enum { MOST_STATE = 1 << 15, PLAIN = O_RDWR | O_SYNC | O_NONBLOCK, RAW = PLAIN | O_APPEND | O_DIRECT, MARK_LEN = 8, RESET_DEVICE = 34 };
+enum {
+    MOST_STATE = 1 << 15,
+    PLAIN = O_RDWR | O_SYNC | O_NONBLOCK,
+    RAW = PLAIN | O_APPEND | O_DIRECT,
+    MARK_LEN = 8,
+    RESET_DEVICE = 34
+};
 
 struct file {
     uint64_t node, handle;
@@ -38,7 +44,10 @@ static void write_page(struct front *front, struct file file, const char *text) 
     struct {
         struct fuse_write_in in;
         char text[16];
-    } write = {.in = {.fh = file.handle, .size = (uint32_t)strlen(text), .write_flags = FUSE_WRITE_CACHE, .flags = file.flags}};
+    } write = {.in = {.fh = file.handle,
+                      .size = (uint32_t)strlen(text),
+                      .write_flags = FUSE_WRITE_CACHE,
+                      .flags = file.flags}};
     memcpy(write.text, text, strlen(text));
     front_ask(front, 1, FUSE_WRITE, file.node, &write, sizeof write.in + strlen(text), &reply);
     if (reply.error) die("WRITE of a file with flags %#o: %s", file.flags, strerror(reply.error));
@@ -48,10 +57,12 @@ static void must_have(struct front *front, struct file file, const char *text) {
     struct fuse_read_in in = {.fh = file.handle, .size = 4096, .flags = file.flags};
     front_ask(front, 1, FUSE_READ, file.node, &in, sizeof in, &reply);
     if (reply.error) die("READ of a file with flags %#o: %s", file.flags, strerror(reply.error));
-    if (reply.len != strlen(text) || memcmp(reply.data, text, reply.len)) die("a file with flags %#o has other bytes", file.flags);
+    if (reply.len != strlen(text) || memcmp(reply.data, text, reply.len))
+        die("a file with flags %#o has other bytes", file.flags);
 }
 
-static void overwrite(struct front *front, struct file file, const char *before, const char *after) {
+static void overwrite(struct front *front, struct file file, const char *before,
+                      const char *after) {
     if (before) must_have(front, file, before);
     write_page(front, file, after);
     must_have(front, file, after);
@@ -59,10 +70,12 @@ static void overwrite(struct front *front, struct file file, const char *before,
 
 /* The number of flags as postcard has them: zigzag, seven bits a byte. */
 static void number(uint8_t bytes[4], uint32_t flags) {
-    for (unsigned k = 0; k < 4; k++) bytes[k] = (uint8_t)(flags * 2 >> 7 * k & 0x7f) | (k < 3 ? 0x80 : 0);
+    for (unsigned k = 0; k < 4; k++)
+        bytes[k] = (uint8_t)(flags * 2 >> 7 * k & 0x7f) | (k < 3 ? 0x80 : 0);
 }
 
-/* The same state as virtiofsd sends it: without what is ours, and with the flags that the guest asked for. */
+/* The same state as virtiofsd sends it: without what is ours, and with the flags that the guest
+ * asked for. */
 static size_t as_virtiofsds(uint8_t *state, size_t len) {
     uint8_t plain[4], raw[4];
     uint32_t record;
@@ -79,9 +92,11 @@ static size_t as_virtiofsds(uint8_t *state, size_t len) {
     return len;
 }
 
-void move_flags(struct front *front, bool writes_back, size_t (*save)(uint8_t *), bool (*load)(const uint8_t *, size_t)) {
+void move_flags(struct front *front, bool writes_back, size_t (*save)(uint8_t *),
+                bool (*load)(const uint8_t *, size_t)) {
     static uint8_t state[MOST_STATE];
-    struct file appended = create(front, "appended", O_RDWR | O_APPEND), direct = create(front, "direct", O_RDWR | O_DIRECT);
+    struct file appended = create(front, "appended", O_RDWR | O_APPEND),
+                direct = create(front, "direct", O_RDWR | O_DIRECT);
     struct file raw = create(front, "raw", PLAIN), opened = raw, written = {0};
     opened.handle = open_node(front, raw.node, O_RDWR | O_APPEND | O_DIRECT);
     if (writes_back) written = create(front, "written", O_WRONLY);
@@ -105,5 +120,6 @@ void move_flags(struct front *front, bool writes_back, size_t (*save)(uint8_t *)
         if (writes_back) overwrite(front, written, "seen", "SEEN");
         if (writes_back) overwrite(front, written, "SEEN", "seen");
     }
-    printf("state: files that were open with flags of the guest's are written where they were to be\n");
+    printf("state: files that were open with flags of the guest's are written where they were to "
+           "be\n");
 }

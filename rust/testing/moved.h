@@ -3,6 +3,7 @@
 #define MOVED_H
 #include "front.h"
 
-void move_flags(struct front *front, bool writes_back, size_t (*save)(uint8_t *), bool (*load)(const uint8_t *, size_t));
+void move_flags(struct front *front, bool writes_back, size_t (*save)(uint8_t *),
+                bool (*load)(const uint8_t *, size_t));
 
 #endif

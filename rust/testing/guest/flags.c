@@ -1,6 +1,7 @@
-/* Runs in the guest: flags DIR OVER changes files that it has open, until OVER is there, and says whether one has other bytes than
- * it was to have: one that was made with O_APPEND, mapped, and has O_APPEND no more; and one that was made with O_DIRECT, at odd
- * places (if the server takes that at first). So it says whether open files survive a migration. */
+/* Runs in the guest: flags DIR OVER changes files that it has open, until OVER is there, and says
+ * whether one has other bytes than it was to have: one that was made with O_APPEND, mapped, and has
+ * O_APPEND no more; and one that was made with O_DIRECT, at odd places (if the server takes that at
+ * first). So it says whether open files survive a migration. */
 #define _GNU_SOURCE
 #include <errno.h>
 #include <fcntl.h>
@@ -24,7 +25,8 @@ static int make(const char *dir, const char *name, int flags) {
 static bool is_whole(int fd, const char *map) {
     char bytes[LEN];
     struct stat stat;
-    return !fstat(fd, &stat) && stat.st_size == LEN && pread(fd, bytes, LEN, 0) == LEN && !memcmp(bytes, map, LEN);
+    return !fstat(fd, &stat) && stat.st_size == LEN && pread(fd, bytes, LEN, 0) == LEN &&
+           !memcmp(bytes, map, LEN);
 }
 
 int main(int argc, char **argv) {
@@ -39,8 +41,10 @@ int main(int argc, char **argv) {
     for (; access(argv[2], F_OK); rounds++, usleep(200000)) {
         map[rounds % LEN] = (char)rounds;
         if (msync(map, LEN, MS_SYNC) || pwrite(appended, "x", 1, LEN - 1) != 1) bad++;
-        if (!is_whole(appended, map)) bad++, printf("CORRUPT appended, round %u\n", rounds), fflush(stdout);
-        if (is_odd && pwrite(direct, "odd", 3, 1) != 3) bad++, printf("CORRUPT direct: %s\n", strerror(errno)), fflush(stdout);
+        if (!is_whole(appended, map))
+            bad++, printf("CORRUPT appended, round %u\n", rounds), fflush(stdout);
+        if (is_odd && pwrite(direct, "odd", 3, 1) != 3)
+            bad++, printf("CORRUPT direct: %s\n", strerror(errno)), fflush(stdout);
     }
     printf("FLAGS %s\n", bad ? "bad" : "good");
     return 0;
