@@ -53,13 +53,15 @@ compile() {
 }
 
 alone() {
+    local threads
     SECONDS_EACH=${SECONDS_EACH:-60}
-    compile checks checks.c escape.c wild.c front.c
+    compile checks checks.c escape.c held.c platform.c wild.c front.c
     compile hostile hostile.c front.c
-    compile state state.c front.c
+    compile state state.c moved.c front.c
     rm -rf "$work/starts"
     mkdir -p "$work/starts"
     timeout 300 python3 "$here/testing/starts.py" "$DAEMON" "$work/starts" || failure "starts"
+    timeout 300 python3 "$here/testing/options.py" "$DAEMON" || failure "options"
     try checks escape
     try checks groups
     try checks wild "$SECONDS_EACH"
@@ -68,10 +70,18 @@ alone() {
     try checks log
     try checks rings
     try checks config
+    try checks platform
+    grep -q 'VIRTIO_F_ACCESS_PLATFORM in SET_FEATURES' "$work/checks-platform.errors" ||
+        failure "platform: the daemon doesn't say why it ended"
     try checks memory "${CHANGES:-500}"
     try checks two 5
     try checks slow
     THREADS=4 try checks pool
+    for threads in 0 4; do
+        THREADS=$threads try checks held 20
+        grep -q 'queue 1: GET_VRING_BASE waits for chains in flight: .*opcode 14' "$work/checks-held.errors" ||
+            failure "held: the log doesn't say what is waited for"
+    done
     THREADS=4 try checks two 5
     try checks sleeps "${SLEEPS:-500000}"
     THREADS=4 try checks sleeps "${SLEEPS:-500000}"
@@ -88,6 +98,9 @@ alone() {
     grep -q 'lent is gone (SIGBUS)' "$work/hostile-cut.errors" || failure "cut: the daemon doesn't say why it ended"
     try state "$SECONDS_EACH"
     try state full
+    try state cut
+    try state flags
+    try state writeback
     try state lost
     grep -q refused "$work/state-lost" || failure "lost: a file that no path leads to is taken"
 }

@@ -306,7 +306,7 @@ static void two_queues(unsigned seconds) {
 /* ------------------------------------------------------------- a slow file */
 
 /* OPEN of a file on which somebody has a lease waits for the lease, 45 seconds at most. Answers the file that has it. */
-static int lease_slow(const char *dir) {
+int lease_slow(const char *dir) {
     char path[200];
     snprintf(path, sizeof path, "%s/slow", dir);
     signal(SIGIO, SIG_IGN);
@@ -336,16 +336,16 @@ static void slow_file(const char *dir) {
     printf("a slow file: %u chains of another queue meanwhile\n", asked);
 }
 
-/* Offers a request whose head is descriptor 4 * k of ring 1, with a request and a room of its own. */
-static void send_apart(unsigned k, uint32_t opcode, uint64_t node, const void *body, uint32_t len, uint32_t room) {
+/* With a request and a room of its own. */
+void send_apart(size_t ring, unsigned k, uint32_t opcode, uint64_t node, const void *body, uint32_t len, uint32_t room) {
     struct fuse_in_header head = {.len = (uint32_t)sizeof head + len, .opcode = opcode, .unique = k + 1, .nodeid = node};
-    uint64_t at = request_at(1) + 0x1000 * k, table = desc_at(1);
+    uint64_t at = request_at(ring) + 0x1000 * k, table = desc_at(ring);
     memcpy(front_at(&front, at), &head, sizeof head);
     memcpy(front_at(&front, at) + sizeof head, body, len);
     put_descriptor(&front, table, 4 * k, at, head.len, 1, 4 * k + 1);
-    put_descriptor(&front, table, 4 * k + 1, room_at(1) + 0x1000 * k, room, 2, 0);
-    front_offer(&front, 1, (uint16_t)(4 * k));
-    front_kick(&front, 1);
+    put_descriptor(&front, table, 4 * k + 1, room_at(ring) + 0x1000 * k, room, 2, 0);
+    front_offer(&front, ring, (uint16_t)(4 * k));
+    front_kick(&front, ring);
 }
 
 /* Whether so many chains of ring 1 came back since it began, within 20 seconds. */
@@ -371,9 +371,9 @@ static void pool(const char *dir) {
     uint16_t before = front.rings[1].offered, asked = 0;
     pthread_t closer;
     int fd = lease_slow(dir);
-    send_apart(1, FUSE_OPEN, node, &open_in, sizeof open_in, 16 + 16);
+    send_apart(1, 1, FUSE_OPEN, node, &open_in, sizeof open_in, 16 + 16);
     for (; asked < 1000; asked++) {
-        send_apart(2 + asked % 8, FUSE_GETATTR, ROOT, &in, sizeof in, 16 + 104);
+        send_apart(1, 2 + asked % 8, FUSE_GETATTR, ROOT, &in, sizeof in, 16 + 104);
         if (!came_back((uint16_t)(before + asked + 1))) die("GETATTR waits for a slow file of its queue");
     }
     pthread_create(&closer, NULL, close_later, &fd);
@@ -459,8 +459,12 @@ static void run(const char *what, const char *dir, unsigned count) {
         slow_file(dir);
     else if (!strcmp(what, "pool"))
         pool(dir);
+    else if (!strcmp(what, "held"))
+        held(dir, count);
     else if (!strcmp(what, "groups"))
         groups(dir);
+    else if (!strcmp(what, "platform"))
+        platform();
     else if (!strcmp(what, "wild"))
         wild(count);
     else
@@ -478,7 +482,7 @@ static const char *const *options_for(const char *what) {
 }
 
 int main(int argc, char **argv) {
-    if (argc < 4) die("usage: checks DAEMON DIR escape|readonly|sleeps|pauses|log|rings|config|memory|two|slow|pool|groups|wild [N]");
+    if (argc < 4) die("usage: checks DAEMON DIR escape|readonly|sleeps|pauses|log|rings|config|memory|two|slow|pool|held|groups|platform|wild [N]");
     const char *what = argv[3], *dir = argv[2];
     front_begin(&front, argv[1], dir, options_for(what));
     if (!strcmp(what, "log")) front.features |= 1ull << 26;

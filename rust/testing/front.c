@@ -114,14 +114,18 @@ uint64_t front_tell(struct front *front, uint32_t request, const void *body, uin
     return word;
 }
 
+void front_say(struct front *front, uint32_t request, const void *body, uint32_t len) {
+    struct head head = {request, VERSION, len};
+    send_message(front, &head, body, NULL, 0);
+}
+
 void front_query(struct front *front, uint32_t request, void *body, uint32_t len) {
     struct head head = {request, VERSION, len};
     send_message(front, &head, body, NULL, 0);
     receive_reply(front, request, body, len);
 }
 
-/* A number that a message without a body asks for. */
-static uint64_t number(struct front *front, uint32_t request) {
+uint64_t front_number(struct front *front, uint32_t request) {
     struct head head = {request, VERSION, 0};
     uint64_t word;
     send_message(front, &head, NULL, NULL, 0);
@@ -150,9 +154,9 @@ void front_set_memory(struct front *front) {
 
 /* Asks before it tells, as QEMU does: some back-ends answer nothing else before. */
 void front_set_up(struct front *front) {
-    uint64_t protocol = 1ull << 0 | 1ull << 1 | 1ull << 3 | 1ull << 9 | 1ull << 13 | 1ull << 15 | 1ull << 19;
-    if ((number(front, GET_FEATURES) & front->features) != front->features) die("features are wanting");
-    protocol &= number(front, GET_PROTOCOL_FEATURES);
+    uint64_t protocol = 1ull << 0 | 1ull << 1 | 1ull << 3 | 1ull << 5 | 1ull << 9 | 1ull << 13 | 1ull << 15 | 1ull << 19;
+    if ((front_number(front, GET_FEATURES) & front->features) != front->features) die("features are wanting");
+    protocol &= front_number(front, GET_PROTOCOL_FEATURES);
     must_tell(front, SET_PROTOCOL_FEATURES, &protocol, sizeof protocol, NULL, 0);
     must_tell(front, SET_FEATURES, &front->features, sizeof front->features, NULL, 0);
     front_set_memory(front);

@@ -53,11 +53,15 @@ void front_leave(struct front *front);
 /* The milliseconds of processor time that the back-end took so far, with its children. */
 double front_processor(const struct front *front);
 
-/* Messages: one that is acknowledged, with the number that it is acknowledged by; and one that is answered in
- * `body`. */
+/* Messages: one that is acknowledged, with the number that it is acknowledged by; one that isn't; and one that is answered
+ * in `body`. */
 uint64_t front_tell(struct front *front, uint32_t request, const void *body, uint32_t len, const int *fds,
                     size_t fd_count);
+void front_say(struct front *front, uint32_t request, const void *body, uint32_t len);
 void front_query(struct front *front, uint32_t request, void *body, uint32_t len);
+
+/* A number that a message without a body asks for. */
+uint64_t front_number(struct front *front, uint32_t request);
 
 /* Features and memory; then rings from a position on. */
 void front_set_up(struct front *front);

@@ -57,6 +57,7 @@ make_image() {
     cp "$busybox" "$work/root/bin/busybox"
     gcc -std=c11 -O2 -static -pthread -o "$work/root/bin/ask" "$here"/testing/guest/{ask,calls}.c
     gcc -std=c11 -O2 -static -o "$work/root/bin/hold" "$here/testing/guest/hold.c"
+    gcc -std=c11 -O2 -static -o "$work/root/bin/flags" "$here/testing/guest/flags.c"
     cp "$here"/testing/guest/{init,scenarios.sh,suites} "$work/root/"
     chmod 755 "$work/root/init"
     for name in virtio_pci virtiofs virtio_blk ext4; do take_module $name; done
@@ -124,7 +125,10 @@ rdinit=/init scenario=$scenario" "${disk[@]}" "$@") > "$run/qemu" 2>&1
 busybox=$root/usr/bin/busybox
 export root
 
-device() { echo "vhost-user-fs-pci,chardev=fs,tag=shared,queue-size=128,num-request-queues=${QUEUES:-1}"; }
+# PLATFORM=on: the guest's device accesses memory as the platform says, as each device of a confidential guest does.
+device() {
+    echo "vhost-user-fs-pci,chardev=fs,tag=shared,queue-size=128,num-request-queues=${QUEUES:-1},iommu_platform=${PLATFORM:-off}"
+}
 
 # Waits for a line of the guest's.
 wait_for() {
@@ -153,7 +157,7 @@ lent() {
 
 # The monitor's commands of a scenario, once the guest is ready.
 meddle() {
-    local run=$1 scenario=$2
+    local run=$1 scenario=$2 holder
     case $scenario in
     pause)
         wait_for "$run" READY || return
@@ -178,6 +182,19 @@ meddle() {
         done
         cat "$run/lent-then" >> "$run/lent"
         ;;
+    slow)
+        echo slow > "$share/work/slow"
+        python3 -c 'import fcntl, signal, sys, time
+signal.signal(signal.SIGIO, signal.SIG_IGN)
+with open(sys.argv[1], "r+") as file:
+    fcntl.fcntl(file, fcntl.F_SETLEASE, fcntl.F_WRLCK)
+    time.sleep(300)' "$share/work/slow" &
+        holder=$!
+        wait_for "$run" READY || return
+        say "$run" 'object_add memory-backend-memfd,id=m1,size=256M,share=on' 'device_add pc-dimm,id=d1,memdev=m1'
+        wait_for "$run" ^PLUGGED
+        kill "$holder"
+        ;;
     reset)
         wait_for "$run" READY || return
         sleep 2
@@ -199,7 +216,7 @@ run_guest() {
     run=$work/run-$name
     rm -rf "$run"
     mkdir -p "$run"
-    case $scenario in hotplug | descriptors) memory=256M,slots=2,maxmem=2G ;; esac
+    case $scenario in hotplug | descriptors | slow) memory=256M,slots=2,maxmem=2G ;; esac
     start_server "$kind" "$run/socket" "$run/server" "$@" || return 0
     meddle "$run" "$scenario" > "$run/meddle" 2>&1 &
     local meddler=$! reboot=(-no-reboot)
@@ -264,15 +281,11 @@ all_are() {
     echo "$name: done, $count readings"
 }
 
-# Each option of virtiofsd's is served, or refused by its name.
+# Each option of virtiofsd's is served, or refused by its name; of wrong ones both say the same.
 options() {
-    local word
-    (other /usr/libexec/virtiofsd --help) > "$work/help.virtiofsd"
-    "$DAEMON" --help > "$work/help"
-    for word in $(grep -oE '^ +(-[a-zA-Z], )?--?[a-zA-Z0-9-]+' "$work/help.virtiofsd" | tr -d ,); do
-        grep -qE -e "(^| )$word([][,= ]|\$)" "$work/help" || failure "options: $word isn't known"
-    done
-    echo "options: done, those of $(other /usr/libexec/virtiofsd --version)"
+    printf '#!/usr/bin/env bash\n%s\nother "$@"\n' "$(declare -f other)" > "$work/other"
+    chmod 755 "$work/other"
+    python3 "$here/testing/options.py" "$DAEMON" "$work/other" /usr/libexec/virtiofsd || failure "options"
 }
 
 guest() {
@@ -284,6 +297,8 @@ guest() {
     for name in whole whole-threads; do
         diff "$work/calls-whole-virtiofsd" "$work/calls-$name" || failure "$name: a call came out otherwise than over virtiofsd"
     done
+    PLATFORM=on whole ours whole-platform
+    grep -q '^FEATURES .\{33\}1' "$run/lines" || failure "whole-platform: the driver didn't take VIRTIO_F_ACCESS_PLATFORM"
     make_files
     run_guest readonly ours readonly --readonly
     list_sums | expect readonly SUM
@@ -302,6 +317,7 @@ guest() {
     all_are reset READER "$(sum "$share/files/m8")"
     grep -q '^AGAIN' "$run/lines" || failure "reset: the guest didn't come again"
     hotplug
+    slow
     descriptors
     run_guest killed ours killed
     grep '^AFTER' "$run/lines" || echo "killed: calls of the guest wait"
@@ -315,6 +331,16 @@ hotplug() {
     grep -q '^PLUGGED in' "$run/lines" || failure "hotplug: no memory came"
     grep -q '^PLUGGED out' "$run/lines" || failure "hotplug: no memory went"
     [ "$(cat "$run/lent")" = $'524288\n262144' ] || failure "hotplug: the daemon has other memory mapped than it was lent: $(cat "$run/lent")"
+}
+
+# A file on which the host has a lease takes long to open; memory that comes then doesn't wait for it, nor do other reads.
+slow() {
+    make_files
+    THREADS=4 run_guest slow ours slow
+    all_are slow READER "$(sum "$share/files/m8")"
+    grep -q '^PLUGGED in' "$run/lines" || failure "slow: no memory came"
+    grep -q '^STILL SLOW' "$run/lines" || failure "slow: memory came when the file was open"
+    grep -q '^SLOW slow' "$run/lines" || failure "slow: the file isn't read"
 }
 
 # The guest takes all descriptors: it is told ENFILE or EMFILE, memory still comes, and files are read when some are free again.

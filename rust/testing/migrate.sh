@@ -113,6 +113,7 @@ check_journey() {
     fi
     grep -q '^HELD before after' "$run/lines" || failure "$scenario: a file that was held open lost its words"
     ! grep '^FAILED' "$run/lines" || failure "$scenario: a file isn't made"
+    grep -q '^FLAGS good' "$run/lines" || failure "$scenario: a file that was open has other bytes: $(grep '^CORRUPT' "$run/lines" | head -n 1)"
     all_are "$scenario" READER "$(sum "$share/files/m1")"
 }
 
@@ -173,6 +174,7 @@ migrate() {
         left=$((left - count))
         sum_up
     done
+    travel migrate virtiofsd ours ours # files that were opened there, by the guest's own flags
     words=(--rlimit-nofile 1600)
     travel migrate_full ours ours
     echo "all descriptors are the guest's: $outcome"

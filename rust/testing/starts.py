@@ -47,7 +47,7 @@ def listener(path, kind):
 
 
 os.makedirs(SHARED, exist_ok=True)
-for word in ("--posix-acl", "--security-label", "-o=source=/x", "--no-such-option"):
+for word in ("--posix-acl", "--security-label", "--no-such-option"):
     status, told = ended(start("--socket-path", PATH, word))
     check(f"{word} is refused by name: {told}", status == 2 and word.split("=")[0] in told)
 told = subprocess.run([DAEMON, "--print-capabilities"], stdout=subprocess.PIPE, check=True).stdout
@@ -76,13 +76,23 @@ with listener(FOLDER + "/handed", socket.SOCK_STREAM) as handed:
     meet(FOLDER + "/handed")
     check("a socket that is handed in", ended(daemon)[0] == 0)
 
+with listener(FOLDER + "/of-libvirt", socket.SOCK_STREAM) as handed:
+    # The command line of libvirt before 9.1.
+    handed.listen(1)
+    words = ("-o", f"source={SHARED},cache=always,sandbox=chroot,xattr,no_flock,no_posix_lock", "--thread-pool-size=2", "-d")
+    number = handed.fileno()
+    daemon = subprocess.Popen([DAEMON, f"--fd={number}", *words], pass_fds=[number], stderr=subprocess.PIPE, text=True)
+    meet(FOLDER + "/of-libvirt")
+    status, told = ended(daemon)
+    check(f"libvirt's old command line: {told}", status == 0 and told.count("Use of deprecated") == 2)
+
 if not os.path.exists(SYSLOG):
     with listener(SYSLOG, socket.SOCK_DGRAM) as log:
         os.unlink(PATH)
         daemon = start("--socket-path", PATH, "--syslog")
         meet(PATH)
         check("it is silent with --syslog", ended(daemon) == (0, ""))
-        while b"the front-end is gone" not in log.recv(4096):
+        while b"Client disconnected, shutting down" not in log.recv(4096):
             pass
     os.unlink(SYSLOG)
 print("starts: done")

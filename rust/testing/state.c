@@ -1,11 +1,14 @@
-/* Migration streams of one's own: state DAEMON DIR SECONDS|full|lost. A state is taken out of the daemon, changed by chance, and handed in, again and
- * again. Each time the daemon says whether it takes it; no node and no handle that came so leads out of DIR, beside which a file has
- * the word `secret`; and a device that is reset after it serves as a new one. With `full` the daemon has no descriptor left for the guest:
- * memory comes all the same, and the state goes out, and in again. With `lost` the guest holds a file that it has removed, which no path
- * leads to: such a state isn't taken. */
+/* Migration streams of one's own: state DAEMON DIR SECONDS|full|lost|cut|flags|writeback. A state is taken out of the
+ * daemon, changed by chance, and handed in, again and again. Each time the daemon says whether it takes it; no node and no
+ * handle that came so leads out of DIR, beside which a file has the word `secret`; and a device that is reset after it
+ * serves as a new one. With `full` the daemon has no descriptor left for the guest: memory comes all the same, and the state
+ * goes out, and in again. With `lost` the guest holds a file that it has removed, which no path leads to: such a state isn't
+ * taken. With `cut` the last bytes of a state are missing, one more each time. With `flags`, and with `writeback` by a
+ * daemon that has this option, files are open with flags that don't hold on the host. */
 #define _GNU_SOURCE
 #include "chance.h"
 #include "front.h"
+#include "moved.h"
 #include <errno.h>
 #include <fcntl.h>
 #include <linux/fuse.h>
@@ -180,21 +183,39 @@ static void lost(void) {
     printf("state: a file that is held and removed: %s\n", load(state, len) ? "taken" : "refused");
 }
 
+static void cut(void) {
+    static uint8_t state[MOST];
+    begin_anew();
+    stop();
+    size_t len = save(state);
+    for (size_t left = 0; left < len; left++)
+        if (load(state, left)) die("%zu bytes of %zu are taken", left, len);
+    if (!load(state, len)) die("its own state is refused");
+    printf("state: none of %zu bytes that is cut short is taken\n", len);
+}
+
 int main(int argc, char **argv) {
     static const char *const few[] = {"--rlimit-nofile", "1600", NULL};
-    if (argc < 4) die("usage: state DAEMON DIR SECONDS|full|lost");
-    bool is_full = !strcmp(argv[3], "full");
+    static const char *const writeback[] = {"--writeback", NULL};
+    if (argc < 4) die("usage: state DAEMON DIR SECONDS|full|lost|cut|flags|writeback");
+    bool is_full = !strcmp(argv[3], "full"), writes_back = !strcmp(argv[3], "writeback");
     time_t now = time(NULL);
     chance_begin((uint64_t)now * 0x9e3779b97f4a7c15u | 1);
     signal(SIGPIPE, SIG_IGN);
-    front_begin(&front, argv[1], argv[2], is_full ? few : NULL);
+    front_begin(&front, argv[1], argv[2], is_full ? few : writes_back ? writeback : NULL);
     front_set_up(&front);
     front_start_ring(&front, 1, 0);
     if (is_full)
         full();
     else if (!strcmp(argv[3], "lost"))
         lost();
-    else
+    else if (!strcmp(argv[3], "cut"))
+        cut();
+    else if (writes_back || !strcmp(argv[3], "flags")) {
+        begin_session(&front);
+        move_flags(&front, writes_back, save, load);
+        stop();
+    } else
         hostile_streams(now + (time_t)strtoul(argv[3], NULL, 10));
     begin_anew();
     front_leave(&front);

@@ -1,5 +1,5 @@
 //! Of root's capabilities the daemon keeps those that file calls want.
-use crate::options::{CapabilityChanges, Handles};
+use crate::options::{CapabilityChanges, Handles, Options};
 use capng::{Action, Set, Type};
 use log::debug;
 
@@ -8,22 +8,46 @@ const KEPT: [&str; 8] = ["chown", "dac_override", "fowner", "fsetid", "mknod", "
 /// To open inodes by their handles.
 const FOR_HANDLES: &str = "dac_read_search";
 
-/// The names that are wanted, each once.
-fn wanted(changes: &CapabilityChanges, handles: Handles) -> Vec<String> {
-    let by_habit = KEPT.iter().copied().chain((!matches!(handles, Handles::Never)).then_some(FOR_HANDLES));
-    let mut names: Vec<String> = by_habit.map(String::from).collect();
-    for change in &changes.0 {
-        names.retain(|name| *name != change.name);
-        if change.keep {
-            names.push(change.name.clone());
-        }
+/// What is wanted against the habit.
+pub struct Changes {
+    changes: CapabilityChanges,
+    for_handles: bool,
+}
+
+impl Changes {
+    /// By --modcaps and --inode-file-handles; or why these don't go together.
+    pub fn new(options: &Options) -> Result<Changes, String> {
+        let changes = options.modcaps.as_deref().map_or(Ok(CapabilityChanges::default()), str::parse)?;
+        Changes::of(changes, options.inode_file_handles)
     }
-    names
+
+    fn of(changes: CapabilityChanges, handles: Handles) -> Result<Changes, String> {
+        let for_handles = handles != Handles::Never;
+        let last = changes.0.iter().rfind(|change| change.name == FOR_HANDLES);
+        if for_handles && last.is_some_and(|change| !change.keep) {
+            let name = FOR_HANDLES.to_uppercase();
+            return Err(format!("can't disable {name} when using --inode-file-handles={handles:?}"));
+        }
+        Ok(Changes { changes, for_handles })
+    }
+
+    /// The names that are wanted, each once.
+    fn wanted(&self) -> Vec<String> {
+        let by_habit = KEPT.iter().copied().chain(self.for_handles.then_some(FOR_HANDLES));
+        let mut names: Vec<String> = by_habit.map(String::from).collect();
+        for change in &self.changes.0 {
+            names.retain(|name| *name != change.name);
+            if change.keep {
+                names.push(change.name.clone());
+            }
+        }
+        names
+    }
 }
 
 /// Gives up all but what is wanted. What isn't had can't be kept; a user who isn't root has none.
-pub fn give_up(changes: &CapabilityChanges, handles: Handles) -> capng::Result<()> {
-    let names = wanted(changes, handles);
+pub fn give_up(changes: &Changes) -> capng::Result<()> {
+    let names = changes.wanted();
     let named = names.iter().map(|name| capng::name_to_capability(name)).collect::<capng::Result<Vec<_>>>()?;
     capng::get_caps_process()?;
     let has = |capability| capng::have_capability(Type::PERMITTED, capability);
@@ -41,12 +65,24 @@ pub fn give_up(changes: &CapabilityChanges, handles: Handles) -> capng::Result<(
 mod tests {
     use super::*;
 
+    fn changes(words: &str, handles: Handles) -> Result<Changes, String> {
+        Changes::of(words.parse()?, handles)
+    }
+
     #[test]
     fn changes_come_after_the_habit() {
-        let changes: CapabilityChanges = "+sys_admin:-chown:+fowner".parse().expect("changes");
-        let names = wanted(&changes, Handles::Prefer);
+        let names = changes("+sys_admin:-chown:+fowner", Handles::Prefer).expect("changes").wanted();
         assert!(names.iter().any(|name| name == "sys_admin") && names.iter().any(|name| name == FOR_HANDLES));
         assert!(names.iter().all(|name| name != "chown"));
         assert_eq!(names.iter().filter(|name| *name == "fowner").count(), 1);
+    }
+
+    #[test]
+    fn handles_want_a_capability() {
+        let refused = changes("-dac_read_search", Handles::Mandatory).err();
+        let why = "can't disable DAC_READ_SEARCH when using --inode-file-handles=Mandatory";
+        assert_eq!(refused.as_deref(), Some(why));
+        assert!(changes("-dac_read_search", Handles::Never).is_ok());
+        assert!(changes("-dac_read_search:+dac_read_search", Handles::Prefer).is_ok());
     }
 }

@@ -13,10 +13,17 @@ use std::fs::File;
 use std::io;
 use std::sync::Arc;
 use vhost::vhost_user::message::*;
-use vhost::vhost_user::{Error, GpuBackend, Result, VhostUserBackendReqHandlerMut};
-use virtio_bindings::bindings::virtio_config::VIRTIO_F_VERSION_1;
+use vhost::vhost_user::{Backend, Error, GpuBackend, Result, VhostUserBackendReqHandlerMut};
+use virtio_bindings::bindings::virtio_config::{VIRTIO_F_ACCESS_PLATFORM, VIRTIO_F_VERSION_1};
 use virtio_bindings::bindings::virtio_ring::{VIRTIO_RING_F_EVENT_IDX, VIRTIO_RING_F_INDIRECT_DESC};
 use virtiofsd::vhost_user::MAX_TAG_LEN;
+
+/// The bit that a guest takes whose device accesses memory as the platform says. QEMU keeps it for itself unless the
+/// guest has a vIOMMU in front of the device: only then it is in SET_FEATURES, and ring addresses are IOVAs.
+const ACCESS_PLATFORM: u64 = 1 << VIRTIO_F_ACCESS_PLATFORM;
+const NO_IOMMU: &str =
+    "the guest has a vIOMMU in front of this device (VIRTIO_F_ACCESS_PLATFORM in SET_FEATURES), and \
+                        no translation is served yet: leave the vIOMMU out, or this device out of it";
 
 /// What the daemon does on behalf of one front-end.
 pub struct FrontEnd<F> {
@@ -27,6 +34,8 @@ pub struct FrontEnd<F> {
     migration: Migration<F>,
     /// What rings are told with that stop.
     bench: Bench<F>,
+    /// The back-end's own channel. QEMU offers VIRTIO_F_ACCESS_PLATFORM to the guest only if there is one.
+    channel: Option<Backend>,
 }
 
 fn told(e: io::Error) -> Error {
@@ -45,7 +54,7 @@ impl<F: Served> FrontEnd<F> {
     /// `scratch` is state::scratch's.
     pub fn new(core: Arc<Core<F>>, tag: Option<String>, scratch: File) -> FrontEnd<F> {
         let (migration, bench) = (Migration::new(core.clone(), scratch), Bench::new(core.clone(), 0));
-        FrontEnd { core, tag, features: 0, log: None, migration, bench }
+        FrontEnd { core, tag, features: 0, log: None, migration, bench, channel: None }
     }
 
     fn ring(&self, index: impl Into<u32>) -> Result<&Ring> {
@@ -62,15 +71,13 @@ impl<F: Served> FrontEnd<F> {
         self.features & VhostUserVirtioFeatures::LOG_ALL.bits() != 0
     }
 
-    /// The log that pages are marked in as things stand.
-    fn active_log(&self) -> Option<&Arc<Log>> {
-        self.log.as_ref().filter(|_| self.logs())
+    /// Pages are marked in the log, if there is one and the features say so.
+    fn set_log(&self) {
+        self.core.memory().logging().set(self.log.clone().filter(|_| self.logs()));
     }
 
     fn set_memory(&mut self, table: io::Result<Table>) -> Result<()> {
-        let table = table.map_err(told)?;
-        table.set_log(self.active_log());
-        self.core.set_memory(table);
+        self.core.set_memory(table.map_err(told)?);
         Ok(())
     }
 
@@ -94,13 +101,14 @@ impl<F: Served> VhostUserBackendReqHandlerMut for FrontEnd<F> {
 
     fn reset_device(&mut self) -> Result<()> {
         self.enable_all(false);
-        self.core.rings.iter().for_each(|ring| ring.state().begin_anew());
+        self.core.rings.iter().for_each(|ring| ring.lock().begin_anew());
         self.core.end_session();
         Ok(())
     }
 
     fn get_features(&mut self) -> Result<u64> {
         Ok((1 << VIRTIO_F_VERSION_1)
+            | ACCESS_PLATFORM
             | (1 << VIRTIO_RING_F_INDIRECT_DESC)
             | (1 << VIRTIO_RING_F_EVENT_IDX)
             | VhostUserVirtioFeatures::PROTOCOL_FEATURES.bits()
@@ -111,9 +119,12 @@ impl<F: Served> VhostUserBackendReqHandlerMut for FrontEnd<F> {
         if features & !self.get_features()? != 0 {
             return Err(told(io::Error::other("features that weren't offered")));
         }
+        if features & ACCESS_PLATFORM != 0 {
+            return Err(Error::InvalidOperation(NO_IOMMU)); // it ends the connection, since QEMU wants no answer
+        }
         self.features = features;
         let has_event_index = features & (1 << VIRTIO_RING_F_EVENT_IDX) != 0;
-        self.core.rings.iter().for_each(|ring| ring.set_event_index(has_event_index));
+        self.core.rings.iter().for_each(|ring| ring.tell(|numbers| numbers.has_event_index = has_event_index));
         if features & VhostUserVirtioFeatures::PROTOCOL_FEATURES.bits() == 0 {
             self.enable_all(true);
         }
@@ -123,12 +134,12 @@ impl<F: Served> VhostUserBackendReqHandlerMut for FrontEnd<F> {
             self.migration.cancel();
             self.log = None;
         }
-        self.core.memory().set_log(self.active_log());
+        self.set_log();
         Ok(())
     }
 
     fn set_mem_table(&mut self, regions: &[VhostUserMemoryRegion], files: Vec<File>) -> Result<()> {
-        self.set_memory(Table::new(regions, files))
+        self.set_memory(self.core.memory().replaced(regions, files))
     }
 
     fn get_max_mem_slots(&mut self) -> Result<u64> {
@@ -146,7 +157,7 @@ impl<F: Served> VhostUserBackendReqHandlerMut for FrontEnd<F> {
     fn set_vring_num(&mut self, index: u32, num: u32) -> Result<()> {
         let size = Some(num).filter(|num| (1..=SIZE_MAX).contains(num) && num.is_power_of_two());
         let size = size.ok_or_else(|| told(io::Error::other("a size that no queue has")))?;
-        self.ring(index)?.state().tell(|numbers| numbers.layout.size = size as u16); // 2^15 at most
+        self.ring(index)?.tell(|numbers| numbers.layout.size = size as u16); // 2^15 at most
         Ok(())
     }
 
@@ -162,7 +173,7 @@ impl<F: Served> VhostUserBackendReqHandlerMut for FrontEnd<F> {
         let memory = self.core.memory();
         let at = |front_end| memory.guest_address(front_end).map_err(told);
         let (descriptors, available, used) = (at(descriptor)?, at(available)?, at(used)?);
-        self.ring(index)?.state().tell(|numbers| {
+        self.ring(index)?.tell(|numbers| {
             let size = numbers.layout.size;
             numbers.layout = pitskhomu::QueueLayout { size, descriptors, available, used };
         });
@@ -171,7 +182,7 @@ impl<F: Served> VhostUserBackendReqHandlerMut for FrontEnd<F> {
 
     fn set_vring_base(&mut self, index: u32, base: u32) -> Result<()> {
         let position = u16::try_from(base).map_err(|_| told(io::Error::other("a base that no split queue has")))?;
-        self.ring(index)?.state().tell(|numbers| numbers.position = position);
+        self.ring(index)?.tell(|numbers| numbers.position = position);
         Ok(())
     }
 
@@ -205,6 +216,7 @@ impl<F: Served> VhostUserBackendReqHandlerMut for FrontEnd<F> {
     fn get_protocol_features(&mut self) -> Result<VhostUserProtocolFeatures> {
         let features = VhostUserProtocolFeatures::MQ
             | VhostUserProtocolFeatures::REPLY_ACK
+            | VhostUserProtocolFeatures::BACKEND_REQ
             | VhostUserProtocolFeatures::CONFIGURE_MEM_SLOTS
             | VhostUserProtocolFeatures::LOG_SHMFD
             | VhostUserProtocolFeatures::DEVICE_STATE
@@ -217,6 +229,10 @@ impl<F: Served> VhostUserBackendReqHandlerMut for FrontEnd<F> {
     fn set_protocol_features(&mut self, features: u64) -> Result<()> {
         debug!("the front-end takes protocol features {features:#x}");
         Ok(())
+    }
+
+    fn set_backend_req_fd(&mut self, channel: Backend) {
+        self.channel = Some(channel);
     }
 
     fn get_queue_num(&mut self) -> Result<u64> {
@@ -285,7 +301,7 @@ impl<F: Served> VhostUserBackendReqHandlerMut for FrontEnd<F> {
         })?;
         self.log = Some(Arc::new(log));
         info!("pages are logged");
-        self.core.memory().set_log(self.active_log());
+        self.set_log();
         Ok(())
     }
 }

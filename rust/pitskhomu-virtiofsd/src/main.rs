@@ -3,9 +3,11 @@
 mod adapter;
 mod capabilities;
 mod front_end;
+mod in_flight;
 mod marks;
 mod memory;
 mod migration;
+mod open_flags;
 mod options;
 mod ring;
 mod serve;
@@ -27,7 +29,7 @@ const CAPABILITIES: &str = r#"{
 }"#;
 
 fn main() -> ExitCode {
-    let options = Options::parse();
+    let options = Options::parse().with_compat().unwrap_or_else(|e| e.exit());
     if options.print_capabilities {
         println!("{CAPABILITIES}");
         return ExitCode::SUCCESS;

@@ -1,9 +1,10 @@
-//! A migration's log: a bit for each page of the guest's memory, which the front-end reads. Pages are marked by vm-memory itself
-//! wherever it writes (its `Bitmap`), so no store can forget its mark.
+//! A migration's log: a bit for each page of the guest's memory, which the front-end reads. Pages
+//! are marked by vm-memory itself wherever it writes (its `Bitmap`), so no store can forget its
+//! mark.
 use std::fs::File;
 use std::io;
 use std::sync::atomic::{AtomicBool, AtomicU8, Ordering};
-use std::sync::{Arc, PoisonError, RwLock};
+use std::sync::{Arc, OnceLock, PoisonError, RwLock};
 use vm_memory::bitmap::{Bitmap, BitmapSlice, WithBitmapSlice};
 use vm_memory::mmap::NewBitmap;
 use vm_memory::{FileOffset, MmapRegion, VolatileMemory};
@@ -36,38 +37,54 @@ impl Log {
     }
 }
 
-/// A region's log, while there is one.
+/// Whether pages are logged, and where. All tables of the memory share it. So a chain in flight
+/// over a table that another has replaced marks its pages in the log that the front-end reads when
+/// they are written.
 #[derive(Debug, Default)]
-struct RegionLog {
+pub struct Logging {
     /// Spares the lock while nothing is logged.
     is_on: AtomicBool,
-    log: RwLock<Option<(Arc<Log>, u64)>>,
+    log: RwLock<Option<Arc<Log>>>,
 }
 
-/// What vm-memory tells of each write to a region.
+impl Logging {
+    /// From here on pages are marked in this log, or in none. When this returns, no thread marks in
+    /// the old one any more.
+    pub fn set(&self, log: Option<Arc<Log>>) {
+        let is_on = log.is_some();
+        *self.log.write().unwrap_or_else(PoisonError::into_inner) = log;
+        self.is_on.store(is_on, Ordering::Release);
+    }
+
+    fn mark(&self, first: u64, len: usize) {
+        if len == 0 || !self.is_on.load(Ordering::Acquire) {
+            return;
+        }
+        if let Some(log) = self.log.read().unwrap_or_else(PoisonError::into_inner).as_ref() {
+            log.mark(first, first.saturating_add(len as u64 - 1));
+        }
+    }
+}
+
+/// The log of a region, and the guest address where the region begins.
+type RegionLog = OnceLock<(Arc<Logging>, u64)>;
+
+/// vm-memory reports each write to a region here.
 #[derive(Debug, Clone, Default)]
 pub struct Marks {
     region: Arc<RegionLog>,
 }
 
 impl Marks {
-    /// From here on writes are marked in this log, or in none. `guest` is where the region begins.
-    pub fn set(&self, log: Option<Arc<Log>>, guest: u64) {
-        let is_on = log.is_some();
-        *self.region.log.write().unwrap_or_else(PoisonError::into_inner) = log.map(|log| (log, guest));
-        self.region.is_on.store(is_on, Ordering::Release);
+    /// Where the region's pages are marked. `guest` is where the region begins.
+    pub fn tie(&self, logging: &Arc<Logging>, guest: u64) {
+        let _ = self.region.set((logging.clone(), guest));
     }
 }
 
-impl RegionLog {
-    fn mark(&self, offset: usize, len: usize) {
-        if len == 0 || !self.is_on.load(Ordering::Acquire) {
-            return;
-        }
-        if let Some((log, guest)) = self.log.read().unwrap_or_else(PoisonError::into_inner).as_ref() {
-            let first = guest.saturating_add(offset as u64);
-            log.mark(first, first.saturating_add(len as u64 - 1));
-        }
+fn mark(region: &RegionLog, offset: usize, len: usize) {
+    if let Some((logging, guest)) = region.get() {
+        logging.mark(guest.saturating_add(offset as u64), len);
     }
 }
 
@@ -84,7 +101,7 @@ impl<'a> WithBitmapSlice<'a> for Marks {
 
 impl Bitmap for Marks {
     fn mark_dirty(&self, offset: usize, len: usize) {
-        self.region.mark(offset, len)
+        mark(&self.region, offset, len)
     }
     fn dirty_at(&self, _offset: usize) -> bool {
         false // the front-end alone reads the log
@@ -108,7 +125,7 @@ impl BitmapSlice for MarksFrom<'_> {}
 
 impl<'a> Bitmap for MarksFrom<'a> {
     fn mark_dirty(&self, offset: usize, len: usize) {
-        self.region.mark(self.offset.saturating_add(offset), len)
+        mark(self.region, self.offset.saturating_add(offset), len)
     }
     fn dirty_at(&self, _offset: usize) -> bool {
         false
@@ -135,29 +152,48 @@ mod tests {
         bytes
     }
 
+    fn marks(logging: &Arc<Logging>, guest: u64) -> Marks {
+        let marks = Marks::default();
+        marks.tie(logging, guest);
+        marks
+    }
+
     #[test]
     fn marks_pages_while_it_is_on() {
         let (file, log) = log(4096);
-        let marks = Marks::default();
+        let logging: Arc<Logging> = Arc::default();
+        let marks = marks(&logging, 0x8000);
         marks.mark_dirty(0, 4096);
         assert_eq!(bytes(&file, 4096), vec![0; 4096]);
-        marks.set(Some(log), 0x8000);
+        logging.set(Some(log));
         marks.slice_at(0x1000).slice_at(0xfff).mark_dirty(0, 2); // the pages 9 and 10
         marks.mark_dirty(0x7000, 0); // none
         assert_eq!(bytes(&file, 3), [0, 0b110, 0]);
-        marks.set(None, 0);
+        logging.set(None);
         marks.mark_dirty(0, 4096);
         assert_eq!(bytes(&file, 3), [0, 0b110, 0]);
     }
 
     #[test]
+    fn what_was_taken_before_a_log_marks_in_that_log() {
+        let ((old_file, old), (file, new)) = (log(4096), log(4096));
+        let logging: Arc<Logging> = Arc::default();
+        let marks = marks(&logging, 0);
+        let taken = marks.slice_at(0x1000);
+        logging.set(Some(old));
+        logging.set(Some(new));
+        taken.mark_dirty(0, 1);
+        assert_eq!((bytes(&old_file, 1), bytes(&file, 1)), (vec![0], vec![0b10]));
+    }
+
+    #[test]
     fn what_the_log_has_no_bits_for_is_not_marked() {
         let (file, log) = log(4096);
-        let marks = Marks::default();
-        marks.set(Some(log.clone()), 8 * 4096 * 4096 - 4096);
-        marks.mark_dirty(0, 0x100000);
+        let logging: Arc<Logging> = Arc::default();
+        logging.set(Some(log));
+        marks(&logging, 8 * 4096 * 4096 - 4096).mark_dirty(0, 0x100000);
         assert_eq!(bytes(&file, 4096)[4094..], [0, 0x80]);
-        marks.set(Some(log), u64::MAX - 0xfff);
+        let marks = marks(&logging, u64::MAX - 0xfff);
         marks.mark_dirty(0xfff, 1);
         marks.mark_dirty(usize::MAX, usize::MAX);
     }

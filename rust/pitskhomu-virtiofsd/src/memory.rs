@@ -1,7 +1,10 @@
-//! The guest's memory as the front-end tells it. A table never changes: another takes its place, and the old one stays mapped while
-//! a chain is out over it. The library is told each region by the guest's own addresses, so each access is looked up here and checked;
-//! vm-memory makes it, and marks it in the log. (vm-memory's own look-up takes several times as long, some fifteen times a request.)
-use crate::marks::{Log, Marks, MarksFrom};
+//! The guest's memory as the front-end reports it. A table never changes: another replaces it, and
+//! the old one stays mapped while a chain in flight was taken over it. The library is told each
+//! region by the guest's own addresses, so each access is looked up here and checked; vm-memory
+//! makes it, and marks it in the log. (vm-memory's own look-up takes several times as long, some
+//! fifteen times a request.)
+use crate::marks::{Logging, Marks, MarksFrom};
+use pitskhomu::QueueLayout;
 use std::fs::File;
 use std::io;
 use std::sync::atomic::{AtomicU64, Ordering};
@@ -43,6 +46,7 @@ pub struct Table {
     places: Vec<Place>,
     stretches: Vec<Stretch>,
     number: u64,
+    logging: Arc<Logging>,
 }
 
 /// Each table has a number of its own, but the one without memory has 0.
@@ -52,40 +56,43 @@ fn invalid(why: &str) -> io::Error {
     io::Error::new(io::ErrorKind::InvalidInput, why)
 }
 
-fn map(region: &VhostUserMemoryRegion, file: File) -> io::Result<(Arc<GuestRegionMmap<Marks>>, Place)> {
+type Mapped = (Arc<GuestRegionMmap<Marks>>, Place);
+
+fn map(region: &VhostUserMemoryRegion, file: File, logging: &Arc<Logging>) -> io::Result<Mapped> {
     let place = Place { front_end: region.user_addr, guest: region.guest_phys_addr, len: region.memory_size };
     if (place.guest | place.len) % PAGE != 0 || place.len == 0 {
         return Err(invalid("a region that isn't of whole pages"));
     }
     let mapped = region.mmap_region::<Marks>(file).map_err(io::Error::other)?;
     let region = GuestRegionMmap::new(mapped, GuestAddress(place.guest)).map_err(io::Error::other)?;
+    region.bitmap().tie(logging, place.guest);
     Ok((Arc::new(region), place))
 }
 
 impl Table {
-    /// All regions anew.
-    pub fn new(regions: &[VhostUserMemoryRegion], files: Vec<File>) -> io::Result<Table> {
-        let mapped = regions.iter().zip(files).map(|(region, file)| map(region, file));
+    /// A table of these regions, which has this one's log.
+    pub fn replaced(&self, regions: &[VhostUserMemoryRegion], files: Vec<File>) -> io::Result<Table> {
+        let mapped = regions.iter().zip(files).map(|(region, file)| map(region, file, &self.logging));
         let (mut regions, places) = mapped.collect::<io::Result<(Vec<_>, Vec<_>)>>()?;
         regions.sort_by_key(|region| region.start_addr());
-        Table::over(GuestMemoryMmap::from_arc_regions(regions).map_err(io::Error::other)?, places)
+        self.over(GuestMemoryMmap::from_arc_regions(regions).map_err(io::Error::other)?, places)
     }
 
     /// One region more.
     pub fn with(&self, region: &VhostUserMemoryRegion, file: File) -> io::Result<Table> {
-        let (mapped, place) = map(region, file)?;
+        let (mapped, place) = map(region, file, &self.logging)?;
         let guest = self.guest.insert_region(mapped).map_err(io::Error::other)?;
-        Table::over(guest, self.places.iter().copied().chain([place]).collect())
+        self.over(guest, self.places.iter().copied().chain([place]).collect())
     }
 
     /// One region less.
     pub fn without(&self, guest: u64, len: u64) -> io::Result<Table> {
         let (memory, _) = self.guest.remove_region(GuestAddress(guest), len).map_err(io::Error::other)?;
         let places = self.places.iter().copied().filter(|place| place.guest != guest).collect();
-        Table::over(memory, places)
+        self.over(memory, places)
     }
 
-    fn over(guest: GuestMemoryMmap<Marks>, places: Vec<Place>) -> io::Result<Table> {
+    fn over(&self, guest: GuestMemoryMmap<Marks>, places: Vec<Place>) -> io::Result<Table> {
         if guest.num_regions() > pitskhomu::Device::MOST_REGIONS {
             return Err(invalid("more regions of memory than the library takes"));
         }
@@ -96,7 +103,8 @@ impl Table {
             marks: region.bitmap().clone(),
         };
         let stretches = guest.iter().map(stretch).collect();
-        Ok(Table { guest, places, stretches, number: NUMBER.fetch_add(1, Ordering::Relaxed) })
+        let number = NUMBER.fetch_add(1, Ordering::Relaxed);
+        Ok(Table { guest, places, stretches, number, logging: self.logging.clone() })
     }
 
     /// What tells it from all others.
@@ -113,11 +121,9 @@ impl Table {
             .ok_or_else(|| invalid("an address outside the memory"))
     }
 
-    /// Marks what is written in a log, or in none any more. Pages that a log has no bits for aren't marked.
-    pub fn set_log(&self, log: Option<&Arc<Log>>) {
-        for region in self.guest.iter() {
-            region.bitmap().set(log.cloned(), region.start_addr().raw_value());
-        }
+    /// Where its pages are marked, and those of all tables that come of it.
+    pub fn logging(&self) -> &Logging {
+        &self.logging
     }
 
     /// The regions as the library takes them.
@@ -135,11 +141,27 @@ impl Table {
             return None;
         }
         let offset = offset as usize;
-        // SAFETY: these bytes are a part of a region that `self.guest` has mapped as long as it lives, and so as long as the slice.
+        // SAFETY: these bytes are a part of a region that `self.guest` has mapped as long as it
+        // lives, and so as long as the slice.
         Some(unsafe {
             let at = (stretch.host as *mut u8).add(offset);
             VolatileSlice::with_bitmap(at, len, stretch.marks.slice_at(offset), None)
         })
+    }
+
+    /// Whether the parts of a queue that a return loads and stores are mapped in both tables or in
+    /// neither, page by page.
+    pub fn agrees(&self, other: &Table, layout: &QueueLayout) -> bool {
+        let size = u64::from(layout.size);
+        let parts = [(layout.available, 6 + 2 * size), (layout.used, 6 + 8 * size)];
+        parts.iter().filter(|_| size > 0).all(|(at, len)| {
+            let pages = at / PAGE..=at.saturating_add(*len) / PAGE;
+            pages.into_iter().all(|page| self.has_page(page) == other.has_page(page))
+        })
+    }
+
+    fn has_page(&self, page: u64) -> bool {
+        self.slice(page.wrapping_mul(PAGE) as usize, 1).is_some()
     }
 
     /// The index of an available ring (VIRTIO 1.2, 2.7.6), if it has a place.
@@ -149,8 +171,9 @@ impl Table {
     }
 }
 
-/// The worker asks for bytes of the regions alone that it was told, and the table has these: an access that fails would be the
-/// library's own mistake. It is answered by zeros, and stores nothing.
+/// The worker asks for bytes of the regions alone that it was told, and the table has these: an
+/// access that fails would be the library's own mistake. It is answered by zeros, and stores
+/// nothing.
 impl pitskhomu::GuestMemory for Table {
     fn load(&self, at: usize, to: &mut [u8]) {
         match self.slice(at, to.len()) {
@@ -188,7 +211,7 @@ mod tests {
         file.set_len(4 * PAGE).expect("room");
         let regions = [(HIGH, 2 * PAGE), (0x4000, 0)]
             .map(|(guest, offset)| VhostUserMemoryRegion::new(guest, 2 * PAGE, 0x7000_0000 + offset, offset));
-        Table::new(&regions, vec![file.try_clone().expect("a descriptor"), file]).expect("a table")
+        Table::default().replaced(&regions, vec![file.try_clone().expect("a descriptor"), file]).expect("a table")
     }
 
     #[test]
@@ -200,6 +223,18 @@ mod tests {
         assert!(!has(0, 1) && !has(HIGH - 1, 2) && !has(HIGH + 0x1fff, usize::MAX) && !has(u64::MAX, 1));
         let without = table.without(HIGH, 2 * PAGE).expect("a table");
         assert!(without.slice(HIGH as usize, 1).is_none() && without.slice(0x4000, 1).is_some());
+    }
+
+    #[test]
+    fn tables_agree_on_a_queue_whose_pages_both_have() {
+        let table = table();
+        let less = table.without(HIGH, 2 * PAGE).expect("a table");
+        let at = |available, used| QueueLayout { size: 64, descriptors: 0, available, used };
+        assert!(table.agrees(&less, &at(0x4000, 0x5000)) && less.agrees(&table, &at(0x7000, 0x9000)));
+        assert!(!table.agrees(&less, &at(0x4000, HIGH)) && !less.agrees(&table, &at(HIGH, 0x4000)));
+        assert!(!table.agrees(&less, &at(0x4000, HIGH - 4))); // its end alone
+        assert!(table.agrees(&less, &QueueLayout { size: 0, ..at(HIGH, HIGH) }));
+        assert!(table.agrees(&less, &at(u64::MAX - 1, u64::MAX)));
     }
 
     #[test]

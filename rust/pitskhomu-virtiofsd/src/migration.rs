@@ -55,13 +55,13 @@ impl<F: Served> Migration<F> {
 
     /// The state goes out by this pipe.
     pub fn save(&mut self, pipe: File) {
-        let (core, preparation) = (self.core.clone(), self.preparation.take());
+        let (core, scratch, preparation) = (self.core.clone(), self.scratch.clone(), self.preparation.take());
         self.transfer = Some(thread::spawn(move || {
             match preparation {
                 Some(preparation) => joined(preparation.thread)?,
                 None => core.fs.prepare_serialization(Arc::new(AtomicBool::new(false))),
             }
-            state::save(&core, pipe)
+            state::save(&core, &scratch, pipe)
         }));
     }
 

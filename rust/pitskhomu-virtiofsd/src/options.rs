@@ -1,115 +1,48 @@
-//! The command line: virtiofsd's, where its options mean something here. One that is known and isn't served is refused with the reason.
-use clap::{Parser, ValueEnum};
-use std::ffi::OsString;
+//! The command line: virtiofsd's, where its options mean something here. One that is known and
+//! isn't served is refused with the reason.
+mod compat;
+mod values;
+
+use clap::Parser;
 use std::os::fd::RawFd;
 use std::path::PathBuf;
-use std::str::FromStr;
+use values::{tag, xattr_map};
+pub use values::{CapabilityChanges, Handles, Seccomp};
 use virtiofsd::idmap::{GidMap, UidMap};
 use virtiofsd::passthrough::xattrmap::XattrMap;
-use virtiofsd::passthrough::{CachePolicy, InodeFileHandlesMode, MigrationMode, MigrationOnError};
+use virtiofsd::passthrough::{CachePolicy, MigrationMode, MigrationOnError};
 use virtiofsd::sandbox::SandboxMode;
-use virtiofsd::seccomp::SeccompAction;
 use virtiofsd::soft_idmap::cmdline::IdMap;
-use virtiofsd::vhost_user::MAX_TAG_LEN;
 
-/// When inodes are held by handles rather than by open descriptors.
-#[derive(Debug, Clone, Copy, ValueEnum)]
-pub enum Handles {
-    /// By descriptors.
-    Never,
-    /// By handles where the host's file system has them.
-    Prefer,
-    /// By handles alone.
-    Mandatory,
-}
-
-impl From<Handles> for InodeFileHandlesMode {
-    fn from(handles: Handles) -> InodeFileHandlesMode {
-        match handles {
-            Handles::Never => InodeFileHandlesMode::Never,
-            Handles::Prefer => InodeFileHandlesMode::Prefer,
-            Handles::Mandatory => InodeFileHandlesMode::Mandatory,
-        }
-    }
-}
-
-/// What becomes of a system call that the daemon has no use for.
-#[derive(Debug, Clone, Copy, ValueEnum)]
-pub enum Seccomp {
-    /// It is let through: there is no filter.
-    None,
-    /// The daemon is killed.
-    Kill,
-    /// It is let through and logged.
-    Log,
-    /// The daemon gets SIGSYS.
-    Trap,
-}
-
-impl Seccomp {
-    /// The filter's action, if there is a filter.
-    pub fn action(self) -> Option<SeccompAction> {
-        match self {
-            Seccomp::None => None,
-            Seccomp::Kill => Some(SeccompAction::Kill),
-            Seccomp::Log => Some(SeccompAction::Log),
-            Seccomp::Trap => Some(SeccompAction::Trap),
-        }
-    }
-}
-
-/// A capability that is kept or given up against the habit.
-#[derive(Debug, Clone, PartialEq, Eq)]
-pub struct CapabilityChange {
-    /// Its name, without `cap_`.
-    pub name: String,
-    /// Whether it is kept.
-    pub keep: bool,
-}
-
-/// `+sys_admin:-chown`.
-#[derive(Debug, Clone, Default, PartialEq, Eq)]
-pub struct CapabilityChanges(pub Vec<CapabilityChange>);
-
-impl FromStr for CapabilityChanges {
-    type Err = String;
-    fn from_str(text: &str) -> Result<Self, String> {
-        let change = |word: &str| match word.split_at_checked(1) {
-            Some((sign @ ("+" | "-"), name)) if !name.is_empty() => {
-                Ok(CapabilityChange { name: name.to_lowercase(), keep: sign == "+" })
-            }
-            _ => Err(format!("`{word}` isn't a capability behind a + or -")),
-        };
-        text.split(':').map(change).collect::<Result<_, _>>().map(CapabilityChanges)
-    }
-}
-
-fn tag(text: &str) -> Result<String, String> {
-    match text.len() {
-        1..=MAX_TAG_LEN => Ok(text.into()),
-        _ => Err(format!("a tag has 1 to {MAX_TAG_LEN} bytes")),
-    }
-}
-
-fn xattr_map(text: &str) -> Result<XattrMap, String> {
-    XattrMap::try_from(text).map_err(|e| e.to_string())
-}
-
-/// Shares a directory of the host with the guest of a virtual machine (virtio-fs), over a proved core. Its options are virtiofsd's.
+/// Shares a directory of the host with the guest of a virtual machine (virtio-fs), over a proved
+/// core. Its options are virtiofsd's.
 #[derive(Debug, Parser)]
-#[command(name = "pitskhomu-virtiofsd", version)]
+#[command(
+    name = "pitskhomu-virtiofsd",
+    version,
+    args_override_self = true,
+    arg_required_else_help = true,
+    override_usage = "pitskhomu-virtiofsd --shared-dir <SHARED_DIR> --socket-path <SOCKET_PATH> [OPTIONS]"
+)]
 pub struct Options {
     /// The directory that the guest is to see
-    #[arg(long, required_unless_present = "print_capabilities")]
+    #[arg(long, required_unless_present_any = ["compat_options", "print_capabilities"])]
     pub shared_dir: Option<String>,
-    /// Where the front-end (QEMU) connects to; it is made anew. --socket is the same
-    #[arg(long, alias = "socket", required_unless_present_any = ["fd", "print_capabilities"], conflicts_with = "fd")]
+    /// The same as --socket-path [deprecated]
+    #[arg(long, required_unless_present_any = ["fd", "socket_path", "print_capabilities"])]
+    pub socket: Option<PathBuf>,
+    /// Where the front-end (QEMU) connects to; it is made anew
+    #[arg(long, required_unless_present_any = ["fd", "socket", "print_capabilities"])]
     pub socket_path: Option<PathBuf>,
     /// The group that may connect to the socket, besides its owner
-    #[arg(long, requires = "socket_path")]
+    #[arg(long, conflicts_with_all = ["fd", "print_capabilities"])]
     pub socket_group: Option<String>,
     /// An open socket that listens already, by its number
-    #[arg(long)]
+    #[arg(
+        long,
+        required_unless_present_any = ["socket", "socket_path", "print_capabilities"],
+        conflicts_with_all = ["socket_path", "socket"]
+    )]
     pub fd: Option<RawFd>,
     /// The tag that front-ends may ask for (QEMU has its own option for it)
     #[arg(long, value_parser = tag)]
@@ -123,13 +56,14 @@ pub struct Options {
     /// How the daemon is held in the directory: namespace, chroot, none
     #[arg(long, default_value = "namespace")]
     pub sandbox: SandboxMode,
-    /// What becomes of other system calls than the daemon needs
-    #[arg(long, value_enum, default_value = "kill")]
+    /// What becomes of other system calls than the daemon needs: none, kill, log, trap
+    #[arg(long, default_value = "kill")]
     pub seccomp: Seccomp,
-    /// Capabilities kept or given up, as `=+sys_admin:-chown`
-    #[arg(long, default_value = None)]
-    pub modcaps: Option<CapabilityChanges>,
-    /// How many descriptors may be open; 0 leaves the limit as it is
+    /// Capabilities kept or given up, as in --modcaps=+sys_admin:-chown
+    #[arg(long)]
+    pub modcaps: Option<String>,
+    /// How many descriptors may be open; 0 leaves the limit as it is [default: min(1000000,
+    /// '/proc/sys/fs/nr_open')]
     #[arg(long)]
     pub rlimit_nofile: Option<u64>,
     /// What the guest may keep: auto, always, metadata, never
@@ -156,7 +90,7 @@ pub struct Options {
     /// Extended attributes
     #[arg(long)]
     pub xattr: bool,
-    /// Rules for names of extended attributes; implies --xattr
+    /// Rules for names of extended attributes, as :map::user.virtiofs.:; implies --xattr
     #[arg(long, value_parser = xattr_map)]
     pub xattrmap: Option<XattrMap>,
     /// The host, not the guest, clears set-user-ID and set-group-ID
@@ -171,8 +105,9 @@ pub struct Options {
     /// O_NOATIME of the guest holds for the host too
     #[arg(long)]
     pub preserve_noatime: bool,
-    /// How inodes are held
-    #[arg(long, value_enum, default_value = "never", num_args = 0..=1, require_equals = true, default_missing_value = "prefer")]
+    /// When inodes are held by handles rather than by open descriptors: never, prefer (where the
+    /// host's file system has handles; "fallback" is the same, deprecated), mandatory
+    #[arg(long, require_equals = true, default_value = "never")]
     pub inode_file_handles: Handles,
     /// Users of the namespace, as `:inside:outside:count:` (not as root)
     #[arg(long)]
@@ -180,11 +115,14 @@ pub struct Options {
     /// Groups of the namespace, as `:inside:outside:count:` (not as root)
     #[arg(long)]
     pub gid_map: Vec<GidMap>,
-    /// Users of the guest that are others on the host, as `map:GUEST:HOST:COUNT`
-    #[arg(long)]
+    /// Users of the guest that are others on the host, as TYPE:FIRST:FIRST:COUNT:
+    /// guest:GUEST:HOST:COUNT (in this direction alone), host:HOST:GUEST:COUNT,
+    /// squash-guest:GUEST:HOST:COUNT (all to one), squash-host:HOST:GUEST:COUNT,
+    /// forbid-guest:GUEST:COUNT, map:GUEST:HOST:COUNT (both ways). May be given several times
+    #[arg(long, conflicts_with = "posix_acl")]
     pub translate_uid: Vec<IdMap>,
-    /// Groups of the guest that are others on the host
-    #[arg(long)]
+    /// Groups of the guest that are others on the host, as --translate-uid has users
+    #[arg(long, conflicts_with = "posix_acl")]
     pub translate_gid: Vec<IdMap>,
     /// How inodes are named to the other host: find-paths, file-handles
     #[arg(long, default_value = "find-paths")]
@@ -201,10 +139,10 @@ pub struct Options {
     /// error, warn, info, debug, trace, off
     #[arg(long, default_value = "info")]
     pub log_level: log::LevelFilter,
-    /// The same as --log-level debug
+    /// The same as --log-level debug [deprecated]
     #[arg(short = 'd')]
     pub debug: bool,
-    /// Means nothing: the daemon never goes to the background
+    /// Means nothing: the daemon never goes to the background [deprecated]
     #[arg(short = 'f')]
     pub foreground: bool,
     /// Log by syslog, not to standard error
@@ -213,6 +151,12 @@ pub struct Options {
     /// Say what the daemon can, as vhost-user.json wants it, and end
     #[arg(long)]
     pub print_capabilities: bool,
+    /// Options as the C virtiofsd took them, as in -o source=DIR,cache=auto,xattr [deprecated]
+    #[arg(short = 'o')]
+    compat_options: Vec<String>,
+    /// Whether there were such options.
+    #[arg(skip)]
+    pub is_compat: bool,
     #[command(flatten)]
     refused: Refused,
 }
@@ -226,9 +170,6 @@ struct Refused {
     /// Refused: the core doesn't tell the label of a new file
     #[arg(long)]
     security_label: bool,
-    /// Refused: options of the C virtiofsd
-    #[arg(short)]
-    o: Vec<OsString>,
 }
 
 impl Options {
@@ -238,9 +179,46 @@ impl Options {
         let refusals = [
             (asked.posix_acl, "--posix-acl: the core doesn't tell the flags of FUSE_SETXATTR_EXT, which these want"),
             (asked.security_label, "--security-label: the core doesn't tell the label of a new file"),
-            (!asked.o.is_empty(), "-o: these are options of the C virtiofsd; take --shared-dir and its kin"),
         ];
         refusals.into_iter().find_map(|(is_asked, why)| is_asked.then(|| why.into()))
+    }
+
+    /// What virtiofsd says of options that are served, and that its next version may not have.
+    pub fn warnings(&self) -> Vec<&'static str> {
+        let warnings = [
+            (self.foreground, "Use of deprecated flag '-f': This flag has no effect, please remove it"),
+            (self.debug, "Use of deprecated flag '-d': Please use the '--log-level debug' option instead"),
+            (
+                self.is_compat,
+                "Use of deprecated option format '-o': Please specify options without it (e.g., '--cache auto' \
+                 instead of '-o cache=auto')",
+            ),
+            (
+                self.inode_file_handles == Handles::Fallback,
+                "Use of deprecated value 'fallback' for '--inode-file-handles': Please use 'prefer' instead",
+            ),
+            (
+                self.socket.is_some() && self.socket_path.is_none(),
+                "use of deprecated parameter '--socket': Please use the '--socket-path' option instead",
+            ),
+        ];
+        warnings.into_iter().filter_map(|(is_used, warning)| is_used.then_some(warning)).collect()
+    }
+
+    /// Why these options don't go together, if they don't.
+    pub fn contradictions(&self) -> Vec<&'static str> {
+        let by_handles = self.migration_mode == MigrationMode::FileHandles;
+        let contradictions = [
+            (
+                by_handles && self.migration_confirm_paths,
+                "Cannot use --migration-confirm-paths with --migration-mode=file-handles (because it is unnecessary)",
+            ),
+            (
+                by_handles && self.migration_verify_handles,
+                "Cannot use --migration-verify-handles with --migration-mode=file-handles (because it is unnecessary)",
+            ),
+        ];
+        contradictions.into_iter().filter_map(|(is_so, why)| is_so.then_some(why)).collect()
     }
 
     /// Which messages are logged.
@@ -262,19 +240,21 @@ impl Options {
 mod tests {
     use super::*;
 
+    fn parsed(words: &str) -> Result<Options, clap::Error> {
+        Options::try_parse_from(words.split_whitespace()).and_then(Options::with_compat)
+    }
+
     fn options(words: &str) -> Result<Options, String> {
-        let words = format!("daemon --socket-path=/s --shared-dir=/d {words}");
-        Options::try_parse_from(words.split_whitespace()).map_err(|e| e.to_string())
+        parsed(&format!("daemon --socket-path=/s --shared-dir=/d {words}")).map_err(|e| e.to_string())
     }
 
     #[test]
     fn what_is_not_served_is_refused_by_name() {
-        for (words, name) in
-            [("--posix-acl", "--posix-acl"), ("--security-label", "--security-label"), ("-o source=/d", "-o")]
-        {
-            assert!(options(words).expect(words).refusal().expect(words).starts_with(name));
+        for name in ["--posix-acl", "--security-label"] {
+            assert!(options(name).expect(name).refusal().expect(name).starts_with(name));
         }
         assert_eq!(options("--xattr").expect("options").refusal(), None);
+        assert!(options("-o posix_acl").expect("options").refusal().is_some());
     }
 
     #[test]
@@ -282,6 +262,7 @@ mod tests {
         let opposite = |words| options(words).expect(words).no_announce_submounts;
         assert!(!opposite("") && !opposite("--no-announce-submounts --announce-submounts"));
         assert!(opposite("--announce-submounts --no-announce-submounts"));
+        assert!(matches!(options("--cache=auto --cache=never").expect("options").cache, CachePolicy::Never));
     }
 
     #[test]
@@ -292,19 +273,91 @@ mod tests {
                    --translate-uid=map:0:1000:1 --migration-mode=file-handles --log-level=debug --syslog --tag=shared \
                    --thread-pool-size=64";
         assert_eq!(options(all).expect("options").refusal(), None);
-        let old =
-            Options::try_parse_from(["daemon", "--socket", "/s", "--shared-dir", "/d", "-f", "-d"]).expect("options");
-        assert_eq!((old.messages(), old.socket_path), (log::LevelFilter::Debug, Some("/s".into())));
-        for wrong in [
-            "--cache=some",
-            "--sandbox=x",
-            "--thread-pool-size=1025",
-            "--num-request-queues=64",
-            "--tag=",
-            "--modcaps=chown",
-            "--fd=3",
+        let old = parsed("daemon --socket /s --shared-dir /d -f -d --inode-file-handles=fallback").expect("options");
+        assert_eq!((old.messages(), old.socket.clone()), (log::LevelFilter::Debug, Some("/s".into())));
+        let warned = old.warnings();
+        assert!(warned.len() == 4 && warned.iter().all(|warning| warning.contains("eprecated")));
+        assert!(options(all).expect("options").warnings().is_empty());
+    }
+
+    /// What virtiofsd 1.13.2 says of the same words, up to the end of the line.
+    #[test]
+    fn what_is_wrong_is_refused_in_virtiofsds_words() {
+        for (words, wanted) in [
+            ("--cache=some", "invalid value 'some' for '--cache <CACHE>': invalid cache policy"),
+            ("--sandbox=x", "invalid value 'x' for '--sandbox <SANDBOX>': Unknown sandbox mode"),
+            ("--seccomp=x", "invalid value 'x' for '--seccomp <SECCOMP>': Matching variant not found"),
+            (
+                "--inode-file-handles=x",
+                "invalid value 'x' for '--inode-file-handles=<INODE_FILE_HANDLES>': invalid inode file handles mode",
+            ),
+            (
+                "--inode-file-handles",
+                "equal sign is needed when assigning values to '--inode-file-handles=<INODE_FILE_HANDLES>'",
+            ),
+            (
+                "--tag=",
+                "invalid value '' for '--tag <TAG>': The tag may not be empty or longer than 36 bytes (encoded as UTF-8).",
+            ),
+            ("--log-level=x", "invalid value 'x' for '--log-level <LOG_LEVEL>'"),
+            ("--fd=3", "the argument '--socket-path <SOCKET_PATH>' cannot be used with '--fd <FD>'"),
+            ("--no-such-option", "unexpected argument '--no-such-option' found"),
+            ("-o cache=some", "Invalid compat value 'some' for '-o cache'"),
+            ("-o cache=never", "Invalid compat value 'never' for '-o cache'"),
+            ("-o loglevel=trace", "Invalid compat value 'trace' for '-o loglevel'"),
+            ("-o sandbox=none", "Invalid compat value 'none' for '-o sandbox'"),
+            ("-o xattrmap=x", "Invalid compat value 'x' for '-o xattrmap'"),
+            ("-o flock", "Invalid compat argument '-o flock'"),
+            ("-o timeout=1", "Invalid compat argument '-o timeout=1'"),
+            ("-o source=/a=b", "Invalid compat argument '-o source=/a=b'"),
+            ("-o xattr,,no_flock", "Invalid compat argument '-o '"),
         ] {
+            let why = options(words).expect_err(words);
+            assert!(why.starts_with(&format!("error: {wanted}")), "{words}: {why}");
+            assert!(why.contains("For more information, try '--help'."), "{words}: {why}");
+        }
+        for wrong in ["--thread-pool-size=1025", "--num-request-queues=64"] {
             assert!(options(wrong).is_err(), "{wrong}");
         }
+    }
+
+    #[test]
+    fn compat_options_come_last() {
+        let of_libvirt =
+            "daemon --fd=3 -o source=/srv/shared,cache=always,sandbox=chroot,xattr,no_flock,no_posix_lock -d";
+        let options = parsed(of_libvirt).expect("options");
+        assert_eq!((options.shared_dir.as_deref(), options.fd), (Some("/srv/shared"), Some(3)));
+        assert!(matches!((&options.cache, options.sandbox), (CachePolicy::Always, SandboxMode::Chroot)));
+        assert!(options.has_xattr() && options.warnings().len() == 2);
+        let both =
+            parsed("daemon --fd=3 --cache=auto -o source=/a,cache=none,loglevel=err,modcaps=-chown --cache=auto");
+        let both = both.expect("options");
+        assert!(matches!((&both.cache, both.messages()), (CachePolicy::Never, log::LevelFilter::Error)));
+        assert_eq!(both.modcaps.as_deref(), Some("-chown"));
+        let several = parsed("daemon --fd=3 -o source=/a,xattr,writeback -o no_xattr,killpriv_v2,no_readdirplus")
+            .expect("options");
+        assert!(!several.has_xattr() && several.writeback && several.killpriv_v2 && several.no_readdirplus);
+        assert_eq!(parsed("daemon --fd=3 -o xattr").expect("options").shared_dir, None); // `start::run` refuses it
+        assert!(parsed("daemon --fd=3").is_err());
+    }
+
+    #[test]
+    fn what_migrates_by_handles_needs_no_paths() {
+        let both = "--migration-mode=file-handles --migration-confirm-paths --migration-verify-handles";
+        let why = options(both).expect("options").contradictions();
+        assert!(why.len() == 2 && why.iter().all(|why| why.ends_with("(because it is unnecessary)")));
+        assert!(options("--migration-confirm-paths --migration-verify-handles")
+            .expect("options")
+            .contradictions()
+            .is_empty());
+    }
+
+    #[test]
+    fn capabilities_are_refused_in_virtiofsds_words() {
+        let why = |words: &str| words.parse::<CapabilityChanges>().expect_err(words);
+        assert_eq!(why(""), "empty modcap found: expected (+|-)capability:...");
+        assert_eq!(why("=+chown"), "invalid modcap action: expecting '+'|'-' but found '='");
+        assert!(why("+none").starts_with("invalid capability 'NONE': "));
+        assert!("+sys_admin:-CHOWN".parse::<CapabilityChanges>().is_ok());
     }
 }

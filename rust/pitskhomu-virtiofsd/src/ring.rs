@@ -1,6 +1,12 @@
-//! A queue: where it stands, its descriptors, and the threads that serve it. Chains are taken and given back under its lock, and answered
-//! without it; each thread has one at a time. Who changes a ring, or says where it stands, has the lock with no chain out: so what the
-//! front-end is told (a position, a memory that is gone) is true when it is told.
+//! A queue: its numbers, its descriptors, and the threads that serve it. Chains are taken and
+//! returned under its lock, and answered without it; each thread has one at a time. A message that
+//! changes a ring takes the lock alone: chains in flight go on, over the memory that they were
+//! taken from, and new ones have the new numbers. Only a message that ends something
+//! (GET_VRING_BASE, a ring that is disabled) waits until none of its chains is in flight, so that
+//! its answer is true.
+mod waits;
+
+use crate::in_flight::Doing;
 use crate::memory::Table;
 use log::{debug, error, warn};
 use pitskhomu::{Queue, QueueLayout, Status};
@@ -8,16 +14,14 @@ use std::fs::File;
 use std::io::{self, ErrorKind, Write};
 use std::os::fd::AsRawFd;
 use std::sync::{Arc, Condvar, Mutex, MutexGuard, PoisonError};
-use std::time::Duration;
 use vmm_sys_util::epoll::{ControlOperation, Epoll, EpollEvent, EventSet};
 use vmm_sys_util::eventfd::EventFd;
+pub use waits::LAST_CHAINS;
 
 /// The library takes queues of at most so many chains.
 pub const SIZE_MAX: u32 = 32768;
 /// How long a chain waits for which memory was wanting.
 const AGAIN_MILLISECONDS: i32 = 100;
-/// How long a ring that is to stand waits until a thread has taken what was offered before.
-const LAST_CHAINS: Duration = Duration::from_secs(5);
 
 /// What an event comes from.
 #[derive(Debug, Clone, Copy, PartialEq, Eq)]
@@ -52,27 +56,35 @@ pub struct State {
     is_enabled: bool,
     /// It was refused, and isn't served until it begins anew.
     is_refused: bool,
-    /// What the driver was told of kicks, and at which position with an event index; of a ring that begins, nothing is known.
+    /// What the driver was told of kicks, and at which position with an event index; of a ring that
+    /// begins, nothing is known.
     told: Option<(bool, u16)>,
     /// How many threads sleep until something happens.
     sleeping: u16,
-    /// How many wait until no chain is out; meanwhile none is taken.
-    held: usize,
-    /// The front-end's thread waits until chains are taken.
+    /// How many chains were taken since the daemon began.
+    taken: u64,
+    /// How many threads serve the ring.
+    served_by: usize,
+    /// No chain is taken while the front-end's thread looks for a moment with none in flight.
+    is_held: bool,
+    /// The front-end's thread waits until chains are taken or returned.
     is_awaited: bool,
     kick: Option<File>,
     call: Option<File>,
-    /// The driver was to be interrupted while nobody had said where: QEMU says so after it has started a ring that chains wait in.
+    /// The driver was to be interrupted while nobody had said where: QEMU says so after it has
+    /// started a ring that chains wait in.
     owes_call: bool,
     err: Option<File>,
 }
 
 impl State {
-    /// The front-end says other numbers: if they are others, the queue begins anew with them.
-    pub fn tell(&mut self, change: impl FnOnce(&mut Numbers)) {
+    /// The front-end says numbers. If they are others, as is returned, the queue begins with them
+    /// as soon as none of its chains is in flight.
+    fn tell(&mut self, change: impl FnOnce(&mut Numbers)) -> bool {
         let before = self.numbers;
         change(&mut self.numbers);
         self.is_new |= self.numbers != before;
+        self.numbers != before
     }
 
     /// The queue for a record, if the front-end ever told its numbers.
@@ -94,8 +106,8 @@ impl State {
         Ok(())
     }
 
-    /// Says to the driver whether its kicks are wanted, if it doesn't know. Whether it had to be told: then a chain may have come before. After
-    /// an error it knows what it knew.
+    /// Says to the driver whether its kicks are wanted, if it doesn't know. Whether it had to be
+    /// told: then a chain may have come before. After an error it knows what it knew.
     fn want_kicks(&mut self, wanted: bool, server: &mut impl Server, memory: &Arc<Table>) -> Result<bool, Status> {
         let Numbers { position, has_event_index, .. } = self.numbers;
         let telling = Some((wanted, if wanted && has_event_index { position } else { 0 }));
@@ -111,8 +123,8 @@ impl State {
         self.is_started && self.is_enabled && !self.is_refused
     }
 
-    /// Whether the driver has offered a chain that isn't taken: by the ring's own word, so it is a hint. The ring is asked only if its index, as
-    /// it was loaded last, tells of none.
+    /// Whether the driver has offered a chain that isn't taken: by the ring's own word, so it is a
+    /// hint. The ring is asked only if its index, as it was loaded last, tells of none.
     fn has_more(&self, memory: &Table) -> bool {
         self.queue.knows_more() || memory.available_index(self.numbers.layout.available) != Some(self.numbers.position)
     }
@@ -153,13 +165,15 @@ pub trait Server {
     /// Takes the next chain over this memory, if one waits.
     fn take(&mut self, queue: &mut Queue, memory: &Arc<Table>) -> Result<bool, Status>;
 
-    /// Makes the reply of the chain that was taken. The ring isn't locked.
-    fn answer(&mut self);
+    /// Makes the reply of the chain that was taken, and says meanwhile what it asks for. The ring
+    /// isn't locked.
+    fn answer(&mut self, doing: &Doing);
 
     /// Gives the chain back, and says whether the driver wants to be told.
     fn give_back(&mut self, queue: &mut Queue) -> Result<bool, Status>;
 
-    /// Says to the driver whether its kicks are wanted. Whether something had to be stored for that.
+    /// Says to the driver whether its kicks are wanted. Whether something had to be stored for
+    /// that.
     fn ask_kicks(&mut self, queue: &Queue, wanted: bool, memory: &Arc<Table>) -> Result<bool, Status>;
 }
 
@@ -170,28 +184,32 @@ pub struct Ring {
     /// How many threads serve it.
     pub threads: u16,
     state: Mutex<State>,
-    /// A chain went back, or whoever waited for that is done.
+    /// A chain was taken or returned, or nobody waits for that any more.
     changed: Condvar,
     events: Epoll,
     wake: EventFd,
+    doing: Vec<Doing>,
 }
 
 impl Ring {
     /// A ring that isn't started, for so many threads.
     pub fn new(index: usize, threads: u16) -> io::Result<Ring> {
         let (events, wake) = (Epoll::new()?, EventFd::new(libc::EFD_NONBLOCK | libc::EFD_CLOEXEC)?);
-        let ring = Ring { index, threads, state: Mutex::default(), changed: Condvar::new(), events, wake };
+        let doing = (0..threads).map(|_| Doing::default()).collect();
+        let ring = Ring { index, threads, state: Mutex::default(), changed: Condvar::new(), events, wake, doing };
         ring.listen(ring.wake.as_raw_fd(), Source::Wake)?;
         Ok(ring)
     }
 
-    /// Each event wakes one thread, and nobody reads it: so none waits in a read for what another has read.
+    /// Each event wakes one thread, and nobody reads it: so none waits in a read for what another
+    /// has read.
     fn listen(&self, fd: i32, source: Source) -> io::Result<()> {
         let event = EpollEvent::new(EventSet::IN | EventSet::EDGE_TRIGGERED, source as u64);
         self.events.ctl(ControlOperation::Add, fd, event)
     }
 
-    fn lock(&self) -> MutexGuard<'_, State> {
+    /// The ring as it is: chains may be in flight.
+    pub fn lock(&self) -> MutexGuard<'_, State> {
         self.state.lock().unwrap_or_else(PoisonError::into_inner)
     }
 
@@ -203,21 +221,19 @@ impl Ring {
         self.changed.wait_while(state, condition).unwrap_or_else(PoisonError::into_inner)
     }
 
-    /// Whether the driver took VIRTIO_F_EVENT_IDX. What it was already waits for no chain.
-    pub fn set_event_index(&self, has_event_index: bool) {
-        if self.lock().numbers.has_event_index != has_event_index {
-            self.state().tell(|numbers| numbers.has_event_index = has_event_index);
+    /// The front-end says numbers. With others a thread looks for chains: the driver may not know
+    /// yet that kicks are wanted.
+    pub fn tell(&self, change: impl FnOnce(&mut Numbers)) {
+        let mut state = self.lock();
+        if state.tell(change) && state.is_live() {
+            self.look();
         }
     }
 
-    /// The ring with no chain out.
-    pub fn state(&self) -> MutexGuard<'_, State> {
-        let mut state = self.lock();
-        state.held += 1;
-        let mut state = self.wait_while(state, |state| state.queue.out() > 0);
-        state.held -= 1;
-        self.changed.notify_all();
-        state
+    /// Whether both memories have its parts, or neither: so a chain may be in flight while one
+    /// replaces the other.
+    pub fn agrees_on(&self, old: &Table, new: &Table) -> bool {
+        old.agrees(new, &self.lock().queue.layout())
     }
 
     /// Has a thread look for chains.
@@ -234,7 +250,7 @@ impl Ring {
 
     /// The driver kicks here from now on. A ring that wasn't started begins.
     pub fn start(&self, kick: File) -> io::Result<()> {
-        let mut state = self.state();
+        let mut state = self.lock();
         self.forget_kick(&mut state);
         self.listen(kick.as_raw_fd(), Source::Kick)?;
         state.kick = Some(kick);
@@ -245,29 +261,11 @@ impl Ring {
         Ok(())
     }
 
-    /// The ring is to stand: waits until what the driver has offered is taken, for the kicks for it came here. Who goes on with the ring may not
-    /// look: virtiofsd does so when it is kicked, and throws QEMU's one kick at the start away if it reads that before the ring is enabled. Chains
-    /// that no thread takes in time stay in the ring.
-    fn take_last(&self, memory: &Table) {
-        let mut state = self.lock();
-        let Numbers { layout, position: first, .. } = state.numbers;
-        let Some(end) = memory.available_index(layout.available).filter(|_| state.is_live()) else { return };
-        state.is_awaited = true;
-        self.look();
-        let is_wanting =
-            |state: &mut State| state.is_live() && state.numbers.position.wrapping_sub(first) < end.wrapping_sub(first);
-        let waited = self.changed.wait_timeout_while(state, LAST_CHAINS, is_wanting);
-        let (mut state, timeout) = waited.unwrap_or_else(PoisonError::into_inner);
-        state.is_awaited = false;
-        if timeout.timed_out() {
-            warn!("queue {}: it stands, and chains wait", self.index);
-        }
-    }
-
-    /// The ring ends, and says where it stood. Who goes on with it may not know that kicks can be unwanted.
+    /// The ring ends, and says where it stood. Who goes on with it may not know that kicks can be
+    /// unwanted.
     pub fn stop(&self, server: &mut impl Server, memory: &Arc<Table>) -> u16 {
-        self.take_last(memory);
-        let mut state = self.state();
+        self.take_last(memory, "GET_VRING_BASE");
+        let mut state = self.quiet("GET_VRING_BASE");
         if let Err(status) = state.want_kicks(true, server, memory) {
             warn!("queue {}: it ends, and the driver may not kick who goes on with it: {status}", self.index);
         }
@@ -279,12 +277,12 @@ impl Ring {
 
     /// The driver isn't listened to any more.
     pub fn stop_kicks(&self) {
-        self.forget_kick(&mut self.state());
+        self.forget_kick(&mut self.lock());
     }
 
-    /// Where the driver is interrupted.
+    /// Where the driver is interrupted from now on, for chains in flight too.
     pub fn set_call(&self, call: Option<File>) {
-        let mut state = self.state();
+        let mut state = self.lock();
         state.call = call;
         if state.owes_call {
             state.notify();
@@ -293,15 +291,17 @@ impl Ring {
 
     /// Where the front-end hears of a refusal.
     pub fn set_err(&self, err: Option<File>) {
-        self.state().err = err;
+        self.lock().err = err;
     }
 
     /// Chains are served or wait.
     pub fn enable(&self, enabled: bool, server: &mut impl Server, memory: &Arc<Table>) {
-        if !enabled {
-            self.take_last(memory);
-        }
-        let mut state = self.state();
+        let mut state = if enabled {
+            self.lock()
+        } else {
+            self.take_last(memory, "SET_VRING_ENABLE");
+            self.quiet("SET_VRING_ENABLE")
+        };
         let _ = state.want_kicks(true, server, memory); // a thread says it before it sleeps
         state.is_enabled = enabled;
         drop(state);
@@ -331,9 +331,10 @@ impl Ring {
         Ok(())
     }
 
-    /// Takes the next chain, if one waits.
+    /// Takes the next chain, if one waits. With new numbers none is taken until those in flight are
+    /// returned, by the old.
     fn take(&self, state: &mut State, server: &mut impl Server, memory: &Arc<Table>) -> Looked {
-        if !state.is_live() {
+        if !state.is_live() || (state.is_new && state.queue.out() > 0) {
             return Looked::Idle;
         }
         let begun = if state.is_new { state.begin(self.threads) } else { Ok(()) };
@@ -359,8 +360,8 @@ impl Ring {
         }
     }
 
-    /// What comes while the chain that was taken is answered is for a thread that sleeps, and else for this one. If the driver can't be told so, a
-    /// thread that sleeps goes on to try.
+    /// What comes while the chain that was taken is answered is for a thread that sleeps, and else
+    /// for this one. If the driver can't be told so, a thread that sleeps goes on to try.
     fn hand_on(&self, state: &mut State, server: &mut impl Server, memory: &Arc<Table>) {
         let is_for_another = state.sleeping > 0;
         let told = state.want_kicks(is_for_another, server, memory);
@@ -379,28 +380,34 @@ impl Ring {
                 let _ = state.begin(self.threads); // so none is out
             }
         }
-        if state.held > 0 {
+        if state.is_held || state.is_awaited {
             self.changed.notify_all();
         }
     }
 
-    /// Serves chains until none waits. A chain that comes while kicks aren't wanted is met by the look after they are.
-    fn serve_all(&self, server: &mut impl Server, memory: &impl Fn() -> Arc<Table>) -> Looked {
+    /// Serves chains until none waits. A chain that comes while kicks aren't wanted is met by the
+    /// look after they are.
+    fn serve_all(&self, server: &mut impl Server, memory: &impl Fn() -> Arc<Table>, doing: &Doing) -> Looked {
         let mut state = self.lock();
         state.sleeping -= 1;
         loop {
-            state = self.wait_while(state, |state| state.held > 0);
-            // The memory is asked for under the lock: whoever changes it takes the lock afterwards.
+            state = self.wait_while(state, |state| state.is_held);
+            // The memory is asked for under the lock: whoever changes it has the lock meanwhile.
             let table = memory();
             let looked = self.take(&mut state, server, &table);
+            if looked == Looked::Taken {
+                state.taken += 1;
+                doing.begin(state.taken);
+            }
             if state.is_awaited {
                 self.changed.notify_all();
             }
             if looked == Looked::Taken {
                 self.hand_on(&mut state, server, &table);
                 drop(state);
-                server.answer();
+                server.answer(doing);
                 state = self.lock();
+                doing.end();
                 self.give_back(&mut state, server);
                 continue;
             }
@@ -417,17 +424,21 @@ impl Ring {
         }
     }
 
-    /// What each of the ring's threads does; it ends with the process. It begins with a look: another that began before and has a chain may have
-    /// said that kicks aren't wanted, since none slept.
+    /// What each of the ring's threads does; it ends with the process. It begins with a look:
+    /// another that began before and has a chain may have said that kicks aren't wanted, since none
+    /// slept.
     pub fn run(&self, server: &mut impl Server, memory: impl Fn() -> Arc<Table>) {
-        self.lock().sleeping += 1;
+        let mut state = self.lock();
+        (state.sleeping, state.served_by) = (state.sleeping + 1, state.served_by + 1);
+        let doing = &self.doing[state.served_by - 1]; // at most `threads` run
+        drop(state);
         let mut wait = 0;
         loop {
             if let Err(e) = self.wait(wait) {
                 error!("queue {} isn't served any more: {e}", self.index);
                 return;
             }
-            wait = if self.serve_all(server, &memory) == Looked::Again { AGAIN_MILLISECONDS } else { -1 };
+            wait = if self.serve_all(server, &memory, doing) == Looked::Again { AGAIN_MILLISECONDS } else { -1 };
         }
     }
 }
@@ -439,6 +450,7 @@ mod tests {
     use std::os::fd::FromRawFd;
     use std::sync::mpsc::{channel, Sender};
     use std::thread;
+    use std::time::Duration;
 
     fn event() -> File {
         // SAFETY: no memory is touched.
@@ -461,7 +473,7 @@ mod tests {
             Ok(false)
         }
 
-        fn answer(&mut self) {}
+        fn answer(&mut self, _doing: &Doing) {}
 
         fn give_back(&mut self, _queue: &mut Queue) -> Result<bool, Status> {
             Ok(false)
@@ -482,9 +494,9 @@ mod tests {
     fn what_could_not_be_said_of_kicks_is_said_again() {
         let (ring, memory, mut server) = (Ring::new(0, 1).expect("a ring"), Arc::new(Table::default()), Failing(1));
         *ring.lock() = State { is_started: true, is_enabled: true, sleeping: 1, ..State::default() };
-        assert_eq!(ring.serve_all(&mut server, &|| memory.clone()), Looked::Again);
+        assert_eq!(ring.serve_all(&mut server, &|| memory.clone(), &Doing::default()), Looked::Again);
         assert_eq!(ring.lock().told, None);
-        assert_eq!(ring.serve_all(&mut server, &|| memory.clone()), Looked::Idle);
+        assert_eq!(ring.serve_all(&mut server, &|| memory.clone(), &Doing::default()), Looked::Idle);
         assert_eq!(ring.lock().told, Some((true, 0)));
     }
 
@@ -497,7 +509,7 @@ mod tests {
             Ok(false)
         }
 
-        fn answer(&mut self) {}
+        fn answer(&mut self, _doing: &Doing) {}
 
         fn give_back(&mut self, _queue: &mut Queue) -> Result<bool, Status> {
             Ok(false)
@@ -520,13 +532,13 @@ mod tests {
     fn an_interrupt_waits_for_its_place() {
         let (ring, event) = (Ring::new(0, 1).expect("a ring"), event());
         let call = || Some(event.try_clone().expect("a descriptor"));
-        ring.state().notify();
+        ring.lock().notify();
         ring.set_call(None);
         ring.set_call(call());
         assert!(is_called(&event));
         ring.set_call(call()); // nothing is owed any more
         assert!(!is_called(&event));
-        ring.state().notify();
+        ring.lock().notify();
         assert!(is_called(&event));
     }
 }

@@ -1,12 +1,17 @@
-//! What the queues' threads and the front-end's share, and what a queue's thread serves chains with.
+//! What the queues' threads and the front-end's share, and what a queue's thread serves chains
+//! with.
 use crate::adapter::Adapter;
+use crate::in_flight::Doing;
 use crate::memory::Table;
-use crate::ring::{Ring, Server};
+use crate::open_flags::{Descriptors, OpenFlags};
+use crate::ring::{Ring, Server, LAST_CHAINS};
 use log::{debug, error};
 use pitskhomu::{Queue, Status};
 use std::io;
 use std::panic::{catch_unwind, AssertUnwindSafe};
 use std::sync::{Arc, PoisonError, RwLock};
+use std::thread;
+use std::time::{Duration, Instant};
 use virtiofsd::filesystem::{FileSystem, SerializableFileSystem};
 
 /// The file system's side, as all that is done here wants it.
@@ -21,18 +26,38 @@ pub struct Core<F> {
     pub device: pitskhomu::Device,
     /// The high-priority queue, and behind it the request queues.
     pub rings: Vec<Ring>,
+    /// Which flags of the guest's hold on the host.
+    pub flags: OpenFlags,
+    /// The daemon's own descriptors.
+    pub descriptors: Descriptors,
     memory: RwLock<Arc<Table>>,
 }
 
+/// What a core is made with.
+pub struct Parts<F> {
+    /// virtiofsd's file system.
+    pub fs: F,
+    /// How many request queues there are.
+    pub request_queues: usize,
+    /// How many threads serve each.
+    pub threads: u16,
+    /// Which flags of the guest's hold on the host.
+    pub flags: OpenFlags,
+    /// The daemon's own descriptors.
+    pub descriptors: Descriptors,
+}
+
 impl<F: Served> Core<F> {
-    /// A device without memory whose rings aren't started. Each request queue is served by so many threads.
-    pub fn new(fs: F, request_queues: usize, threads: u16) -> io::Result<Core<F>> {
+    /// A device without memory whose rings aren't started. Each request queue is served by so many
+    /// threads.
+    pub fn new(parts: Parts<F>) -> io::Result<Core<F>> {
+        let Parts { fs, request_queues, threads, flags, descriptors } = parts;
         if pitskhomu::version() != pitskhomu::VERSION {
             return Err(io::Error::other("the archive is of another version than the wrapper"));
         }
         let ring = |index| Ring::new(index, if index == 0 { 1 } else { threads });
         let rings = (0..=request_queues).map(ring).collect::<io::Result<_>>()?;
-        Ok(Core { fs, device: pitskhomu::Device::default(), rings, memory: RwLock::default() })
+        Ok(Core { fs, device: pitskhomu::Device::default(), rings, flags, descriptors, memory: RwLock::default() })
     }
 
     /// The memory as it is.
@@ -40,16 +65,30 @@ impl<F: Served> Core<F> {
         self.memory.read().unwrap_or_else(PoisonError::into_inner).clone()
     }
 
-    /// Has another memory from here on, and waits for the chains that are out over the old one.
+    /// Has another memory from here on. Chains in flight go on over the one that they were taken
+    /// from, and return over it. A ring that only one of the two has the parts of has none in
+    /// flight then.
     pub fn set_memory(&self, table: Table) {
-        *self.memory.write().unwrap_or_else(PoisonError::into_inner) = Arc::new(table);
-        self.wait_for_chains();
+        let (old, new) = (self.memory(), Arc::new(table));
+        let (agree, differ): (Vec<&Ring>, Vec<&Ring>) = self.rings.iter().partition(|ring| ring.agrees_on(&old, &new));
+        let quiet: Vec<_> = differ.iter().map(|ring| ring.quiet("a memory without the queue's parts")).collect();
+        let locked: Vec<_> = agree.iter().map(|ring| ring.lock()).collect();
+        *self.memory.write().unwrap_or_else(PoisonError::into_inner) = new;
+        drop((quiet, locked));
     }
 
-    /// Returns when no chain is out that was out before.
+    /// Waits until no chain is in flight, for a connection that has ended: for a few seconds, since
+    /// a request may never end.
     pub fn wait_for_chains(&self) {
+        let end = Instant::now() + LAST_CHAINS;
         for ring in &self.rings {
-            drop(ring.state());
+            while ring.has_in_flight() {
+                if Instant::now() > end {
+                    ring.say_what_is_awaited("the end of the daemon no longer");
+                    break;
+                }
+                thread::sleep(Duration::from_millis(5));
+            }
         }
     }
 
@@ -67,7 +106,8 @@ pub struct Bench<F> {
     worker: pitskhomu::Worker,
     /// The number of the memory whose regions the worker was told.
     told: Option<u64>,
-    /// The memory that the chain is out over; held no longer, so that what the front-end takes back isn't mapped any more.
+    /// The memory that the chain is out over; held no longer, so that what the front-end takes back
+    /// isn't mapped any more.
     memory: Option<Arc<Table>>,
 }
 
@@ -105,9 +145,9 @@ impl<F: Served> Server for Bench<F> {
     }
 
     /// What a guest makes the file system panic at is answered EIO, and costs it no more.
-    fn answer(&mut self) {
+    fn answer(&mut self, doing: &Doing) {
         let (core, Some(memory)) = (&self.core, &self.memory) else { return };
-        let adapter = Adapter { fs: &core.fs, memory };
+        let adapter = Adapter { fs: &core.fs, memory, doing, flags: core.flags };
         let mut answer = || self.worker.answer(&core.device, &adapter, &**memory);
         let answered = catch_unwind(AssertUnwindSafe(&mut answer)).or_else(|_| {
             debug!("queue {}: a call panicked, and is answered EIO", self.index); // start::log tells the panic

@@ -23,11 +23,12 @@ pub struct Socket {
     pub number: Option<File>,
 }
 
-fn group_number(name: &str) -> io::Result<u32> {
-    let name = CString::new(name)?;
+fn group_number(name: &str) -> Result<u32, String> {
+    let unknown = || String::from("Couldn't resolve the group name specified for the socket path");
+    let name = CString::new(name).map_err(|_| unknown())?;
     // SAFETY: the name is a C string, and nothing else runs yet that asks for groups.
     let group = unsafe { libc::getgrnam(name.as_ptr()).as_ref() };
-    group.map(|group| group.gr_gid).ok_or_else(|| io::Error::other("there is no such group"))
+    group.map(|group| group.gr_gid).ok_or_else(unknown)
 }
 
 /// Whether the file could be locked. A daemon that is ending holds its lock for a moment yet.
@@ -42,16 +43,12 @@ fn lock(file: &File) -> bool {
 }
 
 /// Locks `PATH.pid`, so that no second daemon takes the socket of one that runs, and writes the daemon's number there.
-fn number_file(socket: &Path) -> io::Result<File> {
-    let mut path = socket.as_os_str().to_owned();
-    path.push(".pid");
-    let path = PathBuf::from(path);
+fn number_file(path: &Path) -> io::Result<File> {
     let mut options = OpenOptions::new();
     options.write(true).create(true).truncate(false).mode(0o644).custom_flags(libc::O_NOFOLLOW);
-    let mut file = options.open(&path)?;
+    let mut file = options.open(path)?;
     if !lock(&file) {
-        let why = format!("a daemon runs that has locked {}", path.display());
-        return Err(io::Error::new(io::ErrorKind::AddrInUse, why));
+        return Err(io::Error::new(io::ErrorKind::AddrInUse, "a daemon runs that has locked it"));
     }
     file.set_len(0)?;
     writeln!(file, "{}", std::process::id())?;
@@ -59,11 +56,10 @@ fn number_file(socket: &Path) -> io::Result<File> {
 }
 
 /// Binds the socket in place of one that is left there.
-fn bind(path: &Path, group: Option<&str>) -> io::Result<UnixListener> {
+fn bind(path: &Path, group: Option<u32>) -> io::Result<UnixListener> {
     if fs::symlink_metadata(path).is_ok_and(|metadata| metadata.file_type().is_socket()) {
         fs::remove_file(path)?;
     }
-    let group = group.map(group_number).transpose()?;
     // Nobody else connects before the group is set.
     // SAFETY: no memory is touched, and nothing else runs yet.
     let umask = unsafe { libc::umask(0o077) };
@@ -78,21 +74,34 @@ fn bind(path: &Path, group: Option<&str>) -> io::Result<UnixListener> {
 }
 
 impl Socket {
-    /// Makes the socket, or takes the one that is handed in. Once it stands there, a front-end may connect.
-    pub fn open(options: &Options) -> io::Result<Socket> {
-        let (listener, number) = match (&options.socket_path, options.fd) {
-            (Some(path), _) => {
-                let number = number_file(path)?;
-                (bind(path, options.socket_group.as_deref())?, Some(number))
-            }
+    /// Makes the socket, or takes the one that is handed in. Once it is there, a front-end may connect. Errors are in words.
+    pub fn open(options: &Options) -> Result<Socket, String> {
+        let path = options.socket_path.as_ref().or(options.socket.as_ref());
+        let (listener, number) = match (path, options.fd) {
+            (Some(path), _) => Socket::made(path, options.socket_group.as_deref())?,
             // SAFETY: whoever started the daemon handed the descriptor in, for this one use.
             (None, Some(fd)) => (unsafe { UnixListener::from_raw_fd(fd) }, None),
-            (None, None) => return Err(io::Error::other("neither --socket-path nor --fd")),
+            (None, None) => return Err("neither --socket-path nor --fd".into()),
         };
         // Whoever made it may want no waiting.
-        listener.set_nonblocking(false)?;
+        listener.set_nonblocking(false).map_err(|e| format!("Error creating listener: {e}"))?;
         // Crate vhost's own would remove the path when it is dropped, which in the sandbox is a path of the guest's.
         // SAFETY: the descriptor is open, and is given up here.
         Ok(Socket { listener: unsafe { Listener::from_raw_fd(listener.into_raw_fd()) }, number })
+    }
+
+    fn made(path: &Path, group: Option<&str>) -> Result<(UnixListener, Option<File>), String> {
+        let folder = path.parent().ok_or("Invalid socket file name")?;
+        if !folder.as_os_str().is_empty() && !folder.is_dir() {
+            return Err(format!("{} does not exist or is not a directory", folder.display()));
+        }
+        let mut number_path = path.as_os_str().to_owned();
+        number_path.push(".pid");
+        let number_path = PathBuf::from(number_path);
+        let number = number_file(&number_path)
+            .map_err(|e| format!("Error creating pid file '{}': {e}", number_path.display()))?;
+        let group = group.map(group_number).transpose()?;
+        let listener = bind(path, group).map_err(|e| format!("Error creating listener: {e}"))?;
+        Ok((listener, Some(number)))
     }
 }

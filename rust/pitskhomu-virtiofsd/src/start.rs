@@ -1,14 +1,18 @@
 //! From options to a served directory.
 use crate::capabilities;
 use crate::front_end::FrontEnd;
-use crate::options::{Handles, Options};
-use crate::serve::{Bench, Core, Served};
+use crate::open_flags::{Descriptors, OpenFlags};
+use crate::options::Options;
+use crate::serve::{Bench, Core, Parts, Served};
 use crate::socket::Socket;
 use crate::state;
 use log::{debug, error, info, warn};
+use std::env;
 use std::error::Error;
 use std::fs::File;
+use std::io;
 use std::panic::PanicHookInfo;
+use std::path::Path;
 use std::sync::atomic::{AtomicU32, Ordering};
 use std::sync::{Arc, Mutex};
 use std::thread;
@@ -18,17 +22,21 @@ use vhost::vhost_user::{BackendListener, BackendReqHandler, Error as FrontEndErr
 use virtiofsd::limits::setup_rlimit_nofile;
 use virtiofsd::passthrough::read_only::PassthroughFsRo;
 use virtiofsd::passthrough::{CachePolicy, Config, PassthroughFs};
-use virtiofsd::sandbox::Sandbox;
+use virtiofsd::sandbox::{self, Sandbox};
 use virtiofsd::seccomp::enable_seccomp;
 
 /// What goes wrong before the directory is served.
 type Failure = Box<dyn Error>;
 
 /// Descriptors that aren't the guest's: memory, rings, a migration, virtiofsd's own for a while.
-const OWN_DESCRIPTORS: u64 = 512;
+/// Each thread opens one before it counts it.
+const OWN_DESCRIPTORS: u64 = 609;
+/// With fewer for the guest there is a warning.
+const FEW_DESCRIPTORS: u64 = 128;
 const DAY: Duration = Duration::from_secs(24 * 60 * 60);
 
-/// So many panics are told: a guest that finds one may have it as often as it likes, and is to fill no log.
+/// So many panics are told: a guest that finds one may have it as often as it likes, and is to fill
+/// no log.
 const PANICS_TOLD: u32 = 100;
 
 fn tell_panic(panic: &PanicHookInfo<'_>) {
@@ -40,7 +48,8 @@ fn tell_panic(panic: &PanicHookInfo<'_>) {
     }
 }
 
-/// Has messages go where the options say, a panic's too: a backtrace would want system calls that the filter refuses.
+/// Has messages go where the options say, a panic's too: a backtrace would want system calls that
+/// the filter refuses.
 pub fn log(options: &Options) -> Result<(), Failure> {
     std::panic::set_hook(Box::new(tell_panic));
     if options.syslog {
@@ -49,7 +58,12 @@ pub fn log(options: &Options) -> Result<(), Failure> {
         log::set_boxed_logger(Box::new(BasicLogger::new(syslog::unix(format)?)))?;
         log::set_max_level(options.messages());
     } else {
-        env_logger::Builder::new().filter_level(options.messages()).try_init()?;
+        let mut logger = env_logger::Builder::new();
+        match env::var("RUST_LOG") {
+            Ok(filters) => logger.parse_filters(&filters),
+            Err(_) => logger.filter_level(options.messages()),
+        };
+        logger.try_init()?;
     }
     Ok(())
 }
@@ -59,8 +73,8 @@ extern "C" fn end(_signal: libc::c_int) {
     unsafe { libc::_exit(0) }
 }
 
-/// A page of lent memory isn't there any more (or the host's own is faulty): no thread can go on that looks at it, and whoever lent it
-/// is the only one that is served.
+/// A page of lent memory isn't there any more (or the host's own is faulty): no thread can go on
+/// that looks at it, and whoever lent it is the only one that is served.
 extern "C" fn end_for_lost_memory(_signal: libc::c_int) {
     const WHY: &[u8] =
         b"pitskhomu-virtiofsd: memory that the front-end lent is gone (SIGBUS), so nothing more can be served\n";
@@ -71,8 +85,9 @@ extern "C" fn end_for_lost_memory(_signal: libc::c_int) {
     }
 }
 
-/// As the first process of its namespace the daemon would be deaf to the first three signals without a handler. A guest that writes more than
-/// a file may have (RLIMIT_FSIZE) is answered EFBIG.
+/// As the first process of its namespace the daemon would be deaf to the first three signals
+/// without a handler. A guest that writes more than a file may have (RLIMIT_FSIZE) is answered
+/// EFBIG.
 fn handle_signals() {
     let end = end as *const () as libc::sighandler_t;
     let lost = end_for_lost_memory as *const () as libc::sighandler_t;
@@ -92,16 +107,16 @@ fn timeout(cache: &CachePolicy) -> Duration {
     }
 }
 
-fn config(options: Options, sandbox: &mut Sandbox, descriptors: u64) -> Config {
+fn config(options: Options, sandbox: &mut Sandbox, proc_self_fd: Option<File>, guest_descriptors: u64) -> Config {
     let timeout = timeout(&options.cache);
     Config {
         entry_timeout: timeout,
         attr_timeout: timeout,
         root_dir: sandbox.get_root_dir(),
         mountinfo_prefix: sandbox.get_mountinfo_prefix(),
-        proc_sfd_rawfd: sandbox.get_proc_self_fd(),
+        proc_sfd_rawfd: proc_self_fd,
         proc_mountinfo_rawfd: sandbox.get_mountinfo_fd(),
-        guest_fd_limit: descriptors.saturating_sub(OWN_DESCRIPTORS).max(descriptors / 2),
+        guest_fd_limit: guest_descriptors,
         writeback: options.writeback,
         xattr: options.has_xattr(),
         xattrmap: options.xattrmap,
@@ -123,27 +138,91 @@ fn config(options: Options, sandbox: &mut Sandbox, descriptors: u64) -> Config {
     }
 }
 
+/// How many descriptors the guest may have.
+fn guest_descriptors(options: &Options) -> Result<u64, Failure> {
+    let limit = setup_rlimit_nofile(options.rlimit_nofile)
+        .map_err(|why| format!("Error increasing number of open files: {why}"))?;
+    let threads = u64::from(options.thread_pool_size.max(1)) * u64::from(options.num_request_queues);
+    let own = OWN_DESCRIPTORS + threads;
+    let left = limit.checked_sub(own).ok_or_else(|| {
+        format!("Maximum number of file descriptors too small: Limit is {limit}, must be at least {own}")
+    })?;
+    if left < FEW_DESCRIPTORS {
+        warn!("File descriptor count limit is very small, leaving only {left} file descriptors for the guest");
+    }
+    Ok(left)
+}
+
+/// The error of a step of the sandbox, in words.
+fn sandbox_error(e: sandbox::Error) -> String {
+    use sandbox::Error::*;
+    let (step, e) = match e {
+        BindMountProcSelfFd(e) => ("bind /proc/self/fd", e),
+        ChdirOldRoot(e) | ChdirNewRoot(e) => ("change the directory", e),
+        Chroot(e) | ChrootChdir(e) => ("change the root directory", e),
+        CleanMount(e) => ("make the mounts private", e),
+        CreateTempDir(e) => ("make a directory for a while", e),
+        DropSupplementalGroups(e) | GetSupplementalGroups(e) => ("give up groups", e),
+        Fork(e) => ("fork", e),
+        BindMountSharedDir(e) | MountBind(e) | MountTarget(e) | MountNewRoot(e) => ("mount the shared directory", e),
+        MountOldRoot(e) | UmountOldRoot(e) | OpenOldRoot(e) => ("leave the old root directory", e),
+        MountProc(e) => ("mount /proc", e),
+        OpenMountinfo(e) => ("open /proc/self/mountinfo", e),
+        OpenNewRoot(e) => ("open the shared directory", e),
+        OpenProcSelf(e) => ("open /proc/self", e),
+        OpenProcSelfFd(e) => ("open /proc/self/fd", e),
+        PivotRoot(e) => ("make the shared directory the root", e),
+        RmdirTempDir(e) | UmountTempDir(e) => ("remove a directory of a while", e),
+        Unshare(e) => ("make namespaces", e),
+        WriteSetGroups(e) => ("write /proc/self/setgroups", e),
+        in_words => return in_words.to_string(),
+    };
+    format!("can't {step}: {e}")
+}
+
+fn no_file_system(e: io::Error) -> String {
+    format!("Failed to create internal filesystem representation: {e}")
+}
+
 /// Does all that these options say, and returns when the front-end is gone.
 pub fn run(mut options: Options) -> Result<(), Failure> {
     handle_signals();
-    let descriptors = setup_rlimit_nofile(options.rlimit_nofile).map_err(|why| format!("--rlimit-nofile: {why}"))?;
-    let shared_dir = options.shared_dir.take().ok_or("--shared-dir is wanted")?;
-    let (uid_map, gid_map) = (std::mem::take(&mut options.uid_map), std::mem::take(&mut options.gid_map));
-    let directory = |e| format!("--shared-dir {shared_dir}: {e}");
-    let mut sandbox = Sandbox::new(shared_dir.clone(), options.sandbox, uid_map, gid_map).map_err(directory)?;
-    let scratch = state::scratch()?;
-    let Socket { listener, number: _number } = Socket::open(&options).map_err(|e| format!("the socket: {e}"))?;
-    info!("waits for a front-end");
-    let listener = sandbox.enter(listener).map_err(|e| format!("the sandbox: {e}"))?;
-
-    let serving = Serving::new(&mut options, listener, scratch);
-    let readonly = options.readonly;
-    let config = config(options, &mut sandbox, descriptors);
-    if readonly {
-        serving.serve(PassthroughFsRo::new(config)?)
-    } else {
-        serving.serve(PassthroughFs::new(config)?)
+    let shared_dir = options.shared_dir.take().ok_or("missing \"--shared-dir\" or \"-o source\" option")?;
+    if !Path::new(&shared_dir).is_dir() && !Path::new(&shared_dir).is_file() {
+        return Err(format!("{shared_dir} does not exist").into());
     }
+    options.warnings().iter().for_each(|warning| warn!("{warning}"));
+    if let Some((last, before)) = options.contradictions().split_last() {
+        before.iter().for_each(|why| error!("{why}"));
+        return Err((*last).into());
+    }
+    let capabilities = capabilities::Changes::new(&options)?;
+    let guest_descriptors = guest_descriptors(&options)?;
+    let (uid_map, gid_map) = (std::mem::take(&mut options.uid_map), std::mem::take(&mut options.gid_map));
+    let sandboxed = Sandbox::new(shared_dir, options.sandbox, uid_map, gid_map);
+    let mut sandbox = sandboxed.map_err(|e| format!("Error creating sandbox: {e}"))?;
+    let scratch = state::scratch()?;
+    let Socket { listener, number: _number } = Socket::open(&options)?;
+    let listener = sandbox.enter(listener).map_err(|e| format!("Error entering sandbox: {}", sandbox_error(e)))?;
+
+    let proc_self_fd = sandbox.get_proc_self_fd();
+    let descriptors = Descriptors::new(proc_self_fd.as_ref()).map_err(|e| format!("/proc/self/fd: {e}"))?;
+
+    let serving = Serving::new(&mut options, listener, Kept { capabilities, scratch, descriptors });
+    let readonly = options.readonly;
+    let config = config(options, &mut sandbox, proc_self_fd, guest_descriptors);
+    if readonly {
+        serving.serve(PassthroughFsRo::new(config).map_err(no_file_system)?)
+    } else {
+        serving.serve(PassthroughFs::new(config).map_err(no_file_system)?)
+    }
+}
+
+/// What was made before the sandbox was entered, or as it was.
+struct Kept {
+    capabilities: capabilities::Changes,
+    scratch: File,
+    descriptors: Descriptors,
 }
 
 /// What is left of the options once there is a file system.
@@ -153,30 +232,38 @@ struct Serving {
     tag: Option<String>,
     request_queues: usize,
     threads: u16,
-    capabilities: crate::options::CapabilityChanges,
-    handles: Handles,
+    capabilities: capabilities::Changes,
     seccomp: crate::options::Seccomp,
     syslog: bool,
+    flags: OpenFlags,
+    descriptors: Descriptors,
 }
 
 impl Serving {
-    fn new(options: &mut Options, listener: Listener, scratch: File) -> Serving {
+    fn new(options: &mut Options, listener: Listener, kept: Kept) -> Serving {
+        let Kept { capabilities, scratch, descriptors } = kept;
         Serving {
             listener,
             scratch,
             tag: options.tag.take(),
             request_queues: options.num_request_queues.into(),
             threads: options.thread_pool_size.max(1),
-            capabilities: options.modcaps.take().unwrap_or_default(),
-            handles: options.inode_file_handles,
+            capabilities,
             seccomp: options.seccomp,
             syslog: options.syslog,
+            flags: OpenFlags {
+                allow_direct_io: options.allow_direct_io,
+                preserve_noatime: options.preserve_noatime,
+                writeback: options.writeback,
+            },
+            descriptors,
         }
     }
 
     fn serve<F: Served>(self, fs: F) -> Result<(), Failure> {
-        let core = Arc::new(Core::new(fs, self.request_queues, self.threads)?);
-        capabilities::give_up(&self.capabilities, self.handles)?;
+        let Serving { request_queues, threads, flags, descriptors, .. } = self;
+        let core = Arc::new(Core::new(Parts { fs, request_queues, threads, flags, descriptors })?);
+        capabilities::give_up(&self.capabilities)?;
         if let Some(action) = self.seccomp.action() {
             enable_seccomp(action, self.syslog)?; // threads have it from this one
         }
@@ -187,15 +274,17 @@ impl Serving {
         }
         let front_end = Arc::new(Mutex::new(FrontEnd::new(core.clone(), self.tag, self.scratch)));
         let mut listener = BackendListener::new(self.listener, front_end)?;
+        info!("Waiting for vhost-user socket connection...");
         let handler = loop {
             if let Some(handler) = listener.accept()? {
                 break handler;
             }
         };
         drop(listener); // a second front-end is turned away
+        info!("Client connected, servicing requests");
         let ended = answer(handler);
         core.wait_for_chains();
-        info!("the front-end is gone");
+        info!("Client disconnected, shutting down");
         ended
     }
 }
@@ -206,7 +295,7 @@ fn start_thread<F: Served>(core: Arc<Core<F>>, index: usize) -> Result<(), Failu
         // virtiofsd changes a thread's working directory for extended attributes.
         // SAFETY: no memory is touched.
         if unsafe { libc::unshare(libc::CLONE_FS) } != 0 {
-            error!("queue {index} isn't served: unshare(CLONE_FS): {}", std::io::Error::last_os_error());
+            error!("queue {index} isn't served: unshare(CLONE_FS): {}", io::Error::last_os_error());
             return;
         }
         core.rings[index].run(&mut bench, || core.memory());

@@ -1,9 +1,13 @@
-//! The device's state on its way to another host: virtiofsd's own, and behind it the library's record (options, positions):
+//! The device's state on its way to another host: virtiofsd's own, and behind it the library's
+//! record (options, positions):
 //!
 //!     virtiofsd's bytes (postcard) | record | its length (4 bytes, little-endian) | MARK
 //!
-//! virtiofsd's reader takes what it knows and leaves the rest, so a plain virtiofsd goes on from this; and where no mark ends the
-//! bytes, they are a plain virtiofsd's: then no options are known, as none are there.
+//! virtiofsd's reader takes what it knows and leaves the rest, so a plain virtiofsd goes on from
+//! this. Its first byte, the version of the state, is written in two: postcard's numbers may be
+//! longer than need be, and virtiofsd writes none so. A state that begins so is ours, and is taken
+//! only if it ends with the mark: so none that was cut short is. One that begins otherwise and has
+//! no mark is a plain virtiofsd's: then no options are known, as none are there.
 use crate::serve::{Core, Served};
 use pitskhomu as p;
 use std::fs::File;
@@ -12,10 +16,13 @@ use std::os::fd::FromRawFd;
 use virtiofsd::filesystem::SerializableFileSystem;
 
 const MARK: &[u8; 8] = b"pitskhmu";
+/// A byte of a number in postcard that isn't its last has this bit.
+const GOES_ON: u8 = 0x80;
 /// No state is longer; one that is would fill the host's memory.
 const STATE_MAX: u64 = 1 << 30;
 
-/// A file in memory, to be made before seccomp forbids it: virtiofsd's reader wants a file that ends where its bytes end.
+/// A file in memory, to be made before seccomp forbids it: virtiofsd's reader wants a file that
+/// ends where its bytes end.
 pub fn scratch() -> io::Result<File> {
     // SAFETY: the name is a C string.
     let fd = unsafe { libc::memfd_create(c"pitskhomu-state".as_ptr(), libc::MFD_CLOEXEC) };
@@ -26,16 +33,33 @@ pub fn scratch() -> io::Result<File> {
     Ok(unsafe { File::from_raw_fd(fd) })
 }
 
-/// Sends the state of a core whose rings stand.
-pub fn save<F: Served>(core: &Core<F>, pipe: File) -> io::Result<()> {
-    // A ring that was never begun has no numbers to save.
-    let queues = core.rings.iter().map(|ring| ring.state().queue_if_begun());
-    send(&core.fs, &core.device, &queues.flatten().collect::<Vec<_>>(), pipe)
+fn invalid(why: &str) -> io::Error {
+    io::Error::new(io::ErrorKind::InvalidData, why)
 }
 
-fn send(fs: &impl SerializableFileSystem, device: &p::Device, queues: &[p::Queue], mut pipe: File) -> io::Result<()> {
-    fs.serialize(pipe.try_clone()?)?;
-    // A record has a queue at least; a device none of whose queues was ever used has no options either.
+/// Sends the state of a core whose rings stand.
+pub fn save<F: Served>(core: &Core<F>, scratch: &File, pipe: File) -> io::Result<()> {
+    // A ring that was never begun has no numbers to save.
+    let queues = core.rings.iter().map(|ring| ring.lock().queue_if_begun());
+    send(&core.fs, &core.device, &queues.flatten().collect::<Vec<_>>(), scratch, pipe)
+}
+
+fn send(
+    fs: &impl SerializableFileSystem,
+    device: &p::Device,
+    queues: &[p::Queue],
+    scratch: &File,
+    mut pipe: File,
+) -> io::Result<()> {
+    let state = over(scratch, |file| fs.serialize(file), Scratch::Read)?;
+    let (version, rest) = state
+        .split_first()
+        .filter(|(version, _)| **version < GOES_ON)
+        .ok_or_else(|| invalid("virtiofsd's state has another form than that of 1.13.2"))?;
+    pipe.write_all(&[version | GOES_ON, 0])?;
+    pipe.write_all(rest)?;
+    // A record has a queue at least; a device none of whose queues was ever used has no options
+    // either.
     let mut record = if queues.is_empty() { Vec::new() } else { device.save(queues)? };
     record.extend((record.len() as u32).to_le_bytes());
     record.extend(MARK);
@@ -44,26 +68,58 @@ fn send(fs: &impl SerializableFileSystem, device: &p::Device, queues: &[p::Queue
 
 /// Takes a state over, from a daemon as this one or from virtiofsd.
 pub fn load<F: Served>(core: &Core<F>, scratch: &File, pipe: File) -> io::Result<()> {
-    receive(&core.fs, &core.device, scratch, pipe)
+    let before = core.descriptors.open()?;
+    receive(&core.fs, &core.device, scratch, pipe)?;
+    core.descriptors.mend_since(&before, core.flags) // virtiofsd's own has the flags that the guest asked for
 }
 
-/// A state in its two parts: virtiofsd's own, and the library's record, if it has one.
-fn split(bytes: &[u8]) -> io::Result<(&[u8], Option<&[u8]>)> {
-    let Some(rest) = bytes.strip_suffix(MARK) else { return Ok((bytes, None)) };
-    let cut = || io::Error::new(io::ErrorKind::InvalidData, "the device's record is cut short");
-    let (rest, len) = rest.split_last_chunk::<4>().ok_or_else(cut)?;
+/// A state in its two parts: virtiofsd's own, as it wrote it, and the library's record, if it has
+/// one.
+fn split(mut bytes: Vec<u8>) -> io::Result<(Vec<u8>, Option<Vec<u8>>)> {
+    let cut = || invalid("the state is cut short");
+    let version = *bytes.first().ok_or_else(cut)?;
+    let is_ours = version & GOES_ON != 0;
+    if bytes.strip_suffix(MARK).is_none() {
+        return if is_ours { Err(cut()) } else { Ok((bytes, None)) };
+    }
+    let (rest, len) = bytes[..bytes.len() - MARK.len()].split_last_chunk::<4>().ok_or_else(cut)?;
     let at = rest.len().checked_sub(u32::from_le_bytes(*len) as usize).ok_or_else(cut)?;
-    Ok((&rest[..at], Some(&rest[at..])))
+    let record = rest[at..].to_vec();
+    bytes.truncate(at);
+    if is_ours {
+        if bytes.get(1) != Some(&0) {
+            return Err(cut());
+        }
+        bytes[0] = version & !GOES_ON;
+        bytes.remove(1);
+    }
+    Ok((bytes, Some(record)))
 }
 
-/// Hands bytes to virtiofsd's reader, which wants a file that ends where they end.
-fn apply(fs: &impl SerializableFileSystem, mut scratch: &File, bytes: &[u8]) -> io::Result<()> {
+/// Which way bytes go by a file in memory.
+enum Scratch<'b> {
+    /// The file is handed out empty, and read.
+    Read,
+    /// The file is handed out with these bytes, and ends where they end.
+    Write(&'b [u8]),
+}
+
+/// Hands a file in memory to virtiofsd, and empties it afterwards.
+fn over(mut scratch: &File, call: impl FnOnce(File) -> io::Result<()>, way: Scratch<'_>) -> io::Result<Vec<u8>> {
+    let mut bytes = Vec::new();
     scratch.set_len(0)?;
     scratch.rewind()?;
-    scratch.write_all(bytes)?;
-    scratch.rewind()?;
-    fs.deserialize_and_apply(scratch.try_clone()?)?;
-    scratch.set_len(0)
+    if let Scratch::Write(bytes) = way {
+        scratch.write_all(bytes)?;
+        scratch.rewind()?;
+    }
+    call(scratch.try_clone()?)?;
+    if let Scratch::Read = way {
+        scratch.rewind()?;
+        scratch.read_to_end(&mut bytes)?;
+    }
+    scratch.set_len(0)?;
+    Ok(bytes)
 }
 
 fn receive(fs: &impl SerializableFileSystem, device: &p::Device, scratch: &File, pipe: File) -> io::Result<()> {
@@ -71,13 +127,13 @@ fn receive(fs: &impl SerializableFileSystem, device: &p::Device, scratch: &File,
     if pipe.take(STATE_MAX + 1).read_to_end(&mut bytes)? as u64 > STATE_MAX {
         return Err(io::Error::other("the state is longer than any"));
     }
-    let (state, record) = split(&bytes)?;
-    apply(fs, scratch, state)?;
+    let (state, record) = split(bytes)?;
+    over(scratch, |file| fs.deserialize_and_apply(file), Scratch::Write(&state))?;
     device.set_options(p::Options::empty());
     match record {
         // Positions come by SET_VRING_BASE; those of the record aren't wanted.
         Some(record) if !record.is_empty() => {
-            device.restore(record)?;
+            device.restore(&record)?;
         }
         Some(_) => {}
         None => {
@@ -117,22 +173,51 @@ mod tests {
 
     #[test]
     fn goes_and_comes() {
-        let (source, device) = (Fs(Mutex::new(b"virtiofsd's".to_vec())), p::Device::default());
+        let (source, device) = (Fs(Mutex::new(b"\x01virtiofsd's".to_vec())), p::Device::default());
         let layout = p::QueueLayout { size: 64, descriptors: 0x10000, available: 0x11000, used: 0x12000 };
+        let room = scratch().unwrap();
         for queues in [vec![], vec![p::Queue::new(layout, 7)]] {
             let pipe = scratch().unwrap();
-            send(&source, &device, &queues, pipe.try_clone().unwrap()).unwrap();
+            send(&source, &device, &queues, &room, pipe.try_clone().unwrap()).unwrap();
             let sent = bytes(&pipe);
-            assert!(sent.starts_with(b"virtiofsd's") && sent.ends_with(MARK));
-            let (target, room) = (Fs(Mutex::default()), scratch().unwrap());
+            assert!(sent.starts_with(b"\x81\0virtiofsd's") && sent.ends_with(MARK));
+            let target = Fs(Mutex::default());
             receive(&target, &device, &room, file(&sent)).unwrap();
-            assert_eq!(*target.0.lock().unwrap(), b"virtiofsd's");
+            assert_eq!(*target.0.lock().unwrap(), b"\x01virtiofsd's");
             for cut in 0..sent.len() {
-                // What is cut short has no mark, and is taken for a plain virtiofsd's: its reader judges it.
-                receive(&target, &device, &room, file(&sent[..cut])).unwrap();
-                assert_eq!(*target.0.lock().unwrap(), sent[..cut]);
+                assert!(receive(&target, &device, &room, file(&sent[..cut])).is_err(), "{cut}");
             }
+            assert_eq!(*target.0.lock().unwrap(), b"\x01virtiofsd's"); // none of them was handed on
         }
+    }
+
+    #[test]
+    fn a_plain_virtiofsds_comes() {
+        let (target, room, device) = (Fs(Mutex::default()), scratch().unwrap(), p::Device::default());
+        receive(&target, &device, &room, file(b"\x01virtiofsd's")).unwrap();
+        assert_eq!(*target.0.lock().unwrap(), b"\x01virtiofsd's");
+    }
+
+    /// virtiofsd's own reader takes a version in two bytes.
+    #[test]
+    fn virtiofsds_reader_takes_ours() {
+        use virtiofsd::filesystem::FileSystem as _;
+        use virtiofsd::passthrough::{Config, PassthroughFs};
+        let root_dir = std::env::temp_dir().join(format!("pitskhomu-state-{}", std::process::id()));
+        std::fs::create_dir_all(&root_dir).unwrap();
+        let fs = || {
+            let root_dir = root_dir.to_str().unwrap().into();
+            let fs = PassthroughFs::new(Config { root_dir, ..Config::default() }).unwrap();
+            fs.init(virtiofsd::fuse::FsOptions::empty()).unwrap();
+            fs
+        };
+        let (source, target, room, pipe) = (fs(), fs(), scratch().unwrap(), scratch().unwrap());
+        source.prepare_serialization(std::sync::Arc::default());
+        send(&source, &p::Device::default(), &[], &room, pipe.try_clone().unwrap()).unwrap();
+        let sent = bytes(&pipe);
+        assert!(sent.len() > MARK.len() + 6 && sent[..2] == [0x81, 0], "{:x?}", &sent[..2]);
+        target.deserialize_and_apply(file(&sent)).unwrap();
+        std::fs::remove_dir_all(&root_dir).unwrap();
     }
 
     #[test]

@@ -150,6 +150,22 @@ comes_to() {
     [ "$(kilobytes)" "$1" "$2" ]
 }
 
+# Memory comes while one file takes long to open, and files are read meanwhile.
+scenario_slow() {
+    echo online_movable > /sys/devices/system/memory/auto_online_blocks
+    mount_it
+    cat /mnt/work/slow > /tmp/slow &
+    slow=$!
+    sleep 1
+    echo READY
+    comes_to -gt 400000 && echo "PLUGGED in"
+    kill -0 $slow && echo "STILL SLOW"
+    echo PLUGGED
+    wait $slow
+    echo "SLOW $(cat /tmp/slow)"
+    run umount /mnt
+}
+
 # The host plugs memory in meanwhile, the guest reads into it, and the host takes it out again.
 scenario_hotplug() {
     echo online_movable > /sys/devices/system/memory/auto_online_blocks
@@ -294,6 +310,7 @@ scenario_migrate() {
     mkdir -p /mnt/work/moved
     exec 7> /mnt/work/moved/held
     echo before >&7
+    flags /mnt/work/moved /mnt/work/over &
     (
         i=0
         while [ ! -e /mnt/work/over ]; do

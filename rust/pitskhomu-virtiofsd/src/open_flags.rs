@@ -1,0 +1,153 @@
+//! The flags that the guest's files are opened with on the host. virtiofsd changes some at OPEN,
+//! fewer at CREATE, and puts the guest's own into the state that it sends to another host, which
+//! opens the files by these. So they are changed before it sees them, and set right on files that
+//! came with a state of a daemon that didn't do so.
+use std::collections::BTreeSet;
+use std::fs::File;
+use std::io;
+use std::os::fd::{AsRawFd, FromRawFd, IntoRawFd, RawFd};
+
+/// Which of the guest's flags don't hold on the host.
+#[derive(Debug, Clone, Copy, Default)]
+pub struct OpenFlags {
+    /// O_DIRECT holds.
+    pub allow_direct_io: bool,
+    /// O_NOATIME holds.
+    pub preserve_noatime: bool,
+    /// The guest's kernel may read what the guest opened for writing alone: a page that it writes a
+    /// part of.
+    pub writeback: bool,
+}
+
+impl OpenFlags {
+    /// Status flags that the host's file isn't to have. O_APPEND never: the guest's kernel has it
+    /// with each write, and a mapped page, or a write after F_SETFL, has an offset of its own.
+    fn dropped(self) -> i32 {
+        let mut dropped = libc::O_APPEND;
+        if !self.allow_direct_io {
+            dropped |= libc::O_DIRECT;
+        }
+        if !self.preserve_noatime {
+            dropped |= libc::O_NOATIME;
+        }
+        dropped
+    }
+
+    /// The flags for the host, for what the guest opens or creates with these.
+    pub fn for_host(self, flags: u32) -> u32 {
+        let flags = flags as i32;
+        let is_for_writing = flags & libc::O_ACCMODE == libc::O_WRONLY && flags & libc::O_PATH == 0;
+        let access = if self.writeback && is_for_writing { libc::O_WRONLY ^ libc::O_RDWR } else { 0 };
+        ((flags ^ access) & !self.dropped()) as u32
+    }
+
+    /// Takes flags that don't hold off a file that is open already. Which access it has can't be
+    /// changed.
+    fn mend(self, fd: RawFd) -> io::Result<()> {
+        // SAFETY: no memory is touched; of a descriptor that was closed meanwhile nothing is
+        // changed.
+        let flags = unsafe { libc::fcntl(fd, libc::F_GETFL) };
+        if flags < 0 || flags & libc::O_PATH != 0 || flags & self.dropped() == 0 {
+            return Ok(());
+        }
+        // SAFETY: as above.
+        match unsafe { libc::fcntl(fd, libc::F_SETFL, flags & !self.dropped()) } {
+            0 => Ok(()),
+            _ => Err(io::Error::last_os_error()),
+        }
+    }
+}
+
+/// The daemon's own descriptors, by `/proc/self/fd`.
+#[derive(Debug)]
+pub struct Descriptors(File);
+
+impl Descriptors {
+    /// By a descriptor of that directory, or by its path where it can be reached.
+    pub fn new(directory: Option<&File>) -> io::Result<Descriptors> {
+        directory.map_or_else(|| File::open("/proc/self/fd"), File::try_clone).map(Descriptors)
+    }
+
+    /// Those that are open now.
+    pub fn open(&self) -> io::Result<BTreeSet<RawFd>> {
+        let flags = libc::O_RDONLY | libc::O_DIRECTORY | libc::O_CLOEXEC;
+        // SAFETY: the name is a C string.
+        let fd = unsafe { libc::openat(self.0.as_raw_fd(), c".".as_ptr(), flags) };
+        if fd < 0 {
+            return Err(io::Error::last_os_error());
+        }
+        // SAFETY: the descriptor is new, and nobody else's.
+        let directory = unsafe { File::from_raw_fd(fd) };
+        // SAFETY: it is given up here, and closed with the stream.
+        let stream = unsafe { libc::fdopendir(directory.into_raw_fd()) };
+        if stream.is_null() {
+            return Err(io::Error::last_os_error());
+        }
+        let mut open = BTreeSet::new();
+        // SAFETY: the stream is open, and each name is a C string until the next is read.
+        while let Some(entry) = unsafe { libc::readdir(stream).as_ref() } {
+            let name = unsafe { std::ffi::CStr::from_ptr(entry.d_name.as_ptr()) };
+            open.extend(name.to_str().ok().and_then(|name| name.parse::<RawFd>().ok()));
+        }
+        // SAFETY: it is closed once.
+        unsafe { libc::closedir(stream) };
+        open.remove(&fd);
+        Ok(open)
+    }
+
+    /// Takes flags that don't hold off the files that were opened since.
+    pub fn mend_since(&self, before: &BTreeSet<RawFd>, flags: OpenFlags) -> io::Result<()> {
+        self.open()?.difference(before).try_for_each(|fd| flags.mend(*fd))
+    }
+}
+
+#[cfg(test)]
+mod tests {
+    use super::*;
+    use std::io::{Read, Seek, Write};
+    use std::os::unix::fs::OpenOptionsExt;
+
+    fn flags(flags: i32, set: OpenFlags) -> i32 {
+        set.for_host(flags as u32) as i32
+    }
+
+    #[test]
+    fn flags_of_the_guest_that_do_not_hold() {
+        let (usual, all) =
+            (OpenFlags::default(), OpenFlags { allow_direct_io: true, preserve_noatime: true, writeback: true });
+        let asked = libc::O_APPEND | libc::O_DIRECT | libc::O_NOATIME | libc::O_SYNC | libc::O_TRUNC | libc::O_CREAT;
+        for access in [libc::O_RDONLY, libc::O_WRONLY, libc::O_RDWR] {
+            assert_eq!(flags(asked | access, usual), libc::O_SYNC | libc::O_TRUNC | libc::O_CREAT | access);
+        }
+        let kept = asked & !libc::O_APPEND;
+        assert_eq!(flags(asked | libc::O_WRONLY, all), kept | libc::O_RDWR);
+        assert_eq!(flags(asked | libc::O_RDONLY, all), kept);
+        assert_eq!(flags(asked | libc::O_RDWR, all), kept | libc::O_RDWR);
+        assert_eq!(flags(libc::O_PATH | libc::O_WRONLY, all), libc::O_PATH | libc::O_WRONLY);
+    }
+
+    #[test]
+    fn files_that_came_raw_are_set_right() {
+        let path = std::env::temp_dir().join(format!("pitskhomu-flags-{}", std::process::id()));
+        let open = || {
+            let mut options = std::fs::OpenOptions::new();
+            options.read(true).append(true).create(true).custom_flags(libc::O_NONBLOCK).open(&path).expect("a file")
+        };
+        let descriptors = Descriptors::new(None).expect("/proc/self/fd");
+        let mut old = open();
+        let before = descriptors.open().expect("descriptors");
+        assert!(before.contains(&old.as_raw_fd()));
+        let mut new = open();
+        // Other tests open files meanwhile: none of theirs has such a flag.
+        descriptors.mend_since(&before, OpenFlags::default()).expect("mended");
+        let flags_of = |file: &File| unsafe { libc::fcntl(file.as_raw_fd(), libc::F_GETFL) };
+        assert_eq!(flags_of(&old) & libc::O_APPEND, libc::O_APPEND);
+        assert_eq!(flags_of(&new) & (libc::O_APPEND | libc::O_NONBLOCK), libc::O_NONBLOCK);
+        old.write_all(b"abc").expect("appended");
+        new.write_all(b"X").expect("written where it stands");
+        let mut text = String::new();
+        new.rewind().and_then(|()| new.read_to_string(&mut text)).expect("text");
+        assert_eq!(text, "Xbc");
+        std::fs::remove_file(&path).expect("removed");
+    }
+}

@@ -1,0 +1,128 @@
+//! The values of options, with virtiofsd's words for those that are wrong.
+use std::str::FromStr;
+use virtiofsd::passthrough::xattrmap::XattrMap;
+use virtiofsd::passthrough::InodeFileHandlesMode;
+use virtiofsd::seccomp::SeccompAction;
+use virtiofsd::vhost_user::MAX_TAG_LEN;
+
+/// When inodes are held by handles rather than by open descriptors.
+#[derive(Debug, Clone, Copy, PartialEq, Eq)]
+pub enum Handles {
+    /// By descriptors.
+    Never,
+    /// The same as `Prefer`, by its old name.
+    Fallback,
+    /// By handles where the host's file system has them.
+    Prefer,
+    /// By handles alone.
+    Mandatory,
+}
+
+impl FromStr for Handles {
+    type Err = &'static str;
+    fn from_str(text: &str) -> Result<Handles, &'static str> {
+        match text {
+            "never" => Ok(Handles::Never),
+            "fallback" => Ok(Handles::Fallback),
+            "prefer" => Ok(Handles::Prefer),
+            "mandatory" => Ok(Handles::Mandatory),
+            _ => Err("invalid inode file handles mode"),
+        }
+    }
+}
+
+impl From<Handles> for InodeFileHandlesMode {
+    fn from(handles: Handles) -> InodeFileHandlesMode {
+        match handles {
+            Handles::Never => InodeFileHandlesMode::Never,
+            Handles::Fallback | Handles::Prefer => InodeFileHandlesMode::Prefer,
+            Handles::Mandatory => InodeFileHandlesMode::Mandatory,
+        }
+    }
+}
+
+/// What becomes of a system call that the daemon has no use for.
+#[derive(Debug, Clone, Copy, PartialEq, Eq)]
+pub enum Seccomp {
+    /// It is let through: there is no filter.
+    None,
+    /// The daemon is killed.
+    Kill,
+    /// It is let through and logged.
+    Log,
+    /// The daemon gets SIGSYS.
+    Trap,
+}
+
+impl FromStr for Seccomp {
+    type Err = &'static str;
+    fn from_str(text: &str) -> Result<Seccomp, &'static str> {
+        match text {
+            "none" => Ok(Seccomp::None),
+            "kill" => Ok(Seccomp::Kill),
+            "log" => Ok(Seccomp::Log),
+            "trap" => Ok(Seccomp::Trap),
+            _ => Err("Matching variant not found"),
+        }
+    }
+}
+
+impl Seccomp {
+    /// The filter's action, if there is a filter.
+    pub fn action(self) -> Option<SeccompAction> {
+        match self {
+            Seccomp::None => None,
+            Seccomp::Kill => Some(SeccompAction::Kill),
+            Seccomp::Log => Some(SeccompAction::Log),
+            Seccomp::Trap => Some(SeccompAction::Trap),
+        }
+    }
+}
+
+/// A capability that is kept or given up against the habit.
+#[derive(Debug, Clone, PartialEq, Eq)]
+pub struct CapabilityChange {
+    /// Its name, without `cap_`.
+    pub name: String,
+    /// Whether it is kept.
+    pub keep: bool,
+}
+
+/// `+sys_admin:-chown`.
+#[derive(Debug, Clone, Default, PartialEq, Eq)]
+pub struct CapabilityChanges(pub Vec<CapabilityChange>);
+
+impl FromStr for CapabilityChanges {
+    type Err = String;
+    fn from_str(text: &str) -> Result<Self, String> {
+        text.split(':').map(change).collect::<Result<_, _>>().map(CapabilityChanges)
+    }
+}
+
+fn change(word: &str) -> Result<CapabilityChange, String> {
+    let mut rest = word.chars();
+    let keep = match rest.next() {
+        None => return Err("empty modcap found: expected (+|-)capability:...".into()),
+        Some('+') => true,
+        Some('-') => false,
+        Some(other) => return Err(format!("invalid modcap action: expecting '+'|'-' but found '{other}'")),
+    };
+    let name = rest.as_str().to_uppercase();
+    match capng::name_to_capability(&name) {
+        Ok(_) => Ok(CapabilityChange { name: name.to_lowercase(), keep }),
+        Err(e) => Err(format!("invalid capability '{name}': {e}")),
+    }
+}
+
+/// A tag that front-ends may ask for.
+pub fn tag(text: &str) -> Result<String, String> {
+    match text.len() {
+        1..=MAX_TAG_LEN => Ok(text.into()),
+        _ => Err(virtiofsd::vhost_user::Error::InvalidTag.to_string()),
+    }
+}
+
+/// Rules for names of extended attributes.
+pub fn xattr_map(text: &str) -> Result<XattrMap, String> {
+    XattrMap::try_from(text).map_err(|e| e.to_string())
+}
