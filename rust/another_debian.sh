@@ -17,7 +17,8 @@ make_apt() {
     [ -n "$debian" ] || fail "no archive of Debian's is known: set DEBIAN to its address"
     mkdir -p "$folder"/apt/{lists/partial,cache/archives/partial}
     : > "$folder/apt/status"
-    echo "deb [arch=amd64 signed-by=/usr/share/keyrings/debian-archive-keyring.gpg] $debian $suite main" > "$folder/apt/sources"
+    echo "deb [arch=amd64 signed-by=/usr/share/keyrings/debian-archive-keyring.gpg]" \
+        "$debian $suite main" > "$folder/apt/sources"
     cat > "$folder/apt/config" << END
 Dir::Etc::SourceList "$folder/apt/sources";
 Dir::Etc::SourceParts "/dev/null";

@@ -7,11 +7,11 @@
  *
  * <!-- examples/c/sketch.c: static uint32_t ask, static uint32_t answer, static uint32_t serve_request, static uint32_t give_back, static uint32_t serve -->
  * ```
- * static uint32_t ask(const struct pk_step *step, struct pk_call *call) {
+ * static uint32_t ask(const struct pk_pop *pop, struct pk_call *call) {
  *     size_t have = 0, want = step->request_len < PK_FIRST ? (size_t)step->request_len : PK_FIRST;
  *     for (;;) {
  *         gather(request, have, want);
- *         uint32_t s = pk_ask(&chain, &device, request, have = want, call);
+ *         uint32_t s = pk_decode(&chain, &device, request, have = want, call);
  *         if (s != PK_MORE) return s;
  *         want = call->needed;
  *     }
@@ -30,7 +30,7 @@
  *     }
  * }
  *
- * static uint32_t serve_request(const struct pk_step *step) {
+ * static uint32_t serve_request(const struct pk_pop *pop) {
  *     struct pk_call call;
  *     uint32_t s = ask(step, &call);
  *     if (s != PK_DONE) return s;
@@ -42,7 +42,7 @@
  *     uint8_t front[PK_FRONT_MAX], wanted;
  *     struct pk_stores out;
  *     uint16_t seen;
- *     uint32_t s = pk_return(&chain, &queue, front, sizeof front, &out);
+ *     uint32_t s = pk_push(&chain, &queue, front, sizeof front, &out);
  *     if (s != PK_DONE) return s;
  *     scatter(front, out.front_len);
  *     memcpy((void *)out.id_at, &out.id, 4);
@@ -50,7 +50,7 @@
  *     atomic_store_explicit((_Atomic uint16_t *)out.index_at, out.index, memory_order_release);
  *     atomic_thread_fence(memory_order_seq_cst);
  *     load(&seen, out.seen_at, 2);
- *     s = pk_returned(&chain, &queue, seen, &wanted);
+ *     s = pk_pushed(&chain, &queue, seen, &wanted);
  *     *notify = *notify || wanted;
  *     return s;
  * }
@@ -59,8 +59,8 @@
  *     uint8_t bytes[PK_LOAD_MAX];
  *     uint32_t s;
  *     for (;;) {
- *         struct pk_step step = {0}; // a walk begins without bytes
- *         while ((s = pk_walk(&chain, &queue, bytes, step.len, &step)) == PK_LOAD) load(bytes, step.at, step.len);
+ *         struct pk_pop step = {0}; // a walk begins without bytes
+ *         while ((s = pk_pop(&chain, &queue, bytes, step.load_len, &step)) == PK_LOAD) load(bytes, step.load_at, step.load_len);
  *         if (s != PK_DONE) return s;
  *         if (step.fault == 0 && (s = serve_request(&step)) != PK_DONE) return s; // a faulty chain goes back without a reply
  *         if ((s = give_back(notify)) != PK_DONE) return s;
@@ -78,14 +78,14 @@
  * WHAT IS PROVED. Each function, whenever its arguments are what their types say, returns, doesn't panic, reads and writes only what it is
  * lent, and does what its contract in the crate fs_chain_c says, in the terms of the crate fs_chain: the load that is asked for, the
  * call that a request means, the reply that an answer gives, the stores of a return. Of a chain from its walk to its return fs_chain's law_chains says more,
- * and of several chains that are out at once the laws of fs_live: over the same regions each store of pk_return has a place then (law_runs,
+ * and of several chains that are out at once the laws of fs_live: over the same regions each store of pk_push has a place then (law_runs,
  * of runs without pk_drop and pk_reply_bytes).
  * The bytes of a span are the name, the value or the pairs (law_spans of fs_chain_c).
  * TRIED ALONE is this: that pk_chain_free frees all; a chain whose calls several threads make; whether PK_OUT_OF_MEMORY (of
  * pk_restore PK_RECORD_OUT_OF_MEMORY) or an error behind it comes, if both may; and what is written out here in C.
  *
  * THREADS. What a call takes as const may be read by several calls at a time; what it takes otherwise is that call's alone. So a
- * thread with a chain and a queue of its own needs no lock but round `device`: many pk_ask, or one pk_reply_init. The library keeps nothing of a thread's: a chain
+ * thread with a chain and a queue of its own needs no lock but round `device`: many pk_decode, or one pk_reply_init. The library keeps nothing of a thread's: a chain
  * may go from thread to thread between calls, with the order that a lock or a join gives.
  *
  * WHAT THE MONITOR OWES, since nobody checks C. A call in a wrong order, of another kind, or for another queue is refused by a number
@@ -95,32 +95,32 @@
  *  3. A load of 2 bytes is one atomic load that acquires (the available index: what it covers is read after it).
  *  4. Order of a return: data over the room, the front over its begin, the element's two halves, then the index by one atomic store
  *     of 2 bytes that releases; a full barrier (atomic_thread_fence(memory_order_seq_cst)); then the load of 2 bytes at `seen_at`.
- *  5. Windows are used until pk_returned, pk_drop or pk_abandon, and only those that were told: stores go to the room's alone.
+ *  5. Windows are used until pk_pushed, pk_drop or pk_abandon, and only those that were told: stores go to the room's alone.
  *  6. Memory stays mapped while a chain is out over it, and all chains of a queue go over the same regions: change these while none is walked or out. A page
- *     is marked in a migration's log after the store and before pk_returned; that of pk_ask_kicks's store after it, under the same lock. Mark what you wrote, and
+ *     is marked in a migration's log after the store and before pk_pushed; that of pk_ask_kicks's store after it, under the same lock. Mark what you wrote, and
  *     not what the reply counts: data that you put into the room before pk_reply_err, or more than you told pk_reply_data, stands there too.
  *  7. One call at a time on a chain, on a queue, on a device that isn't const; each with the thread's order in between.
- *  8. A queue begins anew by pk_queue_begin (or pk_restore), on the struct that it has: pk_walk, pk_return and pk_returned refuse its walks and chains from then
- *     on, and pk_drop its chains. pk_ask and the replies don't take it: let pk_abandon free each chain before. No load, store or file call of yours for them goes
+ *  8. A queue begins anew by pk_queue_begin (or pk_restore), on the struct that it has: pk_pop, pk_push and pk_pushed refuse its walks and chains from then
+ *     on, and pk_drop its chains. pk_decode and the replies don't take it: let pk_abandon free each chain before. No load, store or file call of yours for them goes
  *     on by then; an answer that comes later is refused: PK_WRONG_ORDER while no call waits, PK_OTHER_CALL once another does.
  *  9. A chain that was asked is answered: with nothing else to say, by pk_reply_err(EIO), or with silence by pk_reply_bytes(0). It can't be dropped.
  * 10. malloc, realloc and free are of one allocator, aligned as C says. No call from a signal handler, nor after fork in the child
  *     of a process with threads.
  *
- * SEVERAL CHAINS out of a queue, as many as its `most_out`, each by a `struct pk_chain` of its own. A queue's calls are one at a time: a lock is held from the
- * first pk_walk to PK_DONE, from pk_return to pk_returned, and from pk_ask_kicks (though the queue is const there) through its store and its barrier to the end
+ * SEVERAL CHAINS out of a queue, as many as its `max_in_flight`, each by a `struct pk_chain` of its own. A queue's calls are one at a time: a lock is held from the
+ * first pk_pop to PK_DONE, from pk_push to pk_pushed, and from pk_set_notification (though the queue is const there) through its store and its barrier to the end
  * of the walk behind it. A walk between whose calls another chain is taken is refused (PK_OTHER_QUEUE): drop it, and begin again. Chains go back in any order.
  * A thread that takes a chain while another thread of the queue sleeps looks once more before it
  * releases the lock, with event_index and without it:
- *   a. It calls pk_ask_kicks(.., 1), makes the store and the barrier. With event_index the driver
+ *   a. It calls pk_set_notification(.., 1), makes the store and the barrier. With event_index the driver
  *      notifies at the stored position alone, so the store is made again behind each chain. Without
- *      event_index the store may be left out if the queue's last store was that of pk_ask_kicks(.., 1).
+ *      event_index the store may be left out if the queue's last store was that of pk_set_notification(.., 1).
  *   b. It loads the available index again, behind the barrier. An index that was loaded before may
  *      show that a chain is available, but never that none is.
  *   c. If a chain is available, it wakes a thread, or walks on itself.
  * The driver notifies once for several chains that it publishes together. So without this look two
  * chains can be available after one notification: one thread takes the first, and the other sleeps on.
- * The driver doesn't notify again for a chain that was available while most_out were out, nor for one
+ * The driver doesn't notify again for a chain that was available while max_in_flight were out, nor for one
  * that was dropped. So a thread that returns or drops a chain walks once more, or wakes a thread.
  *
  * FEATURES of VIRTIO 1.2 that may be offered: VERSION_1 (32, insist on it), INDIRECT_DESC (28), EVENT_IDX (29, with `event_index` set), and IN_ORDER (35), if
@@ -129,7 +129,7 @@
  * WHAT MAY COME without a change to your loops: an IOMMU (a status that names a missing address is added). Fields are added at a struct's end: begin with zeros.
  *
  * ERRORS. A call answers an enum pk_status. Below 32 it is a refusal of the queue's that stops it (but 1 and 9); 32 to 63 say how
- * to go on; from 64 on nothing was done, and what was there before is there still, unless the function says otherwise (PK_NO_PLACE). "Errors" below are in the order in
+ * to go on; from 64 on nothing was done, and what was there before is there still, unless the function says otherwise (PK_NOT_MAPPED). "Errors" below are in the order in
  * which they are looked for. Link with libfs_chain_c.a and the toolchain's file for the heap.
  */
 #ifndef PITSKHOMU_CHAIN_H
@@ -168,7 +168,7 @@ extern "C" {
 
 /* ---------------------------------------------------------------- numbers */
 
-#define PK_VERSION 7u          /* of this header; pk_version() is the archive's */
+#define PK_VERSION 8u          /* of this header; pk_version() is the archive's */
 #define PK_REGIONS_MAX 64u     /* regions of the guest's memory */
 #define PK_QUEUES_MAX 64u      /* queues in a record */
 #define PK_LOAD_MAX 4096u      /* no load of a walk is longer: 2 bytes of a ring, or 16 for each of some entries of a table, or parts of these */
@@ -209,11 +209,11 @@ enum pk_status {
     PK_OTHER_QUEUE = 74,            /* the chain isn't out of this queue, or its walk isn't of this one; or the queue was begun anew since. Of a walk also: another
                                        chain was taken or dropped since it began */
     PK_OTHER_KIND = 75,             /* the call wants an answer of another kind (`answer` of the call) */
-    PK_CHAIN_OUT = 76,              /* the queue has as many chains out as it may (most_out), or the chain is walked or out; of pk_save: one is out */
-    PK_NO_PLACE = 77,               /* what is to be loaded or stored has no place. The walk found that it has, and regions don't change while a
-                                       chain is walked or out: so pk_walk (proved: law_handles of fs_live) and pk_return don't tell this. pk_ask_kicks
+    PK_CHAIN_IN_FLIGHT = 76,              /* the queue has as many chains out as it may (max_in_flight), or the chain is walked or out; of pk_save: one is out */
+    PK_NOT_MAPPED = 77,               /* what is to be loaded or stored has no place. The walk found that it has, and regions don't change while a
+                                       chain is walked or out: so pk_pop (proved: law_handles of fs_live) and pk_push don't tell this. pk_set_notification
                                        tells it of a ring that no walk has found to have its place */
-    PK_RETURNING = 78,              /* another chain of the queue is between pk_return and pk_returned */
+    PK_PUSHING = 78,              /* another chain of the queue is between pk_push and pk_pushed */
     PK_OTHER_CALL = 79,             /* the answer has another ticket than the chain: it comes late, to a call that is gone */
     PK_RECORD_TRUNCATED = 81,       /* 81 to 90: nothing goes on from the record */
     PK_RECORD_BAD_MAGIC = 82,
@@ -257,7 +257,7 @@ enum pk_request_fault {
  * calls that make a node; else both are 0xffffffff. */
 enum pk_call_kind {
     PK_CALL_NONE = 0,         /* none is made: the reply is known already (of locks, BMAP, IOCTL, POLL, NOTIFY_REPLY and
-                                 TMPFILE it is ENOSYS), or there is none. Go on with pk_return */
+                                 TMPFILE it is ENOSYS), or there is none. Go on with pk_push */
     PK_CALL_LOOKUP = 1,       /* name */
     PK_CALL_FORGET = 2,       /* count: the guest holds node so many times less */
     PK_CALL_GETATTR = 3,      /* handle, if has_handle */
@@ -302,7 +302,7 @@ enum pk_call_kind {
 /* The kinds of good answer, and the function that gives it. Each call may also have pk_reply_err, but FORGET's; DESTROY's
  * with no error alone. */
 enum pk_answer_kind {
-    PK_ANSWER_NONE = 0,     /* none: make the call if there is one, then pk_return */
+    PK_ANSWER_NONE = 0,     /* none: make the call if there is one, then pk_push */
     PK_ANSWER_DONE = 1,     /* pk_reply_err(.., 0) */
     PK_ANSWER_ENTRY = 2,    /* pk_reply_entry */
     PK_ANSWER_ATTR = 3,     /* pk_reply_attr */
@@ -326,11 +326,11 @@ static inline const char *pk_status_name(uint32_t status) {
     PK_NAME(PK_RING_ENTRY_UNREACHABLE); PK_NAME(PK_HEAD_OUT_OF_TABLE); PK_NAME(PK_USED_UNREACHABLE);
     PK_NAME(PK_AVAIL_FLAGS_UNREACHABLE); PK_NAME(PK_DESCRIPTOR_UNREACHABLE); PK_NAME(PK_OUT_OF_MEMORY); PK_NAME(PK_LOAD);
     PK_NAME(PK_IDLE); PK_NAME(PK_MORE); PK_NAME(PK_NO_ROOM); PK_NAME(PK_FULL); PK_NAME(PK_LIST_FAILS); PK_NAME(PK_ENTRIES);
-    PK_NAME(PK_BAD_ARGUMENT); PK_NAME(PK_NO_PLACE); PK_NAME(PK_RECORD_TRUNCATED); PK_NAME(PK_RECORD_BAD_MAGIC);
+    PK_NAME(PK_BAD_ARGUMENT); PK_NAME(PK_NOT_MAPPED); PK_NAME(PK_RECORD_TRUNCATED); PK_NAME(PK_RECORD_BAD_MAGIC);
     PK_NAME(PK_RECORD_BAD_VERSION); PK_NAME(PK_RECORD_BAD_COUNT); PK_NAME(PK_RECORD_BAD_RESERVED);
     PK_NAME(PK_RECORD_BAD_QUEUE); PK_NAME(PK_RECORD_BAD_OPTIONS); PK_NAME(PK_RECORD_OUT_OF_MEMORY); PK_NAME(PK_RECORD_MISMATCH);
     PK_NAME(PK_SHORT_BUFFER); PK_NAME(PK_LONG_REPLY); PK_NAME(PK_WRONG_ORDER); PK_NAME(PK_OTHER_QUEUE);
-    PK_NAME(PK_OTHER_KIND); PK_NAME(PK_CHAIN_OUT); PK_NAME(PK_RETURNING); PK_NAME(PK_OTHER_CALL);
+    PK_NAME(PK_OTHER_KIND); PK_NAME(PK_CHAIN_IN_FLIGHT); PK_NAME(PK_PUSHING); PK_NAME(PK_OTHER_CALL);
     default: return "";
     }
 }
@@ -386,28 +386,28 @@ struct pk_device {
 };
 #define PK_DEVICE {4096u, 0x101000u, 0u}
 
-/* A queue: zeros before its first use, and never again. You set desc, avail, used, size, most_out and event_index, and begin it by pk_queue_begin; the others
+/* A queue: zeros before its first use, and never again. You set desc, avail, used, size, max_in_flight and event_index, and begin it by pk_queue_begin; the others
  * are the library's. The parts' guest addresses are aligned to 16, 2 and 4 and end below 2^64; size is a power of two up to 32768. */
 struct pk_queue {
     uint64_t desc, avail, used;
     uint16_t size;
-    uint16_t position;  /* where the next chain is taken, modulo 2^16: while none is out where the queue stands (GET_VRING_BASE) */
-    uint16_t returned;  /* where the next chain goes back. So position - returned chains are out, modulo 2^16 */
-    uint16_t most_out;  /* how many may be: 1 to size; 0 counts as 1 */
+    uint16_t next_avail;  /* where the next chain is pop_count, modulo 2^16: while none is out where the queue stands (GET_VRING_BASE) */
+    uint16_t next_used;  /* where the next chain goes back. So next_avail - next_used chains are out, modulo 2^16 */
+    uint16_t max_in_flight;  /* how many may be: 1 to size; 0 counts as 1 */
     uint16_t stopped;   /* the refusal (2 to 8) that stopped it, 1 if a record tells that one did, or 0 */
-    uint8_t returning;  /* 1 from pk_return to pk_returned, else 0 */
+    uint8_t pushing;  /* 1 from pk_push to pk_pushed, else 0 */
     uint8_t event_index; /* 1 if VIRTIO_F_EVENT_IDX was agreed on, else 0. With 1 a walk is refused as it begins where used_event (7) or avail_event (6) has
                             no place */
-    uint32_t begun;     /* how often it was begun anew, modulo 2^32. By parts and this number alone a queue is known, and a guest may give two the same parts:
+    uint32_t reset_count;     /* how often it was reset_count anew, modulo 2^32. By parts and this number alone a queue is known, and a guest may give two the same parts:
                            let each of yours count from a number of its own, as its index times 2^24, which you set before its first use */
-    uint32_t taken;     /* how often a chain was taken or dropped, modulo 2^32 */
+    uint32_t pop_count;     /* how often a chain was pop_count or dropped, modulo 2^32 */
 };
 
-/* Begins a queue at a position (SET_VRING_BASE, 0 after a reset), by the parts that you set: no chain is out of it, and it isn't stopped. pk_walk, pk_return,
- * pk_returned and pk_drop refuse what it had from then on (PK_OTHER_QUEUE; rule 8), unless it is begun anew 2^32 times. Make the store of pk_ask_kicks(.., 1)
+/* Begins a queue at a position (SET_VRING_BASE, 0 after a reset), by the parts that you set: no chain is out of it, and it isn't stopped. pk_pop, pk_push,
+ * pk_pushed and pk_drop refuse what it had from then on (PK_OTHER_QUEUE; rule 8), unless it is begun anew 2^32 times. Make the store of pk_set_notification(.., 1)
  * then, and its barrier: without event_index a device of before may have left the used flag by which the driver doesn't kick (with it the driver looks at avail_event).
  * Errors: PK_BAD_ARGUMENT (the numbers that you set are no queue's); then nothing is done. */
-uint32_t pk_queue_begin(struct pk_queue *queue, uint16_t position) PK_CHECK PK_NONNULL;
+uint32_t pk_queue_begin(struct pk_queue *queue, uint16_t next_avail) PK_CHECK PK_NONNULL;
 
 /* Where a stretch of the guest's memory stands: `host` is the number of its first byte here, mostly (uintptr_t) of what mmap gave.
  * The core only adds to it: who keeps memory behind other numbers (offsets, the guest's own) hands in those. All three are
@@ -427,28 +427,28 @@ struct pk_chain {
 
 /* Over which memory the chain's next walks go: up to PK_REGIONS_MAX regions that don't overlap, none empty, ends up to 2^64, in any
  * order; and the device's limit. They are copied. Call it first, and after each change of the memory table, for each chain.
- * Errors: PK_BAD_ARGUMENT (the device's numbers are none, or the regions are no memory), PK_OUT_OF_MEMORY, PK_CHAIN_OUT (also if a walk has begun); then the
+ * Errors: PK_BAD_ARGUMENT (the device's numbers are none, or the regions are no memory), PK_OUT_OF_MEMORY, PK_CHAIN_IN_FLIGHT (also if a walk has begun); then the
  * regions stay as they were. */
 uint32_t pk_chain_set_memory(struct pk_chain *chain, const struct pk_device *device, const struct pk_region *regions,
                          size_t region_count) PK_CHECK PK_NONNULL PK_READS(3, 4);
 
 /* Frees what the chain holds; then it is zeros, and counts its tickets anew. Of zeros it does nothing. A chain that is out is
- * lost to its queue, which counts it as out until it is begun anew, and lets no other go back if pk_return told its stores: return it before. */
+ * lost to its queue, which counts it as out until it is begun anew, and lets no other go back if pk_push told its stores: return it before. */
 void pk_chain_free(struct pk_chain *chain) PK_NONNULL;
 
 /* Chooses the ticket of the chain's next walk: each later one is greater by 1, modulo 2^32. A new chain
  * begins at 1, so two chains may have the same ticket. Let chain k of n begin at k * (2^32 / n): then an
  * answer that is given to the wrong chain is refused (PK_OTHER_CALL, or PK_WRONG_ORDER if no call waits).
- * Errors: PK_WRONG_ORDER (no memory was set), PK_CHAIN_OUT (a chain is walked or in flight). */
-uint32_t pk_chain_number_from(struct pk_chain *chain, uint32_t first) PK_CHECK PK_NONNULL;
+ * Errors: PK_WRONG_ORDER (no memory was set), PK_CHAIN_IN_FLIGHT (a chain is walked or in flight). */
+uint32_t pk_chain_set_ticket(struct pk_chain *chain, uint32_t first) PK_CHECK PK_NONNULL;
 
 /* What a walk says: with PK_LOAD, `len` bytes at `at`, 1 to PK_LOAD_MAX; with PK_DONE, the chain. Where nothing was done, the load that a walk still wants,
  * but zeros if the queue's numbers are none. Else zeros. */
-struct pk_step {
-    uintptr_t at;
-    size_t len;
-    uint64_t request_len, room_len; /* 0 with a fault */
-    uint32_t fault;                 /* enum pk_fault. Else 0: go on with pk_ask. A faulty chain goes on with pk_return */
+struct pk_pop {
+    uintptr_t load_at;
+    size_t load_len;
+    uint64_t request_len, reply_len; /* 0 with a fault */
+    uint32_t fault;                 /* enum pk_fault. Else 0: go on with pk_decode. A faulty chain goes on with pk_push */
     uint16_t head;                  /* the number that the guest knows it by */
     uint32_t ticket;                /* that each answer brings: also in its call */
 };
@@ -469,10 +469,10 @@ struct pk_step {
  *                     again. At the beginning of a walk: `loaded` isn't empty
  *   PK_OTHER_QUEUE    the walk is of another queue, or a chain was taken or dropped since it began, or the
  *                     queue was begun again: drop or abandon the walk
- *   PK_CHAIN_OUT      as many chains are in flight as may be
- *   PK_OUT_OF_MEMORY, 1 to 8, PK_NO_PLACE, in no order
+ *   PK_CHAIN_IN_FLIGHT      as many chains are in flight as may be
+ *   PK_OUT_OF_MEMORY, 1 to 8, PK_NOT_MAPPED, in no order
  * A queue whose numbers you set without pk_queue_begin is taken as one that was begun zero times. */
-uint32_t pk_walk(struct pk_chain *chain, struct pk_queue *queue, const uint8_t *loaded, size_t loaded_len, struct pk_step *step)
+uint32_t pk_pop(struct pk_chain *chain, struct pk_queue *queue, const uint8_t *loaded, size_t loaded_len, struct pk_pop *pop)
     PK_CHECK PK_NONNULL PK_READS(3, 4) PK_FILLS(5);
 
 /* Gives a chain up that wasn't asked: free for another walk, nothing stored. The queue is told, and hands the same chain out at its next walk,
@@ -499,18 +499,18 @@ struct pk_range {
 /* The windows of the bytes from `from` on, up to `len` of them, of a chain's request or room: as many as there is place for and
  * bytes for, each as long as its descriptor and its region go on. They answer how many they filled: 0 where nothing is there, also of a chain
  * that isn't out. What they cover is the sum of their lengths; go on from there for more. Each of these two goes once through the descriptors
- * of the chain: many windows in one call take less time than in many. pk_room_ranges tells the same of the room by the
+ * of the chain: many windows in one call take less time than in many. pk_reply_ranges tells the same of the room by the
  * guest's addresses, for a log: each range as long as its descriptor goes on. */
 size_t pk_request_windows(struct pk_chain *chain, uint64_t from, uint64_t len, struct pk_window *windows, size_t window_count)
     PK_NONNULL PK_WRITES(4, 5);
-size_t pk_room_windows(struct pk_chain *chain, uint64_t from, uint64_t len, struct pk_window *windows, size_t window_count)
+size_t pk_reply_windows(struct pk_chain *chain, uint64_t from, uint64_t len, struct pk_window *windows, size_t window_count)
     PK_NONNULL PK_WRITES(4, 5);
-size_t pk_room_ranges(struct pk_chain *chain, uint64_t from, uint64_t len, struct pk_range *ranges, size_t range_count)
+size_t pk_reply_ranges(struct pk_chain *chain, uint64_t from, uint64_t len, struct pk_range *ranges, size_t range_count)
     PK_NONNULL PK_WRITES(4, 5);
 
 /* ---------------------------------------------------------------- ask */
 
-/* A place in the request's bytes, as they were handed to pk_ask. A name has no zero byte, but one stands behind it. */
+/* A place in the request's bytes, as they were handed to pk_decode. A name has no zero byte, but one stands behind it. */
 struct pk_span {
     uint32_t at, len;
 };
@@ -552,10 +552,10 @@ struct pk_call {
 /* Tells what the request asks. `request` are its first bytes: request_len or PK_FIRST of them, the lesser, and where it answers
  * PK_MORE as many as it needs (so it does if fewer came); load only the new ones, and call again with all. A buffer as long as the device's limit holds any; WRITE
  * never needs more than PK_FIRST. The library keeps no pointer, and wants the bytes no more; but `call` speaks of places in them.
- * A call whose `answer` is PK_ANSWER_NONE is answered: make it, if there is one, and go on with pk_return.
+ * A call whose `answer` is PK_ANSWER_NONE is answered: make it, if there is one, and go on with pk_push.
  * It isn't refused for want of memory. Errors: PK_WRONG_ORDER (no memory was told), PK_BAD_ARGUMENT (page size or limit are none), PK_WRONG_ORDER (no chain, a faulty one,
  * or it was asked), PK_BAD_ARGUMENT (more bytes than the request has); then `call` is zeros. */
-uint32_t pk_ask(struct pk_chain *chain, const struct pk_device *device, const uint8_t *request, size_t request_len, struct pk_call *call)
+uint32_t pk_decode(struct pk_chain *chain, const struct pk_device *device, const uint8_t *request, size_t request_len, struct pk_call *call)
     PK_CHECK PK_NONNULL PK_READS(3, 4) PK_FILLS(5);
 
 /* Pair `k`, below count, of BATCH_FORGET: node, and how many times less it is held. */
@@ -585,9 +585,9 @@ struct pk_statfs {
     uint32_t bsize, namelen, frsize; /* bytes */
 };
 
-/* All of these answer the call that pk_ask told, by its ticket, once, and touch no memory; the reply is handed out by pk_return. From chain to chain of a
+/* All of these answer the call that pk_decode told, by its ticket, once, and touch no memory; the reply is handed out by pk_push. From chain to chain of a
  * handle the ticket grows by 1, modulo 2^32: an answer that comes late, to a chain that was abandoned, is taken for no other of this
- * handle, unless 2^32 chains came between, or pk_chain_free. Another handle's chain may have the same ticket, unless pk_chain_number_from parts them. Errors, the same
+ * handle, unless 2^32 chains came between, or pk_chain_free. Another handle's chain may have the same ticket, unless pk_chain_set_ticket parts them. Errors, the same
  * for all: what stands beside each, then PK_WRONG_ORDER (nothing is asked, or it was answered), PK_OTHER_CALL, PK_OTHER_KIND; after these the call
  * waits still. PK_NO_ROOM isn't one: see there. No memory is wanted. */
 
@@ -607,7 +607,7 @@ uint32_t pk_reply_attr(struct pk_chain *chain, uint32_t ticket, const struct pk_
 uint32_t pk_reply_open(struct pk_chain *chain, uint32_t ticket, uint64_t handle, uint32_t open_flags) PK_CHECK PK_NONNULL;
 
 /* READ, READLINK, GETXATTR, LISTXATTR: `len` bytes of data stand in the room from PK_HEADER on, where you put them (preadv on
- * pk_room_windows, or a copy) or will have put them before the index is stored. Of READ no more than data_len (else PK_OTHER_KIND); of the others what has
+ * pk_reply_windows, or a copy) or will have put them before the index is stored. Of READ no more than data_len (else PK_OTHER_KIND); of the others what has
  * no room is PK_NO_ROOM. Errors after the common ones: PK_LONG_REPLY. */
 uint32_t pk_reply_data(struct pk_chain *chain, uint32_t ticket, uint64_t len) PK_CHECK PK_NONNULL;
 
@@ -657,13 +657,13 @@ uint32_t pk_reply_entries(struct pk_chain *chain, uint32_t ticket, uint64_t *len
 /* ---------------------------------------------------------------- a reply of your own bytes */
 
 /* Replies `len` bytes of your own, header and all (struct fuse_out_header of linux/fuse.h: len, error, unique; all little-endian): they stand in the room
- * from 0 on, where you put them (pk_room_windows) or will have put them before the index is stored; 0 is silence, as after FORGET. In place of pk_ask,
+ * from 0 on, where you put them (pk_reply_windows) or will have put them before the index is stored; 0 is silence, as after FORGET. In place of pk_decode,
  * for a request that the library doesn't serve: its opcode are the bytes 4 to 7 of the request, its number `unique` 8 to 15. So each chain of a queue may go
  * to a FUSE server of yours. Or in place of the answer that a call waits for; then the library has no part in what the guest is told: after LOOKUP and its
  * kin the node is held once more, after INIT device->options are yours to set; of a listing that was begun nothing is kept, and each node that
  * pk_add_direntry_plus told and your bytes don't have is yours to forget. That the header's len is `len` isn't looked at.
- * pk_return tells no front then (front_len 0), and `len` in the used element (VIRTIO 1.2, 2.7.8). No memory is wanted.
- * Errors: PK_WRONG_ORDER (no chain is out, a faulty one, or it has a reply: it was answered, or pk_ask told PK_ANSWER_NONE), PK_OTHER_CALL (`ticket` isn't the
+ * pk_push tells no front then (front_len 0), and `len` in the used element (VIRTIO 1.2, 2.7.8). No memory is wanted.
+ * Errors: PK_WRONG_ORDER (no chain is out, a faulty one, or it has a reply: it was answered, or pk_decode told PK_ANSWER_NONE), PK_OTHER_CALL (`ticket` isn't the
  * step's), PK_LONG_REPLY (more than room_len bytes of the step, or 2^32 and more); the chain waits still. */
 uint32_t pk_reply_bytes(struct pk_chain *chain, uint32_t ticket, uint64_t len) PK_CHECK PK_NONNULL;
 
@@ -678,20 +678,20 @@ struct pk_stores {
     uint16_t index;
     uintptr_t seen_at;          /* 4. after a full barrier, 2 bytes: the available flags, or used_event */
     uint64_t element_guest;     /* for a log, the guest address of the element's 8 bytes: used + 4 + 8 * (returned % size) */
-    uint64_t index_guest;       /* and of the index's 2: used + 2. pk_room_ranges tells the room's */
+    uint64_t index_guest;       /* and of the index's 2: used + 2. pk_reply_ranges tells the room's */
 };
 
-/* Says how the chain goes back: at `returned` of its queue, whichever was taken first. Until pk_returned no other chain of the queue goes back.
+/* Says how the chain goes back: at `returned` of its queue, whichever was taken first. Until pk_pushed no other chain of the queue goes back.
  * Errors: PK_WRONG_ORDER (no memory was told), PK_BAD_ARGUMENT (the queue's numbers are none), PK_WRONG_ORDER (a call waits for its answer, or it was told),
- * PK_OTHER_QUEUE, PK_RETURNING, PK_SHORT_BUFFER (front isn't as long as what stands in it; PK_FRONT_MAX always is), PK_NO_PLACE (rule 6 was broken: begin the queue anew). */
-uint32_t pk_return(struct pk_chain *chain, struct pk_queue *queue, uint8_t *front, size_t front_len, struct pk_stores *stores)
+ * PK_OTHER_QUEUE, PK_PUSHING, PK_SHORT_BUFFER (front isn't as long as what stands in it; PK_FRONT_MAX always is), PK_NOT_MAPPED (rule 6 was broken: begin the queue anew). */
+uint32_t pk_push(struct pk_chain *chain, struct pk_queue *queue, uint8_t *front, size_t front_len, struct pk_stores *stores)
     PK_CHECK PK_NONNULL PK_WRITES(3, 4) PK_FILLS(5);
 
 /* The stores are made: the queue's next chain goes back at the next place, the chain is free. `seen` are the 2 bytes at seen_at, as a number; `notify` says
  * whether the driver wants to be told: 1 or 0.
- * Errors: PK_WRONG_ORDER (no memory was told), PK_BAD_ARGUMENT (the queue's numbers are none), PK_WRONG_ORDER (pk_return told no stores), PK_OTHER_QUEUE (hand over
+ * Errors: PK_WRONG_ORDER (no memory was told), PK_BAD_ARGUMENT (the queue's numbers are none), PK_WRONG_ORDER (pk_push told no stores), PK_OTHER_QUEUE (hand over
  * its own; if that was begun anew, abandon the chain); then `notify` is 0. */
-uint32_t pk_returned(struct pk_chain *chain, struct pk_queue *queue, uint16_t seen, uint8_t *notify)
+uint32_t pk_pushed(struct pk_chain *chain, struct pk_queue *queue, uint16_t seen, uint8_t *notify)
     PK_CHECK PK_NONNULL PK_FILLS(4);
 
 /* ---------------------------------------------------------------- kicks */
@@ -710,9 +710,9 @@ struct pk_store {
  * That look is a new load of the available index: one that was made before the barrier doesn't show
  * that no chain is available. Of the chain only the regions count, and it stays as it was. `wanted`
  * other than 0 is 1. The guest address of the store is `used`, or with event_index used + 4 + 8 * size.
- * Errors: PK_WRONG_ORDER (no memory was told), PK_BAD_ARGUMENT (the queue's numbers are none), PK_NO_PLACE (these two bytes are in no region: a walk looks for
+ * Errors: PK_WRONG_ORDER (no memory was told), PK_BAD_ARGUMENT (the queue's numbers are none), PK_NOT_MAPPED (these two bytes are in no region: a walk looks for
  * those of event_index as it begins, and for the used index behind the flags as it takes a chain); then `store` is zeros. */
-uint32_t pk_ask_kicks(struct pk_chain *chain, const struct pk_queue *queue, uint32_t wanted, struct pk_store *store)
+uint32_t pk_set_notification(struct pk_chain *chain, const struct pk_queue *queue, uint32_t enabled, struct pk_store *store)
     PK_CHECK PK_NONNULL PK_FILLS(4);
 
 /* ---------------------------------------------------------------- moving to another host */
@@ -720,13 +720,13 @@ uint32_t pk_ask_kicks(struct pk_chain *chain, const struct pk_queue *queue, uint
 /* Puts the record of device and queues (positions, options, page size, limit; no chain, no memory, no file) at the front of a buffer;
  * `len` is how long it is, also with PK_SHORT_BUFFER, and 0 otherwise.
  * Errors: PK_BAD_ARGUMENT (page size or limit are none; options that aren't known; not 1 to PK_QUEUES_MAX queues), then of the first queue that has
- * one PK_BAD_ARGUMENT (its numbers are none) or PK_CHAIN_OUT, PK_OUT_OF_MEMORY, PK_SHORT_BUFFER. */
+ * one PK_BAD_ARGUMENT (its numbers are none) or PK_CHAIN_IN_FLIGHT, PK_OUT_OF_MEMORY, PK_SHORT_BUFFER. */
 uint32_t pk_save(const struct pk_device *device, const struct pk_queue *queues, size_t queue_count, uint8_t *buffer, size_t buffer_len,
                  size_t *len) PK_CHECK PK_NONNULL PK_READS(2, 3) PK_WRITES(4, 5) PK_FILLS(6);
 
 /* Reads a record: into device->options, whose page size and limit have to be the record's, and the queues, of which `count` are told. The record
- * tells whether a queue was stopped, and not by what: `stopped` is 1 then. Each queue is begun anew by it, and keeps its event_index and its most_out, which
- * the record doesn't tell: set them before (most_out is at most the record's size). What it refuses leaves device and queues as they were. Other bytes may
+ * tells whether a queue was stopped, and not by what: `stopped` is 1 then. Each queue is begun anew by it, and keeps its event_index and its max_in_flight, which
+ * the record doesn't tell: set them before (max_in_flight is at most the record's size). What it refuses leaves device and queues as they were. Other bytes may
  * stand behind the record.
  * Errors: PK_BAD_ARGUMENT (of the device), 81 to 90 by what is read first, PK_SHORT_BUFFER (of queues; count tells how many there are, and is 0
  * after the others). */

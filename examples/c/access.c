@@ -22,19 +22,19 @@ static void load(void *to, uintptr_t at, size_t len) {
 /* The first load of a walk: the available index, unless the one that was loaded last tells of a chain that wasn't taken yet. What it covers was stored
  * before that load, which acquired. */
 static void load_offered(void *to, const struct pk_queue *queue, struct offered *offered, uintptr_t at) {
-    bool tells_more = offered->at == at && offered->begun == queue->begun && offered->index != queue->position;
-    if (!tells_more) *offered = (struct offered){at, queue->begun, load_index(at)};
+    bool tells_more = offered->at == at && offered->reset_count == queue->reset_count && offered->index != queue->next_avail;
+    if (!tells_more) *offered = (struct offered){at, queue->reset_count, load_index(at)};
     memcpy(to, &offered->index, 2);
 }
 
-uint32_t take_chain(struct pk_chain *chain, struct pk_queue *queue, struct offered *offered, struct pk_step *step) {
+uint32_t take_chain(struct pk_chain *chain, struct pk_queue *queue, struct offered *offered, struct pk_pop *step) {
     uint8_t bytes[PK_LOAD_MAX];
     uint32_t status;
     bool is_first = true;
-    *step = (struct pk_step){0};
-    while ((status = pk_walk(chain, queue, bytes, step->len, step)) == PK_LOAD) {
-        if (is_first) load_offered(bytes, queue, offered, step->at);
-        else load(bytes, step->at, step->len);
+    *step = (struct pk_pop){0};
+    while ((status = pk_pop(chain, queue, bytes, step->load_len, step)) == PK_LOAD) {
+        if (is_first) load_offered(bytes, queue, offered, step->load_at);
+        else load(bytes, step->load_at, step->load_len);
         is_first = false;
     }
     return status;
@@ -53,14 +53,14 @@ void gather(struct pk_chain *chain, uint64_t from, void *to, uint64_t len) {
 void scatter(struct pk_chain *chain, uint64_t from, const void *bytes, uint64_t len) {
     struct pk_window windows[WINDOWS];
     size_t count;
-    while (len > 0 && (count = pk_room_windows(chain, from, len, windows, WINDOWS)) > 0)
+    while (len > 0 && (count = pk_reply_windows(chain, from, len, windows, WINDOWS)) > 0)
         for (size_t k = 0; k < count; k++) {
             memcpy((void *)windows[k].at, bytes, windows[k].len);
             bytes = (const uint8_t *)bytes + windows[k].len, from += windows[k].len, len -= windows[k].len;
         }
 }
 
-size_t load_front(struct pk_chain *chain, const struct pk_step *step, uint8_t *request) {
+size_t load_front(struct pk_chain *chain, const struct pk_pop *step, uint8_t *request) {
     size_t len = step->request_len < PK_FIRST ? (size_t)step->request_len : PK_FIRST;
     gather(chain, 0, request, len);
     return len;
@@ -68,7 +68,7 @@ size_t load_front(struct pk_chain *chain, const struct pk_step *step, uint8_t *r
 
 uint32_t ask(struct pk_chain *chain, const struct pk_device *device, uint8_t *request, size_t have, struct pk_call *call) {
     uint32_t status;
-    while ((status = pk_ask(chain, device, request, have, call)) == PK_MORE) {
+    while ((status = pk_decode(chain, device, request, have, call)) == PK_MORE) {
         if (call->needed > PK_REQUEST_MAX) return PK_SHORT_BUFFER; /* a limit above it wants a longer buffer */
         gather(chain, have, request + have, call->needed - have);
         have = call->needed;
@@ -79,7 +79,7 @@ uint32_t ask(struct pk_chain *chain, const struct pk_device *device, uint8_t *re
 static void mark_room(struct pk_chain *chain, const struct marker *marker, uint64_t len) {
     struct pk_window windows[WINDOWS];
     for (uint64_t from = 0; from < len;) {
-        size_t count = pk_room_windows(chain, from, len - from, windows, WINDOWS);
+        size_t count = pk_reply_windows(chain, from, len - from, windows, WINDOWS);
         if (count == 0) return;
         for (size_t k = 0; k < count; k++) {
             marker->mark(marker->log, windows[k].at, windows[k].len);
@@ -98,7 +98,7 @@ static void mark_stores(struct pk_chain *chain, const struct marker *marker, con
 uint32_t give_back(struct pk_chain *chain, struct pk_queue *queue, const struct marker *marker, bool *notify) {
     uint8_t front[PK_FRONT_MAX], wanted = 0;
     struct pk_stores stores;
-    uint32_t status = pk_return(chain, queue, front, sizeof front, &stores);
+    uint32_t status = pk_push(chain, queue, front, sizeof front, &stores);
     if (status) return status;
     scatter(chain, 0, front, stores.front_len);
     atomic_store_explicit((_Atomic uint32_t *)stores.id_at, stores.id, memory_order_relaxed);
@@ -107,14 +107,14 @@ uint32_t give_back(struct pk_chain *chain, struct pk_queue *queue, const struct 
     if (marker) mark_stores(chain, marker, &stores);
     /* Without a full barrier the flags may be read before the driver sees the index, and a notification is lost. */
     atomic_thread_fence(memory_order_seq_cst);
-    status = pk_returned(chain, queue, load_index(stores.seen_at), &wanted);
+    status = pk_pushed(chain, queue, load_index(stores.seen_at), &wanted);
     *notify = *notify || wanted;
     return status;
 }
 
 bool ask_kicks(struct pk_chain *chain, const struct pk_queue *queue, bool wanted, const struct marker *marker) {
     struct pk_store store;
-    if (pk_ask_kicks(chain, queue, wanted, &store) != PK_DONE || store.len == 0) return false;
+    if (pk_set_notification(chain, queue, wanted, &store) != PK_DONE || store.len == 0) return false;
     atomic_store_explicit((_Atomic uint16_t *)store.at, store.value, memory_order_relaxed);
     if (marker) marker->mark(marker->log, store.at, store.len);
     atomic_thread_fence(memory_order_seq_cst);

@@ -22,14 +22,14 @@ bool ask_kicks(struct pk_chain *chain, const struct pk_queue *queue, bool wanted
  * the queue. Zeros before its first use, and kept with the queue, under the same lock. */
 struct offered {
     uintptr_t at;
-    uint32_t begun;
+    uint32_t reset_count;
     uint16_t index;
 };
 
 /* Walks to the next chain of a queue: the status is PK_DONE with a chain, PK_IDLE, or why there is none. The index is loaded again only once all
  * that it told of was taken: so all walks of the queue are made by this, with the same `offered`, which is zeros again where the queue was
  * restored, or stands in other memory. */
-uint32_t take_chain(struct pk_chain *chain, struct pk_queue *queue, struct offered *offered, struct pk_step *step);
+uint32_t take_chain(struct pk_chain *chain, struct pk_queue *queue, struct offered *offered, struct pk_pop *step);
 
 /* Copies `len` bytes of the request out, from its byte `from` on. */
 void gather(struct pk_chain *chain, uint64_t from, void *to, uint64_t len);
@@ -38,7 +38,7 @@ void gather(struct pk_chain *chain, uint64_t from, void *to, uint64_t len);
 void scatter(struct pk_chain *chain, uint64_t from, const void *bytes, uint64_t len);
 
 /* Loads the request's first bytes, and says how many: at most PK_FIRST. */
-size_t load_front(struct pk_chain *chain, const struct pk_step *step, uint8_t *request);
+size_t load_front(struct pk_chain *chain, const struct pk_pop *step, uint8_t *request);
 
 /* Asks what the request means, of which `have` bytes were loaded, and loads more as they are wanted, each once. `request` has
  * PK_REQUEST_MAX bytes, which hold any request if the device's limit is that; a longer one is PK_SHORT_BUFFER. */

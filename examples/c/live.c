@@ -20,7 +20,7 @@ static void signal_event(int fd) {
 /* ------------------------------------------------------------- one chain */
 
 /* From the request to the reply, without the lock: a slow file holds its own chain alone. */
-static uint32_t serve_request(struct worker *worker, const struct pk_step *step) {
+static uint32_t serve_request(struct worker *worker, const struct pk_pop *step) {
     struct live *live = worker->live;
     struct pk_device device = {PAGE_SIZE, LIMIT, atomic_load(live->options)};
     uint64_t options = device.options;
@@ -33,20 +33,20 @@ static uint32_t serve_request(struct worker *worker, const struct pk_step *step)
     return status == PK_DONE || status == PK_NO_ROOM ? PK_DONE : pk_reply_err(&worker->chain, call.ticket, EIO);
 }
 
-/* Takes the next chain. PK_CHAIN_OUT: as many are out as the queue holds, and whoever gives one back looks again. */
-static uint32_t take(struct worker *worker, struct pk_step *step) {
+/* Takes the next chain. PK_CHAIN_IN_FLIGHT: as many are out as the queue holds, and whoever gives one back looks again. */
+static uint32_t take(struct worker *worker, struct pk_pop *step) {
     struct live *live = worker->live;
     uint32_t status = live->refused ? PK_IDLE : take_chain(&worker->chain, &live->queue, &live->offered, step);
-    uint16_t out = (uint16_t)(live->queue.position - live->queue.returned);
+    uint16_t out = (uint16_t)(live->queue.next_avail - live->queue.next_used);
     if (out > live->most) live->most = out;
-    return status == PK_CHAIN_OUT ? PK_IDLE : status;
+    return status == PK_CHAIN_IN_FLIGHT ? PK_IDLE : status;
 }
 
 /* Says to the driver whether it has to kick, if it doesn't know. Whether it had to be told: then look once more, since a chain may have come
  * before. */
 static bool want_kicks(struct worker *worker, bool wanted) {
     struct live *live = worker->live;
-    uint16_t at = wanted && live->queue.event_index ? live->queue.position : 0;
+    uint16_t at = wanted && live->queue.event_index ? live->queue.next_avail : 0;
     if (live->kicks == (wanted ? WANTED : UNWANTED) && live->told_at == at) return false;
     live->kicks = wanted ? WANTED : UNWANTED;
     live->told_at = at;
@@ -59,14 +59,14 @@ static void hand_on(struct worker *worker) {
     struct live *live = worker->live;
     bool is_for_another = live->sleeping > 0;
     want_kicks(worker, is_for_another);
-    uint16_t position = live->queue.position; /* the index that was loaded last may tell of a chain behind it */
+    uint16_t position = live->queue.next_avail; /* the index that was loaded last may tell of a chain behind it */
     if (is_for_another && (live->offered.index != position || load_index(live->avail_at + 2) != position)) signal_event(live->kick);
 }
 
 /* The lock is held, but while the request is served. */
 static enum found serve_one(struct worker *worker) {
     struct live *live = worker->live;
-    struct pk_step step;
+    struct pk_pop step;
     bool notify = false;
     uint32_t status = take(worker, &step);
     if (status == PK_IDLE) return NOTHING;
@@ -134,11 +134,11 @@ static int start_worker(struct live *live, const struct pk_region *regions, size
 int live_start(struct live *live, const struct pk_region *regions, size_t region_count, size_t thread_count) {
     live->quit = eventfd(0, EFD_CLOEXEC);
     live->workers = calloc(thread_count, sizeof *live->workers);
-    live->queue.most_out = thread_count < live->queue.size ? (uint16_t)thread_count : live->queue.size;
+    live->queue.max_in_flight = thread_count < live->queue.size ? (uint16_t)thread_count : live->queue.size;
     live->sleeping = (unsigned)thread_count;
     live->kicks = UNTOLD; /* the first thread that finds no chain tells the driver, whatever flags a device of before left */
     if (live->quit < 0 || !live->workers || pthread_mutex_init(&live->lock, NULL)) return ENOMEM;
-    if (pk_queue_begin(&live->queue, live->queue.position) != PK_DONE) return EINVAL;
+    if (pk_queue_begin(&live->queue, live->queue.next_avail) != PK_DONE) return EINVAL;
     for (size_t k = 0; k < thread_count; k++) {
         int error = start_worker(live, regions, region_count);
         if (error) return error;

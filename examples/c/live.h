@@ -48,7 +48,7 @@ int live_start(struct live *live, const struct pk_region *regions, size_t region
 /* Why the queue isn't served any more (set DEVICE_NEEDS_RESET), or 0. */
 uint32_t live_refusal(struct live *live);
 
-/* Ends the threads, when their chains are back: `queue.position` is where the queue stands. */
+/* Ends the threads, when their chains are back: `queue.next_avail` is where the queue stands. */
 void live_stop(struct live *live);
 
 #endif

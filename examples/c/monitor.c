@@ -217,10 +217,10 @@ static uint32_t answer(const struct pk_call *call) {
 
 /* A FUSE server of this monitor's own, for an opcode that the library doesn't serve: what was asked, in capitals. The reply are
  * bytes of the room, header and all (struct fuse_out_header). */
-static uint32_t reply_capitals(const struct pk_step *step, const struct fuse_in_header *in, uint64_t have) {
+static uint32_t reply_capitals(const struct pk_pop *step, const struct fuse_in_header *in, uint64_t have) {
     uint64_t len = step->request_len - sizeof *in;
     struct fuse_out_header out = {.len = (uint32_t)(sizeof out + len), .unique = in->unique};
-    if (out.len > step->room_len) return pk_reply_bytes(&chain, step->ticket, 0); /* silence */
+    if (out.len > step->reply_len) return pk_reply_bytes(&chain, step->ticket, 0); /* silence */
     gather(&chain, have, request + have, step->request_len - have);
     for (uint64_t k = sizeof *in; k < step->request_len; k++) request[k] = (uint8_t)toupper(request[k]);
     scatter(&chain, 0, &out, sizeof out);
@@ -229,7 +229,7 @@ static uint32_t reply_capitals(const struct pk_step *step, const struct fuse_in_
 }
 
 /* PK_DONE: the chain may go back. Each byte of the request is loaded once. */
-static uint32_t serve_request(const struct pk_step *step) {
+static uint32_t serve_request(const struct pk_pop *step) {
     size_t have = load_front(&chain, step, request);
     struct fuse_in_header in = {0};
     struct pk_call call;
@@ -244,7 +244,7 @@ static uint32_t serve_request(const struct pk_step *step) {
 /* Serves the chains that wait. PK_IDLE: none waits any more. PK_OUT_OF_MEMORY: one waits, call again later. 1 to 8: the queue is
  * stopped, so set DEVICE_NEEDS_RESET. `notify`: interrupt the driver. */
 static uint32_t serve(bool *notify) {
-    struct pk_step step;
+    struct pk_pop step;
     uint32_t status;
     *notify = false;
     while ((status = take_chain(&chain, &queue, &known, &step)) == PK_DONE) {

@@ -33,18 +33,18 @@ static void gather(uint8_t *bytes, size_t from, size_t to) {
 static void scatter(const uint8_t *front, size_t len) {
     struct pk_window w[WINDOWS];
     size_t count, from = 0;
-    while (from < len && (count = pk_room_windows(&chain, from, len - from, w, WINDOWS)) > 0)
+    while (from < len && (count = pk_reply_windows(&chain, from, len - from, w, WINDOWS)) > 0)
         for (size_t k = 0; k < count; from += w[k++].len) memcpy((void *)w[k].at, front + from, w[k].len);
 }
 
 /* ------------------------------------------------------------- one chain */
 
 /* Each byte of the request is loaded once: its first, and then as many as the library needs. */
-static uint32_t ask(const struct pk_step *step, struct pk_call *call) {
+static uint32_t ask(const struct pk_pop *step, struct pk_call *call) {
     size_t have = 0, want = step->request_len < PK_FIRST ? (size_t)step->request_len : PK_FIRST;
     for (;;) {
         gather(request, have, want);
-        uint32_t s = pk_ask(&chain, &device, request, have = want, call);
+        uint32_t s = pk_decode(&chain, &device, request, have = want, call);
         if (s != PK_MORE) return s;
         want = call->needed;
     }
@@ -64,7 +64,7 @@ static uint32_t answer(const struct pk_call *call) {
     }
 }
 
-static uint32_t serve_request(const struct pk_step *step) {
+static uint32_t serve_request(const struct pk_pop *step) {
     struct pk_call call;
     uint32_t s = ask(step, &call);
     if (s != PK_DONE) return s;
@@ -77,7 +77,7 @@ static uint32_t give_back(bool *notify) {
     uint8_t front[PK_FRONT_MAX], wanted;
     struct pk_stores out;
     uint16_t seen;
-    uint32_t s = pk_return(&chain, &queue, front, sizeof front, &out);
+    uint32_t s = pk_push(&chain, &queue, front, sizeof front, &out);
     if (s != PK_DONE) return s;
     scatter(front, out.front_len);
     memcpy((void *)out.id_at, &out.id, 4);
@@ -85,7 +85,7 @@ static uint32_t give_back(bool *notify) {
     atomic_store_explicit((_Atomic uint16_t *)out.index_at, out.index, memory_order_release);
     atomic_thread_fence(memory_order_seq_cst);
     load(&seen, out.seen_at, 2);
-    s = pk_returned(&chain, &queue, seen, &wanted);
+    s = pk_pushed(&chain, &queue, seen, &wanted);
     *notify = *notify || wanted;
     return s;
 }
@@ -95,8 +95,8 @@ static uint32_t serve(bool *notify) {
     uint8_t bytes[PK_LOAD_MAX];
     uint32_t s;
     for (;;) {
-        struct pk_step step = {0}; // a walk begins without bytes
-        while ((s = pk_walk(&chain, &queue, bytes, step.len, &step)) == PK_LOAD) load(bytes, step.at, step.len);
+        struct pk_pop step = {0}; // a walk begins without bytes
+        while ((s = pk_pop(&chain, &queue, bytes, step.load_len, &step)) == PK_LOAD) load(bytes, step.load_at, step.load_len);
         if (s != PK_DONE) return s;
         if (step.fault == 0 && (s = serve_request(&step)) != PK_DONE) return s; // a faulty chain goes back without a reply
         if ((s = give_back(notify)) != PK_DONE) return s;
@@ -106,7 +106,7 @@ static uint32_t serve(bool *notify) {
 /* The driver is to kick: once at the beginning, since a device of before may have left a flag by which it doesn't, and before each sleep. Walk once more then. */
 static uint32_t want_kicks(void) {
     struct pk_store store;
-    uint32_t s = pk_ask_kicks(&chain, &queue, 1, &store);
+    uint32_t s = pk_set_notification(&chain, &queue, 1, &store);
     if (s == PK_DONE && store.len) atomic_store_explicit((_Atomic uint16_t *)store.at, store.value, memory_order_relaxed);
     atomic_thread_fence(memory_order_seq_cst);
     return s;

@@ -119,7 +119,8 @@ qemu() {
         -object "memory-backend-memfd,id=mem,size=${MEMORY:-256M},share=on" -nodefaults -no-user-config -nic none -display none \
         -serial "file:$run/console" -chardev "pipe,id=mon,path=$run/monitor" -mon chardev=mon,mode=readline \
         -chardev "socket,id=fs,path=$socket" -kernel "$work/vmlinuz" -initrd "$work/image" \
-        -append "console=ttyS0 quiet loglevel=3 panic=-1 no_timer_check nowatchdog rcupdate.rcu_cpu_stall_suppress=1 \
+        -append "console=ttyS0 quiet loglevel=3 panic=-1 no_timer_check nowatchdog \
+rcupdate.rcu_cpu_stall_suppress=1 \
 rdinit=/init scenario=$scenario" "${disk[@]}" "$@") > "$run/qemu" 2>&1
 }
 busybox=$root/usr/bin/busybox
@@ -127,7 +128,9 @@ export root
 
 # PLATFORM=on: the guest's device accesses memory as the platform says, as each device of a confidential guest does.
 device() {
-    echo "vhost-user-fs-pci,chardev=fs,tag=shared,queue-size=128,num-request-queues=${QUEUES:-1},iommu_platform=${PLATFORM:-off}"
+    local properties=chardev=fs,tag=shared,queue-size=128
+    properties+=,num-request-queues=${QUEUES:-1},iommu_platform=${PLATFORM:-off}
+    echo "vhost-user-fs-pci,$properties"
 }
 
 # Waits for a line of the guest's.
@@ -177,7 +180,8 @@ meddle() {
         wait_for "$run" 'PLUGGED out' || return
         for _ in $(seq 50); do
             lent > "$run/lent-then"
-            [ "$(cat "$run/lent-then")" = "$(cat "$run/lent")" ] || break # QEMU takes it back after the guest gave it up
+            # QEMU takes it back after the guest gave it up.
+            [ "$(cat "$run/lent-then")" = "$(cat "$run/lent")" ] || break
             sleep 0.2
         done
         cat "$run/lent-then" >> "$run/lent"

@@ -95,10 +95,16 @@ hop() {
         [ ! -S "$next/stream" ] || break
         sleep 0.1
     done
-    say "$source" 'migrate_set_parameter downtime-limit 5000' "migrate unix:$next/stream" # a busy host takes long to come to an end
+    # A busy host takes long to come to an end.
+    say "$source" 'migrate_set_parameter downtime-limit 5000' "migrate unix:$next/stream"
     if is_gone "$source"; then arrive; else stay; fi
-    echo "$from $to $outcome $(milliseconds "$source" 'total time') $(milliseconds "$source" downtime)" >> "$work/migrations"
-    case $outcome in failed | nudged) failure "from $from to $to: $outcome: $(tail -n 3 "$source/said" "$next"/{server,qemu} 2> "$work/none")" ;; esac
+    echo "$from $to $outcome $(milliseconds "$source" 'total time')" \
+        "$(milliseconds "$source" downtime)" >> "$work/migrations"
+    case $outcome in failed | nudged)
+        failure "from $from to $to: $outcome:" \
+            "$(tail -n 3 "$source/said" "$next"/{server,qemu} 2> "$work/none")"
+        ;;
+    esac
 }
 
 # What the guest did on its way, at all stops.

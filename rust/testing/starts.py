@@ -1,6 +1,7 @@
 #!/usr/bin/env python3
-"""starts.py DAEMON FOLDER: how the daemon starts and ends: what it refuses by name, its socket, the file beside it, a second daemon, --fd,
-signals, and --syslog where nothing else listens. Ends with 1 at the first that isn't so."""
+"""starts.py DAEMON FOLDER: how the daemon starts and ends: what it refuses by name, its socket, the
+file beside it, a second daemon, --fd, signals, and --syslog where nothing else listens. Ends with 1
+at the first that isn't so."""
 import json
 import os
 import signal
@@ -15,7 +16,8 @@ SYSLOG = "/dev/log"
 
 
 def start(*words, **more):
-    return subprocess.Popen([DAEMON, "--shared-dir", SHARED, *words], stderr=subprocess.PIPE, text=True, **more)
+    return subprocess.Popen([DAEMON, "--shared-dir", SHARED, *words], stderr=subprocess.PIPE,
+        text=True, **more)
 
 
 def ended(daemon):
@@ -51,7 +53,8 @@ for word in ("--posix-acl", "--security-label", "--no-such-option"):
     status, told = ended(start("--socket-path", PATH, word))
     check(f"{word} is refused by name: {told}", status == 2 and word.split("=")[0] in told)
 told = subprocess.run([DAEMON, "--print-capabilities"], stdout=subprocess.PIPE, check=True).stdout
-check("capabilities", json.loads(told) == {"type": "fs", "features": ["migrate-precopy", "separate-options"]})
+check("capabilities",
+    json.loads(told) == {"type": "fs", "features": ["migrate-precopy", "separate-options"]})
 
 daemon = start("--socket-path", PATH)
 while not os.path.exists(PATH):

@@ -52,7 +52,8 @@ suites() {
         done
         [ "$(wc -l < "$work/suite-$name-ours")" -gt 3 ] || failure "suite $name: it tells nothing"
         diff "$work/suite-$name-virtiofsd" "$work/suite-$name-ours" > "$work/suite-$name.diff" ||
-            failure "suite $name: other outcomes than over virtiofsd: $(grep '^[<>]' "$work/suite-$name.diff" | head -n 20)"
+            failure "suite $name: other outcomes than over virtiofsd:" \
+                "$(grep '^[<>]' "$work/suite-$name.diff" | head -n 20)"
         echo "suite $name: $(wc -l < "$work/suite-$name-ours") outcomes over each"
     done
 }

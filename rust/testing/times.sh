@@ -18,8 +18,12 @@ for kind, path in enumerate(sys.argv[1:]):
         number, what = line.rstrip("\n").split("\t")
         rows.setdefault(what, ([], []))[kind].append(float(number))
 for what, both in rows.items():
-    ratio = f"{statistics.median(both[0]) / statistics.median(both[1]):6.2f}" if all(both) and any(both[1]) else " " * 6
-    print(*(f"{min(found):11.1f} {statistics.median(found):11.1f}" if found else " " * 23 for found in both), ratio, what, sep="  ")
+    ratio = " " * 6
+    if all(both) and any(both[1]):
+        ratio = f"{statistics.median(both[0]) / statistics.median(both[1]):6.2f}"
+    cells = [f"{min(found):11.1f} {statistics.median(found):11.1f}" if found else " " * 23
+        for found in both]
+    print(*cells, ratio, what, sep="  ")
 END
 }
 
@@ -50,7 +54,8 @@ times() {
             sed -n "s/^TIME \([0-9.]*\) $unit: \(.*\)/\1\t\2/p" "$run/lines" >> "$work/times.$unit.$kind"
         done
     done
-    echo "in the guest, least and median of ${ROUNDS:-5} in turn: ours, virtiofsd, ratio of medians (below 1: ours is faster)"
+    echo "in the guest, least and median of ${ROUNDS:-5} in turn: ours, virtiofsd," \
+        "ratio of medians (below 1: ours is faster)"
     echo "milliseconds:"
     compare "$work"/times.ms.{ours,virtiofsd}
     echo "interrupts:"
@@ -92,7 +97,8 @@ rows() {
             sed -n "s/^$word \([0-9]*\) [^:]*: \(.*\)/\1\t\2/p" "$work/rows.lines" >> "$work/rows.$word.$kind"
         done
     done
-    echo "least and median of ${ROUNDS:-5} in turn: ours, virtiofsd, ratio of medians (below 1: ours is faster)"
+    echo "least and median of ${ROUNDS:-5} in turn: ours, virtiofsd, ratio of medians" \
+        "(below 1: ours is faster)"
     echo "nanoseconds a request:"
     compare "$work"/rows.ROW.{ours,virtiofsd}
     echo "of these on the daemon's processors:"

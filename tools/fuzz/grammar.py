@@ -1,4 +1,5 @@
-"""What a FUSE request's flat bytes ask, and what is answered: the server and the script program's file system, plainly."""
+"""What a FUSE request's flat bytes ask, and what is answered: the server and the script program's
+file system, plainly."""
 
 import struct
 
@@ -14,21 +15,31 @@ DEFAULT_BITS = [0, 3, 5, 11, 12, 15, 18, 22, 27, 30, 34, 40]
 INIT_EXT, SETXATTR_EXT, SECURITY_CTX, CREATE_SUPP_GROUP = 30, 29, 32, 34
 
 NAMES = {
-    1: "lookup", 2: "forget", 3: "getattr", 4: "setattr", 5: "readlink", 6: "symlink", 8: "mknod", 9: "mkdir",
-    10: "unlink", 11: "rmdir", 12: "rename", 13: "link", 14: "open", 15: "read", 16: "write", 17: "statfs",
-    18: "release", 20: "fsync", 21: "setxattr", 22: "getxattr", 23: "listxattr", 24: "removexattr", 25: "flush",
-    26: "init", 27: "opendir", 28: "readdir", 29: "releasedir", 30: "fsyncdir", 31: "getlk", 32: "setlk",
-    33: "setlkw", 34: "access", 35: "create", 36: "interrupt", 37: "bmap", 38: "destroy", 39: "ioctl", 40: "poll",
-    41: "notify_reply", 42: "batch_forget", 43: "fallocate", 44: "readdirplus", 45: "rename2", 46: "lseek",
+    1: "lookup", 2: "forget", 3: "getattr", 4: "setattr", 5: "readlink", 6: "symlink", 8: "mknod",
+    9: "mkdir",
+    10: "unlink", 11: "rmdir", 12: "rename", 13: "link", 14: "open", 15: "read", 16: "write",
+    17: "statfs",
+    18: "release", 20: "fsync", 21: "setxattr", 22: "getxattr", 23: "listxattr", 24: "removexattr",
+    25: "flush",
+    26: "init", 27: "opendir", 28: "readdir", 29: "releasedir", 30: "fsyncdir", 31: "getlk",
+    32: "setlk",
+    33: "setlkw", 34: "access", 35: "create", 36: "interrupt", 37: "bmap", 38: "destroy",
+    39: "ioctl", 40: "poll",
+    41: "notify_reply", 42: "batch_forget", 43: "fallocate", 44: "readdirplus", 45: "rename2",
+    46: "lseek",
     47: "copy_file_range", 48: "setup_mapping", 49: "remove_mapping", 50: "syncfs", 51: "tmpfile",
 }
 
 # Records of requests, field by field: Q has 8 bytes, I has 4.
 RECORDS = {
-    "forget": "Q", "batch_forget": "II", "forget_one": "QQ", "getattr": "IIQ", "setattr": "IIQQQQQQIIIIIIII",
-    "mknod": "IIII", "mkdir": "II", "rename": "Q", "rename2": "QII", "link": "Q", "open": "II", "create": "IIII",
-    "release": "QIIQ", "flush": "QIIQ", "read": "QQIIQII", "write": "QQIIQII", "fsync": "QII", "setxattr": "IIII",
-    "setxattr_compat": "II", "getxattr": "II", "access": "II", "init": "IIII", "init_ext": "I44s", "fallocate": "QQQII",
+    "forget": "Q", "batch_forget": "II", "forget_one": "QQ", "getattr": "IIQ",
+    "setattr": "IIQQQQQQIIIIIIII",
+    "mknod": "IIII", "mkdir": "II", "rename": "Q", "rename2": "QII", "link": "Q", "open": "II",
+    "create": "IIII",
+    "release": "QIIQ", "flush": "QIIQ", "read": "QQIIQII", "write": "QQIIQII", "fsync": "QII",
+    "setxattr": "IIII",
+    "setxattr_compat": "II", "getxattr": "II", "access": "II", "init": "IIII", "init_ext": "I44s",
+    "fallocate": "QQQII",
     "lseek": "QQII", "copy_file_range": "QQQQQQQ",
 }
 
@@ -121,7 +132,8 @@ class Files:
 
 def attributes(ino, size, mode, links, block_size):
     """The bytes of a record of attributes whose other fields are 0."""
-    return struct.pack("<6Q3I7I", ino, size, 0, 0, 0, 0, 0, 0, 0, mode, links, 0, 0, 0, block_size, 0)
+    return struct.pack("<6Q3I7I", ino, size, 0, 0, 0, 0, 0, 0, 0, mode, links, 0, 0, 0,
+        block_size, 0)
 
 
 def entry_out(node, seconds, its_attributes):
@@ -187,7 +199,8 @@ class Server:
 
 
 class Request:
-    """A request behind its header. Each row answers the bytes behind the reply's header, or None for silence."""
+    """A request behind its header. Each row answers the bytes behind the reply's header, or None
+    for silence."""
 
     def __init__(self, server, length, node, rest, room):
         self.server = server
@@ -198,7 +211,8 @@ class Request:
         self.room = room
 
     def serve(self, name):
-        """The row of a request: its own, or what is read before a call that the file system doesn't have."""
+        """The row of a request: its own, or what is read before a call that the file system doesn't
+        have."""
         if name not in DEFAULTS:
             return getattr(self, name)()
         record, names = DEFAULTS[name]
@@ -291,7 +305,8 @@ class Request:
         self.server.options = agreed
         pages = (LARGEST_BUFFER - 1) // PAGE + 1
         return struct.pack(
-            "<IIIIHHIIHHI28s", 7, 38, readahead, agreed & 0xFFFFFFFF, 65535, 49149, LARGEST_BUFFER, 1, pages, 0,
+            "<IIIIHHIIHHI28s", 7, 38, readahead, agreed & 0xFFFFFFFF, 65535, 49149, LARGEST_BUFFER,
+            1, pages, 0,
             agreed >> 32, b"")
 
     def destroy(self):
@@ -342,7 +357,8 @@ class Request:
         return node, front + data + bytes(-len(data) % 8)
 
     def goes_in(self, data, body, size, node):
-        """Whether an entry goes in; one that doesn't gives its node back, and has an error where only the room is short."""
+        """Whether an entry goes in; one that doesn't gives its node back, and has an error where
+        only the room is short."""
         if len(body) + len(data) <= min(size, self.room - 16):
             return True
         if node is not None:
@@ -403,7 +419,8 @@ class Request:
                 security_context(kind, body)
                 context = True
             else:
-                if not self.server.has(CREATE_SUPP_GROUP) or group or len(body) < 8 or body[:4] != b"\1\0\0\0":
+                agreed = self.server.has(CREATE_SUPP_GROUP)
+                if not agreed or group or len(body) < 8 or body[:4] != b"\1\0\0\0":
                     raise Fault("DecodeMessage")
                 group = True
         if self.server.has(SECURITY_CTX) and not context:
@@ -436,16 +453,22 @@ def security_context(kind, body):
         raise Fault("DecodeMessage")
 
 
-# Requests whose call the file system doesn't have: the record that is read, and the names behind it.
+# Requests whose call the file system doesn't have: the record that is read, and the names behind
+# it.
 DEFAULTS = dict.fromkeys(
-    ["getlk", "setlk", "setlkw", "bmap", "ioctl", "poll", "notify_reply", "setup_mapping", "remove_mapping", "syncfs", "tmpfile",
+    ["getlk", "setlk", "setlkw", "bmap", "ioctl", "poll", "notify_reply", "setup_mapping",
+    "remove_mapping", "syncfs", "tmpfile",
      "readlink"], (None, None))
 DEFAULTS |= {
     name: (record, None) for name, record in {
-        "setattr": "setattr", "release": "release", "releasedir": "release", "fsync": "fsync", "fsyncdir": "fsync",
+        "setattr": "setattr", "release": "release", "releasedir": "release", "fsync": "fsync",
+        "fsyncdir": "fsync",
         "flush": "flush", "access": "access", "fallocate": "fallocate", "lseek": "lseek",
         "copy_file_range": "copy_file_range"}.items()}
-DEFAULTS |= dict.fromkeys(["unlink", "rmdir", "removexattr"], (None, lambda _, data: one_name(data)))
+DEFAULTS |= dict.fromkeys(["unlink", "rmdir", "removexattr"],
+    (None, lambda _, data: one_name(data)))
 DEFAULTS |= {name: (name, lambda _, data: two_names(data)) for name in ["rename", "rename2"]}
-DEFAULTS |= {name: (name, lambda request, data: request.made(data, 1)) for name in ["mknod", "mkdir", "create"]}
-DEFAULTS |= {"link": ("link", lambda _, data: one_name(data)), "symlink": (None, lambda request, data: request.made(data, 2))}
+DEFAULTS |= {name: (name, lambda request, data: request.made(data, 1))
+    for name in ["mknod", "mkdir", "create"]}
+DEFAULTS |= {"link": ("link", lambda _, data: one_name(data)),
+    "symlink": (None, lambda request, data: request.made(data, 2))}

@@ -1,4 +1,5 @@
-"""Scripts of guests for the fuzzer: queues, memory and mappings that are mostly well made, and rounds of chains and kicks."""
+"""Scripts of guests for the fuzzer: queues, memory and mappings that are mostly well made, and
+rounds of chains and kicks."""
 
 import struct
 
@@ -8,7 +9,8 @@ NEXT, WRITE, INDIRECT = 1, 2, 4
 SPAN = 0x3000
 BASES = [0] * 6 + [0x10000, 2**32 - 0x2000, 2**40, 2**64 - SPAN, 2**64 - 0x10000]
 NO_COMMANDS = [
-    " ", "harvest ", "kick 0", "kick 0 65536", "read 0 -1", "write 0 0", "write 0 ", "queue 4 0 0 0", "iommu", "x", "read 0X0 1"]
+    " ", "harvest ", "kick 0", "kick 0 65536", "read 0 -1", "write 0 0", "write 0 ",
+    "queue 4 0 0 0", "iommu", "x", "read 0X0 1"]
 
 
 class Queue:
@@ -26,14 +28,17 @@ class Queue:
 
 
 class Guest:
-    """Makes a script line by line. Addresses are the device's; a guest knows where they stand in its memory."""
+    """Makes a script line by line. Addresses are the device's; a guest knows where they stand in
+    its memory."""
 
     def __init__(self, rng):
         self.rng = rng
         self.lines = []
         self.base = rng.choice(BASES)
         self.iommu = rng.random() < 0.4
-        self.start = rng.choice([0, 0x1000, 2**20, 2**64 - SPAN - 0x1000]) if self.iommu else self.base
+        self.start = self.base
+        if self.iommu:
+            self.start = rng.choice([0, 0x1000, 2**20, 2**64 - SPAN - 0x1000])
         self.pieces = []
         self.regions = []
         self.taken = []
@@ -67,11 +72,13 @@ class Guest:
     # Memory.
 
     def place(self, length, alignment=1):
-        """A device's address for so many bytes, mostly apart from all others, else upon another's bytes."""
+        """A device's address for so many bytes, mostly apart from all others, else upon another's
+        bytes."""
         rng = self.rng
         for _ in range(12):
             address = self.start + rng.randrange(max(1, SPAN - length)) // alignment * alignment
-            if all(address + length <= other or other + size <= address for other, size in self.taken):
+            if all(address + length <= other or other + size <= address
+                    for other, size in self.taken):
                 break
         if self.taken and self.chance(0.06):
             other, size = rng.choice(self.taken)
@@ -108,9 +115,11 @@ class Guest:
             self.say(f"write {begin:#x} {run.hex()}")
 
     def cut_span(self, count):
-        """Beginnings and ends of parts of the memory, which has so many cuts, at pages or anywhere."""
+        """Beginnings and ends of parts of the memory, which has so many cuts, at pages or
+        anywhere."""
         rng = self.rng
-        cuts = {rng.choice([rng.randrange(1, SPAN), 0x1000 * rng.randint(1, SPAN // 0x1000 - 1)]) for _ in range(count)}
+        cuts = {rng.choice([rng.randrange(1, SPAN), 0x1000 * rng.randint(1, SPAN // 0x1000 - 1)])
+            for _ in range(count)}
         places = sorted({0, SPAN, *cuts})
         return list(zip(places, places[1:]))
 
@@ -125,10 +134,12 @@ class Guest:
         rng = self.rng
         for _ in range(rng.choice([1] * 6 + [2, 3, 4])):
             size = rng.choice([1, 2, 4, 4, 4, 8, 8, 8, 16, 16, 32, 64])
-            queue = Queue(size, self.place(16 * size, 16), self.place(6 + 2 * size, 2), self.place(6 + 8 * size, 4))
+            queue = Queue(size, self.place(16 * size, 16), self.place(6 + 2 * size, 2),
+                self.place(6 + 8 * size, 4))
             if self.chance(0.03):
                 bad = rng.choice([0, 3, size, 65535])
-                self.say(f"queue {bad} {queue.desc + rng.choice([0, 8]):#x} {queue.avail + 1:#x} {number(rng):#x}")
+                self.say(f"queue {bad} {queue.desc + rng.choice([0, 8]):#x} {queue.avail + 1:#x} "
+                    f"{number(rng):#x}")
             self.say("queue " + queue.layout())
             self.queues.append(queue)
         if self.chance(0.01):
@@ -159,7 +170,8 @@ class Guest:
         self.blocks += 1
 
     def make_mappings(self):
-        """Mappings of the device's addresses, piece by piece, in order or not, some with fewer permissions."""
+        """Mappings of the device's addresses, piece by piece, in order or not, some with fewer
+        permissions."""
         rng = self.rng
         if not self.iommu:
             if self.chance(0.1):
@@ -170,7 +182,8 @@ class Guest:
         targets = list(range(pages))
         if len(cut) == 1 and self.chance(0.5):
             rng.shuffle(targets)
-            parts = [(0x1000 * page, 0x1000 * target, 0x1000) for page, target in enumerate(targets)]
+            parts = [(0x1000 * page, 0x1000 * target, 0x1000)
+                for page, target in enumerate(targets)]
         else:
             parts = [(begin, begin, end - begin) for begin, end in cut]
         for begin, target, length in parts:
@@ -185,11 +198,13 @@ class Guest:
         """Lengths whose sum is a length, mostly no more than a number."""
         rng = self.rng
         count = min(rng.choice([1, 1, 1, 2, 3, 5]), max(1, most) + self.chance(0.03))
-        cuts = sorted(rng.choice([rng.randint(0, length), min(length, rng.choice([1, 16, 40, 56]))]) for _ in range(count - 1))
+        cuts = sorted(rng.choice([rng.randint(0, length), min(length, rng.choice([1, 16, 40, 56]))])
+            for _ in range(count - 1))
         return [end - begin for begin, end in zip([0, *cuts], [*cuts, length])]
 
     def spread(self, length, flag, most, data=None):
-        """Descriptors for so many bytes, apart or one behind the other, and their data in memory."""
+        """Descriptors for so many bytes, apart or one behind the other, and their data in
+        memory."""
         together = self.place(length) if self.chance(0.4) else None
         if flag == WRITE and self.chance(0.12):
             together = self.somewhere()
@@ -255,7 +270,9 @@ class Guest:
         entries = {}
         for place, (address, length, flags) in enumerate(parts):
             last = place + 1 == len(parts)
-            follower = number(rng, 2) if last and self.chance(0.2) else 0 if last else indices[place + 1]
+            follower = 0 if last else indices[place + 1]
+            if last and self.chance(0.2):
+                follower = number(rng, 2)
             if not flags & INDIRECT or not last:
                 flags |= 0 if last else NEXT
             if self.chance(0.06):
@@ -280,7 +297,8 @@ class Guest:
             self.put(table + 16 * index, entry)
         length = 16 * count
         if self.chance(0.06):
-            length = rng.choice([0, length - 16, length + 16, length - 1, length + 8, number(rng, 4)]) % 2**32
+            length = rng.choice([0, length - 16, length + 16, length - 1, length + 8,
+                number(rng, 4)]) % 2**32
         if self.chance(0.02):
             table = 2**64 - rng.choice([1, length, length + 1])
         flags = INDIRECT | (WRITE if self.chance(0.1) else 0) | (NEXT if self.chance(0.03) else 0)
@@ -291,7 +309,8 @@ class Guest:
         rng = self.rng
         parts = self.descriptors(queue.size)
         if self.chance(0.01):
-            parts = [[self.place(0), 0, rng.choice([0, WRITE])] for _ in range(queue.size + rng.choice([-1, 0, 0, 1]))] or parts
+            parts = [[self.place(0), 0, rng.choice([0, WRITE])]
+                for _ in range(queue.size + rng.choice([-1, 0, 0, 1]))] or parts
         own = len(parts)
         if own > queue.size or self.chance(0.35):
             keep = rng.randint(0, min(queue.size - 1, own - 1)) if self.chance(0.3) else 0
@@ -342,7 +361,8 @@ class Guest:
         if self.chance(0.4):
             self.say("harvest")
         if self.chance(0.15):
-            self.say(f"read {self.base + rng.randrange(SPAN):#x} {rng.choice([0, 1, 16, 100, 4096])}")
+            self.say(
+                f"read {self.base + rng.randrange(SPAN):#x} {rng.choice([0, 1, 16, 100, 4096])}")
         if self.chance(0.1):
             self.disturb()
         if self.chance(0.8):
@@ -351,7 +371,8 @@ class Guest:
     def disturb(self):
         """Something that isn't a kick."""
         rng = self.rng
-        rng.choice([self.change_regions, self.change_mappings, self.overwrite, self.other, self.other, self.overwrite])()
+        rng.choice([self.change_regions, self.change_mappings, self.overwrite, self.other,
+            self.other, self.overwrite])()
 
     def change_regions(self):
         """Regions come, go, and come back elsewhere."""
@@ -367,7 +388,8 @@ class Guest:
         elif kind == 1:
             self.say(f"alias {place:#x} {rng.choice([0, 0, 1, self.blocks, number(rng)])}")
         elif kind == 2:
-            self.say(f"region {place:#x} {rng.choice([0, 1, 2, 0x800, 0x1000, 0x1001, 2**63, 2**64 - 1]):#x}")
+            size = rng.choice([0, 1, 2, 0x800, 0x1000, 0x1001, 2**63, 2**64 - 1])
+            self.say(f"region {place:#x} {size:#x}")
         else:
             self.say(f"unregion {number(rng):#x} {number(rng):#x}")
 
@@ -382,16 +404,21 @@ class Guest:
         kind = rng.randrange(8)
         address = self.somewhere() if self.chance(0.7) else self.start + rng.randrange(SPAN)
         if kind < 4:
-            target = (self.in_guest(address) or 0) + rng.choice([0, 0, 1]) if kind < 2 else self.base + rng.randrange(SPAN)
+            if kind < 2:
+                target = (self.in_guest(address) or 0) + rng.choice([0, 0, 1])
+            else:
+                target = self.base + rng.randrange(SPAN)
             length = rng.choice([0, 1, 2, 16, 0x100, 0x1000, number(rng)])
-            self.say(f"map {address % 2**64:#x} {target % 2**64:#x} {length:#x} {rng.choice(['rw', 'rw', 'r', 'w', 'none'])}")
+            self.say(f"map {address % 2**64:#x} {target % 2**64:#x} {length:#x} "
+                f"{rng.choice(['rw', 'rw', 'r', 'w', 'none'])}")
         elif kind < 6:
             self.say(f"unmap {address % 2**64:#x} {rng.choice([0, 1, 16, 0x100, number(rng)]):#x}")
         elif kind == 6 and self.chance(0.5):
             self.say(rng.choice(["iommu on", "iommu off"]))
             self.spoil_queues()
         else:
-            self.say(f"map {number(rng)} {number(rng)} {number(rng)} {rng.choice(['rw', 'r', 'w', 'none'])}")
+            self.say(f"map {number(rng)} {number(rng)} {number(rng)} "
+                f"{rng.choice(['rw', 'r', 'w', 'none'])}")
         if self.iommu:
             self.spoil_queues()
 
@@ -405,15 +432,18 @@ class Guest:
         elif kind == 1:
             self.put(queue.avail, struct.pack("<H", self.flags()))
         elif kind == 2:
-            self.put(queue.desc + 16 * rng.randrange(queue.size) + rng.choice([0, 8, 12, 14]), rng.randbytes(rng.choice([1, 2])))
+            self.put(queue.desc + 16 * rng.randrange(queue.size) + rng.choice([0, 8, 12, 14]),
+                rng.randbytes(rng.choice([1, 2])))
         else:
-            self.say(f"write {self.base + rng.randrange(SPAN + 10):#x} {rng.randbytes(rng.choice([1, 2, 40])).hex()}")
+            self.say(f"write {self.base + rng.randrange(SPAN + 10):#x} "
+                f"{rng.randbytes(rng.choice([1, 2, 40])).hex()}")
 
     def reset(self, number_of):
         """A queue begins anew, and the guest with it."""
         queue = self.queues[number_of]
         if self.chance(0.08):
-            self.say(f"reset {number_of + self.rng.choice([0, 64])} {self.rng.choice([0, 3, queue.size])} {queue.desc + 8:#x} 0 0")
+            self.say(f"reset {number_of + self.rng.choice([0, 64])} "
+                f"{self.rng.choice([0, 3, queue.size])} {queue.desc + 8:#x} 0 0")
         self.say(f"reset {number_of} {queue.layout()}")
         queue.index, queue.risky = 0, False
 
@@ -430,7 +460,8 @@ class Guest:
             queue = rng.choice(self.queues)
             self.put(queue.avail + 2, struct.pack("<H", queue.index))
         elif kind == 4:
-            self.say(f"read {rng.choice([self.base, number(rng)]):#x} {rng.choice([0, 1, 64, number(rng)])}")
+            self.say(f"read {rng.choice([self.base, number(rng)]):#x} "
+                f"{rng.choice([0, 1, 64, number(rng)])}")
         else:
             self.say(f"kick {rng.choice([0, 1, 2, 63, 64, number(rng)])} {number(rng, 2)}")
 
@@ -449,11 +480,14 @@ class Guest:
 
 
 def wraps():
-    """A script whose used index wraps: a queue of the greatest size goes round twice, with chains of no byte."""
+    """A script whose used index wraps: a queue of the greatest size goes round twice, with chains
+    of no byte."""
     size = 32768
-    lines = [f"queue {size} 0 0x100000 0x200000", "region 0 0x10", "region 0x100000 0x10010", "region 0x200000 0x40010"]
+    lines = [f"queue {size} 0 0x100000 0x200000", "region 0 0x10", "region 0x100000 0x10010",
+        "region 0x200000 0x40010"]
     for index in (0x8000, 0x0000, 0x0001):
-        lines += [f"write 0x100002 {index.to_bytes(2, 'little').hex()}", "kick 0 65535", "read 0x200000 16"]
+        lines += [f"write 0x100002 {index.to_bytes(2, 'little').hex()}", "kick 0 65535",
+            "read 0x200000 16"]
     return "\n".join(lines).encode() + b"\n"
 
 

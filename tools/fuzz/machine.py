@@ -1,4 +1,5 @@
-"""The plain machine: what a script prints, told by single addresses and whole lists. It shares nothing with the program."""
+"""The plain machine: what a script prints, told by single addresses and whole lists. It shares
+nothing with the program."""
 
 import re
 from collections import Counter
@@ -14,10 +15,12 @@ TOO_LARGE = 1 << 47
 
 NEXT, WRITE, INDIRECT = 1, 2, 4
 # Refusals of a step.
-STOPPED, INDEX_UNREACHABLE, TOO_FAR, ENTRY_UNREACHABLE, HEAD_OUT, USED_UNREACHABLE, FLAGS_UNREACHABLE = range(1, 8)
+STOPPED, INDEX_UNREACHABLE, TOO_FAR, ENTRY_UNREACHABLE, HEAD_OUT = range(1, 6)
+USED_UNREACHABLE, FLAGS_UNREACHABLE = 6, 7
 DESCRIPTOR_UNREACHABLE, NO_MEMORY, NO_QUEUE = 8, 9, 10
 # Refusals of other commands.
-NO_PLACE, EMPTY_BLOCK, UNKNOWN_BLOCK, BAD_REGION, OVERLAP, NO_REGION, BAD_MAPPING, NO_SUCH_QUEUE = range(1, 9)
+NO_PLACE, EMPTY_BLOCK, UNKNOWN_BLOCK, BAD_REGION, OVERLAP = range(1, 6)
+NO_REGION, BAD_MAPPING, NO_SUCH_QUEUE = 6, 7, 8
 
 
 class Refused(Exception):
@@ -62,7 +65,8 @@ class Memory:
         return None
 
     def target(self, address, access):
-        """The guest address that an I/O address is mapped to for an access, or None: the latest change of it decides."""
+        """The guest address that an I/O address is mapped to for an access, or None: the latest
+        change of it decides."""
         for iova, length, target, may in reversed(self.table):
             if iova <= address < iova + length:
                 return target + (address - iova) if access in may else None
@@ -188,7 +192,8 @@ def bad_layout(size, desc, avail, used):
 
 
 def walk(memory, queue, head):
-    """The chain that begins at a head (address, length and flags of each ordinary descriptor), and whether it ends in a table."""
+    """The chain that begins at a head (address, length and flags of each ordinary descriptor), and
+    whether it ends in a table."""
     chain = []
     table, entries, index, inside = queue.desc, queue.size, head, False
     while True:
@@ -278,7 +283,8 @@ class Machine:
         return None if taken is None else self.serve(queue, *taken)
 
     def take(self, queue):
-        """The head of the next chain, the places of its element and of the used index, and the chain or its fault."""
+        """The head of the next chain, the places of its element and of the used index, and the
+        chain or its fault."""
         memory = self.memory
         index = memory.number(queue.avail + 2, 2, INDEX_UNREACHABLE)
         waiting = (index - queue.position) % 65536
@@ -331,7 +337,8 @@ class Machine:
     def count_request(self, reply, fault):
         """What was asked and how it ended, for the coverage."""
         opcode = self.server.opcode
-        self.coverage["opcode", NAMES.get(opcode, "no opcode") if opcode is not None else "no header"] += 1
+        name = NAMES.get(opcode, "no opcode") if opcode is not None else "no header"
+        self.coverage["opcode", name] += 1
         if fault is not None:
             self.coverage["server fault", str(fault)] += 1
         elif reply:
@@ -344,7 +351,8 @@ class Machine:
         self.coverage["shape", "behind the IOMMU"] += self.memory.iommu
         self.coverage["shape", "reply over itself"] += len(set(written)) < len(written)
         self.coverage["shape", "reply over what is used"] += not set(written).isdisjoint(used)
-        self.coverage["shape", "reply in several blocks"] += len({block for block, _ in written}) > 1
+        blocks = {block for block, _ in written}
+        self.coverage["shape", "reply in several blocks"] += len(blocks) > 1
 
 
 def call_lines(calls):
@@ -357,7 +365,8 @@ class Player:
     """Plays a script's lines on a machine of its own."""
 
     COMMANDS = {
-        "queue": "smmm", "region": "mm", "alias": "mm", "unregion": "mm", "write": "mh", "read": "mm", "map": "mmmp",
+        "queue": "smmm", "region": "mm", "alias": "mm", "unregion": "mm", "write": "mh",
+        "read": "mm", "map": "mmmp",
         "unmap": "mm", "iommu": "o", "kick": "ms", "reset": "msmmm", "harvest": "", "move": "",
     }
 
@@ -523,7 +532,8 @@ def hexadecimal(word):
     return bytes.fromhex(word.decode()) if re.fullmatch(rb"(?:[0-9a-fA-F]{2})+", word) else None
 
 
-# What words mean, by the kinds of arguments: m is a number, s a short one, h bytes, p a permission, o a switch.
+# What words mean, by the kinds of arguments: m is a number, s a short one, h bytes, p a permission,
+# o a switch.
 ARGUMENTS = {
     "m": lambda word: number(word, LAST),
     "s": lambda word: number(word, 65535),

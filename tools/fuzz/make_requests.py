@@ -4,33 +4,41 @@ import struct
 
 from grammar import NAMES, RECORDS
 
-BOUNDARIES = [0, 1, 2, 3, 4, 5, 7, 8, 15, 16, 17, 31, 32, 33, 63, 64, 127, 128, 255, 256, 4095, 4096, 4097, 65535, 65536]
-GREAT = [0x100000, 0x100001, 0x101000, 0x101001, 2**31, 2**32 - 1, 2**63 - 1, 2**63, 2**64 - 4096, 2**64 - 2, 2**64 - 1]
+BOUNDARIES = [0, 1, 2, 3, 4, 5, 7, 8, 15, 16, 17, 31, 32, 33, 63, 64, 127, 128, 255, 256, 4095,
+    4096, 4097, 65535, 65536]
+GREAT = [0x100000, 0x100001, 0x101000, 0x101001, 2**31, 2**32 - 1, 2**63 - 1, 2**63, 2**64 - 4096,
+    2**64 - 2, 2**64 - 1]
 
-SIZES = [0, 1, 3, 5, 16, 31, 32, 33, 63, 64, 65, 159, 160, 161, 319, 320, 321, 1000, 4096, 0x100000, 0x100001]
+SIZES = [0, 1, 3, 5, 16, 31, 32, 33, 63, 64, 65, 159, 160, 161, 319, 320, 321, 1000, 4096,
+    0x100000, 0x100001]
 
 # The records of requests whose name isn't theirs.
 RECORD_OF = {
-    "readdir": "read", "readdirplus": "read", "opendir": "open", "releasedir": "release", "fsyncdir": "fsync",
+    "readdir": "read", "readdirplus": "read", "opendir": "open", "releasedir": "release",
+    "fsyncdir": "fsync",
     "listxattr": "getxattr", "setxattr": "setxattr_compat",
 }
 # Behind the record: the number of names, and whether extensions may follow.
 NAMED = {
-    "lookup": 1, "unlink": 1, "rmdir": 1, "removexattr": 1, "link": 1, "getxattr": 1, "rename": 2, "rename2": 2,
+    "lookup": 1, "unlink": 1, "rmdir": 1, "removexattr": 1, "link": 1, "getxattr": 1, "rename": 2,
+    "rename2": 2,
     "symlink": 2, "mknod": 1, "mkdir": 1, "create": 1,
 }
 EXTENDED = {"symlink", "mknod", "mkdir", "create"}
 # How many bytes a good reply has, where that doesn't hang on the request.
 REPLY_LENGTH = {
-    "lookup": 144, "getattr": 120, "open": 32, "opendir": 32, "statfs": 96, "init": 80, "write": 24, "forget": 0,
+    "lookup": 144, "getattr": 120, "open": 32, "opendir": 32, "statfs": 96, "init": 80, "write": 24,
+    "forget": 0,
     "batch_forget": 0, "interrupt": 0, "destroy": 0,
 }
 # What the file system does most with is asked most often.
-FAVOURITES = ["lookup", "forget", "getattr", "read", "write", "readdir", "readdirplus", "init", "batch_forget"]
+FAVOURITES = ["lookup", "forget", "getattr", "read", "write", "readdir", "readdirplus", "init",
+    "batch_forget"]
 
 
 # An INIT that agrees on groups of a request.
-INIT = struct.pack("<IIQQIIIHHIIIII44s", 104, 26, 1, 0, 0, 0, 0, 0, 0, 7, 38, 0x20000, 0x7BFFFFFB, 0xF, b"")
+INIT = struct.pack("<IIQQIIIHHIIIII44s", 104, 26, 1, 0, 0, 0, 0, 0, 0, 7, 38, 0x20000,
+    0x7BFFFFFB, 0xF, b"")
 
 
 def number(rng, width=8):
@@ -47,7 +55,8 @@ def number(rng, width=8):
 
 def name(rng):
     """A name with its zero byte, mostly."""
-    text = rng.choice([b"a", b"a", b"a", b".", b"..", b"b", b"aa", b"", b"user.x", b"0123456789abcdef", b"0123456789abcdefg"])
+    text = rng.choice([b"a", b"a", b"a", b".", b"..", b"b", b"aa", b"", b"user.x",
+        b"0123456789abcdef", b"0123456789abcdefg"])
     if rng.random() < 0.08:
         text = rng.randbytes(rng.randint(1, 40))
     return text if rng.random() < 0.09 else text + b"\0"
@@ -58,7 +67,8 @@ def extensions(rng):
     data = b""
     for _ in range(rng.choice([0, 1, 1, 1, 2, 3])):
         kind = rng.choice([32, 32, 32, 0, 1, 2, 31, 33, rng.getrandbits(32)])
-        body = struct.pack("<II", rng.choice([1, 1, 1, 0, 2]), number(rng, 4)) + rng.randbytes(rng.choice([0, 0, 0, 4, 8]))
+        body = struct.pack("<II", rng.choice([1, 1, 1, 0, 2]),
+            number(rng, 4)) + rng.randbytes(rng.choice([0, 0, 0, 4, 8]))
         if kind < 32 and rng.random() < 0.8:
             body = struct.pack("<II", rng.choice([3, 3, 0, 9]), 0) + b"security.x\0abc"
         if rng.random() < 0.1:
@@ -100,7 +110,8 @@ def write_body(rng):
     values = fields(rng, "write")
     if rng.random() < 0.9:
         values[1] = rng.choice([0, 0, 1, 4, 5, 6, 10, 100, 4000, 4095, 4096, 4097])
-        values[2] = rng.choice([len(data)] * 5 + [0, len(data) + 1, max(0, len(data) - 1), 4096, 4095])
+        values[2] = rng.choice([len(data)] * 5
+            + [0, len(data) + 1, max(0, len(data) - 1), 4096, 4095])
     return packed("write", values) + data
 
 
@@ -108,18 +119,22 @@ def init_body(rng):
     """The body of INIT, mostly of a client that there is."""
     major = rng.choice([7] * 8 + [0, 6, 8, number(rng, 4)])
     minor = rng.choice([38] * 5 + [31, 27, 26, 0, number(rng, 4)])
-    flags = rng.choice([0x7BFFFFFB, 1 << 30, 0, 2**32 - 1, rng.getrandbits(32), rng.getrandbits(32) | 1 << 30])
+    flags = rng.choice([0x7BFFFFFB, 1 << 30, 0, 2**32 - 1, rng.getrandbits(32),
+        rng.getrandbits(32) | 1 << 30])
     body = struct.pack("<IIII", major, minor, number(rng, 4), flags)
     if flags >> 30 & 1 or rng.random() < 0.2:
-        body += struct.pack("<I44s", rng.choice([4, 4, 0xB, 0, 0x104, 2**32 - 1, rng.getrandbits(32)]), b"")
+        body += struct.pack("<I44s",
+            rng.choice([4, 4, 0xB, 0, 0x104, 2**32 - 1, rng.getrandbits(32)]), b"")
     return body
 
 
 def batch_body(rng):
     """The body of BATCH_FORGET."""
     count = rng.choice([0, 1, 2, 3, 5, 63, 64, 65, 66, 90])
-    ones = b"".join(struct.pack("<QQ", rng.choice([1, 2, number(rng)]), number(rng)) for _ in range(count))
-    told = count if rng.random() < 0.85 else rng.choice([count + 1, max(0, count - 1), 65536, 65537, number(rng, 4)])
+    ones = b"".join(struct.pack("<QQ", rng.choice([1, 2, number(rng)]), number(rng))
+        for _ in range(count))
+    told = count if rng.random() < 0.85 else rng.choice([count + 1, max(0, count - 1), 65536, 65537,
+        number(rng, 4)])
     return struct.pack("<II", told % 2**32, 0) + ones
 
 
@@ -132,7 +147,8 @@ def setxattr_body(rng):
 
 def body(rng, kind):
     """The bytes behind the header."""
-    special = {"write": write_body, "init": init_body, "batch_forget": batch_body, "setxattr": setxattr_body}
+    special = {"write": write_body, "init": init_body, "batch_forget": batch_body,
+        "setxattr": setxattr_body}
     if kind in special:
         return special[kind](rng)
     record = RECORD_OF.get(kind, kind)
@@ -171,7 +187,8 @@ def request(rng, session=False):
     if kind in ("read", "write") and rng.random() < 0.8:
         node = 2
     ids = [number(rng, 4) for _ in range(3)]
-    data = struct.pack("<IIQQIIIHH", length % 2**32, opcode, number(rng), node, *ids, number(rng, 2), 0) + data
+    data = struct.pack("<IIQQIIIHH", length % 2**32, opcode, number(rng), node, *ids,
+        number(rng, 2), 0) + data
     if rng.random() < 0.05:
         data = data[:rng.randint(0, len(data))]
     if rng.random() < 0.08:
@@ -181,5 +198,6 @@ def request(rng, session=False):
 
 def room_length(rng, wanted):
     """The length of a room: just enough, a byte too few, more, or anything."""
-    lengths = [wanted] * 5 + [wanted + rng.randint(0, 300)] * 3 + [wanted - 1, wanted + 1, 144, 0, 15, 16, 17]
+    lengths = [wanted] * 5 + [wanted + rng.randint(0, 300)] * 3 + [wanted - 1, wanted + 1, 144, 0,
+        15, 16, 17]
     return max(0, rng.choice([*lengths, rng.randint(0, 400)]))

@@ -1,4 +1,5 @@
-"""Scripts for the fuzzer: the stored ones, guests made by chance, and either with lines and numbers changed."""
+"""Scripts for the fuzzer: the stored ones, guests made by chance, and either with lines and numbers
+changed."""
 
 import random
 import re
@@ -13,13 +14,16 @@ GREATEST_REGION = 1 << 20
 LEAST_REFUSED = 1 << 62
 NUMBER = re.compile(rb"0x[0-9a-fA-F]+|[0-9]+")
 MALFORMED = [
-    b" ", b"\t", b"\r", b"  ", b"-1", b"+1", b"0x", b"0X1", b"1_0", b"18446744073709551616", b"65536", b"0x10000", b"on", b"rwx",
+    b" ", b"\t", b"\r", b"  ", b"-1", b"+1", b"0x", b"0X1", b"1_0", b"18446744073709551616",
+    b"65536", b"0x10000", b"on", b"rwx",
     b"\xff", b"0g", b"", b"\0", b"\xc3\xa9"]
-SHORT_LINES = [b"move", b"harvest", b"iommu on", b"iommu off", b"kick 0 1", b"kick 0 65535", b"# x", b""]
+SHORT_LINES = [b"move", b"harvest", b"iommu on", b"iommu off", b"kick 0 1", b"kick 0 65535",
+    b"# x", b""]
 
 
 def stored():
-    """Each script that the repository has: its examples, those of this folder, the program's own, those of its tests."""
+    """Each script that the repository has: its examples, those of this folder, the program's own,
+    those of its tests."""
     found = [path.read_bytes() for path in sorted(ROOT.glob("examples/*.fs"))]
     found += [path.read_bytes() for path in sorted(ROOT.glob("tools/fuzz/worked/*.fs"))]
     found.append((ROOT / "crates/virtio_fs_run/stdin").read_bytes())
@@ -33,7 +37,8 @@ def stored():
 
 
 def transcripts(text):
-    """The scripts of a file of transcripts, line by line: what stands behind `> `, up to a status or the text's end."""
+    """The scripts of a file of transcripts, line by line: what stands behind `> `, up to a status
+    or the text's end."""
     found, lines = [], []
     for line in text.split(b"\n"):
         if line.startswith(b"> "):
@@ -46,7 +51,8 @@ def transcripts(text):
 
 def is_playable(script):
     """Whether no region asks for so much that one host has it and another hasn't."""
-    sizes = [value_of(size) for size in re.findall(rb"^region \S+ (0x[0-9a-fA-F]+|[0-9]+)$", script, re.MULTILINE)]
+    sizes = [value_of(size)
+        for size in re.findall(rb"^region \S+ (0x[0-9a-fA-F]+|[0-9]+)$", script, re.MULTILINE)]
     return sum(size for size in sizes if size < LEAST_REFUSED) <= 8 * GREATEST_REGION
 
 
@@ -82,10 +88,12 @@ def change_number(rng, lines):
     if words[0] in (b"write", b"#") and index != 1 or not NUMBER.fullmatch(words[index]):
         return lines
     value = value_of(words[index])
-    others = NUMBER.findall(b"\n".join(line for line in [*lines[place:], *lines] if line[:1] not in b"w#"))
+    others = NUMBER.findall(b"\n".join(line for line in [*lines[place:], *lines]
+        if line[:1] not in b"w#"))
     near = [value + 1, value - 1, value + 16, value * 2, value ^ 1 << rng.randrange(16)]
     value = rng.choice([*near, number(rng), value_of(rng.choice(others))]) % 2**64
-    words[index] = rng.choice([b"%d", b"%d", b"0x%x", b"0x%x", b"0x%X", b"0x%025x", b"%025d"]) % value
+    words[index] = rng.choice([b"%d", b"%d", b"0x%x", b"0x%x", b"0x%X", b"0x%025x",
+        b"%025d"]) % value
     return lines[:place] + [b" ".join(words)] + lines[place + 1:]
 
 
@@ -96,7 +104,8 @@ def value_of(word):
 
 def change_hexadecimal(rng, lines):
     """A byte or two of a guest's write are others."""
-    writes = [place for place, line in enumerate(lines) if line.startswith(b"write ") and line.count(b" ") == 2]
+    writes = [place for place, line in enumerate(lines) if line.startswith(b"write ")
+        and line.count(b" ") == 2]
     if not writes:
         return lines
     place = rng.choice(writes)
@@ -142,5 +151,6 @@ def spoil_line(rng, lines):
     elif kind == 2:
         del words[index]
     else:
-        words[index] = words[index].swapcase() if rng.random() < 0.5 else words[index] + rng.choice(MALFORMED)
+        words[index] = words[index].swapcase() if rng.random() < 0.5 else words[index] + rng.choice(
+            MALFORMED)
     return lines[:place] + [b" ".join(words)] + lines[place + 1:]

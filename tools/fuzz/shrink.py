@@ -6,7 +6,8 @@ from scripts import NUMBER, value_of
 
 
 def shrunk(script, differs, batch, seconds):
-    """The smallest script that was found. `differs` tells of a list of scripts which of them differ."""
+    """The smallest script that was found. `differs` tells of a list of scripts which of them
+    differ."""
     shrinking = Shrinking(script, differs, batch, time.monotonic() + seconds)
     before = None
     while before != shrinking.lines and not shrinking.is_over():
@@ -46,7 +47,8 @@ class Shrinking:
         size = max(1, len(self.lines) // 2)
         while True:
             places = range(len(self.lines) - size, -1, -size)
-            if self.take_first([self.lines[:place] + self.lines[place + size:] for place in places]):
+            if self.take_first([self.lines[:place] + self.lines[place + size:]
+                    for place in places]):
                 size = min(size, max(1, len(self.lines) // 2))
             elif size == 1 or self.is_over():
                 return
@@ -71,7 +73,8 @@ def smaller(line):
             choices = smaller_bytes(word)
         elif index and NUMBER.fullmatch(word):
             value = value_of(word)
-            choices = [b"%d" % less for less in sorted({0, 1, value // 2, value - 1}) if 0 <= less < value]
+            choices = [b"%d" % less for less in sorted({0, 1, value // 2, value - 1})
+                if 0 <= less < value]
         else:
             choices = []
         found += [b" ".join(words[:index] + [choice] + words[index + 1:]) for choice in choices]

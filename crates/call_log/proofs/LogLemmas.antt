@@ -13,13 +13,13 @@ use Rattle.fs_queue.specs.Taking as taking
 use Rattle.fuse_fs.specs.Calls.{FileCall, FileAnswer, FileRun}
 use Rattle.virtiofsd_fuse.specs.Grammar.{meaning}
 use Rattle.server_segments.specs.declared.error.Error.{Error}
-use Rattle.virtiofsd_fuse.specs.Serving.{May, Served, served, setting}
+use Rattle.virtiofsd_fuse.specs.Serving.{May, ServedMessage, served, setting}
 use Rattle.fs_device.specs.declared.error.DeviceError.{DeviceError}
 use Rattle.fs_device.specs.declared.exchange.Fault.{Fault}
 use Rattle.fs_device.specs.declared.refusal.Refusal.TheVariants as why
 use Rattle.fs_device.specs.Step.{State, Exchange, Calls, Exchanged, Exchanges, StepOf, served_fault, served_exchange}
 use Rattle.fs_device.specs.Run as run
-use Rattle.fs_device.specs.Run.{Command, Answer, Effect, Turn, Told, shown, KickRun, Kicks, Kicked, Affects, ChangesTable, HasEffect, Does}
+use Rattle.fs_device.specs.Run.{Command, Answer, Effect, Turn, Turns, shown, KickRun, Kicks, KickAnswer, Affects, ChangesTable, HasEffect, Does}
 use Rattle.fs_device.specs.Run.{IsDecided, Performs, RunTold, Run, effect, insert, insert_block, is_known, some_overlap, reset}
 use Rattle.fs_device.proofs.BookLemmas.{all_suit}
 use Rattle.fs_device.proofs.TellingLemmas.{end_stays}
@@ -86,9 +86,9 @@ taken_logged may log keeps s i q (Offers head (IsRequest request room)) calls x 
     let same_head : x.head ≡ head = ap (λ (e : Exchange). e.head) r.returns.exchange in
     let same : x.request ≡ request = ap (λ (e : Exchange). e.request) r.returns.exchange in
     let own : (served set (meaning s.options x.request (length room)) answers).calls ≡ map (λ (step : FileCall × FileAnswer). step.0) calls =
-    ap (λ (bytes : List ℕ). (served set (meaning s.options bytes (length room)) answers).calls) same ∙ ap (λ (g : Served). g.calls) (sym r.serves.gives) ∙ r.serves.asks in
+    ap (λ (bytes : List ℕ). (served set (meaning s.options bytes (length room)) answers).calls) same ∙ ap (λ (g : ServedMessage). g.calls) (sym r.serves.gives) ∙ r.serves.asks in
     let told : x ≡ served_exchange head request (served set (meaning s.options request (length room)) answers) =
-    r.returns.exchange ∙ ap (λ (g : Served). served_exchange head request g) r.serves.gives in
+    r.returns.exchange ∙ ap (λ (g : ServedMessage). served_exchange head request g) r.serves.gives in
     let is : x ≡ served_exchange x.head x.request (served set (meaning s.options x.request (length room)) answers) =
     subst (λ (n : ℕ). x ≡ served_exchange n x.request (served set (meaning s.options x.request (length room)) answers)) (sym same_head)
     (subst (λ (bytes : List ℕ). x ≡ served_exchange head bytes (served set (meaning s.options bytes (length room)) answers)) (sym same) told) in
@@ -119,7 +119,7 @@ joined_growth : {F : Type 0} (log : F → List LoggedCall) (a b c : F) (xs ys : 
 joined_growth log a b c xs ys (front, are, is) (back, more, on) =
     (front ++ back, logged-append xs ys front back are more, on ∙ ap (λ (l : List LoggedCall). with_calls l back) is ∙ sym (with_calls-append (log a) front back))
 
-kick_logged : {F : Type 0} (may : May F) (log : F → List LoggedCall) → Keeps may log → (s : State F) (i most : ℕ) (told : Told) (refused : Option DeviceError) (after : State F) →
+kick_logged : {F : Type 0} (may : May F) (log : F → List LoggedCall) → Keeps may log → (s : State F) (i most : ℕ) (told : Turns) (refused : Option DeviceError) (after : State F) →
     KickRun may s i most told refused after → Grew log s.files (map (λ t. t.exchange) told) after.files
 unfolding KickRun
 kick_logged may log keeps s i most [] refused after t = stayed log s.files after.files (end_stays may s i most refused after t)
@@ -130,14 +130,14 @@ kick_logged may log keeps s i (suc most) (x ∷ told) refused after (mid, step, 
     (kick_logged may log keeps mid i most told refused after rest)
 
 -- the exchanges that a kick lists are those that it made
-listed_exchanges : (told : Told) → map (λ x. x.0) (map shown told) ≡ map (λ t. t.exchange) told
+listed_exchanges : (told : Turns) → map (λ x. x.0) (map shown told) ≡ map (λ t. t.exchange) told
 listed_exchanges [] = refl
 listed_exchanges (x ∷ told) = ap (λ (l : List Exchange). x.exchange ∷ l) (listed_exchanges told)
 
-kicks_logged : {F : Type 0} (may : May F) (log : F → List LoggedCall) → Keeps may log → (s : State F) (i most : ℕ) (o : Option Queue) (told : Told) (k : Kicked) (after : State F) →
+kicks_logged : {F : Type 0} (may : May F) (log : F → List LoggedCall) → Keeps may log → (s : State F) (i most : ℕ) (o : Option Queue) (told : Turns) (k : KickAnswer) (after : State F) →
     Kicks may s i most o told k after → Grew log s.files (map (λ x. x.0) k.exchanges) after.files
 kicks_logged may log keeps s i most None told k after t =
-    let none : map (λ (x : Exchange × Bool). x.0) k.exchanges ≡ [] = ap (λ (k : Kicked). map (λ x. x.0) k.exchanges) t.2 in
+    let none : map (λ (x : Exchange × Bool). x.0) k.exchanges ≡ [] = ap (λ (k : KickAnswer). map (λ x. x.0) k.exchanges) t.2 in
     rw none (stayed log s.files after.files (ap (λ s. s.files) t.0))
 kicks_logged may log keeps s i most (Some q) told k after t =
     let same : map (λ (x : Exchange × Bool). x.0) k.exchanges ≡ map (λ (x : Turn). x.exchange) told = ap (map (λ (x : Exchange × Bool). x.0)) t.1 ∙ listed_exchanges told in
@@ -221,12 +221,12 @@ affect_logged log s run.Harvest answer after t = by_effect log s run.Harvest ans
 
 -- ---- runs
 
-effect_logged : {F : Type 0} (log : F → List LoggedCall) (s : State F) (command : Command) (told : Told) (answer : Answer) (after : State F) → HasEffect s command told answer after →
+effect_logged : {F : Type 0} (log : F → List LoggedCall) (s : State F) (command : Command) (told : Turns) (answer : Answer) (after : State F) → HasEffect s command told answer after →
     Grew log s.files (exchanges_in answer) after.files
 effect_logged log s command [] answer after t = affect_logged log s command answer after t
 effect_logged log s command (x ∷ told) answer after t = absurd t
 
-does_logged : {F : Type 0} (may : May F) (log : F → List LoggedCall) → Keeps may log → (s : State F) (command : Command) (told : Told) (answer : Answer) (after : State F) →
+does_logged : {F : Type 0} (may : May F) (log : F → List LoggedCall) → Keeps may log → (s : State F) (command : Command) (told : Turns) (answer : Answer) (after : State F) →
     Does may s command told answer after → Grew log s.files (exchanges_in answer) after.files
 does_logged may log keeps s (run.Kick i most) told (run.Served k) after t = kicks_logged may log keeps s i most (slice_get s.queues i) told k after t
 does_logged may log keeps s (run.Kick i most) told run.Done after t = absurd t
@@ -249,7 +249,7 @@ does_logged may log keeps s (run.ResetQueue queue size desc avail used) told ans
 does_logged may log keeps s run.Image told answer after t = effect_logged log s run.Image told answer after t
 does_logged may log keeps s run.Harvest told answer after t = effect_logged log s run.Harvest told answer after t
 
-performs_logged : {F : Type 0} (may : May F) (log : F → List LoggedCall) → Keeps may log → (s : State F) (command : Command) (told : Told) (answer : Answer) (after : State F) →
+performs_logged : {F : Type 0} (may : May F) (log : F → List LoggedCall) → Keeps may log → (s : State F) (command : Command) (told : Turns) (answer : Answer) (after : State F) →
     Performs may s command told answer after → Grew log s.files (exchanges_in answer) after.files
 performs_logged may log keeps s command [] (run.IsRefused why.OutOfMemory) after t = stayed log s.files after.files (ap (λ s. s.files) t.1)
 performs_logged may log keeps s command (x ∷ told) (run.IsRefused why.OutOfMemory) after t = absurd t
@@ -268,7 +268,7 @@ performs_logged may log keeps s command told (run.Served k) after t = does_logge
 performs_logged may log keeps s command told (run.Copied host) after t = does_logged may log keeps s command told _ after t
 performs_logged may log keeps s command told (run.Pages pages) after t = does_logged may log keeps s command told _ after t
 
-events_logged : {F : Type 0} (may : May F) (log : F → List LoggedCall) → Keeps may log → (s : State F) (events : List (Command × Answer)) (tolds : List Told) (after : State F) →
+events_logged : {F : Type 0} (may : May F) (log : F → List LoggedCall) → Keeps may log → (s : State F) (events : List (Command × Answer)) (tolds : List Turns) (after : State F) →
     RunTold may s events tolds after → Grew log s.files (flat_map exchanges_in (map (λ e. e.1) events)) after.files
 unfolding RunTold
 events_logged may log keeps s [] [] after same = stayed log s.files after.files (ap (λ s. s.files) same)

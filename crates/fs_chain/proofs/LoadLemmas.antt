@@ -10,51 +10,51 @@ use Rattle.fs_regions.specs.declared.walk.QueueWalk.{QueueWalk}
 use Rattle.fs_regions.specs.declared.walk.QueueWalk.TheVariants as walks
 use Rattle.fs_regions.specs.Places.{places_in}
 use Rattle.fs_regions.specs.Walks.{asked_len}
-use Rattle.fs_chain.specs.declared.state.State as state
-use Rattle.fs_chain.specs.declared.state.State.TheVariants as at
-use Rattle.fs_chain.specs.declared.state.Ticket.{Ticket}
+use Rattle.fs_chain.specs.declared.state.ChainState as state
+use Rattle.fs_chain.specs.declared.state.ChainState.TheVariants as at
+use Rattle.fs_chain.specs.declared.state.PopId.{PopId}
 use Rattle.fs_chain.specs.declared.error.ChainError.{ChainError}
 use Rattle.fs_chain.specs.declared.error.ChainError.TheVariants.{OutOfMemory}
-use Rattle.fs_chain.specs.declared.queue.KeptQueue.{KeptQueue}
+use Rattle.fs_chain.specs.declared.queue.QueueState.{QueueState}
 use Rattle.fs_chain.specs.Orders.{entries_asked, IfWalking, IsWalking, load_len, walk_error}
 use Rattle.fs_chain.specs.Events.{event_fault}
 use Rattle.fs_chain.specs.Walks.{BeginsUnless, BeginsWhere, GoesOnUnless, LacksRoom, WalksFrom, WalksOn}
-use Rattle.fs_chain.specs.declared.walking.WalkOutcome as walked
-use Rattle.fs_chain.specs.declared.workbench.Workbench.{Workbench}
+use Rattle.fs_chain.specs.declared.popping.PopOutcome as walked
+use Rattle.fs_chain.specs.declared.chain_handle.ChainHandle.{ChainHandle}
 use Rattle.fs_chain.specs.Loads.{AreDue, AreWanted, AreWhole, RefusesWalk, came, due_len, whole}
 
-within : (s : state.State) (P : QueueWalk → Type 0) (n : ℕ) → IsWalking s → IfWalking s P → ((walk : QueueWalk) → P walk → n ≤ asked_len walk) → n ≤ load_len s
-within (at.Walking course ticket walk) P n is p h = h walk p
+within : (s : state.ChainState) (P : QueueWalk → Type 0) (n : ℕ) → IsWalking s → IfWalking s P → ((walk : QueueWalk) → P walk → n ≤ asked_len walk) → n ≤ load_len s
+within (at.Walking course pop_id walk) P n is p h = h walk p
 within at.Free P n is p h = absurd is
 within (at.Taken out) P n is p h = absurd is
 within (at.Waits out waiting) P n is p h = absurd is
 within (at.Lists out listing) P n is p h = absurd is
 within (at.HasReply out reply) P n is p h = absurd is
-within (at.Returning out) P n is p h = absurd is
+within (at.Pushing out) P n is p h = absurd is
 
 -- with those that came before
-pub fits : (w : Workbench) (n : ℕ) → AreWanted w n → came w + n ≤ load_len w.state
+pub fits : (w : ChainHandle) (n : ℕ) → AreWanted w n → came w + n ≤ load_len w.state
 fits w n wanted =
     let same = wanted.2 in
     within w.state _ (came w + n) wanted.1.0 wanted.1.1 (λ walk p. let less = p.0 in let most = p.1.1 in omega (arith, less, most, same))
 
 -- a load of a table's entries isn't empty
-some_len : (s : state.State) → 0 < entries_asked s → 0 < load_len s
-some_len (at.Walking course ticket (walks.Entries w)) asks = omega (arith, asks)
-some_len (at.Walking course ticket (walks.Index w)) asks = omega arith
-some_len (at.Walking course ticket (walks.RingEntry w)) asks = omega arith
+some_len : (s : state.ChainState) → 0 < entries_asked s → 0 < load_len s
+some_len (at.Walking course pop_id (walks.Entries w)) asks = omega (arith, asks)
+some_len (at.Walking course pop_id (walks.Index w)) asks = omega arith
+some_len (at.Walking course pop_id (walks.RingEntry w)) asks = omega arith
 some_len at.Free asks = absurd (omega (arith, asks))
 some_len (at.Taken out) asks = absurd (omega (arith, asks))
 some_len (at.Waits out waiting) asks = absurd (omega (arith, asks))
 some_len (at.Lists out listing) asks = absurd (omega (arith, asks))
 some_len (at.HasReply out reply) asks = absurd (omega (arith, asks))
-some_len (at.Returning out) asks = absurd (omega (arith, asks))
+some_len (at.Pushing out) asks = absurd (omega (arith, asks))
 
 some_asked : (n : ℕ) → 0 < n → (n == 0) ≡ false
 some_asked n some = grind (arith, nat_tests)
 
 -- bytes that are the whole of what came are as many as the entries that are asked for have
-ends_load : (w : Workbench) (loaded : List ℕ) → whole w loaded ≡ loaded → length loaded ≡ due_len w loaded → 0 < entries_asked w.state
+ends_load : (w : ChainHandle) (loaded : List ℕ) → whole w loaded ≡ loaded → length loaded ≡ due_len w loaded → 0 < entries_asked w.state
     → came w + length loaded ≡ load_len w.state
 ends_load w loaded all len asks =
     let wants : (load_len w.state == 0) ≡ false = some_asked (load_len w.state) (some_len w.state asks) in
@@ -64,8 +64,8 @@ ends_load w loaded all len asks =
     let same = ap length none in
     omega (arith, due, sum, same)
 
--- what the workbench refuses, of bytes that are due
-pub refuses_walk : (w : Workbench) (q : KeptQueue) (loaded : List ℕ) (e : ChainError) → AreDue w loaded → length loaded ≡ due_len w loaded → whole w loaded ≡ loaded
+-- what the handle refuses, of bytes that are due
+pub refuses_walk : (w : ChainHandle) (q : QueueState) (loaded : List ℕ) (e : ChainError) → AreDue w loaded → length loaded ≡ due_len w loaded → whole w loaded ≡ loaded
     → ((walk_error w.state q (length loaded) ≡ Some e) ⊎ ((e ≡ OutOfMemory) × (walk_error w.state q (length loaded) ≡ None)))
     → (e ≡ OutOfMemory → LacksRoom w) → RefusesWalk w q loaded e
 refuses_walk w q loaded e due len all (inl is) memory = inl (due, subst (λ (n : ℕ). walk_error w.state q n ≡ Some e) len is)
@@ -74,17 +74,17 @@ refuses_walk w q loaded e due len all (inr lacks) memory =
     inr (inl (lacks.0, inl (ends_load w loaded all len room.0, room), due, subst (λ (n : ℕ). walk_error w.state q n ≡ None) len lacks.1))
 
 -- bytes that are due begin a walk, or they are a whole load, or they are wanted
-pub due : (w : Workbench) (loaded : List ℕ) → AreDue w loaded → (load_len w.state ≡ 0) ⊎ AreWhole w (length loaded) ⊎ AreWanted w (length loaded)
+pub due : (w : ChainHandle) (loaded : List ℕ) → AreDue w loaded → (load_len w.state ≡ 0) ⊎ AreWhole w (length loaded) ⊎ AreWanted w (length loaded)
 due w loaded (inl none) = inl none
 due w loaded (inr some) = inr some.1
 
 -- ---- a walk is the same, whatever part of a load the handle keeps
 
-module _ (w w' : Workbench) (aside kept : Vec ℕ) (q q' : KeptQueue) (told : walked.WalkOutcome) where
-  abbrev before : Workbench
+module _ (w w' : ChainHandle) (aside kept : Vec ℕ) (q q' : QueueState) (told : walked.PopOutcome) where
+  abbrev before : ChainHandle
   before = record w { part = aside }
 
-  abbrev after : Workbench
+  abbrev after : ChainHandle
   after = record w' { part = kept }
 
   begins_where : (fault : Option QueueError) → BeginsWhere fault before w' q q' told → BeginsWhere fault w after q q' told
@@ -95,36 +95,36 @@ module _ (w w' : Workbench) (aside kept : Vec ℕ) (q q' : KeptQueue) (told : wa
   begins None h = begins_where (event_fault (places_in w.regions) q) h
   begins (Some why) h = h
 
-  goes_on : (stopped : Option QueueError) (course : Course) (ticket : Ticket) (walk : QueueWalk) (bytes : List ℕ) → GoesOnUnless stopped course ticket walk bytes before w' q q' told
-      → GoesOnUnless stopped course ticket walk bytes w after q q' told
-  goes_on None course ticket walk bytes h = h
-  goes_on (Some why) course ticket walk bytes h = h
+  goes_on : (stopped : Option QueueError) (course : Course) (pop_id : PopId) (walk : QueueWalk) (bytes : List ℕ) → GoesOnUnless stopped course pop_id walk bytes before w' q q' told
+      → GoesOnUnless stopped course pop_id walk bytes w after q q' told
+  goes_on None course pop_id walk bytes h = h
+  goes_on (Some why) course pop_id walk bytes h = h
 
-  walks_from : (s : state.State) (bytes : List ℕ) → WalksFrom s bytes before w' q q' told → WalksFrom s bytes w after q q' told
+  walks_from : (s : state.ChainState) (bytes : List ℕ) → WalksFrom s bytes before w' q q' told → WalksFrom s bytes w after q q' told
   walks_from at.Free bytes h = begins q.stopped h
-  walks_from (at.Walking course ticket walk) bytes h = goes_on q.stopped course ticket walk bytes h
+  walks_from (at.Walking course pop_id walk) bytes h = goes_on q.stopped course pop_id walk bytes h
   walks_from (at.Taken out) bytes h = h
   walks_from (at.Waits out waiting) bytes h = h
   walks_from (at.Lists out listing) bytes h = h
   walks_from (at.HasReply out reply) bytes h = h
-  walks_from (at.Returning out) bytes h = h
+  walks_from (at.Pushing out) bytes h = h
 
 -- by the same bytes, from a handle to one that are these but for that part
-pub walks_apart : (w before w' after : Workbench) (q q' : KeptQueue) (told : walked.WalkOutcome) (bytes all : List ℕ) → before ≡ record w { part = before.part }
+pub walks_apart : (w before w' after : ChainHandle) (q q' : QueueState) (told : walked.PopOutcome) (bytes all : List ℕ) → before ≡ record w { part = before.part }
     → after ≡ record w' { part = after.part } → bytes ≡ all → WalksOn bytes before w' q q' told → WalksOn all w after q q' told
 walks_apart w before w' after q q' told bytes all from to same h =
-    let there = subst (λ (x : Workbench). WalksOn bytes x w' q q' told) from h in
+    let there = subst (λ (x : ChainHandle). WalksOn bytes x w' q q' told) from h in
     let here = walks_from w w' before.part after.part q q' told w.state bytes there in
-    subst (λ (l : List ℕ). WalksOn l w after q q' told) same (subst (λ (x : Workbench). WalksOn bytes w x q q' told) (sym to) here)
+    subst (λ (l : List ℕ). WalksOn l w after q q' told) same (subst (λ (x : ChainHandle). WalksOn bytes w x q q' told) (sym to) here)
 
 -- it goes on by a load that came in parts
-pub joined_goes : (w joined new : Workbench) (q q' : KeptQueue) (told : walked.WalkOutcome) (loaded : List ℕ) → 0 < load_len w.state
+pub joined_goes : (w joined new : ChainHandle) (q q' : QueueState) (told : walked.PopOutcome) (loaded : List ℕ) → 0 < load_len w.state
     → joined ≡ record w { part = joined.part } → joined.state ≡ w.state → joined.part.items ≡ w.part.items ++ loaded
     → walk_error joined.state q (came joined) ≡ None → WalksOn joined.part.items joined new q q' told
     → (walk_error w.state q (length (whole w loaded)) ≡ None) × WalksOn (whole w loaded) w new q q' told
 joined_goes w joined new q q' told loaded some from same items right walks =
     let all : joined.part.items ≡ whole w loaded =
     items ∙ sym (ap (λ (t : Bool). if t then loaded else w.part.items ++ loaded) (some_asked (load_len w.state) some)) in (
-      subst (λ (l : List ℕ). walk_error w.state q (length l) ≡ None) all (subst (λ (s : state.State). walk_error s q (came joined) ≡ None) same right),
+      subst (λ (l : List ℕ). walk_error w.state q (length l) ≡ None) all (subst (λ (s : state.ChainState). walk_error s q (came joined) ≡ None) same right),
       walks_apart w joined new new q q' told joined.part.items (whole w loaded) from refl all walks,
     )

@@ -11,7 +11,7 @@ use Rattle.fs_queue.specs.Taking.{all_reach, total_len, access_of, of_direction}
 use Rattle.fs_regions.specs.Places.{Mapped, places_in}
 use Rattle.fs_regions.specs.Windows.{IsWindowFrom, StandsIn}
 use Rattle.fs_regions.proofs.Directions.{Skips, skips_begin, skips_on, skips_other}
-use Rattle.fs_chain.specs.declared.passed.Passed.{Passed}
+use Rattle.fs_chain.specs.declared.window_cursor.WindowCursor.{WindowCursor}
 use Rattle.fs_chain.specs.Passing.{HasPassed}
 
 -- how many bytes of one direction some descriptors have
@@ -57,7 +57,7 @@ skips_front l b ds from skip (d ∷ front) rest less s =
     let behind = skips_front l b ds from (skip - counted x d) front rest (omega (arith, more, less)) on in
     subst (λ (n : ℕ). Skips l b ds from n rest) (omega (arith, more)) behind
 
-passed_skips : (l : Mapped) (b : Bool) (ds : List Descriptor) (p : Passed) (from : ℕ) → HasPassed b ds p → p.bytes ≤ from
+passed_skips : (l : Mapped) (b : Bool) (ds : List Descriptor) (p : WindowCursor) (from : ℕ) → HasPassed b ds p → p.bytes ≤ from
     → Skips l b ds from (from - p.bytes) (drop p.index ds)
 passed_skips l b ds p from passed below =
     let bytes = passed.1 in
@@ -97,19 +97,19 @@ window_behind l b ds from skip rest w s is =
     )
 
 -- so it is behind what was passed
-window_passed : (l : Mapped) (b : Bool) (ds : List Descriptor) (p : Passed) (from : ℕ) (w : Window) → HasPassed b ds p → p.bytes ≤ from
+window_passed : (l : Mapped) (b : Bool) (ds : List Descriptor) (p : WindowCursor) (from : ℕ) (w : Window) → HasPassed b ds p → p.bytes ≤ from
     → IsWindowFrom l b (drop p.index ds) (from - p.bytes) w → IsWindowFrom l b ds from w
 window_passed l b ds p from w passed below is = window_behind l b ds from (from - p.bytes) (drop p.index ds) w (passed_skips l b ds p from passed below) is
 
 -- by what the code answers
-pub windows_passed : (l : Mapped) (b : Bool) (ds rest : List Descriptor) (p : Passed) (from : ℕ) (o : Option Window) → HasPassed b ds p → p.bytes ≤ from → rest ≡ drop p.index ds
+pub windows_passed : (l : Mapped) (b : Bool) (ds rest : List Descriptor) (p : WindowCursor) (from : ℕ) (o : Option Window) → HasPassed b ds p → p.bytes ≤ from → rest ≡ drop p.index ds
     → IfSome o (IsWindowFrom l b rest (from - p.bytes)) → IfSome o (IsWindowFrom l b ds from)
 windows_passed l b ds rest p from None passed below left is = tt
 windows_passed l b ds rest p from (Some w) passed below left is =
     window_passed l b ds p from w passed below (subst (λ (xs : List Descriptor). IsWindowFrom l b xs (from - p.bytes) w) left is)
 
 -- and what ends there, ends
-pub end_passed : (l : Mapped) (b : Bool) (ds rest : List Descriptor) (p : Passed) (from : ℕ) → HasPassed b ds p → p.bytes ≤ from → rest ≡ drop p.index ds
+pub end_passed : (l : Mapped) (b : Bool) (ds rest : List Descriptor) (p : WindowCursor) (from : ℕ) → HasPassed b ds p → p.bytes ≤ from → rest ≡ drop p.index ds
     → (all_reach (places_in l) (access_of b) (of_direction b rest) ≡ true → total_len (of_direction b rest) ≤ from - p.bytes)
     → all_reach (places_in l) (access_of b) (of_direction b ds) ≡ true → total_len (of_direction b ds) ≤ from
 end_passed l b ds rest p from passed below left none all =

@@ -5,35 +5,35 @@ use Rattle.fs_queue.specs.declared.fault.QueueError.{QueueError}
 use Rattle.fs_queue.specs.Chain.{Descriptor}
 use Rattle.fs_queue.specs.Queue.{Queue}
 use Rattle.fs_regions.specs.declared.course.Course.{Course}
-use Rattle.fs_regions.specs.declared.step.Step as comes
-use Rattle.fs_regions.specs.declared.step.Step.TheVariants as step
+use Rattle.fs_regions.specs.declared.step.CourseStep as comes
+use Rattle.fs_regions.specs.declared.step.CourseStep.TheVariants as step
 use Rattle.fs_regions.specs.declared.walk.QueueWalk.{QueueWalk}
 use Rattle.fs_regions.specs.Places.{Mapped, places_in}
-use Rattle.fs_regions.specs.Walks.{Loaded, ComesBy, ComesTo, StandsAt, queue_of}
-use Rattle.fs_chain.specs.declared.queue.KeptQueue.{KeptQueue}
-use Rattle.fs_chain.specs.declared.state.State as state
-use Rattle.fs_chain.specs.declared.state.State.TheVariants as at
-use Rattle.fs_chain.specs.declared.state.Ticket.{Ticket}
-use Rattle.fs_chain.specs.declared.walking.WalkOutcome as walked
-use Rattle.fs_chain.specs.declared.walking.WalkOutcome.TheVariants as tells
-use Rattle.fs_chain.specs.declared.workbench.Workbench.{Workbench}
+use Rattle.fs_regions.specs.Walks.{Loaded, ComesBy, IsCourseStep, IsWalkAt, queue_of}
+use Rattle.fs_chain.specs.declared.queue.QueueState.{QueueState}
+use Rattle.fs_chain.specs.declared.state.ChainState as state
+use Rattle.fs_chain.specs.declared.state.ChainState.TheVariants as at
+use Rattle.fs_chain.specs.declared.state.PopId.{PopId}
+use Rattle.fs_chain.specs.declared.popping.PopOutcome as walked
+use Rattle.fs_chain.specs.declared.popping.PopOutcome.TheVariants as tells
+use Rattle.fs_chain.specs.declared.chain_handle.ChainHandle.{ChainHandle}
 use Rattle.fs_chain.specs.Events.{event_fault}
-use Rattle.fs_chain.specs.Walks.{Begins, BeginsUnless, BeginsWhere, GoesOn, GoesOnUnless, HasEvents, LeavesNone, RefusalHasEvents, WalksFrom, WalksOn, left_of}
+use Rattle.fs_chain.specs.Walks.{BeginsPop, BeginsUnless, BeginsWhere, GoesOn, GoesOnUnless, HasEvents, LeavesNone, RefusalHasEvents, WalksFrom, WalksOn, left_of}
 
 -- of a faulty chain none are kept, and none are spoken of
-pub comes_left : (m : Memory) (limit : ℕ) (q : Queue) (loaded : Loaded) (ds : List Descriptor) (came : comes.Step)
-    → ComesTo m limit q loaded ds came → ComesTo m limit q loaded (left_of came ds) came
+pub comes_left : (m : Memory) (limit : ℕ) (q : Queue) (loaded : Loaded) (ds : List Descriptor) (came : comes.CourseStep)
+    → IsCourseStep m limit q loaded ds came → IsCourseStep m limit q loaded (left_of came ds) came
 comes_left m limit q loaded ds (step.Load w) h = h
 comes_left m limit q loaded ds step.Idle h = h
 comes_left m limit q loaded ds (step.Refused e) h = h
 comes_left m limit q loaded ds (step.Chain head None) h = h
 comes_left m limit q loaded ds (step.Chain head (Some fault)) h = h
 
-pub by_left : (m : Memory) (limit : ℕ) (q : Queue) (loaded : Loaded) (walk : QueueWalk) (bytes : List ℕ) (ds : List Descriptor) (came : comes.Step)
+pub by_left : (m : Memory) (limit : ℕ) (q : Queue) (loaded : Loaded) (walk : QueueWalk) (bytes : List ℕ) (ds : List Descriptor) (came : comes.CourseStep)
     → ComesBy m limit q loaded walk bytes ds came → ComesBy m limit q loaded walk bytes (left_of came ds) came
 by_left m limit q loaded walk bytes ds came h = record { after = h.after; adds = h.adds; comes = comes_left m limit q h.after ds came h.comes }
 
-pub leaves_none : (came : comes.Step) (ds : List Descriptor) → LeavesNone came (left_of came ds)
+pub leaves_none : (came : comes.CourseStep) (ds : List Descriptor) → LeavesNone came (left_of came ds)
 leaves_none (step.Load w) ds = tt
 leaves_none step.Idle ds = tt
 leaves_none (step.Refused e) ds = tt
@@ -41,34 +41,34 @@ leaves_none (step.Chain head None) ds = tt
 leaves_none (step.Chain head (Some fault)) ds = refl
 
 -- a walk comes to the same that was taken out of its place
-pub comes_taken : (course : Course) (walk taken : QueueWalk) (bytes : List ℕ) (came : comes.Step) (regions : Mapped) (ds left : List Descriptor) → taken ≡ walk
-    → ((loaded : Loaded) → StandsAt (places_in regions) (queue_of course) loaded ds taken
+pub comes_taken : (course : Course) (walk taken : QueueWalk) (bytes : List ℕ) (came : comes.CourseStep) (regions : Mapped) (ds left : List Descriptor) → taken ≡ walk
+    → ((loaded : Loaded) → IsWalkAt (places_in regions) (queue_of course) loaded ds taken
     → ComesBy (places_in regions) course.limit (queue_of course) loaded taken bytes left came)
-    → (loaded : Loaded) → StandsAt (places_in regions) (queue_of course) loaded ds walk
+    → (loaded : Loaded) → IsWalkAt (places_in regions) (queue_of course) loaded ds walk
     → ComesBy (places_in regions) course.limit (queue_of course) loaded walk bytes left came
 comes_taken course walk taken bytes came regions ds left same by_taken =
-    let P : QueueWalk → Type 0 = λ w. (loaded : Loaded) → StandsAt (places_in regions) (queue_of course) loaded ds w
+    let P : QueueWalk → Type 0 = λ w. (loaded : Loaded) → IsWalkAt (places_in regions) (queue_of course) loaded ds w
     → ComesBy (places_in regions) course.limit (queue_of course) loaded w bytes left came in
     subst P same by_taken
 
 -- a handle's walk begins, unless the queue's event index has no place
-pub begins_where : (old new : Workbench) (before after : KeptQueue) (told : walked.WalkOutcome) (fault : Option QueueError) → before.stopped ≡ None
-    → fault ≡ event_fault (places_in old.regions) before → BeginsWhere fault old new before after told → Begins old new before after told
+pub begins_where : (old new : ChainHandle) (before after : QueueState) (told : walked.PopOutcome) (fault : Option QueueError) → before.stopped ≡ None
+    → fault ≡ event_fault (places_in old.regions) before → BeginsWhere fault old new before after told → BeginsPop old new before after told
 begins_where old new before after told fault goes is begins =
     let there = subst (λ (f : Option QueueError). BeginsWhere f old new before after told) is begins in
     subst (λ (s : Option QueueError). BeginsUnless s old new before after told) (sym goes) there
 
 -- a walk that begins tells a refusal alone where the event index has no place
-abbrev IsRefused : walked.WalkOutcome → Type 0
+abbrev IsRefused : walked.PopOutcome → Type 0
 IsRefused (tells.Refused e) = Unit {0}
 IsRefused _ = ⊥
 
-goes_by_none : (old new : Workbench) (before after : KeptQueue) (told : walked.WalkOutcome) (fault : Option QueueError)
+goes_by_none : (old new : ChainHandle) (before after : QueueState) (told : walked.PopOutcome) (fault : Option QueueError)
     → (IsRefused told → ⊥) → BeginsWhere fault old new before after told → fault ≡ None
 goes_by_none old new before after told None goes begins = refl
 goes_by_none old new before after told (Some e) goes begins = absurd (goes (subst IsRefused (sym begins.0) tt))
 
-pub begun_has_events : (old new : Workbench) (before after : KeptQueue) (told : walked.WalkOutcome) → RefusalHasEvents told old before
+pub begun_has_events : (old new : ChainHandle) (before after : QueueState) (told : walked.PopOutcome) → RefusalHasEvents told old before
     → BeginsUnless None old new before after told → HasEvents old before
 begun_has_events old new before after (tells.Refused e) has begins = has
 begun_has_events old new before after (tells.Load n) has begins = goes_by_none old new before after (tells.Load n) (event_fault (places_in old.regions) before) (λ no. no) begins
@@ -79,12 +79,12 @@ begun_has_events old new before after (tells.Faulty head fault) has begins =
     goes_by_none old new before after (tells.Faulty head fault) (event_fault (places_in old.regions) before) (λ no. no) begins
 
 -- a handle's walk goes on, unless its queue was stopped
-pub walks_unless : (course : Course) (ticket : Ticket) (walk : QueueWalk) (bytes : List ℕ) (old new : Workbench) (before after : KeptQueue) (told : walked.WalkOutcome)
-    → old.state ≡ at.Walking course ticket walk → GoesOnUnless before.stopped course ticket walk bytes old new before after told → WalksOn bytes old new before after told
-walks_unless course ticket walk bytes old new before after told is goes = let P : state.State → Type 0 = λ s. WalksFrom s bytes old new before after told in subst P (sym is) goes
+pub walks_unless : (course : Course) (pop_id : PopId) (walk : QueueWalk) (bytes : List ℕ) (old new : ChainHandle) (before after : QueueState) (told : walked.PopOutcome)
+    → old.state ≡ at.Walking course pop_id walk → GoesOnUnless before.stopped course pop_id walk bytes old new before after told → WalksOn bytes old new before after told
+walks_unless course pop_id walk bytes old new before after told is goes = let P : state.ChainState → Type 0 = λ s. WalksFrom s bytes old new before after told in subst P (sym is) goes
 
-pub walks_on : (course : Course) (ticket : Ticket) (walk : QueueWalk) (bytes : List ℕ) (old new : Workbench) (before after : KeptQueue) (told : walked.WalkOutcome)
-    → before.stopped ≡ None → old.state ≡ at.Walking course ticket walk → GoesOn course ticket walk bytes old new before after told → WalksOn bytes old new before after told
-walks_on course ticket walk bytes old new before after told free is goes =
-    walks_unless course ticket walk bytes old new before after told is
-    (subst (λ (s : Option QueueError). GoesOnUnless s course ticket walk bytes old new before after told) (sym free) goes)
+pub walks_on : (course : Course) (pop_id : PopId) (walk : QueueWalk) (bytes : List ℕ) (old new : ChainHandle) (before after : QueueState) (told : walked.PopOutcome)
+    → before.stopped ≡ None → old.state ≡ at.Walking course pop_id walk → GoesOn course pop_id walk bytes old new before after told → WalksOn bytes old new before after told
+walks_on course pop_id walk bytes old new before after told free is goes =
+    walks_unless course pop_id walk bytes old new before after told is
+    (subst (λ (s : Option QueueError). GoesOnUnless s course pop_id walk bytes old new before after told) (sym free) goes)

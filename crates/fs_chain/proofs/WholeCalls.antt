@@ -7,26 +7,26 @@ use Rattle.fuse_fs.specs.Calls.{FileRun}
 use Rattle.fuse_values.specs.declared.answer.FileAnswer.{FileAnswer}
 use Rattle.fuse_values.specs.declared.call.FileCall as made_call
 use Rattle.virtiofsd_fuse.specs.Grammar.{meaning}
-use Rattle.virtiofsd_fuse.specs.Serving.{May, Setting, Served, setting, served}
+use Rattle.virtiofsd_fuse.specs.Serving.{May, Setting, ServedMessage, setting, served}
 use Rattle.virtiofsd_fuse.specs.Serving as serving_words
 use Rattle.virtiofsd_fuse.proofs.Serve.{served_fits}
-use Rattle.server_phases.specs.Asking.{IsTold, all_reply}
+use Rattle.server_phases.specs.Asking.{IsDecoded, all_reply}
 use Rattle.server_segments.specs.declared.error.Error.{Error}
 use Rattle.server_phases.specs.Answering.{Gives, TellsBytes, served_by}
 use Rattle.fs_chain.specs.declared.answering.Replied.{Replied}
-use Rattle.fs_chain.specs.declared.asking.Told.TheVariants as asks
-use Rattle.fs_chain.specs.declared.queue.KeptQueue.{KeptQueue}
-use Rattle.fs_chain.specs.declared.returning.Stores.{Stores}
-use Rattle.fs_chain.specs.declared.state.Out.{Out}
-use Rattle.fs_chain.specs.declared.state.Reply.{Reply}
-use Rattle.fs_chain.specs.declared.state.State as state
-use Rattle.fs_chain.specs.declared.state.State.TheVariants as at
+use Rattle.fs_chain.specs.declared.decoding.Decoded.TheVariants as asks
+use Rattle.fs_chain.specs.declared.queue.QueueState.{QueueState}
+use Rattle.fs_chain.specs.declared.pushing.PushStores.{PushStores}
+use Rattle.fs_chain.specs.declared.state.InFlight.{InFlight}
+use Rattle.fs_chain.specs.declared.state.ChainReply.{ChainReply}
+use Rattle.fs_chain.specs.declared.state.ChainState as state
+use Rattle.fs_chain.specs.declared.state.ChainState.TheVariants as at
 use Rattle.fs_chain.specs.Answers.{IfWaits, IsGiven, IsWaiting, data_len, reply_of, replied_of}
-use Rattle.fs_chain.specs.Asking.{KeepsCall, KeepsReply, asked_of}
+use Rattle.fs_chain.specs.Decoding.{KeepsCall, KeepsReply, asked_of}
 use Rattle.fs_chain.specs.Walks.{no_reply}
 use Rattle.fs_chain.specs.Orders.{front_in, front_len, front_of, reply_len}
 use Rattle.fs_chain.specs.Queues.{at_return}
-use Rattle.fs_chain.specs.Returns.{ReturnsBy}
+use Rattle.fs_chain.specs.Pushes.{PushesBy}
 use Rattle.fs_device.specs.Step.{State, Exchange, Calls, ServesRequest, answers_alone, calls_alone, served_exchange}
 use Rattle.fs_device.specs.StepBy.{AnswersBy, Act}
 use Rattle.fs_chain.specs.Whole.{FromReplied, OneAnswer, acts_of, after_chain, file_calls, front_if}
@@ -39,8 +39,8 @@ AnsweredSo may m i q head request room calls notice acts last options files =
     × AnswersBy may m i q head request room calls x notice (record { acts = acts; last = last }) (after_chain m i q options files)
 
 -- by a call that was answered
-pub by_call : {F : Type 0} (may : May F) (m : State F) (i : ℕ) (kq : KeptQueue) (request room behind : List ℕ) (files : F) (made : made_call.FileCall) (a : FileAnswer) (bytes : List ℕ) (told : Replied)
-    (out : Out) (st after : state.State) (used : Stores) (flags : List ℕ) (notice : Bool) (acts : List Act) (last options : ℕ)
+pub by_call : {F : Type 0} (may : May F) (m : State F) (i : ℕ) (kq : QueueState) (request room behind : List ℕ) (files : F) (made : made_call.FileCall) (a : FileAnswer) (bytes : List ℕ) (told : Replied)
+    (out : InFlight) (st after : state.ChainState) (used : PushStores) (flags : List ℕ) (notice : Bool) (acts : List Act) (last options : ℕ)
     → length room ≡ out.room_len → out.room_len ≤ 2 ^ 31
     → KeepsCall (setting m.page_size m.options out.room_len) (meaning m.options request out.room_len) behind made out st
     → IsWaiting st → TellsBytes bytes a → IfWaits st (λ kept w. IsGiven (setting m.page_size m.options w.room) w a kept options told after)
@@ -63,11 +63,11 @@ by_call {F} may m i kq request room behind files made a bytes told out (at.Waits
     serves_call s (meaning m.options request r) command made bytes behind a given.0 options asked.1 asked.2 (keeps.2 command asked.4) gives in
     let is_reply : g.reply ≡ front_if reply.front bytes = by_reply cs options n given.0.sent bytes in
     let len_is : front_len reply + reply.behind ≡ length g.reply = whole_len given.0.sent n bytes (data_is bytes a data_told) ∙ sym (ap length is_reply) in
-    let fits : length g.reply ≤ r = subst (λ (x : Served). length x.reply ≤ r) serving (served_fits s (meaning m.options request r) (answers_alone (mine (replied_of given.0)))) in
-    let back : ReturnsBy kq kept reply used × ((last ≡ front_len reply) × (acts ≡ acts_of room reply bytes used flags)) =
-    subst (λ (st : state.State). FromReplied kq st (λ reply s₁. (last ≡ front_len reply) × (acts ≡ acts_of room reply bytes s₁ flags)) used) given.2 goes_back in
+    let fits : length g.reply ≤ r = subst (λ (x : ServedMessage). length x.reply ≤ r) serving (served_fits s (meaning m.options request r) (answers_alone (mine (replied_of given.0)))) in
+    let back : PushesBy kq kept reply used × ((last ≡ front_len reply) × (acts ≡ acts_of room reply bytes used flags)) =
+    subst (λ (st : state.ChainState). FromReplied kq st (λ reply s₁. (last ≡ front_len reply) × (acts ≡ acts_of room reply bytes s₁ flags)) used) given.2 goes_back in
     let by_kept : stores_of used.used ≡ stores_after_reply (at_return kq out) out.head (reply_len out reply) =
-    subst (λ (o : Out). stores_of used.used ≡ stores_after_reply (at_return kq o) o.head (reply_len o reply)) keeps.0 back.0.1 in
+    subst (λ (o : InFlight). stores_of used.used ≡ stores_after_reply (at_return kq o) o.head (reply_len o reply)) keeps.0 back.0.1 in
     let stores : stores_of used.used ≡ stores_after_reply (at_return kq out) out.head (length g.reply) =
     by_kept ∙ ap (λ (k : ℕ). stores_after_reply (at_return kq out) out.head k) (isnt_cut out reply (length g.reply) len_is fits small) in
     let run_so : FileRun may m.files (mine (replied_of given.0)) files = subst (λ (t : Replied). FileRun may m.files (mine t) files) given.1 run in
@@ -89,11 +89,11 @@ by_call {F} may m i kq request room behind files made a bytes told out (at.Waits
     (x, refl, refl, told_so)
 by_call may m i kq request room behind files made a bytes told out (at.Lists kept l) after used flags notice acts last options room_is small keeps waits data_told given goes_back two notified run = absurd waits
 by_call may m i kq request room behind files made a bytes told out at.Free after used flags notice acts last options room_is small keeps waits data_told given goes_back two notified run = absurd waits
-by_call may m i kq request room behind files made a bytes told out (at.Walking course ticket walk) after used flags notice acts last options room_is small keeps waits data_told given goes_back two notified run =
+by_call may m i kq request room behind files made a bytes told out (at.Walking course pop_id walk) after used flags notice acts last options room_is small keeps waits data_told given goes_back two notified run =
     absurd waits
 by_call may m i kq request room behind files made a bytes told out (at.Taken o) after used flags notice acts last options room_is small keeps waits data_told given goes_back two notified run = absurd waits
 by_call may m i kq request room behind files made a bytes told out (at.HasReply o reply) after used flags notice acts last options room_is small keeps waits data_told given goes_back two notified run = absurd waits
-by_call may m i kq request room behind files made a bytes told out (at.Returning o) after used flags notice acts last options room_is small keeps waits data_told given goes_back two notified run = absurd waits
+by_call may m i kq request room behind files made a bytes told out (at.Pushing o) after used flags notice acts last options room_is small keeps waits data_told given goes_back two notified run = absurd waits
 
 -- ---- without a call
 
@@ -102,11 +102,11 @@ front_alone None = refl
 front_alone (Some front) = append-nil front
 
 -- a reply that is known without one, or none
-by_none : {F : Type 0} (may : May F) (m : State F) (i : ℕ) (kq : KeptQueue) (request room : List ℕ) (files : F) (out kept : Out) (reply : Reply) (g : Served) (used : Stores) (flags : List ℕ) (notice : Bool)
+by_none : {F : Type 0} (may : May F) (m : State F) (i : ℕ) (kq : QueueState) (request room : List ℕ) (files : F) (out kept : InFlight) (reply : ChainReply) (g : ServedMessage) (used : PushStores) (flags : List ℕ) (notice : Bool)
     (acts : List Act) (last : ℕ)
     → length room ≡ out.room_len → out.room_len ≤ 2 ^ 31 → kept ≡ out → reply.behind ≡ 0
     → served (setting m.page_size m.options out.room_len) (meaning m.options request out.room_len) [] ≡ g → g.calls ≡ [] → g.options ≡ m.options → g.reply ≡ front_of reply
-    → ReturnsBy kq kept reply used → last ≡ front_len reply → acts ≡ acts_of room reply [] used flags → length flags ≡ 2 → notice ≡ tells flags → files ≡ m.files
+    → PushesBy kq kept reply used → last ≡ front_len reply → acts ≡ acts_of room reply [] used flags → length flags ≡ 2 → notice ≡ tells flags → files ≡ m.files
     → AnsweredSo may m i (at_return kq out) out.head request room [] notice acts last m.options files
 by_none {F} may m i kq request room files out kept reply g used flags notice acts last room_is small same no_data serving no_calls options_are reply_is back last_is acts_are two notified files_are =
     let r = out.room_len in
@@ -114,9 +114,9 @@ by_none {F} may m i kq request room files out kept reply g used flags notice act
     let is_reply : g.reply ≡ front_if reply.front [] = reply_is ∙ sym (front_alone reply.front) in
     let zero : front_len reply + 0 ≡ front_len reply = omega arith in
     let len_is : front_len reply + reply.behind ≡ length g.reply = ap (λ (n : ℕ). front_len reply + n) no_data ∙ zero ∙ sym (ap length reply_is) in
-    let fits : length g.reply ≤ r = subst (λ (x : Served). length x.reply ≤ r) serving (served_fits s (meaning m.options request r) []) in
+    let fits : length g.reply ≤ r = subst (λ (x : ServedMessage). length x.reply ≤ r) serving (served_fits s (meaning m.options request r) []) in
     let by_kept : stores_of used.used ≡ stores_after_reply (at_return kq out) out.head (reply_len out reply) =
-    subst (λ (o : Out). stores_of used.used ≡ stores_after_reply (at_return kq o) o.head (reply_len o reply)) same back.1 in
+    subst (λ (o : InFlight). stores_of used.used ≡ stores_after_reply (at_return kq o) o.head (reply_len o reply)) same back.1 in
     let stores : stores_of used.used ≡ stores_after_reply (at_return kq out) out.head (length g.reply) =
     by_kept ∙ ap (λ (k : ℕ). stores_after_reply (at_return kq out) out.head k) (isnt_cut out reply (length g.reply) len_is fits small) in
     let serves : ServesRequest may m.page_size m.options request r m.files [] g files = record { gives = sym serving; asks = no_calls; run = files_are } in
@@ -134,11 +134,11 @@ by_none {F} may m i kq request room files out kept reply g used flags notice act
     )
 
 -- as its front says
-none_by : {F : Type 0} (may : May F) (m : State F) (i : ℕ) (kq : KeptQueue) (request room behind : List ℕ) (files : F) (out kept : Out) (reply : Reply) (f : Option (List ℕ)) (used : Stores)
+none_by : {F : Type 0} (may : May F) (m : State F) (i : ℕ) (kq : QueueState) (request room behind : List ℕ) (files : F) (out kept : InFlight) (reply : ChainReply) (f : Option (List ℕ)) (used : PushStores)
     (flags : List ℕ) (notice : Bool) (acts : List Act) (last : ℕ)
     → length room ≡ out.room_len → out.room_len ≤ 2 ^ 31 → kept ≡ out → reply.behind ≡ 0 → reply.front ≡ f
-    → IsTold (setting m.page_size m.options out.room_len) (meaning m.options request out.room_len) behind (asked_of f)
-    → ReturnsBy kq kept reply used → last ≡ front_len reply → acts ≡ acts_of room reply [] used flags → length flags ≡ 2 → notice ≡ tells flags → files ≡ m.files
+    → IsDecoded (setting m.page_size m.options out.room_len) (meaning m.options request out.room_len) behind (asked_of f)
+    → PushesBy kq kept reply used → last ≡ front_len reply → acts ≡ acts_of room reply [] used flags → length flags ≡ 2 → notice ≡ tells flags → files ≡ m.files
     → AnsweredSo may m i (at_return kq out) out.head request room [] notice acts last m.options files
 none_by may m i kq request room behind files out kept reply None used flags notice acts last room_is small same no_data is_front told back last_is acts_are two notified files_are =
     by_none may m i kq request room files out kept reply (all_reply m.options []) used flags notice acts last room_is small same no_data told refl refl (sym (ap front_in is_front))
@@ -148,7 +148,7 @@ none_by may m i kq request room behind files out kept reply (Some front) used fl
     back last_is acts_are two notified files_are
 
 -- where the reply was kept
-pub by_reply_kept : {F : Type 0} (may : May F) (m : State F) (i : ℕ) (kq : KeptQueue) (request room behind : List ℕ) (files : F) (out : Out) (st : state.State) (used : Stores) (flags : List ℕ) (notice : Bool)
+pub by_reply_kept : {F : Type 0} (may : May F) (m : State F) (i : ℕ) (kq : QueueState) (request room behind : List ℕ) (files : F) (out : InFlight) (st : state.ChainState) (used : PushStores) (flags : List ℕ) (notice : Bool)
     (acts : List Act) (last : ℕ)
     → length room ≡ out.room_len → out.room_len ≤ 2 ^ 31
     → KeepsReply (setting m.page_size m.options out.room_len) (meaning m.options request out.room_len) behind out st
@@ -159,19 +159,19 @@ by_reply_kept may m i kq request room behind files out (at.HasReply kept reply) 
 by_reply_kept may m i kq request room behind files out (at.Waits o w) used flags notice acts last room_is small keeps back two notified files_are = absurd keeps
 by_reply_kept may m i kq request room behind files out (at.Lists o l) used flags notice acts last room_is small keeps back two notified files_are = absurd keeps
 by_reply_kept may m i kq request room behind files out at.Free used flags notice acts last room_is small keeps back two notified files_are = absurd keeps
-by_reply_kept may m i kq request room behind files out (at.Walking course ticket walk) used flags notice acts last room_is small keeps back two notified files_are = absurd keeps
+by_reply_kept may m i kq request room behind files out (at.Walking course pop_id walk) used flags notice acts last room_is small keeps back two notified files_are = absurd keeps
 by_reply_kept may m i kq request room behind files out (at.Taken o) used flags notice acts last room_is small keeps back two notified files_are = absurd keeps
-by_reply_kept may m i kq request room behind files out (at.Returning o) used flags notice acts last room_is small keeps back two notified files_are = absurd keeps
+by_reply_kept may m i kq request room behind files out (at.Pushing o) used flags notice acts last room_is small keeps back two notified files_are = absurd keeps
 
 -- of a request at fault
-pub by_fault : {F : Type 0} (may : May F) (m : State F) (i : ℕ) (kq : KeptQueue) (request room : List ℕ) (files : F) (out : Out) (st : state.State) (e : Error) (used : Stores) (flags : List ℕ) (notice : Bool)
+pub by_fault : {F : Type 0} (may : May F) (m : State F) (i : ℕ) (kq : QueueState) (request room : List ℕ) (files : F) (out : InFlight) (st : state.ChainState) (e : Error) (used : PushStores) (flags : List ℕ) (notice : Bool)
     (acts : List Act) (last : ℕ)
     → length room ≡ out.room_len → out.room_len ≤ 2 ^ 31 → st ≡ at.HasReply out no_reply
     → served (setting m.page_size m.options out.room_len) (meaning m.options request out.room_len) [] ≡ serving_words.no_reply [] m.options (Some e)
     → FromReplied kq st (λ reply s₁. (last ≡ front_len reply) × (acts ≡ acts_of room reply [] s₁ flags)) used → length flags ≡ 2 → notice ≡ tells flags → files ≡ m.files
     → AnsweredSo may m i (at_return kq out) out.head request room [] notice acts last m.options files
 by_fault may m i kq request room files out st e used flags notice acts last room_is small is serving goes_back two notified files_are =
-    let back : ReturnsBy kq out no_reply used × ((last ≡ front_len no_reply) × (acts ≡ acts_of room no_reply [] used flags)) =
-    subst (λ (st : state.State). FromReplied kq st (λ reply s₁. (last ≡ front_len reply) × (acts ≡ acts_of room reply [] s₁ flags)) used) is goes_back in
+    let back : PushesBy kq out no_reply used × ((last ≡ front_len no_reply) × (acts ≡ acts_of room no_reply [] used flags)) =
+    subst (λ (st : state.ChainState). FromReplied kq st (λ reply s₁. (last ≡ front_len reply) × (acts ≡ acts_of room reply [] s₁ flags)) used) is goes_back in
     by_none may m i kq request room files out out no_reply (serving_words.no_reply [] m.options (Some e)) used flags notice acts last room_is small refl refl serving refl refl refl
     back.0 back.1.0 back.1.1 two notified files_are

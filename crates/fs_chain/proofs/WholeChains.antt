@@ -15,33 +15,33 @@ use Rattle.fs_queue.specs.Returning.{Store, stores_after_reply, tells}
 use Rattle.fs_queue.specs.ReturningView.{stores_of}
 use Rattle.fs_queue.specs.WalkingView.{at_position}
 use Rattle.fs_regions.specs.declared.course.Course.{Course}
-use Rattle.fs_regions.specs.declared.step.Step as comes
-use Rattle.fs_regions.specs.declared.step.Step.TheVariants as step
+use Rattle.fs_regions.specs.declared.step.CourseStep as comes
+use Rattle.fs_regions.specs.declared.step.CourseStep.TheVariants as step
 use Rattle.fs_regions.specs.Places.{places_in}
-use Rattle.fs_regions.specs.Walks.{Loaded, queue_of, ComesTo, OffersBy}
+use Rattle.fs_regions.specs.Walks.{Loaded, queue_of, IsCourseStep, OffersBy}
 use Rattle.fuse_fs.specs.Calls.{FileRun}
 use Rattle.virtiofsd_fuse.specs.Grammar.{meaning}
 use Rattle.virtiofsd_fuse.specs.Serving.{May, served, setting}
 use Rattle.virtiofsd_fuse.specs.Serving as serving_words
-use Rattle.server_phases.specs.Asking.{IsFront}
+use Rattle.server_phases.specs.Asking.{IsRequestFront}
 use Rattle.server_phases.specs.declared.session.Session.{Session}
-use Rattle.fs_chain.specs.declared.asking.Told as told
-use Rattle.fs_chain.specs.declared.asking.Told.TheVariants as asks
-use Rattle.fs_chain.specs.declared.queue.KeptQueue.{KeptQueue}
-use Rattle.fs_chain.specs.declared.returning.Stores.{Stores}
-use Rattle.fs_chain.specs.declared.state.Out.{Out}
-use Rattle.fs_chain.specs.declared.state.State as state
-use Rattle.fs_chain.specs.declared.state.State.TheVariants as at
-use Rattle.fs_chain.specs.declared.state.Ticket.{Ticket}
-use Rattle.fs_chain.specs.declared.loads.Went.TheVariants as wents
-use Rattle.fs_chain.specs.declared.walking.WalkOutcome as walked
-use Rattle.fs_chain.specs.declared.walking.WalkOutcome.TheVariants as says
-use Rattle.fs_chain.specs.declared.workbench.Workbench.{Workbench}
-use Rattle.fs_chain.specs.Asking.{KeepsCall, KeepsReply, TellsMeaning}
+use Rattle.fs_chain.specs.declared.decoding.Decoded as told
+use Rattle.fs_chain.specs.declared.decoding.Decoded.TheVariants as asks
+use Rattle.fs_chain.specs.declared.queue.QueueState.{QueueState}
+use Rattle.fs_chain.specs.declared.pushing.PushStores.{PushStores}
+use Rattle.fs_chain.specs.declared.state.InFlight.{InFlight}
+use Rattle.fs_chain.specs.declared.state.ChainState as state
+use Rattle.fs_chain.specs.declared.state.ChainState.TheVariants as at
+use Rattle.fs_chain.specs.declared.state.PopId.{PopId}
+use Rattle.fs_chain.specs.declared.loads.LoadOutcome.TheVariants as wents
+use Rattle.fs_chain.specs.declared.popping.PopOutcome as walked
+use Rattle.fs_chain.specs.declared.popping.PopOutcome.TheVariants as says
+use Rattle.fs_chain.specs.declared.chain_handle.ChainHandle.{ChainHandle}
+use Rattle.fs_chain.specs.Decoding.{KeepsCall, KeepsReply, TellsMeaning}
 use Rattle.fs_chain.specs.Answers.{IfWaits, IsGiven}
 use Rattle.fs_chain.specs.Orders.{front_len}
-use Rattle.fs_chain.specs.Queues.{at_return, ticket_of}
-use Rattle.fs_chain.specs.Returns.{ReturnsBy}
+use Rattle.fs_chain.specs.Queues.{at_return, pop_id_of}
+use Rattle.fs_chain.specs.Pushes.{PushesBy}
 use Rattle.fs_chain.specs.Walks.{count, course_of, out_of, faulty_out, no_reply, told_of, state_after}
 use Rattle.fs_device.specs.declared.error.DeviceError.TheVariants as device
 use Rattle.fs_device.specs.Step.{State, Exchange, Idle, Refused, Exchanged, Calls, with_queue, faulty}
@@ -57,10 +57,10 @@ use Rattle.fs_chain.specs.Whole.{
   FaultyIsStepBy,
   FromReplied,
   FromTaken,
-  Given,
+  ChainAnswer,
   HasReply,
   IdleIsStepBy,
-  IsBefore,
+  IsMachineBefore,
   IsInOrder,
   IsSession,
   LoadsOf,
@@ -84,23 +84,23 @@ use Rattle.fs_chain.proofs.WholeListings.{by_listing}
 
 -- ---- what a walk came to that told a chain
 
-abbrev IsAChain : walked.WalkOutcome → Type 0
+abbrev IsAChain : walked.PopOutcome → Type 0
 IsAChain (says.Chain head n r) = Unit {0}
 IsAChain _ = ⊥
 
-abbrev head_in : walked.WalkOutcome → ℕ
+abbrev head_in : walked.PopOutcome → ℕ
 head_in (says.Chain head n r) = head
 head_in _ = 0
 
-abbrev room_in : walked.WalkOutcome → ℕ
+abbrev room_in : walked.PopOutcome → ℕ
 room_in (says.Chain head n r) = r
 room_in _ = 0
 
-abbrev request_in : walked.WalkOutcome → ℕ
+abbrev request_in : walked.PopOutcome → ℕ
 request_in (says.Chain head n r) = n
 request_in _ = 0
 
-pub came_is : (ds : List Descriptor) (came : comes.Step) (head n r : ℕ) → says.Chain head n r ≡ told_of ds came → (came ≡ step.Chain head None) × (n ≡ count false ds) × (r ≡ count true ds)
+pub came_is : (ds : List Descriptor) (came : comes.CourseStep) (head n r : ℕ) → says.Chain head n r ≡ told_of ds came → (came ≡ step.Chain head None) × (n ≡ count false ds) × (r ≡ count true ds)
 came_is ds (step.Load walk) head n r e = absurd (subst IsAChain e tt)
 came_is ds step.Idle head n r e = absurd (subst IsAChain e tt)
 came_is ds (step.Refused error) head n r e = absurd (subst IsAChain e tt)
@@ -109,8 +109,8 @@ came_is ds (step.Chain h (Some fault)) head n r e = absurd (subst IsAChain e tt)
 
 -- ---- what was told of the request, and how it was answered
 
-pub told_so : {F : Type 0} (may : May F) (m : State F) (i : ℕ) (kq : KeptQueue) (request room : List ℕ) (files : F) (s : Session) (out : Out) (made : told.Told) (asked answered : Workbench)
-    (given : Given) (used : Stores) (flags : List ℕ) (notice : Bool) (acts : List Act) (last : ℕ)
+pub told_so : {F : Type 0} (may : May F) (m : State F) (i : ℕ) (kq : QueueState) (request room : List ℕ) (files : F) (s : Session) (out : InFlight) (made : told.Decoded) (asked answered : ChainHandle)
+    (given : ChainAnswer) (used : PushStores) (flags : List ℕ) (notice : Bool) (acts : List Act) (last : ℕ)
     → m.page_size ≡ s.page_size → m.options ≡ s.options.0 → length room ≡ out.room_len → out.room_len ≤ 2 ^ 31
     → TellsMeaning (setting s.page_size s.options.0 out.room_len) (meaning s.options.0 request out.room_len) (drop 80 request) out made asked.state
     → asked.session ≡ s → HasReply made asked given answered
@@ -147,9 +147,9 @@ told_so may m i kq request room files s out asks.Nothing asked answered NoAnswer
     subst (λ (o : ℕ). KeepsReply (setting m.page_size o r) (meaning o request r) (drop 80 request) out asked.state) (sym options)
     (subst (λ (p : ℕ). KeepsReply (setting p s.options.0 r) (meaning s.options.0 request r) (drop 80 request) out asked.state) (sym page) meant) in
     let back_so : FromReplied kq asked.state (λ reply s₁. (last ≡ front_len reply) × (acts ≡ acts_of room reply [] s₁ flags)) used =
-    subst (λ (w : Workbench). FromReplied kq w.state (λ reply s₁. (last ≡ front_len reply) × (acts ≡ acts_of room reply [] s₁ flags)) used) has back in
+    subst (λ (w : ChainHandle). FromReplied kq w.state (λ reply s₁. (last ≡ front_len reply) × (acts ≡ acts_of room reply [] s₁ flags)) used) has back in
     subst (λ (o : ℕ). AnsweredSo may m i (at_return kq out) out.head request room [] notice acts last o files)
-    (options ∙ sym (ap (λ (x : Session). x.options.0) same) ∙ sym (ap (λ (w : Workbench). w.session.options.0) has))
+    (options ∙ sym (ap (λ (x : Session). x.options.0) same) ∙ sym (ap (λ (w : ChainHandle). w.session.options.0) has))
     (by_reply_kept may m i kq request room (drop 80 request) files out asked.state used flags notice acts last room_is small keeps back_so two notified run)
 told_so may m i kq request room files s out asks.Nothing asked answered (OneAnswer a bytes replied) used flags notice acts last page options room_is small meant same has back two notified run = absurd has
 told_so may m i kq request room files s out asks.Nothing asked answered (ByEntries b es ending bytes) used flags notice acts last page options room_is small meant same has back two notified run = absurd has
@@ -159,52 +159,52 @@ told_so may m i kq request room files s out (asks.Fault e) asked answered NoAnsw
     subst (λ (o : ℕ). served (setting m.page_size o r) (meaning o request r) [] ≡ serving_words.no_reply [] o (Some e)) (sym options)
     (subst (λ (p : ℕ). served (setting p s.options.0 r) (meaning s.options.0 request r) [] ≡ serving_words.no_reply [] s.options.0 (Some e)) (sym page) meant.1) in
     let back_so : FromReplied kq asked.state (λ reply s₁. (last ≡ front_len reply) × (acts ≡ acts_of room reply [] s₁ flags)) used =
-    subst (λ (w : Workbench). FromReplied kq w.state (λ reply s₁. (last ≡ front_len reply) × (acts ≡ acts_of room reply [] s₁ flags)) used) has back in
+    subst (λ (w : ChainHandle). FromReplied kq w.state (λ reply s₁. (last ≡ front_len reply) × (acts ≡ acts_of room reply [] s₁ flags)) used) has back in
     subst (λ (o : ℕ). AnsweredSo may m i (at_return kq out) out.head request room [] notice acts last o files)
-    (options ∙ sym (ap (λ (x : Session). x.options.0) same) ∙ sym (ap (λ (w : Workbench). w.session.options.0) has))
+    (options ∙ sym (ap (λ (x : Session). x.options.0) same) ∙ sym (ap (λ (w : ChainHandle). w.session.options.0) has))
     (by_fault may m i kq request room files out asked.state e used flags notice acts last room_is small meant.0 fault back_so two notified run)
 told_so may m i kq request room files s out (asks.Fault e) asked answered (OneAnswer a bytes replied) used flags notice acts last page options room_is small meant same has back two notified run = absurd has
 told_so may m i kq request room files s out (asks.Fault e) asked answered (ByEntries b es ending bytes) used flags notice acts last page options room_is small meant same has back two notified run = absurd has
 
 -- a chain's loads, by which it is offered, and how it is answered
 pub chain_parts : {F : Type 0} (may : May F) (given : List (List ℕ)) (request : List ℕ) (calls : Calls) (acts : List Act) (last head i : ℕ) (notice : Bool)
-    (old new : Workbench) (before : KeptQueue) (s : Session) (m : State F) (files : F) (run : ChainBy given request calls acts last head notice old new before s)
+    (old new : ChainHandle) (before : QueueState) (s : Session) (m : State F) (files : F) (run : ChainBy given request calls acts last head notice old new before s)
     → before.stopped ≡ None → old.limit ≤ 2 ^ 31 → IsSession s m → FileRun may m.files calls files
     → (loaded : Loaded) × LoadsOfChain given request calls acts last head notice old new before s run loaded
-    × OffersBy (places_in old.regions) old.limit (queue_of (course_of before old.limit)) loaded request (Offers head (IsRequest request (addresses_of (writable run.walked_bench.descriptors.items))))
-    × AnsweredSo may m i (queue_back before run.back) head request (addresses_of (writable run.walked_bench.descriptors.items)) calls (tells run.returns.flags) acts last new.session.options.0 files
+    × OffersBy (places_in old.regions) old.limit (queue_of (course_of before old.limit)) loaded request (Offers head (IsRequest request (addresses_of (writable run.popped_handle.descriptors.items))))
+    × AnsweredSo may m i (queue_back before run.back) head request (addresses_of (writable run.popped_handle.descriptors.items)) calls (tells run.returns.flags) acts last new.session.options.0 files
 chain_parts {F} may given request calls acts last head i notice old new before s m files run goes bound session files_run =
     let course = course_of before old.limit in
     let q = queue_of course in
-    let ds = run.walked_bench.descriptors.items in
-    let all = walk_comes given old run.walked_bench before run.taken (says.Chain head run.lens.0 run.lens.1) goes tt run.walks in
+    let ds = run.popped_handle.descriptors.items in
+    let all = walk_comes given old run.popped_handle before run.taken (says.Chain head run.lens.0 run.lens.1) goes tt run.walks in
     let loaded = all.0 in
     let came = all.2 in
     let is = came_is ds came.0 head run.lens.0 run.lens.1 came.1.0 in
-    let out = out_of course (ticket_of before) head ds in
+    let out = out_of course (pop_id_of before) head ds in
     let back = queue_back before run.back in
     let room = addresses_of (writable ds) in
-    let state_is : run.walked_bench.state ≡ at.Taken out = came.1.1 ∙ ap (λ (c : comes.Step). state_after course (ticket_of before) ds c) is.0 in
-    let found : ComesTo (places_in old.regions) old.limit q loaded ds (step.Chain head None) = subst (λ (c : comes.Step). ComesTo (places_in old.regions) old.limit q loaded ds c) is.0 came.2 in
+    let state_is : run.popped_handle.state ≡ at.Taken out = came.1.1 ∙ ap (λ (c : comes.CourseStep). state_after course (pop_id_of before) ds c) is.0 in
+    let found : IsCourseStep (places_in old.regions) old.limit q loaded ds (step.Chain head None) = subst (λ (c : comes.CourseStep). IsCourseStep (places_in old.regions) old.limit q loaded ds c) is.0 came.2 in
     let fits = fits_limit (places_in old.regions) old.limit q loaded ds head bound found.1 in
-    let asked = subst (λ (st : state.State). FromTaken st (λ o. (o.request_len ≡ length request) × IsFront run.front request
-    × TellsMeaning (setting s.page_size s.options.0 o.room_len) (meaning s.options.0 request o.room_len) (drop 80 request) o run.made run.asked_bench.state
-    × (run.asked_bench.descriptors ≡ run.walked_bench.descriptors) × (run.asked_bench.session ≡ s))) state_is run.is_asked in
+    let asked = subst (λ (st : state.ChainState). FromTaken st (λ o. (o.request_len ≡ length request) × IsRequestFront run.front request
+    × TellsMeaning (setting s.page_size s.options.0 o.room_len) (meaning s.options.0 request o.room_len) (drop 80 request) o run.made run.decoded_handle.state
+    × (run.decoded_handle.descriptors ≡ run.popped_handle.descriptors) × (run.decoded_handle.session ≡ s))) state_is run.is_asked in
     let len_is : length request ≡ total_len (readable ds) = sym asked.0 ∙ fits.0 in
     let offers = found.1 request len_is in
     let room_is : length room ≡ out.room_len = fits.1 in
     let small : out.room_len ≤ 2 ^ 31 = fits.2 in
     let seen = tells run.returns.flags in
     let so : AnsweredSo may m i back head request room (file_calls (drop 80 request) run.made run.given) seen acts last new.session.options.0 files =
-    told_so may m i run.back request room files s out run.made run.asked_bench new run.given run.returns.stores run.returns.flags seen acts last session.0 session.1
+    told_so may m i run.back request room files s out run.made run.decoded_handle new run.given run.returns.stores run.returns.flags seen acts last session.0 session.1
     room_is small asked.2 asked.4 run.replies run.returns.returns run.returns.flags_len refl (subst (λ (cs : Calls). FileRun may m.files cs files) run.calls_are files_run) in
     let with_calls : AnsweredSo may m i back head request room calls seen acts last new.session.options.0 files =
     subst (λ (cs : Calls). AnsweredSo may m i back head request room cs seen acts last new.session.options.0 files) (sym run.calls_are) so in
     (loaded, all.1, offers, with_calls)
 
 -- what loads offer is offered to the machine
-offered_so : {F : Type 0} (m : State F) (old : Workbench) (before : KeptQueue) (i : ℕ) (loaded : Loaded) (lost : List Load) (request : List ℕ) (o : Offer)
-    → IsBefore old before i m
+offered_so : {F : Type 0} (m : State F) (old : ChainHandle) (before : QueueState) (i : ℕ) (loaded : Loaded) (lost : List Load) (request : List ℕ) (o : Offer)
+    → IsMachineBefore old before i m
     → offer_by (places_in old.regions) old.limit (queue_of (course_of before old.limit)) loaded.index loaded.entry (loaded.entries ++ lost) request ≡ Some o
     → offered_by m.memory m.limit (queue_of (course_of before old.limit)) (step_loads loaded lost request) ≡ Some o
 offered_so m old before i loaded lost request o first by =
@@ -219,7 +219,7 @@ chain_is_answered_by {F} may given request calls acts last head i notice old new
     (parts.0, parts.1, parts.2, so.0, so.1, so.2, so.3)
 
 -- in order it goes back where it was taken
-pub answered_there : {F : Type 0} (may : May F) (m : State F) (i : ℕ) (before back : KeptQueue) (limit head : ℕ) (request room : List ℕ) (calls : Calls) (x : Exchange) (notice : Bool) (e : Effects)
+pub answered_there : {F : Type 0} (may : May F) (m : State F) (i : ℕ) (before back : QueueState) (limit head : ℕ) (request room : List ℕ) (calls : Calls) (x : Exchange) (notice : Bool) (e : Effects)
     (options : ℕ) (files : F) → IsInOrder before back
     → AnswersBy may m i (queue_back before back) head request room calls x notice e (after_chain m i (queue_back before back) options files)
     → AnswersBy may m i (queue_of (course_of before limit)) head request room calls x notice e (after_chain m i (queue_of (course_of before limit)) options files)
@@ -237,7 +237,7 @@ chain_is_step_by {F} may given request calls acts last head i notice old new bef
     let so = parts.3 in
     let l = step_loads loaded offers.1 request in
     let e : Effects = record { acts = acts; last = last } in
-    let room = addresses_of (writable run.walked_bench.descriptors.items) in
+    let room = addresses_of (writable run.popped_handle.descriptors.items) in
     let there = answered_there may m i before run.back old.limit head request room calls so.0 seen e new.session.options.0 files in_order so.3 in
     let o = Offers head (IsRequest request room) in (
       loaded,
@@ -253,51 +253,51 @@ chain_is_step_by {F} may given request calls acts last head i notice old new bef
 
 -- ---- walks that find no chain, and faulty chains
 
-abbrev IsIdle : walked.WalkOutcome → Type 0
+abbrev IsIdle : walked.PopOutcome → Type 0
 IsIdle says.Idle = Unit {0}
 IsIdle _ = ⊥
 
-abbrev error_in : walked.WalkOutcome → QueueError
+abbrev error_in : walked.PopOutcome → QueueError
 error_in (says.Refused e) = e
 error_in _ = stop.Stopped
 
-abbrev IsRefusal : walked.WalkOutcome → Type 0
+abbrev IsRefusal : walked.PopOutcome → Type 0
 IsRefusal (says.Refused e) = Unit {0}
 IsRefusal _ = ⊥
 
-abbrev IsFaulty : walked.WalkOutcome → Type 0
+abbrev IsFaulty : walked.PopOutcome → Type 0
 IsFaulty (says.Faulty head fault) = Unit {0}
 IsFaulty _ = ⊥
 
-abbrev faulty_head_in : walked.WalkOutcome → ℕ
+abbrev faulty_head_in : walked.PopOutcome → ℕ
 faulty_head_in (says.Faulty head fault) = head
 faulty_head_in _ = 0
 
-abbrev fault_in : walked.WalkOutcome → ChainFault → ChainFault
+abbrev fault_in : walked.PopOutcome → ChainFault → ChainFault
 fault_in (says.Faulty head fault) f = fault
 fault_in _ f = f
 
-idle_is : (ds : List Descriptor) (came : comes.Step) → says.Idle ≡ told_of ds came → came ≡ step.Idle
+idle_is : (ds : List Descriptor) (came : comes.CourseStep) → says.Idle ≡ told_of ds came → came ≡ step.Idle
 idle_is ds (step.Load walk) e = absurd (subst IsIdle e tt)
 idle_is ds step.Idle e = refl
 idle_is ds (step.Refused error) e = absurd (subst IsIdle e tt)
 idle_is ds (step.Chain h None) e = absurd (subst IsIdle e tt)
 idle_is ds (step.Chain h (Some fault)) e = absurd (subst IsIdle e tt)
 
-refusal_is : (ds : List Descriptor) (came : comes.Step) (error : QueueError) → says.Refused error ≡ told_of ds came → came ≡ step.Refused error
+refusal_is : (ds : List Descriptor) (came : comes.CourseStep) (error : QueueError) → says.Refused error ≡ told_of ds came → came ≡ step.Refused error
 refusal_is ds (step.Load walk) error e = absurd (subst IsRefusal e tt)
 refusal_is ds step.Idle error e = absurd (subst IsRefusal e tt)
 refusal_is ds (step.Refused why) error e = ap (λ (x : QueueError). step.Refused x) (sym (ap error_in e))
 refusal_is ds (step.Chain h None) error e = absurd (subst IsRefusal e tt)
 refusal_is ds (step.Chain h (Some fault)) error e = absurd (subst IsRefusal e tt)
 
-pub faulty_is : (ds : List Descriptor) (came : comes.Step) (head : ℕ) (fault : ChainFault) → says.Faulty head fault ≡ told_of ds came → came ≡ step.Chain head (Some fault)
+pub faulty_is : (ds : List Descriptor) (came : comes.CourseStep) (head : ℕ) (fault : ChainFault) → says.Faulty head fault ≡ told_of ds came → came ≡ step.Chain head (Some fault)
 faulty_is ds (step.Load walk) head fault e = absurd (subst IsFaulty e tt)
 faulty_is ds step.Idle head fault e = absurd (subst IsFaulty e tt)
 faulty_is ds (step.Refused error) head fault e = absurd (subst IsFaulty e tt)
 faulty_is ds (step.Chain h None) head fault e = absurd (subst IsFaulty e tt)
 faulty_is ds (step.Chain h (Some why)) head fault e =
-    ap (λ (x : ℕ). step.Chain x (Some why)) (sym (ap faulty_head_in e)) ∙ ap (λ (x : ChainFault). step.Chain head (Some x)) (sym (ap (λ (w : walked.WalkOutcome). fault_in w fault) e))
+    ap (λ (x : ℕ). step.Chain x (Some why)) (sym (ap faulty_head_in e)) ∙ ap (λ (x : ChainFault). step.Chain head (Some x)) (sym (ap (λ (w : walked.PopOutcome). fault_in w fault) e))
 
 pub idle_is_step_by : {F : Type 0} (may : May F) → IdleIsStepBy may
 idle_is_step_by {F} may given i old new before after m first walks =
@@ -307,8 +307,8 @@ idle_is_step_by {F} may given i old new before after m first walks =
     let loaded = all.0 in
     let came = all.2 in
     let is = idle_is new.descriptors.items came.0 came.1.0 in
-    let found : ComesTo (places_in old.regions) old.limit q loaded new.descriptors.items step.Idle =
-    subst (λ (c : comes.Step). ComesTo (places_in old.regions) old.limit q loaded new.descriptors.items c) is came.2 in
+    let found : IsCourseStep (places_in old.regions) old.limit q loaded new.descriptors.items step.Idle =
+    subst (λ (c : comes.CourseStep). IsCourseStep (places_in old.regions) old.limit q loaded new.descriptors.items c) is came.2 in
     let l = step_loads loaded found.1 [] in (
       loaded,
       all.1,
@@ -339,8 +339,8 @@ refusal_is_step_by {F} may given e i old new before after m first events walks =
     let loaded = all.0 in
     let came = all.2 in
     let is = refusal_is new.descriptors.items came.0 e came.1.0 in
-    let found : ComesTo (places_in old.regions) old.limit q loaded new.descriptors.items (step.Refused e) =
-    subst (λ (c : comes.Step). ComesTo (places_in old.regions) old.limit q loaded new.descriptors.items c) is came.2 in
+    let found : IsCourseStep (places_in old.regions) old.limit q loaded new.descriptors.items (step.Refused e) =
+    subst (λ (c : comes.CourseStep). IsCourseStep (places_in old.regions) old.limit q loaded new.descriptors.items c) is came.2 in
     let l = step_loads loaded found.1 [] in
     let isnt = is_within (places_in old.regions) old.limit q loaded.index loaded.entry (loaded.entries ++ found.1) [] (Refuses e) found.3 in (
       loaded,
@@ -352,13 +352,13 @@ refusal_is_step_by {F} may given e i old new before after m first events walks =
     )
 
 -- it goes back with nothing
-faulty_so : {F : Type 0} (may : May F) (m : State F) (i : ℕ) (kq : KeptQueue) (course : Course) (ticket : Ticket) (head : ℕ) (fault : ChainFault) (stores : Stores) (flags : List ℕ)
+faulty_so : {F : Type 0} (may : May F) (m : State F) (i : ℕ) (kq : QueueState) (course : Course) (pop_id : PopId) (head : ℕ) (fault : ChainFault) (stores : PushStores) (flags : List ℕ)
     (acts : List Act) (last : ℕ) (notice : Bool)
-    → length flags ≡ 2 → notice ≡ tells flags → ReturnsBy kq (faulty_out course ticket head) no_reply stores → last ≡ front_len no_reply → acts ≡ acts_of [] no_reply [] stores flags
-    → ReturnsFaultyBy m i (at_position course.layout kq.returned) head fault [] (faulty head fault) notice (record { acts = acts; last = last })
-    (after_chain m i (at_position course.layout kq.returned) m.options m.files)
-faulty_so {F} may m i kq course ticket head fault stores flags acts last notice two told back last_is acts_are =
-    let q = at_position course.layout kq.returned in
+    → length flags ≡ 2 → notice ≡ tells flags → PushesBy kq (faulty_out course pop_id head) no_reply stores → last ≡ front_len no_reply → acts ≡ acts_of [] no_reply [] stores flags
+    → ReturnsFaultyBy m i (at_position course.layout kq.next_used) head fault [] (faulty head fault) notice (record { acts = acts; last = last })
+    (after_chain m i (at_position course.layout kq.next_used) m.options m.files)
+faulty_so {F} may m i kq course pop_id head fault stores flags acts last notice two told back last_is acts_are =
+    let q = at_position course.layout kq.next_used in
     let stored : stores_of stores.used ≡ stores_after_reply q head 0 = back.1 in
     let done : acts ≡ return_acts (return_stores q head [] [] last) flags =
     acts_are ∙ ap (λ (ss : List Store). map act.Stores ss ++ act.LoadsFlags flags ∷ []) stored
@@ -370,27 +370,27 @@ faulty_so {F} may m i kq course ticket head fault stores flags acts last notice 
     }
 
 -- its loads, by which it is offered, and how it goes back
-faulty_parts : {F : Type 0} (may : May F) (given : List (List ℕ)) (fault : ChainFault) (acts : List Act) (last head i : ℕ) (notice : Bool) (old : Workbench) (before : KeptQueue) (m : State F)
+faulty_parts : {F : Type 0} (may : May F) (given : List (List ℕ)) (fault : ChainFault) (acts : List Act) (last head i : ℕ) (notice : Bool) (old : ChainHandle) (before : QueueState) (m : State F)
     (run : FaultyChainBy given fault acts last head notice old before) → before.stopped ≡ None
-    → (loaded : Loaded) × LoadsOf given old run.walked_bench before run.taken (wents.On (says.Faulty head fault)) run.walks loaded
+    → (loaded : Loaded) × LoadsOf given old run.popped_handle before run.taken (wents.On (says.Faulty head fault)) run.walks loaded
     × OffersBy (places_in old.regions) old.limit (queue_of (course_of before old.limit)) loaded [] (Offers head (CannotFetch fault))
     × ReturnsFaultyBy m i (queue_back before run.back) head fault [] (faulty head fault) (tells run.returns.flags) (record { acts = acts; last = last })
     (after_chain m i (queue_back before run.back) m.options m.files)
 faulty_parts {F} may given fault acts last head i notice old before m run goes =
     let course = course_of before old.limit in
-    let ticket = ticket_of before in
+    let pop_id = pop_id_of before in
     let q = queue_of course in
-    let ds = run.walked_bench.descriptors.items in
-    let all = walk_comes given old run.walked_bench before run.taken (says.Faulty head fault) goes tt run.walks in
+    let ds = run.popped_handle.descriptors.items in
+    let all = walk_comes given old run.popped_handle before run.taken (says.Faulty head fault) goes tt run.walks in
     let loaded = all.0 in
     let came = all.2 in
     let is = faulty_is ds came.0 head fault came.1.0 in
-    let found : ComesTo (places_in old.regions) old.limit q loaded ds (step.Chain head (Some fault)) =
-    subst (λ (c : comes.Step). ComesTo (places_in old.regions) old.limit q loaded ds c) is came.2 in
-    let state_is : run.walked_bench.state ≡ at.HasReply (faulty_out course ticket head) no_reply = came.1.1 ∙ ap (λ (c : comes.Step). state_after course ticket ds c) is in
-    let back : ReturnsBy run.back (faulty_out course ticket head) no_reply run.returns.stores × ((last ≡ front_len no_reply) × (acts ≡ acts_of [] no_reply [] run.returns.stores run.returns.flags)) =
-    subst (λ (st : state.State). FromReplied run.back st (λ reply s₁. (last ≡ front_len reply) × (acts ≡ acts_of [] reply [] s₁ run.returns.flags)) run.returns.stores) state_is run.returns.returns in
-    let done = faulty_so may m i run.back course ticket head fault run.returns.stores run.returns.flags acts last (tells run.returns.flags) run.returns.flags_len refl back.0 back.1.0 back.1.1 in
+    let found : IsCourseStep (places_in old.regions) old.limit q loaded ds (step.Chain head (Some fault)) =
+    subst (λ (c : comes.CourseStep). IsCourseStep (places_in old.regions) old.limit q loaded ds c) is came.2 in
+    let state_is : run.popped_handle.state ≡ at.HasReply (faulty_out course pop_id head) no_reply = came.1.1 ∙ ap (λ (c : comes.CourseStep). state_after course pop_id ds c) is in
+    let back : PushesBy run.back (faulty_out course pop_id head) no_reply run.returns.stores × ((last ≡ front_len no_reply) × (acts ≡ acts_of [] no_reply [] run.returns.stores run.returns.flags)) =
+    subst (λ (st : state.ChainState). FromReplied run.back st (λ reply s₁. (last ≡ front_len reply) × (acts ≡ acts_of [] reply [] s₁ run.returns.flags)) run.returns.stores) state_is run.returns.returns in
+    let done = faulty_so may m i run.back course pop_id head fault run.returns.stores run.returns.flags acts last (tells run.returns.flags) run.returns.flags_len refl back.0 back.1.0 back.1.1 in
     (loaded, all.1, found, done)
 
 pub faulty_is_answered_by : {F : Type 0} (may : May F) → FaultyIsAnsweredBy may

@@ -10,8 +10,8 @@ use Rattle.server_replies.specs.WholeReplies.{reply_bytes, listing_bytes}
 use Rattle.server_replies.proofs.ReplyLemmas.{length_reply}
 use Rattle.virtiofsd_fuse.specs.Grammar.{FileCommand, Lists}
 use Rattle.virtiofsd_fuse.specs.Listings as asked
-use Rattle.virtiofsd_fuse.specs.Listings.{Went, list_entries, readdir_call}
-use Rattle.virtiofsd_fuse.specs.Serving.{Setting, Served, commanded, list_ended, replied}
+use Rattle.virtiofsd_fuse.specs.Listings.{ListingResult, list_entries, readdir_call}
+use Rattle.virtiofsd_fuse.specs.Serving.{Setting, ServedMessage, commanded, list_ended, replied}
 use Rattle.server_phases.specs.declared.listing.Listing.{Listing}
 use Rattle.server_phases.specs.declared.listing.ListingReply.{ListingReply}
 use Rattle.server_phases.specs.declared.listing.NotAdded as reason
@@ -22,13 +22,13 @@ use Rattle.server_phases.proofs.Gathered.{length_entry, listed_all}
 use Rattle.fs_chain.specs.declared.error.ChainError.{ChainError}
 use Rattle.fs_chain.specs.declared.listing.Added.{Added}
 use Rattle.fs_chain.specs.declared.listing.Added.TheVariants as added
-use Rattle.fs_chain.specs.declared.state.Out.{Out}
-use Rattle.fs_chain.specs.declared.state.State as state
-use Rattle.fs_chain.specs.declared.state.State.TheVariants as at
-use Rattle.fs_chain.specs.declared.workbench.Workbench.{Workbench}
+use Rattle.fs_chain.specs.declared.state.InFlight.{InFlight}
+use Rattle.fs_chain.specs.declared.state.ChainState as state
+use Rattle.fs_chain.specs.declared.state.ChainState.TheVariants as at
+use Rattle.fs_chain.specs.declared.chain_handle.ChainHandle.{ChainHandle}
 use Rattle.fs_chain.specs.Listings.{Adds, AddsTo, IsFailedReply, IsListReply, told_added}
 use Rattle.fs_device.specs.Step.{Calls, answers_alone, calls_alone}
-use Rattle.fs_chain.specs.WholeListings.{Brings, Ending, EndsBy, EndsThere, FailsAt, FullAt, Gathers, IsListedBy, NotFound, Unreadable, all_looked_up, listing_calls, looked_up, node_back, unreadable_calls}
+use Rattle.fs_chain.specs.WholeListings.{BringsEntry, Ending, EndsBy, EndsThere, FailsAt, FullAt, Gathers, IsListedBy, NotFound, Unreadable, all_looked_up, listing_calls, looked_up, node_back, unreadable_calls}
 
 -- ---- what was told of an entry
 
@@ -55,44 +55,44 @@ outcome_is (Err not_added.TooLong) a told = sym (ap outcome_in told)
 outcome_is (Err not_added.ShortList) a told = absurd (cc)
 
 -- an entry was brought to a listing, of which this was told
-abbrev pub IsBrought : Out → Listing → (new : state.State) → (list list' : List ℕ) → Brought → Added → Type 0
+abbrev pub IsBrought : InFlight → Listing → (new : state.ChainState) → (list list' : List ℕ) → Brought → Added → Type 0
 IsBrought out l new list list' e a = (now : Listing) × (new ≡ at.Lists out now) × Adds l now list list' e (outcome_of a)
 
-brought_by : (st new : state.State) (list list' : List ℕ) (e : Brought) (a : Added) (out : Out) (l : Listing) (outcome : Listing → Outcome) → st ≡ at.Lists out l
+brought_by : (st new : state.ChainState) (list list' : List ℕ) (e : Brought) (a : Added) (out : InFlight) (l : Listing) (outcome : Listing → Outcome) → st ≡ at.Lists out l
     → AddsTo st new list list' e outcome (Ok a) → IsBrought out l new list list' e a
 brought_by st new list list' e a out l outcome is adds =
-    let there : AddsTo (at.Lists out l) new list list' e outcome (Ok a) = subst (λ (s : state.State). AddsTo s new list list' e outcome (Ok a)) is adds in
+    let there : AddsTo (at.Lists out l) new list list' e outcome (Ok a) = subst (λ (s : state.ChainState). AddsTo s new list list' e outcome (Ok a)) is adds in
     (there.1.0, there.1.1, subst (λ (r : Outcome). Adds l there.1.0 list list' e r) (outcome_is (outcome l) a there.0) there.1.2)
 
-brought_either : (st new : state.State) (list list' : List ℕ) (e : Brought) (a : Added) (out : Out) (l : Listing) → st ≡ at.Lists out l
+brought_either : (st new : state.ChainState) (list list' : List ℕ) (e : Brought) (a : Added) (out : InFlight) (l : Listing) → st ≡ at.Lists out l
     → (AddsTo st new list list' e (λ l. added_plain l (length list) (length e.0.name)) (Ok a)
     ⊎ AddsTo st new list list' e (λ l. added_found l (length list) (length e.0.name)) (Ok a)) → IsBrought out l new list list' e a
 brought_either st new list list' e a out l is (inl plain) = brought_by st new list list' e a out l (λ l. added_plain l (length list) (length e.0.name)) is plain
 brought_either st new list list' e a out l is (inr found) = brought_by st new list list' e a out l (λ l. added_found l (length list) (length e.0.name)) is found
 
-pub brought : (w w' : Workbench) (list list' : List ℕ) (e : Brought) (a : Added) (out : Out) (l : Listing) → w.state ≡ at.Lists out l → Brings w list e (Ok a) w' list'
+pub brought : (w w' : ChainHandle) (list list' : List ℕ) (e : Brought) (a : Added) (out : InFlight) (l : Listing) → w.state ≡ at.Lists out l → BringsEntry w list e (Ok a) w' list'
     → IsBrought out l w'.state list list' e a
 brought w w' list list' e a out l is brings = brought_either w.state w'.state list list' e a out l is brings.0
 
 -- one that isn't in leaves the listing as it was
-pub stays_so : (w w' : Workbench) (list list' : List ℕ) (e : Brought) (a : Added) (out : Out) (l : Listing) (why : reason.NotAdded) → outcome_of a ≡ Err why
+pub stays_so : (w w' : ChainHandle) (list list' : List ℕ) (e : Brought) (a : Added) (out : InFlight) (l : Listing) (why : reason.NotAdded) → outcome_of a ≡ Err why
     → IsBrought out l w'.state list list' e a → (w'.state ≡ at.Lists out l)
 stays_so w w' list list' e a out l why isnt one = one.1 ∙ ap (λ (k : Listing). at.Lists out k) (one.2.same why isnt).0
 
 -- ---- the entries that are in
 
 -- what a listing has gathered
-pub record HasGathered (w' : Workbench) (list : List ℕ) (out : Out) (l : Listing) (es : List Brought) : Type 0 where
+pub record HasGathered (w' : ChainHandle) (list : List ℕ) (out : InFlight) (l : Listing) (es : List Brought) : Type 0 where
   pub now : Listing
   pub state : w'.state ≡ at.Lists out now
   pub holds : Holds now list es
   pub stays : StaysBut l now
 
-pub gathered : (es before : List Brought) (w w' : Workbench) (list list' : List ℕ) (out : Out) (l : Listing) → w.state ≡ at.Lists out l → Holds l list before → Gathers es w list w' list'
+pub gathered : (es before : List Brought) (w w' : ChainHandle) (list list' : List ℕ) (out : InFlight) (l : Listing) → w.state ≡ at.Lists out l → Holds l list before → Gathers es w list w' list'
     → HasGathered w' list' out l (before ++ es)
 gathered [] before w w' list list' out l is holds run = record {
   now = l;
-  state = ap (λ (k : Workbench). k.state) run.0 ∙ is;
+  state = ap (λ (k : ChainHandle). k.state) run.0 ∙ is;
   holds = subst (λ (es : List Brought). Holds l list' es) (sym (append-nil before)) (subst (λ (x : List ℕ). Holds l x before) (sym run.1) holds);
   stays = (refl, refl, refl, refl);
 }
@@ -110,18 +110,18 @@ gathered (e ∷ es) before w w' list list' out l is holds run =
     }
 
 -- the session stays
-gathers_session : (es : List Brought) (w w' : Workbench) (list list' : List ℕ) → Gathers es w list w' list' → w'.session ≡ w.session
-gathers_session [] w w' list list' run = ap (λ (k : Workbench). k.session) run.0
+gathers_session : (es : List Brought) (w w' : ChainHandle) (list list' : List ℕ) → Gathers es w list w' list' → w'.session ≡ w.session
+gathers_session [] w w' list list' run = ap (λ (k : ChainHandle). k.session) run.0
 gathers_session (e ∷ es) w w' list list' run = gathers_session es run.0 w' run.1 list' run.3 ∙ run.2.1.2
 
-ends_session : (ending : Ending) (w w' : Workbench) (list : List ℕ) (len : ℕ) → EndsBy ending w list len w' → w'.session ≡ w.session
+ends_session : (ending : Ending) (w w' : ChainHandle) (list : List ℕ) (len : ℕ) → EndsBy ending w list len w' → w'.session ≡ w.session
 ends_session EndsThere w w' list len ends = ends.1.2
 ends_session (FullAt e behind) w w' list len ends = ends.3.1.2 ∙ ends.2.1.2
 ends_session (FailsAt e behind errno) w w' list len ends = ends.5.1.2 ∙ ends.4.1.2
 ends_session (NotFound d behind errno) w w' list len ends = ends.2.1.2
 ends_session (Unreadable errno) w w' list len ends = ends.1.2
 
-pub listed_session : (w w' : Workbench) (b : Bool) (es : List Brought) (ending : Ending) (bytes : List ℕ) → IsListedBy w b es ending bytes w' → w'.session ≡ w.session
+pub listed_session : (w w' : ChainHandle) (b : Bool) (es : List Brought) (ending : Ending) (bytes : List ℕ) → IsListedBy w b es ending bytes w' → w'.session ≡ w.session
 listed_session w w' b es ending bytes is =
     ends_session ending is.gathered w' is.list is.len is.ends ∙ gathers_session es w is.gathered is.first is.list is.gathers
 
@@ -142,7 +142,7 @@ answers_both : (a b : Calls) → answers_alone (a ++ b) ≡ answers_alone a ++ a
 answers_both a b = map-append (λ (step : FileCall × FileAnswer). step.1) a b
 
 -- of the directory that a command lists
-module _ (unique : ℕ) (a : asked.Listing) where
+module _ (unique : ℕ) (a : asked.ListRequest) where
   abbrev call : FileCall
   call = readdir_call a
 
@@ -198,7 +198,7 @@ module _ (unique : ℕ) (a : asked.Listing) where
 
 -- ---- what is served
 
-abbrev by_reply : List FileCall → ℕ → List ℕ → Served
+abbrev by_reply : List FileCall → ℕ → List ℕ → ServedMessage
 by_reply calls options reply = record { calls = calls; options = options; reply = reply; fault = None }
 
 -- a command is served by these calls and their answers, with this reply
@@ -210,16 +210,16 @@ served_so : (s : Setting) (command : FileCommand) (steps : Calls) (answers : Lis
 served_so s command steps answers calls reply answers_are calls_are is =
     ap (λ (x : List FileAnswer). commanded s command x) answers_are ∙ is ∙ ap (λ (x : List FileCall). by_reply x s.options reply) (sym calls_are)
 
-abbrev went : List FileCall → List ℕ → Option ℕ → Went
+abbrev went : List FileCall → List ℕ → Option ℕ → ListingResult
 went calls bytes error = record { calls = calls; bytes = bytes; error = error }
 
 -- an entry that isn't found ends a listing, whatever is behind it
-first_missing : (unique errno : ℕ) (a : asked.Listing) (d : Listed) (behind : List Listed) (left room : ℕ) → a.with_nodes ≡ true → is_dot d.name ≡ false
+first_missing : (unique errno : ℕ) (a : asked.ListRequest) (d : Listed) (behind : List Listed) (left room : ℕ) → a.with_nodes ≡ true → is_dot d.name ≡ false
     → list_entries a (d ∷ behind) left room (Failed errno ∷ []) ≡ went (look_up (Lists unique a) d) [] (Some errno)
 unfolding list_entries
 first_missing unique errno a d behind left room nodes dot = rw (nodes, dot) refl
 
-none_left : (a : asked.Listing) (left room : ℕ) → list_entries a [] left room [] ≡ went [] [] None
+none_left : (a : asked.ListRequest) (left room : ℕ) → list_entries a [] left room [] ≡ went [] [] None
 unfolding list_entries
 none_left a left room = refl
 
@@ -238,7 +238,7 @@ some_bytes e es =
     lt-ltb 0 (length (all_bytes true (e ∷ es))) some
 
 -- of a listing that gathered these entries
-module _ (s : Setting) (l : Listing) (unique : ℕ) (a : asked.Listing) (list : List ℕ) (es : List Brought) (is : IsListingFor l s.room (Lists unique a)) (holds : Holds l list es) where
+module _ (s : Setting) (l : Listing) (unique : ℕ) (a : asked.ListRequest) (list : List ℕ) (es : List Brought) (is : IsListingFor l s.room (Lists unique a)) (holds : Holds l list es) where
   abbrev command : FileCommand
   command = Lists unique a
 
@@ -292,7 +292,7 @@ module _ (s : Setting) (l : Listing) (unique : ℕ) (a : asked.Listing) (list : 
   full_at e behind reply replies full =
       out_at e behind (reply.front ++ take reply.len list)
       (full s command es behind (answers_alone (node_back (readdir_call a) a.with_nodes e)) is holds
-      ∙ ap (λ (x : Served). record x { calls = x.calls ++ (look_up command e.0 ++ node_given_back command e) }) (replies s command list es is holds))
+      ∙ ap (λ (x : ServedMessage). record x { calls = x.calls ++ (look_up command e.0 ++ node_given_back command e) }) (replies s command list es is holds))
 
   pub fails_at : (e : Brought) (behind : List Listed) (errno : ℕ) (reply : ListingReply) → IsFailedReply l errno reply → FailsList l list e errno
       → ServedBy s command (listing_calls (readdir_call a) a.with_nodes es (FailsAt e behind errno)) (reply.front ++ take reply.len list)
@@ -317,7 +317,7 @@ module _ (s : Setting) (l : Listing) (unique : ℕ) (a : asked.Listing) (list : 
       (reply.front ++ take reply.len list)
       (ap (λ (x : List FileAnswer). Entries (entries_of es ++ d ∷ behind) ∷ x) (behind_answers unique a es (looked_up (readdir_call a) a.with_nodes d (Failed errno)) (Failed errno ∷ []) one))
       (ap (λ (x : List FileCall). readdir_call a ∷ x) (behind_calls unique a es (looked_up (readdir_call a) a.with_nodes d (Failed errno)) (look_up command d) (found_call unique a d (Failed errno))))
-      (ap (λ (x : Went). list_ended s unique a x) (here ∙ sym alone)
+      (ap (λ (x : ListingResult). list_ended s unique a x) (here ∙ sym alone)
       ∙ ap (λ (b : Bool). commanded s command (Entries (entries_of es ++ d ∷ []) ∷ (all_found b es ++ Failed errno ∷ []))) nodes
       ∙ failed.looked_up held s command list es d is holds dot)
 
@@ -345,10 +345,10 @@ module _ (s : Setting) (l : Listing) (unique : ℕ) (a : asked.Listing) (list : 
       (reply.front ++ take reply.len list)
       (ap (λ (x : List FileAnswer). Entries (entries_of es) ∷ x) (found_answers unique a es))
       (ap (λ (x : List FileCall). readdir_call a ∷ x) (found_calls unique a es))
-      (ap (λ (x : Went). list_ended s unique a x) entries ∙ whole_reply s.room s.options calls (reply_bytes unique bytes) (omega (arith, head, len, room, fits, place))
+      (ap (λ (x : ListingResult). list_ended s unique a x) entries ∙ whole_reply s.room s.options calls (reply_bytes unique bytes) (omega (arith, head, len, room, fits, place))
       ∙ ap (λ (x : List ℕ). by_reply calls s.options x) (sym (failed.bytes list es holds ∙ told)))
 
-pub unreadable : (s : Setting) (l : Listing) (unique : ℕ) (a : asked.Listing) (list : List ℕ) (es : List Brought) (b : Bool) (errno : ℕ) (reply : ListingReply)
+pub unreadable : (s : Setting) (l : Listing) (unique : ℕ) (a : asked.ListRequest) (list : List ℕ) (es : List Brought) (b : Bool) (errno : ℕ) (reply : ListingReply)
     → IsListingFor l s.room (Lists unique a) → Holds l list es → IsFailedReply l errno reply → a.with_nodes ≡ b
     → ServedBy s (Lists unique a) (unreadable_calls (readdir_call a) b es errno) (reply.front ++ take reply.len list)
 unreadable s l unique a list es false errno reply is holds failed nodes =

@@ -10,7 +10,7 @@ use Rattle.server_replies.specs.WholeReplies.{listing_bytes}
 use Rattle.virtiofsd_fuse.specs.Grammar.{Asks, FileCommand, Lists, Meaning, One, Starts, meaning}
 use Rattle.virtiofsd_fuse.specs.Listings as asked
 use Rattle.virtiofsd_fuse.specs.Listings.{readdir_call}
-use Rattle.virtiofsd_fuse.specs.Serving.{May, Setting, Served, commanded, served, setting}
+use Rattle.virtiofsd_fuse.specs.Serving.{May, Setting, ServedMessage, commanded, served, setting}
 use Rattle.virtiofsd_fuse.proofs.Serve.{served_fits}
 use Rattle.server_phases.specs.declared.listing.Listing.{Listing}
 use Rattle.server_phases.specs.declared.listing.ListingReply.{ListingReply}
@@ -18,22 +18,22 @@ use Rattle.server_phases.specs.declared.listing.NotAdded as reason
 use Rattle.server_phases.specs.declared.listing.NotAdded.TheVariants as not_added
 use Rattle.server_phases.specs.Gathering.{Brought, Holds, IsListingFor, StaysBut, all_bytes, all_found, entries_of, error_of}
 use Rattle.server_phases.specs.Waiting.{first_call}
-use Rattle.fs_chain.specs.declared.asking.Told.TheVariants as asks
+use Rattle.fs_chain.specs.declared.decoding.Decoded.TheVariants as asks
 use Rattle.fs_chain.specs.declared.error.ChainError.{ChainError}
 use Rattle.fs_chain.specs.declared.listing.Added.{Added}
 use Rattle.fs_chain.specs.declared.listing.Added.TheVariants as added
-use Rattle.fs_chain.specs.declared.queue.KeptQueue.{KeptQueue}
-use Rattle.fs_chain.specs.declared.returning.Stores.{Stores}
-use Rattle.fs_chain.specs.declared.state.Out.{Out}
-use Rattle.fs_chain.specs.declared.state.Reply.{Reply}
-use Rattle.fs_chain.specs.declared.state.State as state
-use Rattle.fs_chain.specs.declared.state.State.TheVariants as at
-use Rattle.fs_chain.specs.declared.workbench.Workbench.{Workbench}
-use Rattle.fs_chain.specs.Asking.{AsksListing, KeepsCall}
+use Rattle.fs_chain.specs.declared.queue.QueueState.{QueueState}
+use Rattle.fs_chain.specs.declared.pushing.PushStores.{PushStores}
+use Rattle.fs_chain.specs.declared.state.InFlight.{InFlight}
+use Rattle.fs_chain.specs.declared.state.ChainReply.{ChainReply}
+use Rattle.fs_chain.specs.declared.state.ChainState as state
+use Rattle.fs_chain.specs.declared.state.ChainState.TheVariants as at
+use Rattle.fs_chain.specs.declared.chain_handle.ChainHandle.{ChainHandle}
+use Rattle.fs_chain.specs.Decoding.{AsksListing, KeepsCall}
 use Rattle.fs_chain.specs.Listings.{IsFailedReply, IsListReply, RepliesBy, answered_by}
 use Rattle.fs_chain.specs.Orders.{front_len, reply_len}
 use Rattle.fs_chain.specs.Queues.{at_return}
-use Rattle.fs_chain.specs.Returns.{ReturnsBy}
+use Rattle.fs_chain.specs.Pushes.{PushesBy}
 use Rattle.fs_chain.specs.Whole.{ByEntries, FromReplied, acts_of, after_chain, file_calls}
 use Rattle.fs_chain.specs.WholeListings.{Ending, EndsBy, EndsThere, FailsAt, FromLists, FullAt, IsListedBy, NotFound, Unreadable, failed_by, listing_calls}
 use Rattle.fs_device.specs.Step.{State, Calls, ServesRequest, answers_alone, calls_alone, served_exchange}
@@ -52,11 +52,11 @@ abbrev told_len : ℕ → Result ℕ ChainError
 told_len n = Ok n
 
 -- a listing that gathers has its reply
-abbrev IsReplied : (Listing → ListingReply → Type 0) → Out → Listing → (len : ℕ) → (new : state.State) → Type 0
+abbrev IsReplied : (Listing → ListingReply → Type 0) → InFlight → Listing → (len : ℕ) → (new : state.ChainState) → Type 0
 IsReplied P out l len new = (reply : ListingReply) × (told_len len ≡ told_len reply.len) × (new ≡ answered_by out reply) × P l reply
 
-replied_at : (P : Listing → ListingReply → Type 0) (st new : state.State) (out : Out) (l : Listing) (len : ℕ) → st ≡ at.Lists out l → RepliesBy P st new (Ok len) → IsReplied P out l len new
-replied_at P st new out l len is replies = subst (λ (s : state.State). RepliesBy P s new (Ok len)) is replies
+replied_at : (P : Listing → ListingReply → Type 0) (st new : state.ChainState) (out : InFlight) (l : Listing) (len : ℕ) → st ≡ at.Lists out l → RepliesBy P st new (Ok len) → IsReplied P out l len new
+replied_at P st new out l len is replies = subst (λ (s : state.ChainState). RepliesBy P s new (Ok len)) is replies
 
 -- its data stands in the list, as long as what is told of it: a longer one would tell of bytes behind the entries
 in_list : (l : Listing) (list : List ℕ) (es : List Brought) (front whole : List ℕ) (n : ℕ) → Holds l list es → ((other : List ℕ) → Holds l other es → front ++ take n other ≡ whole)
@@ -77,7 +77,7 @@ in_list l list es front whole n holds same =
     length-take n list ∙ omega (arith, both, here, there, here_n, there_n, here_len, there_len, held, long)
 
 -- what ends a listing of these entries, of a command in a setting, in the state that comes of it
-abbrev ListServed : Setting → (unique : ℕ) → asked.Listing → List Brought → Ending → Out → (list : List ℕ) → (len : ℕ) → (new : state.State) → Type 0
+abbrev ListServed : Setting → (unique : ℕ) → asked.ListRequest → List Brought → Ending → InFlight → (list : List ℕ) → (len : ℕ) → (new : state.ChainState) → Type 0
 ListServed s unique a es ending out list len new =
     (reply : ListingReply) × (len ≡ reply.len) × (new ≡ answered_by out reply) × (length (take reply.len list) ≡ reply.len)
     × ServedBy s (Lists unique a) (listing_calls (readdir_call a) a.with_nodes es ending) (reply.front ++ take reply.len list)
@@ -90,7 +90,7 @@ failing added.NoRoom errno is = (not_added.NoRoom, refl, is)
 failing added.TooLong errno is = (not_added.TooLong, refl, is)
 
 -- by the entries that are in
-by_entries : (s : Setting) (l : Listing) (unique : ℕ) (a : asked.Listing) (list : List ℕ) (es : List Brought) (ending : Ending) (out : Out) (len : ℕ) (new : state.State)
+by_entries : (s : Setting) (l : Listing) (unique : ℕ) (a : asked.ListRequest) (list : List ℕ) (es : List Brought) (ending : Ending) (out : InFlight) (len : ℕ) (new : state.ChainState)
     → IsListingFor l s.room (Lists unique a) → Holds l list es → (r : IsReplied IsListReply out l len new)
     → ServedBy s (Lists unique a) (listing_calls (readdir_call a) a.with_nodes es ending) (r.0.front ++ take r.0.len list) → ListServed s unique a es ending out list len new
 by_entries s l unique a list es ending out len new is holds r serving = (
@@ -98,12 +98,12 @@ by_entries s l unique a list es ending out len new is holds r serving = (
   ap len_in r.1,
   r.2,
   in_list l list es r.0.front (commanded s (Lists unique a) (Entries (entries_of es) ∷ all_found l.with_nodes es)).reply r.0.len holds
-      (λ other held. sym (ap (λ (x : Served). x.reply) (r.3 s (Lists unique a) other es is held))),
+      (λ other held. sym (ap (λ (x : ServedMessage). x.reply) (r.3 s (Lists unique a) other es is held))),
   serving,
 )
 
 -- by an error
-by_error : (s : Setting) (l : Listing) (unique : ℕ) (a : asked.Listing) (list : List ℕ) (es : List Brought) (ending : Ending) (errno : ℕ) (out : Out) (len : ℕ) (new : state.State)
+by_error : (s : Setting) (l : Listing) (unique : ℕ) (a : asked.ListRequest) (list : List ℕ) (es : List Brought) (ending : Ending) (errno : ℕ) (out : InFlight) (len : ℕ) (new : state.ChainState)
     → Holds l list es → (r : IsReplied (λ l reply. IsFailedReply l errno reply) out l len new)
     → ServedBy s (Lists unique a) (listing_calls (readdir_call a) a.with_nodes es ending) (r.0.front ++ take r.0.len list) → ListServed s unique a es ending out list len new
 by_error s l unique a list es ending errno out len new holds r serving = (
@@ -114,7 +114,7 @@ by_error s l unique a list es ending errno out len new holds r serving = (
   serving,
 )
 
-list_served : (s : Setting) (l : Listing) (unique : ℕ) (a : asked.Listing) (list : List ℕ) (es : List Brought) (ending : Ending) (w after : Workbench) (out : Out) (len : ℕ)
+list_served : (s : Setting) (l : Listing) (unique : ℕ) (a : asked.ListRequest) (list : List ℕ) (es : List Brought) (ending : Ending) (w after : ChainHandle) (out : InFlight) (len : ℕ)
     → IsListingFor l s.room (Lists unique a) → Holds l list es → w.state ≡ at.Lists out l → EndsBy ending w list len after → ListServed s unique a es ending out list len after.state
 list_served s l unique a list es EndsThere w after out len is holds st ends =
     let r = replied_at IsListReply w.state after.state out l len st ends.0 in
@@ -132,7 +132,7 @@ list_served s l unique a list es (FailsAt e behind errno) w after out len is hol
     let r = replied_at (λ l reply. IsFailedReply l errno reply) ends.0.state after.state out l len there ends.5.0 in
     by_error s l unique a list es (FailsAt e behind errno) errno out len after.state holds r (fails_at s l unique a list es is holds e behind errno r.0 r.3 (one.2.fails f.0 errno f.1 f.2))
 list_served s l unique a list es (NotFound d behind errno) w after out len is holds st ends =
-    let nodes : l.with_nodes ≡ true = subst (λ (x : state.State). FromLists x (λ l. l.with_nodes ≡ true)) st ends.0 in
+    let nodes : l.with_nodes ≡ true = subst (λ (x : state.ChainState). FromLists x (λ l. l.with_nodes ≡ true)) st ends.0 in
     let r = replied_at (λ l reply. IsFailedReply l errno reply) w.state after.state out l len st ends.2.0 in
     by_error s l unique a list es (NotFound d behind errno) errno out len after.state holds r (not_found s l unique a list es is holds d behind errno r.0 r.3 nodes ends.1)
 list_served s l unique a list es (Unreadable errno) w after out len is holds st ends =
@@ -142,17 +142,17 @@ list_served s l unique a list es (Unreadable errno) w after out len is holds st 
 -- ---- the chain
 
 -- what lists is a listing, of a command that lists
-from_lists : (st : state.State) (P : Listing → Type 0) → FromLists st P → (out : Out) × (l : Listing) × (st ≡ at.Lists out l) × P l
+from_lists : (st : state.ChainState) (P : Listing → Type 0) → FromLists st P → (out : InFlight) × (l : Listing) × (st ≡ at.Lists out l) × P l
 from_lists (at.Lists out l) P p = (out, l, refl, p)
 from_lists at.Free P p = absurd p
-from_lists (at.Walking course ticket walk) P p = absurd p
+from_lists (at.Walking course pop_id walk) P p = absurd p
 from_lists (at.Taken out) P p = absurd p
 from_lists (at.Waits out w) P p = absurd p
 from_lists (at.HasReply out reply) P p = absurd p
-from_lists (at.Returning out) P p = absurd p
+from_lists (at.Pushing out) P p = absurd p
 
 abbrev IsListCommand : Listing → (room : ℕ) → FileCommand → Type 0
-IsListCommand l room command = (unique : ℕ) × (a : asked.Listing) × (command ≡ Lists unique a) × IsListingFor l room (Lists unique a)
+IsListCommand l room command = (unique : ℕ) × (a : asked.ListRequest) × (command ≡ Lists unique a) × IsListingFor l room (Lists unique a)
 
 list_command : (l : Listing) (room : ℕ) (command : FileCommand) → IsListingFor l room command → IsListCommand l room command
 list_command l room (One unique call) is = absurd is
@@ -160,11 +160,11 @@ list_command l room (Starts unique capable readahead) is = absurd is
 list_command l room (Lists unique a) is = (unique, a, refl, is)
 
 -- the listing goes on, whatever it has gathered
-still_for : (l now : Listing) (room unique : ℕ) (a : asked.Listing) → StaysBut l now → IsListingFor l room (Lists unique a) → IsListingFor now room (Lists unique a)
+still_for : (l now : Listing) (room unique : ℕ) (a : asked.ListRequest) → StaysBut l now → IsListingFor l room (Lists unique a) → IsListingFor now room (Lists unique a)
 still_for l now room unique a stays is = (stays.0 ∙ is.0, stays.1 ∙ is.1, stays.2 ∙ is.2, stays.3 ∙ is.3, is.4)
 
 -- what is served of a request that lists, by the calls of its chain
-abbrev IsServed : Setting → Meaning → (behind : List ℕ) → made_call.FileCall → (with_nodes : Bool) → List Brought → Ending → (bytes : List ℕ) → Out → (new : state.State) → Type 0
+abbrev IsServed : Setting → Meaning → (behind : List ℕ) → made_call.FileCall → (with_nodes : Bool) → List Brought → Ending → (bytes : List ℕ) → InFlight → (new : state.ChainState) → Type 0
 IsServed s m behind made b es ending bytes out new =
     let steps = listing_calls (call_of behind made) b es ending in
     (reply : ListingReply) × (new ≡ answered_by out reply) × (length bytes ≡ reply.len)
@@ -173,8 +173,8 @@ IsServed s m behind made b es ending bytes out new =
 none_yet : (l : Listing) (list : List ℕ) → l.len ≡ 0 → Holds l list []
 none_yet l list empty = record { long = empty; stands = ap (λ (n : ℕ). take n list) empty }
 
-listing_served : (s : Setting) (m : Meaning) (behind : List ℕ) (made : made_call.FileCall) (b : Bool) (es : List Brought) (ending : Ending) (bytes : List ℕ) (kept : Out) (l : Listing)
-    (w after : Workbench) → w.state ≡ at.Lists kept l → l.with_nodes ≡ b → AsksListing s m behind made l → IsListedBy w b es ending bytes after
+listing_served : (s : Setting) (m : Meaning) (behind : List ℕ) (made : made_call.FileCall) (b : Bool) (es : List Brought) (ending : Ending) (bytes : List ℕ) (kept : InFlight) (l : Listing)
+    (w after : ChainHandle) → w.state ≡ at.Lists kept l → l.with_nodes ≡ b → AsksListing s m behind made l → IsListedBy w b es ending bytes after
     → IsServed s m behind made b es ending bytes kept after.state
 listing_served s m behind made b es ending bytes kept l w after st kind list_asked is =
     let c = list_command l s.room list_asked.0 list_asked.4 in
@@ -195,18 +195,18 @@ listing_served s m behind made b es ending bytes kept l w after st kind list_ask
     (reply, so.2, ap length bytes_are ∙ so.3, ap (λ (x : Meaning). served s x (answers_alone (listing_calls (call_of behind made) b es ending))) meant ∙ mine)
 
 -- it has its reply then, and is the chain that was asked
-pub listed_out : (s : Setting) (m : Meaning) (behind : List ℕ) (made : made_call.FileCall) (b : Bool) (es : List Brought) (ending : Ending) (bytes : List ℕ) (out : Out) (w after : Workbench)
-    → KeepsCall s m behind made out w.state → IsListedBy w b es ending bytes after → (reply : Reply) × (after.state ≡ at.HasReply out reply)
+pub listed_out : (s : Setting) (m : Meaning) (behind : List ℕ) (made : made_call.FileCall) (b : Bool) (es : List Brought) (ending : Ending) (bytes : List ℕ) (out : InFlight) (w after : ChainHandle)
+    → KeepsCall s m behind made out w.state → IsListedBy w b es ending bytes after → (reply : ChainReply) × (after.state ≡ at.HasReply out reply)
 listed_out s m behind made b es ending bytes out w after keeps is =
     let lists = from_lists w.state (λ l. l.with_nodes ≡ b) is.kind in
-    let kept_so : KeepsCall s m behind made out (at.Lists lists.0 lists.1) = subst (λ (x : state.State). KeepsCall s m behind made out x) lists.2 keeps in
+    let kept_so : KeepsCall s m behind made out (at.Lists lists.0 lists.1) = subst (λ (x : state.ChainState). KeepsCall s m behind made out x) lists.2 keeps in
     let so = listing_served s m behind made b es ending bytes lists.0 lists.1 w after lists.2 lists.3 kept_so.1 is in
-    let reply : Reply = record { front = Some so.0.front; behind = so.0.len } in
-    (reply, so.1 ∙ ap (λ (o : Out). at.HasReply o reply) kept_so.0)
+    let reply : ChainReply = record { front = Some so.0.front; behind = so.0.len } in
+    (reply, so.1 ∙ ap (λ (o : InFlight). at.HasReply o reply) kept_so.0)
 
 -- a chain whose listing was answered
-pub by_listing : {F : Type 0} (may : May F) (m : State F) (i : ℕ) (kq : KeptQueue) (request room behind : List ℕ) (files : F) (made : made_call.FileCall) (b : Bool) (es : List Brought)
-    (ending : Ending) (bytes : List ℕ) (out : Out) (w after : Workbench) (used : Stores) (flags : List ℕ) (notice : Bool) (acts : List Act) (last : ℕ)
+pub by_listing : {F : Type 0} (may : May F) (m : State F) (i : ℕ) (kq : QueueState) (request room behind : List ℕ) (files : F) (made : made_call.FileCall) (b : Bool) (es : List Brought)
+    (ending : Ending) (bytes : List ℕ) (out : InFlight) (w after : ChainHandle) (used : PushStores) (flags : List ℕ) (notice : Bool) (acts : List Act) (last : ℕ)
     → length room ≡ out.room_len → out.room_len ≤ 2 ^ 31
     → KeepsCall (setting m.page_size m.options out.room_len) (meaning m.options request out.room_len) behind made out w.state
     → IsListedBy w b es ending bytes after
@@ -218,17 +218,17 @@ by_listing {F} may m i kq request room behind files made b es ending bytes out w
     let s = setting m.page_size m.options r in
     let lists = from_lists w.state (λ l. l.with_nodes ≡ b) is.kind in
     let kept_so : KeepsCall s (meaning m.options request r) behind made out (at.Lists lists.0 lists.1) =
-    subst (λ (x : state.State). KeepsCall s (meaning m.options request r) behind made out x) lists.2 keeps in
+    subst (λ (x : state.ChainState). KeepsCall s (meaning m.options request r) behind made out x) lists.2 keeps in
     let so = listing_served s (meaning m.options request r) behind made b es ending bytes lists.0 lists.1 w after lists.2 lists.3 kept_so.1 is in
     let steps : Calls = listing_calls (call_of behind made) b es ending in
-    let reply : Reply = record { front = Some so.0.front; behind = so.0.len } in
-    let g : Served = record { calls = calls_alone steps; options = m.options; reply = so.0.front ++ bytes; fault = None } in
+    let reply : ChainReply = record { front = Some so.0.front; behind = so.0.len } in
+    let g : ServedMessage = record { calls = calls_alone steps; options = m.options; reply = so.0.front ++ bytes; fault = None } in
     let len_is : front_len reply + reply.behind ≡ length g.reply = ap (λ (n : ℕ). length so.0.front + n) (sym so.2) ∙ sym (length-append so.0.front bytes) in
-    let fits : length g.reply ≤ r = subst (λ (x : Served). length x.reply ≤ r) so.3 (served_fits s (meaning m.options request r) (answers_alone steps)) in
-    let back : ReturnsBy kq lists.0 reply used × ((last ≡ front_len reply) × (acts ≡ acts_of room reply bytes used flags)) =
-    subst (λ (x : state.State). FromReplied kq x (λ reply s₁. (last ≡ front_len reply) × (acts ≡ acts_of room reply bytes s₁ flags)) used) so.1 goes_back in
+    let fits : length g.reply ≤ r = subst (λ (x : ServedMessage). length x.reply ≤ r) so.3 (served_fits s (meaning m.options request r) (answers_alone steps)) in
+    let back : PushesBy kq lists.0 reply used × ((last ≡ front_len reply) × (acts ≡ acts_of room reply bytes used flags)) =
+    subst (λ (x : state.ChainState). FromReplied kq x (λ reply s₁. (last ≡ front_len reply) × (acts ≡ acts_of room reply bytes s₁ flags)) used) so.1 goes_back in
     let by_kept : stores_of used.used ≡ stores_after_reply (at_return kq out) out.head (reply_len out reply) =
-    subst (λ (o : Out). stores_of used.used ≡ stores_after_reply (at_return kq o) o.head (reply_len o reply)) kept_so.0 back.0.1 in
+    subst (λ (o : InFlight). stores_of used.used ≡ stores_after_reply (at_return kq o) o.head (reply_len o reply)) kept_so.0 back.0.1 in
     let stores : stores_of used.used ≡ stores_after_reply (at_return kq out) out.head (length g.reply) =
     by_kept ∙ ap (λ (k : ℕ). stores_after_reply (at_return kq out) out.head k) (isnt_cut out reply (length g.reply) len_is fits small) in
     let serves : ServesRequest may m.page_size m.options request r m.files steps g files = record { gives = sym so.3; asks = refl; run = run } in

@@ -13,10 +13,10 @@ use Rattle.fs_queue.specs.ReturningView.{stores_of}
 use Rattle.fs_regions.specs.Places.{memory_over, places_in}
 use Rattle.fs_regions.specs.Walks.{queue_of, IsLost}
 use Rattle.virtiofsd_fuse.specs.Serving.{May}
-use Rattle.fs_chain.specs.declared.queue.KeptQueue.{KeptQueue}
-use Rattle.fs_chain.specs.declared.returning.Stores.{Stores}
-use Rattle.fs_chain.specs.declared.state.State as state
-use Rattle.fs_chain.specs.declared.state.State.TheVariants as at
+use Rattle.fs_chain.specs.declared.queue.QueueState.{QueueState}
+use Rattle.fs_chain.specs.declared.pushing.PushStores.{PushStores}
+use Rattle.fs_chain.specs.declared.state.ChainState as state
+use Rattle.fs_chain.specs.declared.state.ChainState.TheVariants as at
 use Rattle.fs_chain.specs.Orders.{front_len}
 use Rattle.fs_chain.specs.Events.{tells_of, seen_at}
 use Rattle.fs_chain.specs.Walks.{course_of}
@@ -56,16 +56,16 @@ finds_last m q (store ∷ stores) seen is =
     finds_last (after_stores m (store ∷ [])) q stores seen (is ∙ ap (λ (k : Memory). bytes k q.avail 2) (stored_in_turn m store stores))
 
 -- a chain that goes back makes stores, and then loads the two bytes
-acts_back : (back : KeptQueue) (room behind flags : List ℕ) (acts : List Act) (last : ℕ) (st : state.State) (used : Stores)
+acts_back : (back : QueueState) (room behind flags : List ℕ) (acts : List Act) (last : ℕ) (st : state.ChainState) (used : PushStores)
     → FromReplied back st (λ reply s. (last ≡ front_len reply) × (acts ≡ acts_of room reply behind s flags)) used → (stores : List Store) × (acts ≡ return_acts stores flags)
 acts_back back room behind flags acts last (at.HasReply out reply) used goes =
     (reply_stores room (reply_bytes reply behind) (front_len reply) ++ stores_of used.used, goes.1.1)
 acts_back back room behind flags acts last at.Free used goes = absurd goes
-acts_back back room behind flags acts last (at.Walking course ticket walk) used goes = absurd goes
+acts_back back room behind flags acts last (at.Walking course pop_id walk) used goes = absurd goes
 acts_back back room behind flags acts last (at.Taken out) used goes = absurd goes
 acts_back back room behind flags acts last (at.Waits out w) used goes = absurd goes
 acts_back back room behind flags acts last (at.Lists out l) used goes = absurd goes
-acts_back back room behind flags acts last (at.Returning out) used goes = absurd goes
+acts_back back room behind flags acts last (at.Pushing out) used goes = absurd goes
 
 seen_in : (m : Memory) (q : Queue) (stores : List Store) (seen : List ℕ) (acts : List Act) → acts ≡ return_acts stores seen → FindFlags m q acts
     → seen ≡ bytes (after_stores m (stores_among acts)) q.avail 2
@@ -73,7 +73,7 @@ seen_in m q stores seen acts is find =
     last_found m q stores seen (subst (λ (l : List Act). FindFlags m q l) is find)
     ∙ ap (λ (l : List Store). bytes (after_stores m l) q.avail 2) (sym (ap stores_among is ∙ among_return stores seen))
 
-told_in : (m : Memory) (q : Queue) (back : KeptQueue) (place : ℕ) (room behind : List ℕ) (st : state.State) (acts : List Act) (last : ℕ) (notice : Bool)
+told_in : (m : Memory) (q : Queue) (back : QueueState) (place : ℕ) (room behind : List ℕ) (st : state.ChainState) (acts : List Act) (last : ℕ) (notice : Bool)
     → GoesBackBy back room behind st acts last notice → IsToldByMemory m (after_stores m (stores_among acts)) q back place acts notice
 told_in m q back place room behind st acts last notice goes =
     let flags = goes.flags in
@@ -137,7 +137,7 @@ chain_is_step {F} may given request calls acts last head i notice old new before
     let q = queue_of (course_of before old.limit) in
     let memory = memory_over h old.regions in
     let left = after_stores memory (stores_among acts) in
-    let rooms = addresses_of (writable run.walked_bench.descriptors.items) in
+    let rooms = addresses_of (writable run.popped_handle.descriptors.items) in
     let parts = chain_parts may given request calls acts last head i notice old new before s m files run first.goes first.bound session files_run in
     let loaded = parts.0 in
     let has = having loaded parts.1 in

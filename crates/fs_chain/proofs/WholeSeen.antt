@@ -4,31 +4,31 @@ use Rattle.std.specs.Prelude.{drop}
 use Rattle.fs_queue.specs.Taking.{addresses_of, writable}
 use Rattle.fs_queue.specs.Returning.{tells}
 use Rattle.fs_queue.specs.declared.fault.ChainFault.{ChainFault}
-use Rattle.fs_regions.specs.declared.step.Step as comes
+use Rattle.fs_regions.specs.declared.step.CourseStep as comes
 use Rattle.fuse_values.specs.declared.answer.FileAnswer.{FileAnswer}
 use Rattle.fuse_values.specs.declared.call.FileCall as made_call
 use Rattle.virtiofsd_fuse.specs.Grammar.{Meaning, meaning}
 use Rattle.virtiofsd_fuse.specs.Serving.{Setting, setting}
-use Rattle.server_phases.specs.Asking.{IsFront}
+use Rattle.server_phases.specs.Asking.{IsRequestFront}
 use Rattle.server_phases.specs.declared.session.Session.{Session}
 use Rattle.fs_chain.specs.declared.answering.Replied.{Replied}
-use Rattle.fs_chain.specs.declared.asking.Told as told
-use Rattle.fs_chain.specs.declared.asking.Told.TheVariants as asks
-use Rattle.fs_chain.specs.declared.queue.KeptQueue.{KeptQueue}
-use Rattle.fs_chain.specs.declared.returning.Stores.{Stores}
-use Rattle.fs_chain.specs.declared.state.Out.{Out}
-use Rattle.fs_chain.specs.declared.state.Reply.{Reply}
-use Rattle.fs_chain.specs.declared.state.State as state
-use Rattle.fs_chain.specs.declared.state.State.TheVariants as at
-use Rattle.fs_chain.specs.declared.walking.WalkOutcome.TheVariants as says
-use Rattle.fs_chain.specs.declared.workbench.Workbench.{Workbench}
+use Rattle.fs_chain.specs.declared.decoding.Decoded as told
+use Rattle.fs_chain.specs.declared.decoding.Decoded.TheVariants as asks
+use Rattle.fs_chain.specs.declared.queue.QueueState.{QueueState}
+use Rattle.fs_chain.specs.declared.pushing.PushStores.{PushStores}
+use Rattle.fs_chain.specs.declared.state.InFlight.{InFlight}
+use Rattle.fs_chain.specs.declared.state.ChainReply.{ChainReply}
+use Rattle.fs_chain.specs.declared.state.ChainState as state
+use Rattle.fs_chain.specs.declared.state.ChainState.TheVariants as at
+use Rattle.fs_chain.specs.declared.popping.PopOutcome.TheVariants as says
+use Rattle.fs_chain.specs.declared.chain_handle.ChainHandle.{ChainHandle}
 use Rattle.fs_chain.specs.Answers.{IfWaits, IsGiven, IsWaiting, data_len, reply_of}
-use Rattle.fs_chain.specs.Asking.{KeepsCall, KeepsReply, TellsMeaning}
+use Rattle.fs_chain.specs.Decoding.{KeepsCall, KeepsReply, TellsMeaning}
 use Rattle.fs_chain.specs.Events.{seen_at, tells_of}
 use Rattle.fs_chain.specs.Orders.{front_len}
-use Rattle.fs_chain.specs.Queues.{ticket_of}
+use Rattle.fs_chain.specs.Queues.{pop_id_of}
 use Rattle.fs_chain.specs.Walks.{HasEvents, course_of, faulty_out, no_reply, out_of, state_after}
-use Rattle.fs_chain.specs.Whole.{ByEntries, ChainBy, FaultyChainBy, FromReplied, FromTaken, Given, HasReply, IsByFlags, IsToldBySeen, NoAnswer, OneAnswer, ReturnsAreToldBySeen, acts_of, data_behind}
+use Rattle.fs_chain.specs.Whole.{ByEntries, ChainBy, FaultyChainBy, FromReplied, FromTaken, ChainAnswer, HasReply, IsByFlags, IsToldBySeen, NoAnswer, OneAnswer, ReturnsAreToldBySeen, acts_of, data_behind}
 use Rattle.fs_device.specs.Step.{Calls}
 use Rattle.fs_device.specs.StepBy.{Act}
 use Rattle.fs_chain.proofs.WholeChains.{came_is, faulty_is}
@@ -37,53 +37,53 @@ use Rattle.fs_chain.proofs.WholeWalks.{walk_comes}
 
 -- ---- a queue without the event index
 
-pub has_events : (w : Workbench) (q : KeptQueue) → IsByFlags q → HasEvents w q
+pub has_events : (w : ChainHandle) (q : QueueState) → IsByFlags q → HasEvents w q
 has_events w q is = rw is refl
 
-pub flags_tell : (q : KeptQueue) (flags : List ℕ) → IsByFlags q → tells_of q flags ≡ tells flags
+pub flags_tell : (q : QueueState) (flags : List ℕ) → IsByFlags q → tells_of q flags ≡ tells flags
 flags_tell q flags is = rw is refl
 
 -- ---- where they stand
 
-abbrev IsSeenThere : KeptQueue → Out → Stores → Type 0
+abbrev IsSeenThere : QueueState → InFlight → PushStores → Type 0
 IsSeenThere kq out used = used.seen_at ≡ seen_at kq.event_index out.course.layout
 
 -- of a chain whose reply is known
-seen_back : (kq : KeptQueue) (P : Reply → Stores → Type 0) (st : state.State) (out kept : Out) (reply : Reply) (used : Stores) → st ≡ at.HasReply kept reply → kept ≡ out
+seen_back : (kq : QueueState) (P : ChainReply → PushStores → Type 0) (st : state.ChainState) (out kept : InFlight) (reply : ChainReply) (used : PushStores) → st ≡ at.HasReply kept reply → kept ≡ out
     → FromReplied kq st P used → IsSeenThere kq out used
 seen_back kq P st out kept reply used is same back =
-    let there : FromReplied kq (at.HasReply kept reply) P used = subst (λ (s : state.State). FromReplied kq s P used) is back in
-    subst (λ (o : Out). IsSeenThere kq o used) same there.0.2
+    let there : FromReplied kq (at.HasReply kept reply) P used = subst (λ (s : state.ChainState). FromReplied kq s P used) is back in
+    subst (λ (o : InFlight). IsSeenThere kq o used) same there.0.2
 
 -- of one whose call was answered
-seen_answered : (s : Setting) (room_setting : ℕ → Setting) (m : Meaning) (behind : List ℕ) (kq : KeptQueue) (P : Reply → Stores → Type 0) (out : Out) (made : made_call.FileCall) (a : FileAnswer) (options : ℕ)
-    (replied : Replied) (st after : state.State) (used : Stores) → KeepsCall s m behind made out st → IsWaiting st → IfWaits st (λ kept w. IsGiven (room_setting w.room) w a kept options replied after)
+seen_answered : (s : Setting) (room_setting : ℕ → Setting) (m : Meaning) (behind : List ℕ) (kq : QueueState) (P : ChainReply → PushStores → Type 0) (out : InFlight) (made : made_call.FileCall) (a : FileAnswer) (options : ℕ)
+    (replied : Replied) (st after : state.ChainState) (used : PushStores) → KeepsCall s m behind made out st → IsWaiting st → IfWaits st (λ kept w. IsGiven (room_setting w.room) w a kept options replied after)
     → FromReplied kq after P used → IsSeenThere kq out used
 seen_answered s room_setting m behind kq P out made a options replied (at.Waits kept w) after used keeps waits given back =
     seen_back kq P after out kept (reply_of given.0.sent (data_len a)) used given.2 keeps.0 back
 seen_answered s room_setting m behind kq P out made a options replied (at.Lists kept l) after used keeps waits given back = absurd waits
 seen_answered s room_setting m behind kq P out made a options replied at.Free after used keeps waits given back = absurd waits
-seen_answered s room_setting m behind kq P out made a options replied (at.Walking course ticket walk) after used keeps waits given back = absurd waits
+seen_answered s room_setting m behind kq P out made a options replied (at.Walking course pop_id walk) after used keeps waits given back = absurd waits
 seen_answered s room_setting m behind kq P out made a options replied (at.Taken o) after used keeps waits given back = absurd waits
 seen_answered s room_setting m behind kq P out made a options replied (at.HasReply o reply) after used keeps waits given back = absurd waits
-seen_answered s room_setting m behind kq P out made a options replied (at.Returning o) after used keeps waits given back = absurd waits
+seen_answered s room_setting m behind kq P out made a options replied (at.Pushing o) after used keeps waits given back = absurd waits
 
 -- of one whose reply was kept as it was asked
-seen_kept : (s : Setting) (m : Meaning) (behind : List ℕ) (kq : KeptQueue) (P : Reply → Stores → Type 0) (out : Out) (st : state.State) (used : Stores) → KeepsReply s m behind out st
+seen_kept : (s : Setting) (m : Meaning) (behind : List ℕ) (kq : QueueState) (P : ChainReply → PushStores → Type 0) (out : InFlight) (st : state.ChainState) (used : PushStores) → KeepsReply s m behind out st
     → FromReplied kq st P used → IsSeenThere kq out used
 seen_kept s m behind kq P out (at.HasReply kept reply) used keeps back = seen_back kq P (at.HasReply kept reply) out kept reply used refl keeps.0 back
 seen_kept s m behind kq P out (at.Waits o w) used keeps back = absurd keeps
 seen_kept s m behind kq P out (at.Lists o l) used keeps back = absurd keeps
 seen_kept s m behind kq P out at.Free used keeps back = absurd keeps
-seen_kept s m behind kq P out (at.Walking course ticket walk) used keeps back = absurd keeps
+seen_kept s m behind kq P out (at.Walking course pop_id walk) used keeps back = absurd keeps
 seen_kept s m behind kq P out (at.Taken o) used keeps back = absurd keeps
-seen_kept s m behind kq P out (at.Returning o) used keeps back = absurd keeps
+seen_kept s m behind kq P out (at.Pushing o) used keeps back = absurd keeps
 
 -- the same state, if nothing was answered
-unanswered : (kq : KeptQueue) (P : Reply → Stores → Type 0) (asked answered : Workbench) (used : Stores) → answered ≡ asked → FromReplied kq answered.state P used → FromReplied kq asked.state P used
-unanswered kq P asked answered used same back = subst (λ (w : Workbench). FromReplied kq w.state P used) same back
+unanswered : (kq : QueueState) (P : ChainReply → PushStores → Type 0) (asked answered : ChainHandle) (used : PushStores) → answered ≡ asked → FromReplied kq answered.state P used → FromReplied kq asked.state P used
+unanswered kq P asked answered used same back = subst (λ (w : ChainHandle). FromReplied kq w.state P used) same back
 
-seen_so : (s : Setting) (m : Meaning) (behind : List ℕ) (kq : KeptQueue) (P : Reply → Stores → Type 0) (out : Out) (made : told.Told) (asked answered : Workbench) (given : Given) (used : Stores)
+seen_so : (s : Setting) (m : Meaning) (behind : List ℕ) (kq : QueueState) (P : ChainReply → PushStores → Type 0) (out : InFlight) (made : told.Decoded) (asked answered : ChainHandle) (given : ChainAnswer) (used : PushStores)
     → TellsMeaning s m behind out made asked.state → HasReply made asked given answered → FromReplied kq answered.state P used → IsSeenThere kq out used
 seen_so s m behind kq P out (asks.Call c) asked answered (OneAnswer a bytes replied) used meant has back =
     seen_answered s (λ r. setting asked.session.page_size asked.session.options.0 r) m behind kq P out c a answered.session.options.0 replied asked.state answered.state used meant has.0 has.3 back
@@ -103,40 +103,40 @@ seen_so s m behind kq P out (asks.Fault e) asked answered (ByEntries b es ending
 
 -- ---- what they tell
 
-pub chain_seen : (given : List (List ℕ)) (request : List ℕ) (calls : Calls) (acts : List Act) (last head : ℕ) (notice : Bool) (old new : Workbench) (before : KeptQueue) (s : Session)
+pub chain_seen : (given : List (List ℕ)) (request : List ℕ) (calls : Calls) (acts : List Act) (last head : ℕ) (notice : Bool) (old new : ChainHandle) (before : QueueState) (s : Session)
     → before.stopped ≡ None → (run : ChainBy given request calls acts last head notice old new before s) → IsToldBySeen before.layout run.back run.returns.stores run.returns.flags notice
 chain_seen given request calls acts last head notice old new before s goes run =
     let course = course_of before old.limit in
-    let ds = run.walked_bench.descriptors.items in
-    let all = walk_comes given old run.walked_bench before run.taken (says.Chain head run.lens.0 run.lens.1) goes tt run.walks in
+    let ds = run.popped_handle.descriptors.items in
+    let all = walk_comes given old run.popped_handle before run.taken (says.Chain head run.lens.0 run.lens.1) goes tt run.walks in
     let is = came_is ds all.2.0 head run.lens.0 run.lens.1 all.2.1.0 in
-    let out = out_of course (ticket_of before) head ds in
-    let state_is : run.walked_bench.state ≡ at.Taken out = all.2.1.1 ∙ ap (λ (c : comes.Step). state_after course (ticket_of before) ds c) is.0 in
-    let asked = subst (λ (st : state.State). FromTaken st (λ o. (o.request_len ≡ length request) × IsFront run.front request
-    × TellsMeaning (setting s.page_size s.options.0 o.room_len) (meaning s.options.0 request o.room_len) (drop 80 request) o run.made run.asked_bench.state
-    × (run.asked_bench.descriptors ≡ run.walked_bench.descriptors) × (run.asked_bench.session ≡ s))) state_is run.is_asked in
+    let out = out_of course (pop_id_of before) head ds in
+    let state_is : run.popped_handle.state ≡ at.Taken out = all.2.1.1 ∙ ap (λ (c : comes.CourseStep). state_after course (pop_id_of before) ds c) is.0 in
+    let asked = subst (λ (st : state.ChainState). FromTaken st (λ o. (o.request_len ≡ length request) × IsRequestFront run.front request
+    × TellsMeaning (setting s.page_size s.options.0 o.room_len) (meaning s.options.0 request o.room_len) (drop 80 request) o run.made run.decoded_handle.state
+    × (run.decoded_handle.descriptors ≡ run.popped_handle.descriptors) × (run.decoded_handle.session ≡ s))) state_is run.is_asked in
     let room = addresses_of (writable ds) in
     let flags = run.returns.flags in
     record {
       place = seen_so (setting s.page_size s.options.0 out.room_len) (meaning s.options.0 request out.room_len) (drop 80 request) run.back
-          (λ reply s₁. (last ≡ front_len reply) × (acts ≡ acts_of room reply (data_behind run.given) s₁ flags)) out run.made run.asked_bench new run.given run.returns.stores asked.2 run.replies
+          (λ reply s₁. (last ≡ front_len reply) × (acts ≡ acts_of room reply (data_behind run.given) s₁ flags)) out run.made run.decoded_handle new run.given run.returns.stores asked.2 run.replies
           run.returns.returns;
       told = run.returns.notified;
       by_flags = λ is_so. run.returns.notified ∙ flags_tell run.back flags is_so;
     }
 
-pub faulty_seen : (given : List (List ℕ)) (fault : ChainFault) (acts : List Act) (last head : ℕ) (notice : Bool) (old : Workbench) (before : KeptQueue)
+pub faulty_seen : (given : List (List ℕ)) (fault : ChainFault) (acts : List Act) (last head : ℕ) (notice : Bool) (old : ChainHandle) (before : QueueState)
     → before.stopped ≡ None → (run : FaultyChainBy given fault acts last head notice old before) → IsToldBySeen before.layout run.back run.returns.stores run.returns.flags notice
 faulty_seen given fault acts last head notice old before goes run =
     let course = course_of before old.limit in
-    let ds = run.walked_bench.descriptors.items in
-    let all = walk_comes given old run.walked_bench before run.taken (says.Faulty head fault) goes tt run.walks in
+    let ds = run.popped_handle.descriptors.items in
+    let all = walk_comes given old run.popped_handle before run.taken (says.Faulty head fault) goes tt run.walks in
     let is = faulty_is ds all.2.0 head fault all.2.1.0 in
-    let out = faulty_out course (ticket_of before) head in
-    let state_is : run.walked_bench.state ≡ at.HasReply out no_reply = all.2.1.1 ∙ ap (λ (c : comes.Step). state_after course (ticket_of before) ds c) is in
+    let out = faulty_out course (pop_id_of before) head in
+    let state_is : run.popped_handle.state ≡ at.HasReply out no_reply = all.2.1.1 ∙ ap (λ (c : comes.CourseStep). state_after course (pop_id_of before) ds c) is in
     let flags = run.returns.flags in
     record {
-      place = seen_back run.back (λ reply s₁. (last ≡ front_len reply) × (acts ≡ acts_of [] reply [] s₁ flags)) run.walked_bench.state out out no_reply run.returns.stores state_is refl run.returns.returns;
+      place = seen_back run.back (λ reply s₁. (last ≡ front_len reply) × (acts ≡ acts_of [] reply [] s₁ flags)) run.popped_handle.state out out no_reply run.returns.stores state_is refl run.returns.returns;
       told = run.returns.notified;
       by_flags = λ is_so. run.returns.notified ∙ flags_tell run.back flags is_so;
     }

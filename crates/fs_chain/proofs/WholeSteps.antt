@@ -13,17 +13,17 @@ use Rattle.fuse_values.specs.declared.answer.FileAnswer.{FileAnswer}
 use Rattle.fuse_values.specs.declared.answer.FileAnswer.TheVariants as value
 use Rattle.fuse_values.specs.declared.call.FileCall as made_call
 use Rattle.virtiofsd_fuse.specs.Grammar.{Meaning, Asks, FileCommand, One, Starts, Lists}
-use Rattle.virtiofsd_fuse.specs.Serving.{May, Setting, Served, served, commanded}
+use Rattle.virtiofsd_fuse.specs.Serving.{May, Setting, ServedMessage, served, commanded}
 use Rattle.server_phases.specs.declared.answering.Answered.{Answered}
 use Rattle.server_phases.specs.declared.answering.Sent.{Sent}
 use Rattle.server_phases.specs.declared.answering.Sent.TheVariants as sent
 use Rattle.server_phases.specs.Answering.{Gives, TellsBytes, forget_call, served_by}
 use Rattle.server_phases.specs.Gathering.{is_listing}
 use Rattle.server_phases.specs.Waiting.{first_call}
-use Rattle.fs_chain.specs.declared.asking.Told.TheVariants as asks
-use Rattle.fs_chain.specs.declared.returning.Stores.{Stores}
-use Rattle.fs_chain.specs.declared.state.Out.{Out}
-use Rattle.fs_chain.specs.declared.state.Reply.{Reply}
+use Rattle.fs_chain.specs.declared.decoding.Decoded.TheVariants as asks
+use Rattle.fs_chain.specs.declared.pushing.PushStores.{PushStores}
+use Rattle.fs_chain.specs.declared.state.InFlight.{InFlight}
+use Rattle.fs_chain.specs.declared.state.ChainReply.{ChainReply}
 use Rattle.fs_chain.specs.Answers.{data_len, reply_of, replied_of}
 use Rattle.fs_chain.specs.Orders.{front_len, reply_len}
 use Rattle.fs_device.specs.Step.{State, Calls, ServesRequest, calls_alone, answers_alone, served_exchange}
@@ -76,12 +76,12 @@ whole_len (sent.Reply front) n bytes same = ap (λ (k : ℕ). length front + k) 
 whole_len sent.NoRoom n bytes same = refl
 
 -- and isn't cut, where it has room
-pub isnt_cut : (out : Out) (reply : Reply) (len : ℕ) → front_len reply + reply.behind ≡ len → len ≤ out.room_len → out.room_len ≤ 2 ^ 31 → reply_len out reply ≡ len
+pub isnt_cut : (out : InFlight) (reply : ChainReply) (len : ℕ) → front_len reply + reply.behind ≡ len → len ≤ out.room_len → out.room_len ≤ 2 ^ 31 → reply_len out reply ≡ len
 isnt_cut out reply len is fits small = omega (arith, is, fits, small)
 
 -- an answered request
-pub answers : {F : Type 0} (may : May F) (m : State F) (i : ℕ) (q : Queue) (head : ℕ) (request room : List ℕ) (calls : Calls) (files : F) (given : Served) (reply : Reply) (behind : List ℕ)
-    (used : Stores) (flags : List ℕ) (notice : Bool) (options : ℕ) → ServesRequest may m.page_size m.options request (length room) m.files calls given files
+pub answers : {F : Type 0} (may : May F) (m : State F) (i : ℕ) (q : Queue) (head : ℕ) (request room : List ℕ) (calls : Calls) (files : F) (given : ServedMessage) (reply : ChainReply) (behind : List ℕ)
+    (used : PushStores) (flags : List ℕ) (notice : Bool) (options : ℕ) → ServesRequest may m.page_size m.options request (length room) m.files calls given files
     → given.reply ≡ front_if reply.front behind → given.options ≡ options → stores_of used.used ≡ stores_after_reply q head (length given.reply) → length flags ≡ 2 → notice ≡ tells flags
     → AnswersBy may m i q head request room calls (served_exchange head request given) notice
     (record { acts = acts_of room reply behind used flags; last = front_len reply }) (after_chain m i q options files)

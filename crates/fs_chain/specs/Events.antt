@@ -7,8 +7,8 @@ use Rattle.fs_queue.specs.declared.fault.QueueError.{QueueError}
 use Rattle.fs_queue.specs.declared.fault.QueueError.TheVariants.{AvailFlagsUnreachable, UsedUnreachable}
 use Rattle.fs_queue.specs.declared.layout.QueueLayout.{QueueLayout}
 use Rattle.fs_queue.specs.Returning.{Store, tells}
-use Rattle.fs_chain.specs.declared.event_index.KickStore.{KickStore}
-use Rattle.fs_chain.specs.declared.queue.KeptQueue.{KeptQueue}
+use Rattle.fs_chain.specs.declared.event_index.NotificationStore.{NotificationStore}
+use Rattle.fs_chain.specs.declared.queue.QueueState.{QueueState}
 
 -- the driver's used_event stands behind the available ring, the device's avail_event behind the used ring
 abbrev pub used_event_at : QueueLayout → ℕ
@@ -22,11 +22,11 @@ abbrev pub seen_at : (event_index : Bool) → QueueLayout → ℕ
 seen_at event_index l = if event_index then used_event_at l else l.avail
 
 -- what they tell: with the event index whether it is the chain that goes back at this place
-abbrev pub tells_of : KeptQueue → (seen : List ℕ) → Bool
-tells_of q seen = if q.event_index then from_le_bytes w16 seen == q.returned else tells seen
+abbrev pub tells_of : QueueState → (seen : List ℕ) → Bool
+tells_of q seen = if q.event_index then from_le_bytes w16 seen == q.next_used else tells seen
 
 -- why a queue with the event index can't be walked: one of both has no place
-abbrev pub event_fault : Memory → KeptQueue → Option QueueError
+abbrev pub event_fault : Memory → QueueState → Option QueueError
 event_fault m q =
     if not q.event_index then None
     else if not (reach m Read (used_event_at q.layout) 2) then Some AvailFlagsUnreachable
@@ -35,11 +35,11 @@ event_fault m q =
 
 -- what is stored to be told of the next chain, or of none: with the event index its position, and nothing to be told of none; else the used flags, bit 0 of which says that
 -- none is wanted
-abbrev pub kick_store : KeptQueue → (wanted : Bool) → Option Store
-kick_store q wanted =
-    if q.event_index then (if wanted then Some (record { address = avail_event_at q.layout; bytes = to_le_bytes w16 q.position }) else None)
+abbrev pub notification_store : QueueState → (wanted : Bool) → Option Store
+notification_store q wanted =
+    if q.event_index then (if wanted then Some (record { address = avail_event_at q.layout; bytes = to_le_bytes w16 q.next_avail }) else None)
     else Some (record { address = q.layout.used; bytes = to_le_bytes w16 (if wanted then 0 else 1) })
 
 -- such a store, as the code says it
-abbrev pub store_of : KickStore → Store
+abbrev pub store_of : NotificationStore → Store
 store_of s = record { address = s.address; bytes = to_le_bytes w16 s.value }

@@ -8,31 +8,31 @@ use Rattle.fs_regions.specs.declared.course.Course.{Course}
 use Rattle.fs_regions.specs.declared.walk.QueueWalk.{QueueWalk}
 use Rattle.fs_regions.specs.Laws.{HasLoaded}
 use Rattle.fs_regions.specs.Places.{memory_over, places_in}
-use Rattle.fs_regions.specs.declared.step.Step as comes
-use Rattle.fs_regions.specs.Walks.{Loaded, StandsAt, nothing, queue_of, AddsBytes}
-use Rattle.fs_chain.specs.declared.queue.KeptQueue.{KeptQueue}
-use Rattle.fs_chain.specs.declared.state.State.TheVariants as at
-use Rattle.fs_chain.specs.declared.state.Ticket.{Ticket}
-use Rattle.fs_chain.specs.declared.walking.WalkOutcome as walked
-use Rattle.fs_chain.specs.declared.walking.WalkOutcome.TheVariants as tells
-use Rattle.fs_chain.specs.declared.workbench.Workbench.{Workbench}
+use Rattle.fs_regions.specs.declared.step.CourseStep as comes
+use Rattle.fs_regions.specs.Walks.{Loaded, IsWalkAt, nothing, queue_of, AddsBytes}
+use Rattle.fs_chain.specs.declared.queue.QueueState.{QueueState}
+use Rattle.fs_chain.specs.declared.state.ChainState.TheVariants as at
+use Rattle.fs_chain.specs.declared.state.PopId.{PopId}
+use Rattle.fs_chain.specs.declared.popping.PopOutcome as walked
+use Rattle.fs_chain.specs.declared.popping.PopOutcome.TheVariants as tells
+use Rattle.fs_chain.specs.declared.chain_handle.ChainHandle.{ChainHandle}
 use Rattle.fs_chain.specs.Walks.{RefusalHasEvents, WalksOn, course_of, told_of}
 
 -- what a walk tells, of these descriptors, is this offer; a chain without a fault, if so many bytes are its request; a load leaves it open
-abbrev pub IsTold : List Descriptor → walked.WalkOutcome → (request : List ℕ) → Offer → Type 0
-IsTold ds (tells.Load n) request o = Unit {0}
-IsTold ds tells.Idle request o = o ≡ Idle
-IsTold ds (tells.Refused e) request o = o ≡ Refuses e
-IsTold ds (tells.Chain head request_len room_len) request o = length request ≡ total_len (readable ds) → o ≡ Offers head (IsRequest request (addresses_of (writable ds)))
-IsTold ds (tells.Faulty head fault) request o = o ≡ Offers head (CannotFetch fault)
+abbrev pub IsOfferOf : List Descriptor → walked.PopOutcome → (request : List ℕ) → Offer → Type 0
+IsOfferOf ds (tells.Load n) request o = Unit {0}
+IsOfferOf ds tells.Idle request o = o ≡ Idle
+IsOfferOf ds (tells.Refused e) request o = o ≡ Refuses e
+IsOfferOf ds (tells.Chain head request_len room_len) request o = length request ≡ total_len (readable ds) → o ≡ Offers head (IsRequest request (addresses_of (writable ds)))
+IsOfferOf ds (tells.Faulty head fault) request o = o ≡ Offers head (CannotFetch fault)
 
 -- what a walk tells is what the course's queue offers in a memory
-abbrev pub TellsOffer : Memory → Course → Workbench → walked.WalkOutcome → (request : List ℕ) → Type 0
-TellsOffer m course new told request = IsTold new.descriptors.items told request (offer m course.limit (queue_of course))
+abbrev pub TellsOffer : Memory → Course → ChainHandle → walked.PopOutcome → (request : List ℕ) → Type 0
+TellsOffer m course new told request = IsOfferOf new.descriptors.items told request (offer m course.limit (queue_of course))
 
 -- what a walk that goes on tells is what the queue offers in each memory of the handle's regions that has the walk's loads, which these bytes added to, and the request's bytes
-pub record GoesOnByLoads (loaded : Loaded) (course : Course) (walk : QueueWalk) (bytes : List ℕ) (old new : Workbench) (told : walked.WalkOutcome) : Type 0 where
-  pub came : comes.Step
+pub record GoesOnByLoads (loaded : Loaded) (course : Course) (walk : QueueWalk) (bytes : List ℕ) (old new : ChainHandle) (told : walked.PopOutcome) : Type 0 where
+  pub came : comes.CourseStep
   pub told_so : told ≡ told_of new.descriptors.items came
   pub after : Loaded
   pub adds : AddsBytes walk bytes came loaded after
@@ -40,9 +40,9 @@ pub record GoesOnByLoads (loaded : Loaded) (course : Course) (walk : QueueWalk) 
 
 -- what a call of walk tells, of a queue that wasn't stopped, is what the queue offers in each memory of the handle's regions that has all loads of the walk, and the request's bytes
 pub record WalksAreOffers : Type 0 where
-  pub begins : (h : Host) (bytes request : List ℕ) (old new : Workbench) (before after : KeptQueue) (told : walked.WalkOutcome) → before.stopped ≡ None → RefusalHasEvents told old before → old.state ≡ at.Free
+  pub begins : (h : Host) (bytes request : List ℕ) (old new : ChainHandle) (before after : QueueState) (told : walked.PopOutcome) → before.stopped ≡ None → RefusalHasEvents told old before → old.state ≡ at.Free
       → WalksOn bytes old new before after told → HasLoaded (memory_over h old.regions) (queue_of (course_of before old.limit)) nothing request
       → TellsOffer (memory_over h old.regions) (course_of before old.limit) new told request
-  pub goes_on : (loaded : Loaded) (course : Course) (ticket : Ticket) (walk : QueueWalk) (bytes : List ℕ) (old new : Workbench) (before after : KeptQueue) (told : walked.WalkOutcome)
-      → before.stopped ≡ None → old.state ≡ at.Walking course ticket walk → WalksOn bytes old new before after told
-      → StandsAt (places_in old.regions) (queue_of course) loaded old.descriptors.items walk → GoesOnByLoads loaded course walk bytes old new told
+  pub goes_on : (loaded : Loaded) (course : Course) (pop_id : PopId) (walk : QueueWalk) (bytes : List ℕ) (old new : ChainHandle) (before after : QueueState) (told : walked.PopOutcome)
+      → before.stopped ≡ None → old.state ≡ at.Walking course pop_id walk → WalksOn bytes old new before after told
+      → IsWalkAt (places_in old.regions) (queue_of course) loaded old.descriptors.items walk → GoesOnByLoads loaded course walk bytes old new told

@@ -1,5 +1,5 @@
 pub mod Answers
-pub mod Asking
+pub mod Decoding
 pub mod Events
 pub mod Laws
 pub mod Listings
@@ -9,7 +9,7 @@ pub mod Orders
 pub mod OwnReplies
 pub mod Passing
 pub mod Queues
-pub mod Returns
+pub mod Pushes
 pub mod Serials
 pub mod Walks
 pub mod Whole

@@ -16,10 +16,10 @@ use Rattle.fs_chain.specs.declared.error.ChainError.{ChainError}
 use Rattle.fs_chain.specs.declared.error.ChainError.TheVariants as error
 use Rattle.fs_chain.specs.declared.listing.Added.{Added}
 use Rattle.fs_chain.specs.declared.listing.Added.TheVariants as added
-use Rattle.fs_chain.specs.declared.state.Out.{Out}
-use Rattle.fs_chain.specs.declared.state.State as state
-use Rattle.fs_chain.specs.declared.state.State.TheVariants as at
-use Rattle.fs_chain.specs.declared.workbench.Workbench.{Workbench}
+use Rattle.fs_chain.specs.declared.state.InFlight.{InFlight}
+use Rattle.fs_chain.specs.declared.state.ChainState as state
+use Rattle.fs_chain.specs.declared.state.ChainState.TheVariants as at
+use Rattle.fs_chain.specs.declared.chain_handle.ChainHandle.{ChainHandle}
 use Rattle.fs_chain.specs.Serials.{serial_error}
 
 -- what is told of an entry
@@ -42,7 +42,7 @@ pub record Adds (old new : Listing) (list list' : List ℕ) (e : Brought) (outco
   pub stays : StaysBut old new
 
 -- an entry is brought to the listing that is answered, of which this comes; to no other
-abbrev pub AddsTo : (old new : state.State) → (list list' : List ℕ) → Brought → (outcome : Listing → Result (Unit {0}) reason.NotAdded) → Result Added ChainError → Type 0
+abbrev pub AddsTo : (old new : state.ChainState) → (list list' : List ℕ) → Brought → (outcome : Listing → Result (Unit {0}) reason.NotAdded) → Result Added ChainError → Type 0
 AddsTo (at.Lists out l) new list list' e outcome told =
     (told ≡ told_added (outcome l)) × ((now : Listing) × (new ≡ at.Lists out now) × Adds l now list list' e (outcome l))
 AddsTo (at.Waits out w) new list list' e outcome told = (told ≡ Err error.OtherKind) × (new ≡ at.Waits out w) × (list' ≡ list)
@@ -54,16 +54,16 @@ list_after before len (Ok added.In) = len
 list_after before len _ = before
 
 -- why no entry is brought by a list of this length: the entries so far stand in one of another length, which is 0 if there are none
-abbrev pub list_error : state.State → (before len : ℕ) → Option ChainError
+abbrev pub list_error : state.ChainState → (before len : ℕ) → Option ChainError
 list_error (at.Lists out l) before len = if not (before == 0) && not (before == len) then Some error.BadArgument else None
 list_error _ before len = None
 
 -- why none is brought with this number by it: no call waits, another one does, or the list is another one
-abbrev pub adding_error : Workbench → (serial len : ℕ) → Option ChainError
+abbrev pub adding_error : ChainHandle → (serial len : ℕ) → Option ChainError
 adding_error w serial len = option_or (serial_error w.state w.serial serial) (list_error w.state w.list_len len)
 
 -- a listing's reply is kept: its front, and how many bytes of the list are its data
-abbrev pub answered_by : Out → ListingReply → state.State
+abbrev pub answered_by : InFlight → ListingReply → state.ChainState
 answered_by out reply = at.HasReply out (record { front = Some reply.front; behind = reply.len })
 
 -- the reply to a listing of these entries
@@ -84,15 +84,15 @@ pub record IsFailedReply (l : Listing) (errno : ℕ) (reply : ListingReply) : Ty
       ≡ served_list (first_call command ∷ (look_ups command es ++ look_up command d)) s.options reply list
 
 -- a listing that is answered ends by its reply; no other call does
-abbrev pub RepliesBy : (Listing → ListingReply → Type 0) → (old new : state.State) → Result ℕ ChainError → Type 0
+abbrev pub RepliesBy : (Listing → ListingReply → Type 0) → (old new : state.ChainState) → Result ℕ ChainError → Type 0
 RepliesBy P (at.Lists out l) new told = (reply : ListingReply) × (told ≡ Ok reply.len) × (new ≡ answered_by out reply) × P l reply
 RepliesBy P (at.Waits out w) new told = (told ≡ Err error.OtherKind) × (new ≡ at.Waits out w)
 RepliesBy P old new told = (told ≡ Err error.WrongOrder) × (new ≡ old)
 
 -- by the entries so far
-abbrev pub Ends : (old new : state.State) → Result ℕ ChainError → Type 0
-Ends old new told = RepliesBy IsListReply old new told
+abbrev pub EndsByEntries : (old new : state.ChainState) → Result ℕ ChainError → Type 0
+EndsByEntries old new told = RepliesBy IsListReply old new told
 
 -- by an error
-abbrev pub Fails : (errno : ℕ) → (old new : state.State) → Result ℕ ChainError → Type 0
-Fails errno old new told = RepliesBy (λ l reply. IsFailedReply l errno reply) old new told
+abbrev pub EndsByError : (errno : ℕ) → (old new : state.ChainState) → Result ℕ ChainError → Type 0
+EndsByError errno old new told = RepliesBy (λ l reply. IsFailedReply l errno reply) old new told

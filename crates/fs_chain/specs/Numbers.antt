@@ -13,5 +13,5 @@ chain_error_number error.WrongOrder = 73
 chain_error_number error.OtherQueue = 74
 chain_error_number error.OtherCall = 79
 chain_error_number error.OtherKind = 75
-chain_error_number error.ChainOut = 76
-chain_error_number error.Returning = 78
+chain_error_number error.ChainInFlight = 76
+chain_error_number error.Pushing = 78

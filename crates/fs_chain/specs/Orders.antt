@@ -3,59 +3,59 @@ use Rattle.std.specs.Prelude.{ℕ, ◌+◌, ◌-◌, ◌^◌, min, [], Bool, tru
 use Rattle.fs_regions.specs.declared.course.Course.{Course}
 use Rattle.fs_regions.specs.declared.walk.QueueWalk.{QueueWalk}
 use Rattle.fs_regions.specs.Walks.{asked_entries, asked_len}
-use Rattle.fs_chain.specs.declared.queue.KeptQueue.{KeptQueue}
-use Rattle.fs_chain.specs.declared.state.Out.{Out}
-use Rattle.fs_chain.specs.declared.state.Reply.{Reply}
-use Rattle.fs_chain.specs.declared.state.Ticket.{Ticket}
-use Rattle.fs_chain.specs.declared.state.State as state
-use Rattle.fs_chain.specs.declared.state.State.TheVariants as at
+use Rattle.fs_chain.specs.declared.queue.QueueState.{QueueState}
+use Rattle.fs_chain.specs.declared.state.InFlight.{InFlight}
+use Rattle.fs_chain.specs.declared.state.ChainReply.{ChainReply}
+use Rattle.fs_chain.specs.declared.state.PopId.{PopId}
+use Rattle.fs_chain.specs.declared.state.ChainState as state
+use Rattle.fs_chain.specs.declared.state.ChainState.TheVariants as at
 use Rattle.fs_chain.specs.Queues.{is_at, is_last, is_out_of, may_take}
 use Rattle.fs_chain.specs.declared.error.ChainError.{ChainError}
-use Rattle.fs_chain.specs.declared.error.ChainError.TheVariants.{BadArgument, ShortBuffer, WrongOrder, OtherQueue, ChainOut, Returning}
+use Rattle.fs_chain.specs.declared.error.ChainError.TheVariants.{BadArgument, ShortBuffer, WrongOrder, OtherQueue, ChainInFlight, Pushing}
 
 -- whether a chain is out, of any queue
-abbrev pub is_out : state.State → Bool
+abbrev pub is_out : state.ChainState → Bool
 is_out at.Free = false
-is_out (at.Walking course ticket walk) = false
+is_out (at.Walking course pop_id walk) = false
 is_out _ = true
 
 -- of a walk that asks for a load
-abbrev pub IfWalking : state.State → (QueueWalk → Type 0) → Type 0
-IfWalking (at.Walking course ticket walk) P = P walk
+abbrev pub IfWalking : state.ChainState → (QueueWalk → Type 0) → Type 0
+IfWalking (at.Walking course pop_id walk) P = P walk
 IfWalking _ P = Unit {0}
 
 -- a walk asks for a load
-abbrev pub IsWalking : state.State → Type 0
-IsWalking (at.Walking course ticket walk) = Unit {0}
+abbrev pub IsWalking : state.ChainState → Type 0
+IsWalking (at.Walking course pop_id walk) = Unit {0}
 IsWalking _ = ⊥
 
 -- how many entries of a table it asks for, whose descriptors may join the chain
-abbrev pub entries_asked : state.State → ℕ
-entries_asked (at.Walking course ticket walk) = asked_entries walk
+abbrev pub entries_asked : state.ChainState → ℕ
+entries_asked (at.Walking course pop_id walk) = asked_entries walk
 entries_asked _ = 0
 
 -- why the next walks can't go over another memory, with this limit
-abbrev pub memory_error : state.State → (limit : ℕ) → Option ChainError
+abbrev pub memory_error : state.ChainState → (limit : ℕ) → Option ChainError
 memory_error at.Free limit = if nat_lt limit 0x101000 || nat_lt (2 ^ 31) limit then Some BadArgument else None
-memory_error _ limit = Some ChainOut
+memory_error _ limit = Some ChainInFlight
 
 -- why a walk can't begin, by so many bytes
-abbrev pub begin_error : KeptQueue → (len : ℕ) → Option ChainError
-begin_error q len = if not (len == 0) then Some BadArgument else if not (may_take q) then Some ChainOut else None
+abbrev pub begin_error : QueueState → (len : ℕ) → Option ChainError
+begin_error q len = if not (len == 0) then Some BadArgument else if not (may_take q) then Some ChainInFlight else None
 
 -- why a walk can't go on
-abbrev pub give_error : KeptQueue → Course → Ticket → (asked len : ℕ) → Option ChainError
-give_error q course ticket asked len =
-    if not (len == asked) then Some BadArgument else if not (is_at q course ticket) then Some OtherQueue else if not (may_take q) then Some ChainOut else None
+abbrev pub give_error : QueueState → Course → PopId → (asked len : ℕ) → Option ChainError
+give_error q course pop_id asked len =
+    if not (len == asked) then Some BadArgument else if not (is_at q course pop_id) then Some OtherQueue else if not (may_take q) then Some ChainInFlight else None
 
 -- why a call of a walk does nothing, but for memory that is wanting
-abbrev pub walk_error : state.State → KeptQueue → (len : ℕ) → Option ChainError
+abbrev pub walk_error : state.ChainState → QueueState → (len : ℕ) → Option ChainError
 walk_error at.Free q len = begin_error q len
-walk_error (at.Walking course ticket walk) q len = give_error q course ticket (asked_len walk) len
+walk_error (at.Walking course pop_id walk) q len = give_error q course pop_id (asked_len walk) len
 walk_error _ q len = Some WrongOrder
 
 -- why a request can't be asked by so many bytes
-abbrev pub ask_error : state.State → (len : ℕ) → Option ChainError
+abbrev pub ask_error : state.ChainState → (len : ℕ) → Option ChainError
 ask_error (at.Taken out) len = if nat_lt out.request_len len then Some BadArgument else None
 ask_error _ len = Some WrongOrder
 
@@ -64,54 +64,54 @@ abbrev pub front_in : Option (List ℕ) → List ℕ
 front_in None = []
 front_in (Some front) = front
 
-abbrev pub front_of : Reply → List ℕ
+abbrev pub front_of : ChainReply → List ℕ
 front_of r = front_in r.front
 
-abbrev pub front_len : Reply → ℕ
+abbrev pub front_len : ChainReply → ℕ
 front_len r = length (front_of r)
 
 -- how many bytes a reply has in the room of its chain, its data among them, as le32
-abbrev pub reply_len : Out → Reply → ℕ
+abbrev pub reply_len : InFlight → ChainReply → ℕ
 reply_len out r = min (min (front_len r + r.behind) out.room_len) (2 ^ 32 - 1)
 
 -- why a chain can't go back, by a buffer of so many bytes
-abbrev pub return_error : state.State → KeptQueue → (len : ℕ) → Option ChainError
+abbrev pub return_error : state.ChainState → QueueState → (len : ℕ) → Option ChainError
 return_error (at.HasReply out reply) q len =
-    if not (is_out_of q out) then Some OtherQueue else if q.returning then Some Returning else if nat_lt len (front_len reply) then Some ShortBuffer else None
+    if not (is_out_of q out) then Some OtherQueue else if q.pushing then Some Pushing else if nat_lt len (front_len reply) then Some ShortBuffer else None
 return_error _ q len = Some WrongOrder
 
 -- why no return can be ended
-abbrev pub end_error : state.State → KeptQueue → Option ChainError
-end_error (at.Returning out) q = if is_out_of q out && q.returning then None else Some OtherQueue
+abbrev pub end_error : state.ChainState → QueueState → Option ChainError
+end_error (at.Pushing out) q = if is_out_of q out && q.pushing then None else Some OtherQueue
 end_error _ q = Some WrongOrder
 
 -- why a chain can't be given up: once its request was asked, a reply ends it, or silence
-abbrev pub give_up_error : state.State → KeptQueue → Option ChainError
+abbrev pub give_up_error : state.ChainState → QueueState → Option ChainError
 give_up_error at.Free q = None
-give_up_error (at.Walking course ticket walk) q = None
+give_up_error (at.Walking course pop_id walk) q = None
 give_up_error (at.Taken out) q = if not (is_out_of q out) then Some OtherQueue else if not (is_last q out) then Some WrongOrder else None
 give_up_error _ q = Some WrongOrder
 
 -- whether no chain is walked, and none is out
-abbrev pub is_free : state.State → Bool
+abbrev pub is_free : state.ChainState → Bool
 is_free at.Free = true
 is_free _ = false
 
 -- whether a listing gathers entries
-abbrev pub is_listing : state.State → Bool
+abbrev pub is_listing : state.ChainState → Bool
 is_listing (at.Lists out listing) = true
 is_listing _ = false
 
 -- how many bytes of a load a walk asks for: 0 if there is none
-abbrev pub load_len : state.State → ℕ
-load_len (at.Walking course ticket walk) = asked_len walk
+abbrev pub load_len : state.ChainState → ℕ
+load_len (at.Walking course pop_id walk) = asked_len walk
 load_len _ = 0
 
 -- how many bytes of reply a chain has room for: 0 if none is out
-abbrev pub room_len : state.State → ℕ
+abbrev pub room_len : state.ChainState → ℕ
 room_len (at.Taken out) = out.room_len
 room_len (at.Waits out waiting) = out.room_len
 room_len (at.Lists out listing) = out.room_len
 room_len (at.HasReply out reply) = out.room_len
-room_len (at.Returning out) = out.room_len
+room_len (at.Pushing out) = out.room_len
 room_len _ = 0

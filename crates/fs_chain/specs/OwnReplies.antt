@@ -2,17 +2,17 @@
 use Rattle.std.specs.Prelude.{ℕ, ◌-◌, ◌^◌, not, ◌==◌, ◌||◌, nat_lt, Option, Some, None, if◌then◌else◌}
 use Rattle.fs_chain.specs.declared.error.ChainError.{ChainError}
 use Rattle.fs_chain.specs.declared.error.ChainError.TheVariants.{LongReply, OtherCall, WrongOrder}
-use Rattle.fs_chain.specs.declared.state.Out.{Out}
-use Rattle.fs_chain.specs.declared.state.Reply.{Reply}
-use Rattle.fs_chain.specs.declared.state.State as state
-use Rattle.fs_chain.specs.declared.state.State.TheVariants as at
+use Rattle.fs_chain.specs.declared.state.InFlight.{InFlight}
+use Rattle.fs_chain.specs.declared.state.ChainReply.{ChainReply}
+use Rattle.fs_chain.specs.declared.state.ChainState as state
+use Rattle.fs_chain.specs.declared.state.ChainState.TheVariants as at
 
 -- a reply of so many bytes, none of which is told; of none there is no reply
-abbrev pub own_reply : (len : ℕ) → Reply
+abbrev pub own_reply : (len : ℕ) → ChainReply
 own_reply len = record { front = None; behind = len }
 
 -- of a chain whose request has no reply yet: it wasn't asked, or its call waits for an answer
-abbrev pub IfUnanswered : state.State → (Out → Type 0) → Type 0
+abbrev pub IfUnanswered : state.ChainState → (InFlight → Type 0) → Type 0
 IfUnanswered (at.Taken out) P = P out
 IfUnanswered (at.Waits out waiting) P = P out
 IfUnanswered (at.Lists out listing) P = P out
@@ -26,7 +26,7 @@ own_len_error room len = if nat_lt room len || nat_lt (2 ^ 32 - 1) len then Some
 abbrev pub own_chain_error : (mine serial room len : ℕ) → Option ChainError
 own_chain_error mine serial room len = if not (mine == serial) then Some OtherCall else own_len_error room len
 
-abbrev pub own_error : state.State → (mine serial len : ℕ) → Option ChainError
+abbrev pub own_error : state.ChainState → (mine serial len : ℕ) → Option ChainError
 own_error (at.Taken out) mine serial len = own_chain_error mine serial out.room_len len
 own_error (at.Waits out waiting) mine serial len = own_chain_error mine serial out.room_len len
 own_error (at.Lists out listing) mine serial len = own_chain_error mine serial out.room_len len

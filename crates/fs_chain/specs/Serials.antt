@@ -2,17 +2,17 @@
 use Rattle.std.specs.Prelude.{◌≡◌, ◌⊎◌, ℕ, ◌+◌, ◌%◌, ◌^◌, not, ◌==◌, Option, Some, None, Result, Err, if◌then◌else◌}
 use Rattle.fs_chain.specs.declared.error.ChainError.{ChainError}
 use Rattle.fs_chain.specs.declared.error.ChainError.TheVariants.{OtherCall, WrongOrder}
-use Rattle.fs_chain.specs.declared.state.State as state
-use Rattle.fs_chain.specs.declared.state.State.TheVariants as at
-use Rattle.fs_chain.specs.declared.workbench.Workbench.{Workbench}
+use Rattle.fs_chain.specs.declared.state.ChainState as state
+use Rattle.fs_chain.specs.declared.state.ChainState.TheVariants as at
+use Rattle.fs_chain.specs.declared.chain_handle.ChainHandle.{ChainHandle}
 use Rattle.fs_chain.specs.Orders.{is_out}
 
 -- the number of the next chain: another one, if a chain is out
-abbrev pub next_serial : Workbench → ℕ
+abbrev pub next_serial : ChainHandle → ℕ
 next_serial w = if is_out w.state then (w.serial + 1) % 2 ^ 32 else w.serial
 
 -- the handle is free, its next chain has the next number, and no list has entries
-abbrev pub freed : Workbench → Workbench
+abbrev pub freed : ChainHandle → ChainHandle
 freed w = record w { state = at.Free; serial = next_serial w; list_len = 0 }
 
 -- an answer's number isn't that of the chain
@@ -20,7 +20,7 @@ abbrev pub number_error : (mine serial : ℕ) → Option ChainError
 number_error mine serial = if not (mine == serial) then Some OtherCall else None
 
 -- why an answer with this number isn't looked at: no call waits, or another one does
-abbrev pub serial_error : state.State → (mine serial : ℕ) → Option ChainError
+abbrev pub serial_error : state.ChainState → (mine serial : ℕ) → Option ChainError
 serial_error (at.Waits out waiting) mine serial = number_error mine serial
 serial_error (at.Lists out listing) mine serial = number_error mine serial
 serial_error _ mine serial = Some WrongOrder

@@ -7,46 +7,46 @@ use Rattle.fs_queue.specs.declared.fault.QueueError.TheVariants.{Stopped}
 use Rattle.fs_queue.specs.Chain.{Descriptor}
 use Rattle.fs_queue.specs.Taking.{total_len, of_direction}
 use Rattle.fs_regions.specs.declared.course.Course.{Course}
-use Rattle.fs_regions.specs.declared.step.Step as comes
-use Rattle.fs_regions.specs.declared.step.Step.TheVariants as step
+use Rattle.fs_regions.specs.declared.step.CourseStep as comes
+use Rattle.fs_regions.specs.declared.step.CourseStep.TheVariants as step
 use Rattle.fs_regions.specs.declared.walk.QueueWalk.{QueueWalk}
 use Rattle.fs_regions.specs.Places.{places_in}
-use Rattle.fs_regions.specs.Walks.{Loaded, nothing, asked_len, queue_of, StandsAt, ComesBy, ComesTo}
-use Rattle.fs_chain.specs.declared.queue.KeptQueue.{KeptQueue}
-use Rattle.fs_chain.specs.declared.state.Out.{Out}
-use Rattle.fs_chain.specs.declared.state.Reply.{Reply}
-use Rattle.fs_chain.specs.declared.state.Ticket.{Ticket}
-use Rattle.fs_chain.specs.declared.state.State as state
-use Rattle.fs_chain.specs.declared.state.State.TheVariants as at
-use Rattle.fs_chain.specs.declared.walking.WalkOutcome as walked
-use Rattle.fs_chain.specs.declared.walking.WalkOutcome.TheVariants as tells
-use Rattle.fs_chain.specs.declared.workbench.Workbench.{Workbench}
+use Rattle.fs_regions.specs.Walks.{Loaded, nothing, asked_len, queue_of, IsWalkAt, ComesBy, IsCourseStep}
+use Rattle.fs_chain.specs.declared.queue.QueueState.{QueueState}
+use Rattle.fs_chain.specs.declared.state.InFlight.{InFlight}
+use Rattle.fs_chain.specs.declared.state.ChainReply.{ChainReply}
+use Rattle.fs_chain.specs.declared.state.PopId.{PopId}
+use Rattle.fs_chain.specs.declared.state.ChainState as state
+use Rattle.fs_chain.specs.declared.state.ChainState.TheVariants as at
+use Rattle.fs_chain.specs.declared.popping.PopOutcome as walked
+use Rattle.fs_chain.specs.declared.popping.PopOutcome.TheVariants as tells
+use Rattle.fs_chain.specs.declared.chain_handle.ChainHandle.{ChainHandle}
 use Rattle.fs_chain.specs.Events.{event_fault}
 use Rattle.fs_chain.specs.Orders.{entries_asked}
-use Rattle.fs_chain.specs.Queues.{ticket_of, took}
+use Rattle.fs_chain.specs.Queues.{pop_id_of, took}
 
 -- how many bytes some descriptors have in one direction, counted in 64 bits
 abbrev pub count : (write_only : Bool) → List Descriptor → ℕ
 count write_only ds = min (total_len (of_direction write_only ds)) (2 ^ 64 - 1)
 
 -- the course through what waits at a queue's position
-abbrev pub course_of : KeptQueue → (limit : ℕ) → Course
-course_of q limit = record { layout = q.layout; position = q.position; limit = limit }
+abbrev pub course_of : QueueState → (limit : ℕ) → Course
+course_of q limit = record { layout = q.layout; position = q.next_avail; limit = limit }
 
 -- a chain without a fault, out of its queue, with these descriptors
-abbrev pub out_of : Course → Ticket → (head : ℕ) → List Descriptor → Out
-out_of course ticket head ds = record { course = course; ticket = ticket; head = head; request_len = count false ds; room_len = count true ds }
+abbrev pub out_of : Course → PopId → (head : ℕ) → List Descriptor → InFlight
+out_of course pop_id head ds = record { course = course; pop_id = pop_id; head = head; request_len = count false ds; room_len = count true ds }
 
 -- a faulty chain, out of its queue: nothing is read or written of it
-abbrev pub faulty_out : Course → Ticket → (head : ℕ) → Out
-faulty_out course ticket head = record { course = course; ticket = ticket; head = head; request_len = 0; room_len = 0 }
+abbrev pub faulty_out : Course → PopId → (head : ℕ) → InFlight
+faulty_out course pop_id head = record { course = course; pop_id = pop_id; head = head; request_len = 0; room_len = 0 }
 
 -- no reply
-abbrev pub no_reply : Reply
+abbrev pub no_reply : ChainReply
 no_reply = record { front = None; behind = 0 }
 
 -- what is told of a walk that came to this, with these descriptors
-abbrev pub told_of : List Descriptor → comes.Step → walked.WalkOutcome
+abbrev pub told_of : List Descriptor → comes.CourseStep → walked.PopOutcome
 told_of ds (step.Load walk) = tells.Load (asked_len walk)
 told_of ds step.Idle = tells.Idle
 told_of ds (step.Refused e) = tells.Refused e
@@ -54,100 +54,100 @@ told_of ds (step.Chain head None) = tells.Chain head (count false ds) (count tru
 told_of ds (step.Chain head (Some fault)) = tells.Faulty head fault
 
 -- where the chain is then
-abbrev pub state_after : Course → Ticket → List Descriptor → comes.Step → state.State
-state_after course ticket ds (step.Load walk) = at.Walking course ticket walk
-state_after course ticket ds step.Idle = at.Free
-state_after course ticket ds (step.Refused e) = at.Free
-state_after course ticket ds (step.Chain head None) = at.Taken (out_of course ticket head ds)
-state_after course ticket ds (step.Chain head (Some fault)) = at.HasReply (faulty_out course ticket head) no_reply
+abbrev pub state_after : Course → PopId → List Descriptor → comes.CourseStep → state.ChainState
+state_after course pop_id ds (step.Load walk) = at.Walking course pop_id walk
+state_after course pop_id ds step.Idle = at.Free
+state_after course pop_id ds (step.Refused e) = at.Free
+state_after course pop_id ds (step.Chain head None) = at.Taken (out_of course pop_id head ds)
+state_after course pop_id ds (step.Chain head (Some fault)) = at.HasReply (faulty_out course pop_id head) no_reply
 
 -- the queue then
-abbrev pub queue_after : KeptQueue → comes.Step → KeptQueue
+abbrev pub queue_after : QueueState → comes.CourseStep → QueueState
 queue_after q (step.Refused e) = record q { stopped = Some e }
 queue_after q (step.Chain head fault) = took q
 queue_after q _ = q
 
 -- the descriptors that are kept of those that were gathered: a faulty chain has no windows
-abbrev pub left_of : comes.Step → List Descriptor → List Descriptor
+abbrev pub left_of : comes.CourseStep → List Descriptor → List Descriptor
 left_of (step.Chain head (Some fault)) ds = []
 left_of _ ds = ds
 
 -- a faulty chain leaves none
-abbrev pub LeavesNone : comes.Step → List Descriptor → Type 0
+abbrev pub LeavesNone : comes.CourseStep → List Descriptor → Type 0
 LeavesNone (step.Chain head (Some fault)) ds = ds ≡ []
 LeavesNone _ ds = Unit {0}
 
 -- the handle goes over the same regions, by the same limit, and the number of its chain stays, and how long the list of a listing is
-abbrev pub IsAllBut : (old new : Workbench) → Type 0
+abbrev pub IsAllBut : (old new : ChainHandle) → Type 0
 IsAllBut old new = (new.regions ≡ old.regions) × (new.limit ≡ old.limit) × (new.serial ≡ old.serial) × (new.list_len ≡ old.list_len)
 
 -- all but where its chain is stays, and how long the list of a listing is
-abbrev pub IsAllButPlace : (old new : Workbench) → Type 0
+abbrev pub IsAllButPlace : (old new : ChainHandle) → Type 0
 IsAllButPlace old new =
     ((new.regions ≡ old.regions) × (new.limit ≡ old.limit) × (new.serial ≡ old.serial)) × (new.descriptors ≡ old.descriptors) × (new.session ≡ old.session)
     × (new.part ≡ old.part)
 
 -- all stays but what came of a load
-abbrev pub IsAllButPart : (old new : Workbench) → Type 0
+abbrev pub IsAllButPart : (old new : ChainHandle) → Type 0
 IsAllButPart old new =
     IsAllBut old new × (new.alloc ≡ old.alloc) × (new.descriptors ≡ old.descriptors) × (new.state ≡ old.state) × (new.session ≡ old.session)
 
 -- handle and queue keep what a walk on this course came to, and this is told of it; of a faulty chain no descriptor is kept
-abbrev pub Keeps : Course → Ticket → comes.Step → (old new : Workbench) → (before after : KeptQueue) → walked.WalkOutcome → Type 0
-Keeps course ticket came old new before after told =
-    (told ≡ told_of new.descriptors.items came) × (new.state ≡ state_after course ticket new.descriptors.items came) × (after ≡ queue_after before came)
+abbrev pub KeepsStep : Course → PopId → comes.CourseStep → (old new : ChainHandle) → (before after : QueueState) → walked.PopOutcome → Type 0
+KeepsStep course pop_id came old new before after told =
+    (told ≡ told_of new.descriptors.items came) × (new.state ≡ state_after course pop_id new.descriptors.items came) × (after ≡ queue_after before came)
     × LeavesNone came new.descriptors.items × IsAllBut old new
 
 -- a walk begins: by no load it comes to what is kept and told
-abbrev pub BeginsOn : Course → Ticket → (old new : Workbench) → (before after : KeptQueue) → walked.WalkOutcome → Type 0
-BeginsOn course ticket old new before after told =
-    (came : comes.Step) × Keeps course ticket came old new before after told
-    × ComesTo (places_in old.regions) course.limit (queue_of course) nothing new.descriptors.items came
+abbrev pub BeginsOn : Course → PopId → (old new : ChainHandle) → (before after : QueueState) → walked.PopOutcome → Type 0
+BeginsOn course pop_id old new before after told =
+    (came : comes.CourseStep) × KeepsStep course pop_id came old new before after told
+    × IsCourseStep (places_in old.regions) course.limit (queue_of course) nothing new.descriptors.items came
 
 -- a walk goes on by the bytes of a load: whatever was loaded before, it comes to what is kept and told
-abbrev pub GoesOn : Course → Ticket → QueueWalk → (bytes : List ℕ) → (old new : Workbench) → (before after : KeptQueue) → walked.WalkOutcome → Type 0
-GoesOn course ticket walk bytes old new before after told =
-    (came : comes.Step) × Keeps course ticket came old new before after told
-    × ((loaded : Loaded) → StandsAt (places_in old.regions) (queue_of course) loaded old.descriptors.items walk
+abbrev pub GoesOn : Course → PopId → QueueWalk → (bytes : List ℕ) → (old new : ChainHandle) → (before after : QueueState) → walked.PopOutcome → Type 0
+GoesOn course pop_id walk bytes old new before after told =
+    (came : comes.CourseStep) × KeepsStep course pop_id came old new before after told
+    × ((loaded : Loaded) → IsWalkAt (places_in old.regions) (queue_of course) loaded old.descriptors.items walk
     → ComesBy (places_in old.regions) course.limit (queue_of course) loaded walk bytes new.descriptors.items came)
 
 -- the event index has its places, if the queue has it
-abbrev pub HasEvents : Workbench → KeptQueue → Type 0
+abbrev pub HasEvents : ChainHandle → QueueState → Type 0
 HasEvents w q = event_fault (places_in w.regions) q ≡ None
 
 -- what is told is no refusal, or the event index has its places: without them a walk that begins is refused
-abbrev pub RefusalHasEvents : walked.WalkOutcome → Workbench → KeptQueue → Type 0
+abbrev pub RefusalHasEvents : walked.PopOutcome → ChainHandle → QueueState → Type 0
 RefusalHasEvents (tells.Refused e) w q = HasEvents w q
 RefusalHasEvents _ w q = Unit {0}
 
 -- a walk begins, unless the queue's event index has no place: then it is refused by that, which stops the queue
-abbrev pub BeginsWhere : (fault : Option QueueError) → (old new : Workbench) → (before after : KeptQueue) → walked.WalkOutcome → Type 0
+abbrev pub BeginsWhere : (fault : Option QueueError) → (old new : ChainHandle) → (before after : QueueState) → walked.PopOutcome → Type 0
 BeginsWhere (Some e) old new before after told = (told ≡ tells.Refused e) × IsAllButPart old new × (after ≡ record before { stopped = Some e })
-BeginsWhere None old new before after told = BeginsOn (course_of before old.limit) (ticket_of before) old new before after told
+BeginsWhere None old new before after told = BeginsOn (course_of before old.limit) (pop_id_of before) old new before after told
 
 -- a stopped queue refuses each walk
-abbrev pub BeginsUnless : (stopped : Option QueueError) → (old new : Workbench) → (before after : KeptQueue) → walked.WalkOutcome → Type 0
+abbrev pub BeginsUnless : (stopped : Option QueueError) → (old new : ChainHandle) → (before after : QueueState) → walked.PopOutcome → Type 0
 BeginsUnless (Some why) old new before after told = (told ≡ tells.Refused Stopped) × IsAllButPart old new × (after ≡ before)
 BeginsUnless None old new before after told = BeginsWhere (event_fault (places_in old.regions) before) old new before after told
 
-abbrev pub Begins : (old new : Workbench) → (before after : KeptQueue) → walked.WalkOutcome → Type 0
-Begins old new before after told = BeginsUnless before.stopped old new before after told
+abbrev pub BeginsPop : (old new : ChainHandle) → (before after : QueueState) → walked.PopOutcome → Type 0
+BeginsPop old new before after told = BeginsUnless before.stopped old new before after told
 
 -- a walk goes on, unless its queue was stopped meanwhile: then it is refused as each walk of a stopped queue, and the handle has no chain
-abbrev pub GoesOnUnless : (stopped : Option QueueError) → Course → Ticket → QueueWalk → (bytes : List ℕ) → (old new : Workbench) → (before after : KeptQueue) → walked.WalkOutcome → Type 0
-GoesOnUnless (Some why) course ticket walk bytes old new before after told =
+abbrev pub GoesOnUnless : (stopped : Option QueueError) → Course → PopId → QueueWalk → (bytes : List ℕ) → (old new : ChainHandle) → (before after : QueueState) → walked.PopOutcome → Type 0
+GoesOnUnless (Some why) course pop_id walk bytes old new before after told =
     (told ≡ tells.Refused Stopped) × IsAllButPart (record old { state = at.Free }) new × (after ≡ before)
-GoesOnUnless None course ticket walk bytes old new before after told = GoesOn course ticket walk bytes old new before after told
+GoesOnUnless None course pop_id walk bytes old new before after told = GoesOn course pop_id walk bytes old new before after told
 
 -- a walk goes on from where its chain is, by the bytes of the load that it asked for, and by none at its beginning
-abbrev pub WalksFrom : state.State → (bytes : List ℕ) → (old new : Workbench) → (before after : KeptQueue) → walked.WalkOutcome → Type 0
-WalksFrom at.Free bytes old new before after told = Begins old new before after told
-WalksFrom (at.Walking course ticket walk) bytes old new before after told = GoesOnUnless before.stopped course ticket walk bytes old new before after told
+abbrev pub WalksFrom : state.ChainState → (bytes : List ℕ) → (old new : ChainHandle) → (before after : QueueState) → walked.PopOutcome → Type 0
+WalksFrom at.Free bytes old new before after told = BeginsPop old new before after told
+WalksFrom (at.Walking course pop_id walk) bytes old new before after told = GoesOnUnless before.stopped course pop_id walk bytes old new before after told
 WalksFrom _ bytes old new before after told = ⊥
 
-abbrev pub WalksOn : (bytes : List ℕ) → (old new : Workbench) → (before after : KeptQueue) → walked.WalkOutcome → Type 0
+abbrev pub WalksOn : (bytes : List ℕ) → (old new : ChainHandle) → (before after : QueueState) → walked.PopOutcome → Type 0
 WalksOn bytes old new before after told = WalksFrom old.state bytes old new before after told
 
 -- a walk asks for entries of a table, as many descriptors have no room beside those that joined, and the allocator refused that: only then the walk lacks memory
-abbrev pub LacksRoom : Workbench → Type 0
+abbrev pub LacksRoom : ChainHandle → Type 0
 LacksRoom w = (0 < entries_asked w.state) × (HasRoomFor w.descriptors (entries_asked w.state) → ⊥) × RoomWasRefused (entries_asked w.state)

@@ -14,7 +14,7 @@ use Rattle.fs_queue.specs.Returning.{advanced, tells, wants_notice}
 use Rattle.fs_queue.specs.ReturningView.{stores_of}
 use Rattle.fs_queue.specs.WalkingView.{at_position}
 use Rattle.fs_regions.specs.Places.{memory_over, places_in}
-use Rattle.fs_regions.specs.declared.step.Step as comes
+use Rattle.fs_regions.specs.declared.step.CourseStep as comes
 use Rattle.fs_regions.specs.Walks.{Loaded, nothing, queue_of, AddsBytes, IsLost, OffersBy, RingIsAsked}
 use Rattle.fs_regions.specs.Laws.{HasLoaded}
 use Rattle.fuse_fs.specs.Calls.{FileRun}
@@ -25,27 +25,27 @@ use Rattle.fuse_values.specs.declared.answer.FileAnswer.{FileAnswer}
 use Rattle.virtiofsd_fuse.specs.Grammar.{meaning}
 use Rattle.virtiofsd_fuse.specs.Serving.{May, setting}
 use Rattle.server_phases.specs.declared.session.Session.{Session}
-use Rattle.server_phases.specs.Asking.{IsFront}
+use Rattle.server_phases.specs.Asking.{IsRequestFront}
 use Rattle.server_phases.specs.Answering.{TellsBytes, forget_call}
 use Rattle.server_phases.specs.Gathering.{Brought}
 use Rattle.fs_chain.specs.declared.answering.Replied.{Replied}
-use Rattle.fs_chain.specs.declared.asking.Told as told
-use Rattle.fs_chain.specs.declared.asking.Told.TheVariants as asks
-use Rattle.fs_chain.specs.declared.queue.KeptQueue.{KeptQueue}
-use Rattle.fs_chain.specs.declared.returning.Stores.{Stores}
-use Rattle.fs_chain.specs.declared.state.Out.{Out}
-use Rattle.fs_chain.specs.declared.state.Reply.{Reply}
-use Rattle.fs_chain.specs.declared.state.State as state
-use Rattle.fs_chain.specs.declared.state.State.TheVariants as at
-use Rattle.fs_chain.specs.declared.walking.WalkOutcome.TheVariants as says
-use Rattle.fs_chain.specs.declared.loads.Went as went
-use Rattle.fs_chain.specs.declared.loads.Went.TheVariants as wents
-use Rattle.fs_chain.specs.declared.workbench.Workbench.{Workbench}
+use Rattle.fs_chain.specs.declared.decoding.Decoded as told
+use Rattle.fs_chain.specs.declared.decoding.Decoded.TheVariants as asks
+use Rattle.fs_chain.specs.declared.queue.QueueState.{QueueState}
+use Rattle.fs_chain.specs.declared.pushing.PushStores.{PushStores}
+use Rattle.fs_chain.specs.declared.state.InFlight.{InFlight}
+use Rattle.fs_chain.specs.declared.state.ChainReply.{ChainReply}
+use Rattle.fs_chain.specs.declared.state.ChainState as state
+use Rattle.fs_chain.specs.declared.state.ChainState.TheVariants as at
+use Rattle.fs_chain.specs.declared.popping.PopOutcome.TheVariants as says
+use Rattle.fs_chain.specs.declared.loads.LoadOutcome as went
+use Rattle.fs_chain.specs.declared.loads.LoadOutcome.TheVariants as wents
+use Rattle.fs_chain.specs.declared.chain_handle.ChainHandle.{ChainHandle}
 use Rattle.fs_chain.specs.Answers.{IfWaits, IsGiven, IsWaiting}
-use Rattle.fs_chain.specs.Asking.{TellsMeaning}
+use Rattle.fs_chain.specs.Decoding.{TellsMeaning}
 use Rattle.fs_chain.specs.Events.{event_fault, seen_at, tells_of}
 use Rattle.fs_chain.specs.Orders.{front_len}
-use Rattle.fs_chain.specs.Returns.{ReturnsBy}
+use Rattle.fs_chain.specs.Pushes.{PushesBy}
 use Rattle.fs_chain.specs.Loads.{GoesSo, HasNoPlace, came, whole}
 use Rattle.fs_chain.specs.Walks.{HasEvents, IsAllButPart, course_of, told_of}
 use Rattle.fs_chain.specs.WholeListings.{Ending, IsListedBy, listing_calls}
@@ -57,78 +57,78 @@ use Rattle.fs_device.specs.StepBy.{AnswersBy, ReturnsFaultyBy, StepLoads, StepBy
 -- ---- the walk
 
 -- a call of walk wants bytes
-abbrev pub WantsBytes : went.Went → Type 0
+abbrev pub WantsBytes : went.LoadOutcome → Type 0
 WantsBytes wents.Part = Unit {0}
 WantsBytes (wents.On (says.Load n)) = Unit {0}
 WantsBytes (wents.On _) = ⊥
 
 -- the first call of a walk, without bytes
-abbrev pub BeginsBy : (old new : Workbench) → (before after : KeptQueue) → went.Went → Type 0
-BeginsBy old new before after told = (old.state ≡ at.Free) × GoesSo old before [] told new after
+abbrev pub BeginsPopBy : (old new : ChainHandle) → (before after : QueueState) → went.LoadOutcome → Type 0
+BeginsPopBy old new before after told = (old.state ≡ at.Free) × GoesSo old before [] told new after
 
 -- a walk by calls of the handle that weren't refused, the last one first: without bytes at first, then each by bytes of which the call before wanted some
-abbrev pub WalksBy : (given : List (List ℕ)) → (old new : Workbench) → (before after : KeptQueue) → went.Went → Type 0
-WalksBy [] old new before after told = BeginsBy old new before after told
+abbrev pub WalksBy : (given : List (List ℕ)) → (old new : ChainHandle) → (before after : QueueState) → went.LoadOutcome → Type 0
+WalksBy [] old new before after told = BeginsPopBy old new before after told
 WalksBy (bs ∷ given) old new before after told =
-    (w : Workbench) × (q : KeptQueue) × (earlier : went.Went) × WalksBy given old w before q earlier × WantsBytes earlier × GoesSo w q bs told new after
+    (w : ChainHandle) × (q : QueueState) × (earlier : went.LoadOutcome) × WalksBy given old w before q earlier × WantsBytes earlier × GoesSo w q bs told new after
 
 -- what a call of walk, which left these descriptors, adds to what was loaded: a part of a load nothing yet, a whole one what was asked for
-abbrev pub AddsSo : state.State → went.Went → List Descriptor → (before : Loaded) → (bytes : List ℕ) → (after : Loaded) → Type 0
+abbrev pub AddsSo : state.ChainState → went.LoadOutcome → List Descriptor → (before : Loaded) → (bytes : List ℕ) → (after : Loaded) → Type 0
 AddsSo at wents.Part ds before bs after = after ≡ before
-AddsSo (at.Walking course ticket walk) (wents.On told) ds before bs after = (came : comes.Step) × (told ≡ told_of ds came) × AddsBytes walk bs came before after
+AddsSo (at.Walking course pop_id walk) (wents.On told) ds before bs after = (came : comes.CourseStep) × (told ≡ told_of ds came) × AddsBytes walk bs came before after
 AddsSo _ (wents.On told) ds before bs after = ⊥
 
 -- these loads came of the bytes of a walk's calls
-abbrev pub LoadsOf : (given : List (List ℕ)) (old new : Workbench) (before after : KeptQueue) (told : went.Went) → WalksBy given old new before after told → Loaded → Type 0
+abbrev pub LoadsOf : (given : List (List ℕ)) (old new : ChainHandle) (before after : QueueState) (told : went.LoadOutcome) → WalksBy given old new before after told → Loaded → Type 0
 LoadsOf [] old new before after told walks loaded = loaded ≡ nothing
 LoadsOf (bs ∷ given) old new before after told walks loaded =
     (l : Loaded) × LoadsOf given old walks.0 before walks.1 walks.2 walks.3 l × AddsSo walks.0.state told new.descriptors.items l (whole walks.0 bs) loaded
 
 -- some bytes by which a walk told this
-abbrev pub IsWalked : (old new : Workbench) → (before after : KeptQueue) → went.Went → Type 0
+abbrev pub IsWalked : (old new : ChainHandle) → (before after : QueueState) → went.LoadOutcome → Type 0
 IsWalked old new before after told = (given : List (List ℕ)) × WalksBy given old new before after told
 
 -- what a walk by calls of the handle wants has a place, so that no call is refused for it
 abbrev pub WantedHasAPlace : Type 0
 WantedHasAPlace =
-    (given : List (List ℕ)) (old new : Workbench) (before after : KeptQueue) (told : went.Went) → before.stopped ≡ None →
+    (given : List (List ℕ)) (old new : ChainHandle) (before after : QueueState) (told : went.LoadOutcome) → before.stopped ≡ None →
     WalksBy given old new before after told → WantsBytes told → HasNoPlace new (came new) → ⊥
 
 -- ---- the call and its answer
 
 -- of a chain that is out and wasn't asked
-abbrev pub FromTaken : state.State → (Out → Type 0) → Type 0
+abbrev pub FromTaken : state.ChainState → (InFlight → Type 0) → Type 0
 FromTaken (at.Taken out) P = P out
 FromTaken _ P = ⊥
 
--- a workbench is asked in a session by the first bytes of a request that was loaded; an ask that told More before it changed the session alone
-abbrev pub IsAskedBy : Workbench → Session → (request front : List ℕ) → told.Told → Workbench → Type 0
-IsAskedBy w s request front made w' = FromTaken w.state (λ out. (out.request_len ≡ length request) × IsFront front request
+-- a handle is asked in a session by the first bytes of a request that was loaded; an ask that told More before it changed the session alone
+abbrev pub IsDecodedBy : ChainHandle → Session → (request front : List ℕ) → told.Decoded → ChainHandle → Type 0
+IsDecodedBy w s request front made w' = FromTaken w.state (λ out. (out.request_len ≡ length request) × IsRequestFront front request
     × TellsMeaning (setting s.page_size s.options.0 out.room_len) (meaning s.options.0 request out.room_len) (drop 80 request) out made w'.state
     × (w'.descriptors ≡ w.descriptors) × (w'.session ≡ s))
 
 -- a call is answered in the session in which it was asked, with these bytes of data in the room behind the front
-abbrev pub IsAnsweredBy : Workbench → FileAnswer → (bytes : List ℕ) → Replied → Workbench → Type 0
+abbrev pub IsAnsweredBy : ChainHandle → FileAnswer → (bytes : List ℕ) → Replied → ChainHandle → Type 0
 IsAnsweredBy w a bytes told w' =
     IsWaiting w.state × TellsBytes bytes a × (w'.descriptors ≡ w.descriptors)
     × IfWaits w.state (λ out waiting. IsGiven (setting w.session.page_size w.session.options.0 waiting.room) waiting a out w'.session.options.0 told w'.state)
 
 -- how a chain's call is answered: there is none; by one answer, with the bytes of its data and what is told of it; or, if it lists a directory, by its entries, with the
 -- bytes of the list that are its data
-pub data Given : Type 0 where
-  NoAnswer : Given
-  OneAnswer : FileAnswer → (bytes : List ℕ) → Replied → Given
-  ByEntries : (with_nodes : Bool) → List Brought → Ending → (bytes : List ℕ) → Given
+pub data ChainAnswer : Type 0 where
+  NoAnswer : ChainAnswer
+  OneAnswer : FileAnswer → (bytes : List ℕ) → Replied → ChainAnswer
+  ByEntries : (with_nodes : Bool) → List Brought → Ending → (bytes : List ℕ) → ChainAnswer
 
 -- the file calls of a chain: none; the one that was told, with its answer, and the one that gives an entry back; or a listing and its look-ups
-abbrev pub file_calls : (behind : List ℕ) → told.Told → Given → Calls
+abbrev pub file_calls : (behind : List ℕ) → told.Decoded → ChainAnswer → Calls
 file_calls behind (asks.Call made) (OneAnswer answer bytes replied) =
     (call_of behind made, answer_of bytes answer) ∷ map (λ c. (c, file.Done)) (forget_call replied.forget)
 file_calls behind (asks.Call made) (ByEntries with_nodes es ending bytes) = listing_calls (call_of behind made) with_nodes es ending
 file_calls behind made given = []
 
 -- a chain whose request was asked has its reply: by no call, or by one that is answered
-abbrev pub HasReply : told.Told → Workbench → Given → Workbench → Type 0
+abbrev pub HasReply : told.Decoded → ChainHandle → ChainAnswer → ChainHandle → Type 0
 HasReply (asks.Call made) w (OneAnswer answer bytes replied) w' = IsAnsweredBy w answer bytes replied w'
 HasReply (asks.Call made) w (ByEntries with_nodes es ending bytes) w' = IsListedBy w with_nodes es ending bytes w'
 HasReply asks.Nothing w NoAnswer w' = w' ≡ w
@@ -136,7 +136,7 @@ HasReply (asks.Fault e) w NoAnswer w' = w' ≡ w
 HasReply _ w given w' = ⊥
 
 -- the data behind a front
-abbrev pub data_behind : Given → List ℕ
+abbrev pub data_behind : ChainAnswer → List ℕ
 data_behind NoAnswer = []
 data_behind (OneAnswer answer bytes replied) = bytes
 data_behind (ByEntries with_nodes es ending bytes) = bytes
@@ -144,8 +144,8 @@ data_behind (ByEntries with_nodes es ending bytes) = bytes
 -- ---- the return
 
 -- of a chain whose reply is known, and which goes back to its queue, as it is then, by these stores
-abbrev pub FromReplied : (back : KeptQueue) → state.State → (Reply → Stores → Type 0) → Stores → Type 0
-FromReplied back (at.HasReply out reply) P s = ReturnsBy back out reply s × P reply s
+abbrev pub FromReplied : (back : QueueState) → state.ChainState → (ChainReply → PushStores → Type 0) → PushStores → Type 0
+FromReplied back (at.HasReply out reply) P s = PushesBy back out reply s × P reply s
 FromReplied back _ P s = ⊥
 
 -- a front and the data behind it, if there is a front
@@ -154,18 +154,18 @@ front_if None behind = []
 front_if (Some front) behind = front ++ behind
 
 -- the bytes of a reply: none, if there is no front
-abbrev pub reply_bytes : Reply → (behind : List ℕ) → List ℕ
+abbrev pub reply_bytes : ChainReply → (behind : List ℕ) → List ℕ
 reply_bytes reply behind = front_if reply.front behind
 
 -- what the caller stores and loads for a return: the data over the room, the front over its begin, the element's two halves and the index, and then the two bytes that are
 -- seen: flags, or used_event (2.7.8 and 2.7.7); a chain without a reply stores none in its room
-abbrev pub acts_of : (room : List ℕ) → Reply → (behind : List ℕ) → Stores → (flags : List ℕ) → List Act
+abbrev pub acts_of : (room : List ℕ) → ChainReply → (behind : List ℕ) → PushStores → (flags : List ℕ) → List Act
 acts_of room reply behind s flags =
     map act.Stores (reply_stores room (reply_bytes reply behind) (front_len reply) ++ stores_of s.used) ++ act.LoadsFlags flags ∷ []
 
 -- a chain goes back by what its caller stores and loads, and this is told of the two bytes that were loaded
-pub record GoesBackBy (back : KeptQueue) (room : List ℕ) (behind : List ℕ) (from : state.State) (acts : List Act) (last : ℕ) (notice : Bool) : Type 0 where
-  pub stores : Stores
+pub record GoesBackBy (back : QueueState) (room : List ℕ) (behind : List ℕ) (from : state.ChainState) (acts : List Act) (last : ℕ) (notice : Bool) : Type 0 where
+  pub stores : PushStores
   pub flags : List ℕ
   pub flags_len : length flags ≡ 2
   pub returns : FromReplied back from (λ reply s. (last ≡ front_len reply) × (acts ≡ acts_of room reply behind s flags)) stores
@@ -177,44 +177,44 @@ pub record GoesBackBy (back : KeptQueue) (room : List ℕ) (behind : List ℕ) (
 -- the two bytes that are seen; limit, regions and position are those of its beginning, and `back` is the queue as the return finds it: other chains may have been taken and have gone
 -- back meanwhile
 pub record ChainBy (given_bytes : List (List ℕ)) (request : List ℕ) (calls : Calls) (acts : List Act) (last : ℕ) (head : ℕ) (notice : Bool)
-    (old new : Workbench) (before : KeptQueue) (s : Session) : Type 0 where
-  pub walked_bench : Workbench
-  pub taken : KeptQueue
+    (old new : ChainHandle) (before : QueueState) (s : Session) : Type 0 where
+  pub popped_handle : ChainHandle
+  pub taken : QueueState
   pub lens : ℕ × ℕ
-  pub walks : WalksBy given_bytes old walked_bench before taken (wents.On (says.Chain head lens.0 lens.1))
+  pub walks : WalksBy given_bytes old popped_handle before taken (wents.On (says.Chain head lens.0 lens.1))
   pub front : List ℕ
-  pub made : told.Told
-  pub asked_bench : Workbench
-  pub is_asked : IsAskedBy walked_bench s request front made asked_bench
-  pub given : Given
-  pub replies : HasReply made asked_bench given new
+  pub made : told.Decoded
+  pub decoded_handle : ChainHandle
+  pub is_asked : IsDecodedBy popped_handle s request front made decoded_handle
+  pub given : ChainAnswer
+  pub replies : HasReply made decoded_handle given new
   pub calls_are : calls ≡ file_calls (drop 80 request) made given
-  pub back : KeptQueue
-  pub returns : GoesBackBy back (addresses_of (writable walked_bench.descriptors.items)) (data_behind given) new.state acts last notice
+  pub back : QueueState
+  pub returns : GoesBackBy back (addresses_of (writable popped_handle.descriptors.items)) (data_behind given) new.state acts last notice
 
 -- a faulty chain from its walk to its return: nothing is loaded of it or stored in it
 pub record FaultyChainBy (given_bytes : List (List ℕ)) (fault : ChainFault) (acts : List Act) (last : ℕ) (head : ℕ) (notice : Bool)
-    (old : Workbench) (before : KeptQueue) : Type 0 where
-  pub walked_bench : Workbench
-  pub taken : KeptQueue
-  pub walks : WalksBy given_bytes old walked_bench before taken (wents.On (says.Faulty head fault))
-  pub back : KeptQueue
-  pub returns : GoesBackBy back [] [] walked_bench.state acts last notice
+    (old : ChainHandle) (before : QueueState) : Type 0 where
+  pub popped_handle : ChainHandle
+  pub taken : QueueState
+  pub walks : WalksBy given_bytes old popped_handle before taken (wents.On (says.Faulty head fault))
+  pub back : QueueState
+  pub returns : GoesBackBy back [] [] popped_handle.state acts last notice
 
 -- the queue of a chain that goes back, at the position where its return finds it
-abbrev pub queue_back : (before back : KeptQueue) → Queue
-queue_back before back = at_position before.layout back.returned
+abbrev pub queue_back : (before back : QueueState) → Queue
+queue_back before back = at_position before.layout back.next_used
 
 -- a chain goes back at the position where it was taken: one is out at a time, or they go back in their order
-abbrev pub IsInOrder : (before back : KeptQueue) → Type 0
-IsInOrder before back = back.returned ≡ before.position
+abbrev pub IsInOrder : (before back : QueueState) → Type 0
+IsInOrder before back = back.next_used ≡ before.next_avail
 
 -- the driver is told by the available flags, as that of the plain machine
-abbrev pub IsByFlags : KeptQueue → Type 0
+abbrev pub IsByFlags : QueueState → Type 0
 IsByFlags q = q.event_index ≡ false
 
 -- the state of the plain machine before: its memory's places are the regions', its queue is the kept one, which isn't stopped, and the limit is one
-pub record IsBefore {F : Type 0} (old : Workbench) (before : KeptQueue) (i : ℕ) (m : State F) : Type 0 where
+pub record IsMachineBefore {F : Type 0} (old : ChainHandle) (before : QueueState) (i : ℕ) (m : State F) : Type 0 where
   pub goes : before.stopped ≡ None
   pub places : m.memory ≡ places_in old.regions
   pub limit : m.limit ≡ old.limit
@@ -234,7 +234,7 @@ abbrev pub step_loads : Loaded → (lost : List Load) → (request : List ℕ) �
 step_loads l lost request = record { index = l.index; entry = l.entry; entries = l.entries ++ lost; request = request }
 
 -- besides the loads that came of bytes a step knows only that these have no place: an index or a ring's entry, and an entry of a table that was asked for last
-abbrev pub LackPlaces : Workbench → KeptQueue → Loaded → (lost : List Load) → Type 0
+abbrev pub LackPlaces : ChainHandle → QueueState → Loaded → (lost : List Load) → Type 0
 LackPlaces old before loaded lost = RingIsAsked (places_in old.regions) (queue_of (course_of before old.limit)) loaded × All (IsLost (places_in old.regions)) lost
 
 -- nothing is stored
@@ -244,7 +244,7 @@ no_effects = record { acts = []; last = 0 }
 -- a walk that finds nothing is the plain machine's idle step by what was loaded
 abbrev pub IdleIsStepBy : {F : Type 0} → May F → Type 0
 IdleIsStepBy {F} may =
-    (given : List (List ℕ)) (i : ℕ) (old new : Workbench) (before after : KeptQueue) (m : State F) → IsBefore old before i m →
+    (given : List (List ℕ)) (i : ℕ) (old new : ChainHandle) (before after : QueueState) (m : State F) → IsMachineBefore old before i m →
     (walks : WalksBy given old new before after (wents.On says.Idle)) →
     (loaded : Loaded) × LoadsOf given old new before after (wents.On says.Idle) walks loaded
     × (lost : List Load) × LackPlaces old before loaded lost × StepBy may m i (step_loads loaded lost []) [] Idle no_effects m
@@ -252,7 +252,7 @@ IdleIsStepBy {F} may =
 -- a walk that is refused is the plain machine's refused step, which stops the queue, if the event index has its places
 abbrev pub RefusalIsStepBy : {F : Type 0} → May F → Type 0
 RefusalIsStepBy {F} may =
-    (given : List (List ℕ)) (e : QueueError) (i : ℕ) (old new : Workbench) (before after : KeptQueue) (m : State F) → IsBefore old before i m → HasEvents old before →
+    (given : List (List ℕ)) (e : QueueError) (i : ℕ) (old new : ChainHandle) (before after : QueueState) (m : State F) → IsMachineBefore old before i m → HasEvents old before →
     (walks : WalksBy given old new before after (wents.On (says.Refused e))) → let q = queue_of (course_of before old.limit) in
     (loaded : Loaded) × LoadsOf given old new before after (wents.On (says.Refused e)) walks loaded
     × (lost : List Load) × LackPlaces old before loaded lost × StepBy may m i (step_loads loaded lost []) [] (Refused (device.Queue e)) no_effects (with_queue m i (after_refusal q e))
@@ -260,7 +260,7 @@ RefusalIsStepBy {F} may =
 -- without them a walk is refused by its first call, whatever waits: no byte is loaded of it and none stored, the handle stays as it was, and the queue is stopped
 abbrev pub EventFaultRefuses : Type 0
 EventFaultRefuses =
-    (given : List (List ℕ)) (e : QueueError) (old new : Workbench) (before after : KeptQueue) (told : went.Went) → before.stopped ≡ None →
+    (given : List (List ℕ)) (e : QueueError) (old new : ChainHandle) (before after : QueueState) (told : went.LoadOutcome) → before.stopped ≡ None →
     event_fault (places_in old.regions) before ≡ Some e → (walks : WalksBy given old new before after told) →
     (told ≡ wents.On (says.Refused e)) × (given ≡ []) × LoadsOf given old new before after told walks nothing × IsAllButPart old new × (new.part.items ≡ [])
     × (after ≡ record before { stopped = Some e })
@@ -268,9 +268,9 @@ EventFaultRefuses =
 -- a faulty chain is the plain machine's step that gives it back with nothing
 abbrev pub FaultyIsStepBy : {F : Type 0} → May F → Type 0
 FaultyIsStepBy {F} may =
-    (given : List (List ℕ)) (fault : ChainFault) (acts : List Act) (last head i : ℕ) (notice : Bool) (old : Workbench) (before : KeptQueue) (m : State F) →
-    IsBefore old before i m → (run : FaultyChainBy given fault acts last head notice old before) → IsInOrder before run.back →
-    (loaded : Loaded) × LoadsOf given old run.walked_bench before run.taken (wents.On (says.Faulty head fault)) run.walks loaded
+    (given : List (List ℕ)) (fault : ChainFault) (acts : List Act) (last head i : ℕ) (notice : Bool) (old : ChainHandle) (before : QueueState) (m : State F) →
+    IsMachineBefore old before i m → (run : FaultyChainBy given fault acts last head notice old before) → IsInOrder before run.back →
+    (loaded : Loaded) × LoadsOf given old run.popped_handle before run.taken (wents.On (says.Faulty head fault)) run.walks loaded
     × (lost : List Load) × LackPlaces old before loaded lost × (x : Exchange) × (x.head ≡ head)
     × StepBy may m i (step_loads loaded lost []) [] (Exchanged x (tells run.returns.flags)) (record { acts = acts; last = last })
     (after_chain m i (queue_of (course_of before old.limit)) m.options m.files)
@@ -278,26 +278,26 @@ FaultyIsStepBy {F} may =
 -- whichever chains of its queue go back before it, a faulty chain goes back with nothing where it does
 abbrev pub FaultyIsAnsweredBy : {F : Type 0} → May F → Type 0
 FaultyIsAnsweredBy {F} may =
-    (given : List (List ℕ)) (fault : ChainFault) (acts : List Act) (last head i : ℕ) (notice : Bool) (old : Workbench) (before : KeptQueue) (m : State F) →
+    (given : List (List ℕ)) (fault : ChainFault) (acts : List Act) (last head i : ℕ) (notice : Bool) (old : ChainHandle) (before : QueueState) (m : State F) →
     (run : FaultyChainBy given fault acts last head notice old before) → before.stopped ≡ None → let q = queue_back before run.back in
-    (loaded : Loaded) × LoadsOf given old run.walked_bench before run.taken (wents.On (says.Faulty head fault)) run.walks loaded
+    (loaded : Loaded) × LoadsOf given old run.popped_handle before run.taken (wents.On (says.Faulty head fault)) run.walks loaded
     × OffersBy (places_in old.regions) old.limit (queue_of (course_of before old.limit)) loaded [] (Offers head (CannotFetch fault)) × (x : Exchange)
     × ReturnsFaultyBy m i q head fault [] x (tells run.returns.flags) (record { acts = acts; last = last }) (after_chain m i q m.options m.files)
 
 -- these loads came of the calls of a chain's walk
-abbrev pub LoadsOfChain : (given : List (List ℕ)) (request : List ℕ) (calls : Calls) (acts : List Act) (last head : ℕ) (notice : Bool) (old new : Workbench) (before : KeptQueue) (s : Session)
+abbrev pub LoadsOfChain : (given : List (List ℕ)) (request : List ℕ) (calls : Calls) (acts : List Act) (last head : ℕ) (notice : Bool) (old new : ChainHandle) (before : QueueState) (s : Session)
     → ChainBy given request calls acts last head notice old new before s → Loaded → Type 0
 LoadsOfChain given request calls acts last head notice old new before s run loaded =
-    LoadsOf given old run.walked_bench before run.taken (wents.On (says.Chain head run.lens.0 run.lens.1)) run.walks loaded
+    LoadsOf given old run.popped_handle before run.taken (wents.On (says.Chain head run.lens.0 run.lens.1)) run.walks loaded
 
 -- whatever the guest writes meanwhile, and whichever chains of its queue are taken and go back meanwhile, what its loads offer is answered as a plain machine, whatever its
 -- memory, answers it on a queue that stands where the chain goes back: by these calls, this reply and these stores
 abbrev pub ChainIsAnsweredBy : {F : Type 0} → May F → Type 0
 ChainIsAnsweredBy {F} may =
     (given : List (List ℕ)) (request : List ℕ) (calls : Calls) (acts : List Act) (last head i : ℕ) (notice : Bool)
-    (old new : Workbench) (before : KeptQueue) (s : Session) (m : State F) (files : F) →
+    (old new : ChainHandle) (before : QueueState) (s : Session) (m : State F) (files : F) →
     (run : ChainBy given request calls acts last head notice old new before s) → before.stopped ≡ None → old.limit ≤ 2 ^ 31 → IsSession s m → FileRun may m.files calls files →
-    let room = addresses_of (writable run.walked_bench.descriptors.items) in let q = queue_back before run.back in
+    let room = addresses_of (writable run.popped_handle.descriptors.items) in let q = queue_back before run.back in
     (loaded : Loaded) × LoadsOfChain given request calls acts last head notice old new before s run loaded
     × OffersBy (places_in old.regions) old.limit (queue_of (course_of before old.limit)) loaded request (Offers head (IsRequest request room))
     × (x : Exchange) × (x.head ≡ head) × (x.request ≡ request)
@@ -307,8 +307,8 @@ ChainIsAnsweredBy {F} may =
 abbrev pub ChainIsStepBy : {F : Type 0} → May F → Type 0
 ChainIsStepBy {F} may =
     (given : List (List ℕ)) (request : List ℕ) (calls : Calls) (acts : List Act) (last head i : ℕ) (notice : Bool)
-    (old new : Workbench) (before : KeptQueue) (s : Session) (m : State F) (files : F) →
-    (run : ChainBy given request calls acts last head notice old new before s) → IsBefore old before i m → IsInOrder before run.back → IsSession s m → FileRun may m.files calls files →
+    (old new : ChainHandle) (before : QueueState) (s : Session) (m : State F) (files : F) →
+    (run : ChainBy given request calls acts last head notice old new before s) → IsMachineBefore old before i m → IsInOrder before run.back → IsSession s m → FileRun may m.files calls files →
     (loaded : Loaded) × LoadsOfChain given request calls acts last head notice old new before s run loaded
     × (lost : List Load) × LackPlaces old before loaded lost × (x : Exchange) × (x.head ≡ head) × (x.request ≡ request)
     × StepBy may m i (step_loads loaded lost request) calls (Exchanged x (tells run.returns.flags)) (record { acts = acts; last = last })
@@ -316,21 +316,21 @@ ChainIsStepBy {F} may =
 
 -- the two bytes that were loaded for a return stand at used_event, and tell whether they name the position where it goes back; without the event index they are the
 -- available flags, and tell what the plain machine tells by them
-pub record IsToldBySeen (layout : QueueLayout) (back : KeptQueue) (s : Stores) (seen : List ℕ) (notice : Bool) : Type 0 where
+pub record IsToldBySeen (layout : QueueLayout) (back : QueueState) (s : PushStores) (seen : List ℕ) (notice : Bool) : Type 0 where
   pub place : s.seen_at ≡ seen_at back.event_index layout
   pub told : notice ≡ tells_of back seen
   pub by_flags : IsByFlags back → notice ≡ tells seen
 
 -- so it is of each chain, whichever chains of its queue go back before it
 pub record ReturnsAreToldBySeen : Type 0 where
-  pub of_chain : (given : List (List ℕ)) (request : List ℕ) (calls : Calls) (acts : List Act) (last head : ℕ) (notice : Bool) (old new : Workbench) (before : KeptQueue) (s : Session)
+  pub of_chain : (given : List (List ℕ)) (request : List ℕ) (calls : Calls) (acts : List Act) (last head : ℕ) (notice : Bool) (old new : ChainHandle) (before : QueueState) (s : Session)
       → before.stopped ≡ None → (run : ChainBy given request calls acts last head notice old new before s) → IsToldBySeen before.layout run.back run.returns.stores run.returns.flags notice
-  pub of_faulty : (given : List (List ℕ)) (fault : ChainFault) (acts : List Act) (last head : ℕ) (notice : Bool) (old : Workbench) (before : KeptQueue)
+  pub of_faulty : (given : List (List ℕ)) (fault : ChainFault) (acts : List Act) (last head : ℕ) (notice : Bool) (old : ChainHandle) (before : QueueState)
       → before.stopped ≡ None → (run : FaultyChainBy given fault acts last head notice old before) → IsToldBySeen before.layout run.back run.returns.stores run.returns.flags notice
 
 -- if the load of the two bytes finds what memory has at this place by then, the driver is told by what it has there after the stores; without the event index so is that of
 -- the plain machine, by the flags
-pub record IsToldByMemory (m left : Memory) (q : Queue) (back : KeptQueue) (place : ℕ) (acts : List Act) (notice : Bool) : Type 0 where
+pub record IsToldByMemory (m left : Memory) (q : Queue) (back : QueueState) (place : ℕ) (acts : List Act) (notice : Bool) : Type 0 where
   pub told : FindFlags m (record q { avail = place }) acts → notice ≡ tells_of back (bytes left place 2)
   pub by_flags : IsByFlags back → FindFlags m q acts → notice ≡ wants_notice left q
 
@@ -339,11 +339,11 @@ pub record IsToldByMemory (m left : Memory) (q : Queue) (back : KeptQueue) (plac
 abbrev pub ChainIsStep : {F : Type 0} → May F → Type 0
 ChainIsStep {F} may =
     (given : List (List ℕ)) (request : List ℕ) (calls : Calls) (acts : List Act) (last head i : ℕ) (notice : Bool)
-    (old new : Workbench) (before : KeptQueue) (s : Session) (m : State F) (files : F) (h : Host) (room : List ℕ) →
+    (old new : ChainHandle) (before : QueueState) (s : Session) (m : State F) (files : F) (h : Host) (room : List ℕ) →
     let q = queue_of (course_of before old.limit) in let memory = memory_over h old.regions in let left = after_stores memory (stores_among acts) in
-    (run : ChainBy given request calls acts last head notice old new before s) → IsBefore old before i m → IsInOrder before run.back → IsSession s m → FileRun may m.files calls files →
+    (run : ChainBy given request calls acts last head notice old new before s) → IsMachineBefore old before i m → IsInOrder before run.back → IsSession s m → FileRun may m.files calls files →
     ((loaded : Loaded) → LoadsOfChain given request calls acts last head notice old new before s run loaded → HasLoaded memory q loaded request) →
-    room ≡ addresses_of (writable run.walked_bench.descriptors.items) → MayStoreLast memory room last →
+    room ≡ addresses_of (writable run.popped_handle.descriptors.items) → MayStoreLast memory room last →
     (x : Exchange) × (x.head ≡ head) × (x.request ≡ request)
     × Step may (record m { memory = memory }) i calls (Exchanged x (wants_notice left q)) (record (after_chain m i q new.session.options.0 files) { memory = left })
     × IsToldByMemory memory left q run.back (seen_at run.back.event_index before.layout) acts notice

@@ -7,33 +7,33 @@ use Rattle.server_phases.specs.Gathering.{Brought, added_found, added_plain, ent
 use Rattle.fs_chain.specs.declared.error.ChainError.{ChainError}
 use Rattle.fs_chain.specs.declared.listing.Added.{Added}
 use Rattle.fs_chain.specs.declared.listing.Added.TheVariants as added
-use Rattle.fs_chain.specs.declared.state.State as state
-use Rattle.fs_chain.specs.declared.state.State.TheVariants as at
-use Rattle.fs_chain.specs.declared.workbench.Workbench.{Workbench}
-use Rattle.fs_chain.specs.Listings.{AddsTo, Ends, Fails}
+use Rattle.fs_chain.specs.declared.state.ChainState as state
+use Rattle.fs_chain.specs.declared.state.ChainState.TheVariants as at
+use Rattle.fs_chain.specs.declared.chain_handle.ChainHandle.{ChainHandle}
+use Rattle.fs_chain.specs.Listings.{AddsTo, EndsByEntries, EndsByError}
 use Rattle.fs_chain.specs.Walks.{IsAllButPlace}
 use Rattle.fs_device.specs.Step.{Calls}
 
 -- ---- by the calls of a handle
 
 -- an entry is brought to the listing that is answered, without its node or with it, in a list of the caller's, and this is told
-abbrev pub Brings : Workbench → (list : List ℕ) → Brought → Result Added ChainError → Workbench → (list' : List ℕ) → Type 0
-Brings w list e told w' list' =
+abbrev pub BringsEntry : ChainHandle → (list : List ℕ) → Brought → Result Added ChainError → ChainHandle → (list' : List ℕ) → Type 0
+BringsEntry w list e told w' list' =
     (AddsTo w.state w'.state list list' e (λ l. added_plain l (length list) (length e.0.name)) told
     ⊎ AddsTo w.state w'.state list list' e (λ l. added_found l (length list) (length e.0.name)) told) × IsAllButPlace w w'
 
 -- entries are brought one by one, each to the list that the one before left, and each is in
-abbrev pub Gathers : (es : List Brought) → Workbench → (list : List ℕ) → Workbench → (list' : List ℕ) → Type 0
+abbrev pub Gathers : (es : List Brought) → ChainHandle → (list : List ℕ) → ChainHandle → (list' : List ℕ) → Type 0
 Gathers [] w list w' list' = (w' ≡ w) × (list' ≡ list)
-Gathers (e ∷ es) w list w' list' = (v : Workbench) × (between : List ℕ) × Brings w list e (Ok added.In) v between × Gathers es v between w' list'
+Gathers (e ∷ es) w list w' list' = (v : ChainHandle) × (between : List ℕ) × BringsEntry w list e (Ok added.In) v between × Gathers es v between w' list'
 
 -- the listing is replied: so many bytes of its list are the data
-abbrev pub IsEnded : Workbench → (len : ℕ) → Workbench → Type 0
-IsEnded w len w' = Ends w.state w'.state (Ok len) × IsAllButPlace w w'
+abbrev pub IsEnded : ChainHandle → (len : ℕ) → ChainHandle → Type 0
+IsEnded w len w' = EndsByEntries w.state w'.state (Ok len) × IsAllButPlace w w'
 
 -- it is replied that it failed
-abbrev pub IsFailed : (errno : ℕ) → Workbench → (len : ℕ) → Workbench → Type 0
-IsFailed errno w len w' = Fails errno w.state w'.state (Ok len) × IsAllButPlace w w'
+abbrev pub IsFailed : (errno : ℕ) → ChainHandle → (len : ℕ) → ChainHandle → Type 0
+IsFailed errno w len w' = EndsByError errno w.state w'.state (Ok len) × IsAllButPlace w w'
 
 -- by which error an entry fails the listing, if it does
 abbrev pub failed_by : Added → Option ℕ
@@ -51,25 +51,25 @@ pub data Ending : Type 0 where
   Unreadable : (errno : ℕ) → Ending
 
 -- of a listing that gathers entries
-abbrev pub FromLists : state.State → (Listing → Type 0) → Type 0
+abbrev pub FromLists : state.ChainState → (Listing → Type 0) → Type 0
 FromLists (at.Lists out l) P = P l
 FromLists _ P = ⊥
 
 -- it ends so, with so many bytes of its list as data; only with nodes an entry is looked up, and . and .. aren't
-abbrev pub EndsBy : Ending → Workbench → (list : List ℕ) → (len : ℕ) → Workbench → Type 0
+abbrev pub EndsBy : Ending → ChainHandle → (list : List ℕ) → (len : ℕ) → ChainHandle → Type 0
 EndsBy EndsThere w list len w' = IsEnded w len w'
-EndsBy (FullAt e behind) w list len w' = (v : Workbench) × (list' : List ℕ) × Brings w list e (Ok added.Full) v list' × IsEnded v len w'
+EndsBy (FullAt e behind) w list len w' = (v : ChainHandle) × (list' : List ℕ) × BringsEntry w list e (Ok added.Full) v list' × IsEnded v len w'
 EndsBy (FailsAt e behind errno) w list len w' =
-    (v : Workbench) × (list' : List ℕ) × (why : Added) × (failed_by why ≡ Some errno) × Brings w list e (Ok why) v list' × IsFailed errno v len w'
+    (v : ChainHandle) × (list' : List ℕ) × (why : Added) × (failed_by why ≡ Some errno) × BringsEntry w list e (Ok why) v list' × IsFailed errno v len w'
 EndsBy (NotFound d behind errno) w list len w' = FromLists w.state (λ l. l.with_nodes ≡ true) × (is_dot d.name ≡ false) × IsFailed errno w len w'
 EndsBy (Unreadable errno) w list len w' = IsFailed errno w len w'
 
 -- a listing, with nodes or without, is answered by these entries and ends so, with these bytes of its list as data
-pub record IsListedBy (w : Workbench) (with_nodes : Bool) (es : List Brought) (ending : Ending) (bytes : List ℕ) (w' : Workbench) : Type 0 where
+pub record IsListedBy (w : ChainHandle) (with_nodes : Bool) (es : List Brought) (ending : Ending) (bytes : List ℕ) (w' : ChainHandle) : Type 0 where
   pub kind : FromLists w.state (λ l. l.with_nodes ≡ with_nodes)
   pub first : List ℕ
   pub list : List ℕ
-  pub gathered : Workbench
+  pub gathered : ChainHandle
   pub gathers : Gathers es w first gathered list
   pub len : ℕ
   pub ends : EndsBy ending gathered list len w'

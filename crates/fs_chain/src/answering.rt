@@ -2,16 +2,16 @@
 
 ghost use Rattle.std.specs.Prelude.{◌≡◌, IfOk, IfErr, OnOk, OnErr};
 ghost use Rattle.virtiofsd_fuse.specs.Serving.{setting};
-ghost use Rattle.fs_chain.specs.Answers.{AnswerFails, CanBeGiven, IfWaits, IsGiven, IsNotTaken, IsRefused, IsWaiting, data_len, error_of, fits, replied_of, reply_of};
+ghost use Rattle.fs_chain.specs.Answers.{AnswerFails, CanBeGiven, IfWaits, IsGiven, IsNotTaken, RefusesAnswer, IsWaiting, data_len, error_of, fits, replied_of, reply_of};
 ghost use Rattle.fs_chain.specs.Walks.{IsAllBut};
-ghost use Rattle.fs_chain.specs.declared.state.State.TheVariants as at;
+ghost use Rattle.fs_chain.specs.declared.state.ChainState.TheVariants as at;
 
 use crate::error::ChainError;
-use crate::state::{Out, Reply, State};
-use crate::workbench::Workbench;
+use crate::state::{InFlight, ChainReply, ChainState};
+use crate::chain_handle::ChainHandle;
 use fuse_fs::Context;
 use fuse_values::FileAnswer;
-use server_phases::{Answered, Refused, Sent, Waiting};
+use server_phases::{Answered, AnswerRefusal, Sent, Waiting};
 use std::mem;
 
 /// What comes of an answer.
@@ -34,39 +34,39 @@ fn data_len(answer: &FileAnswer) -> usize
 }
 
 // Why an answer is refused, as a call's error.
-fn error_of(why: Refused) -> ChainError
+fn error_of(why: AnswerRefusal) -> ChainError
     ensures { result ≡ error_of why }
 {
     match why {
-        Refused::OtherKind => ChainError::OtherKind,
-        Refused::TooLong => ChainError::LongReply,
+        AnswerRefusal::OtherKind => ChainError::OtherKind,
+        AnswerRefusal::TooLong => ChainError::LongReply,
     }
 }
 
 // The reply with so many bytes of data behind its front, or none; and whether it has room.
-fn reply_of(sent: Sent, behind: usize) -> (Reply, bool)
+fn reply_of(sent: Sent, behind: usize) -> (ChainReply, bool)
     ensures { result ≡ (reply_of sent behind, fits sent) }
 {
     match sent {
         Sent::Reply(front) => {
             let front = Some(front);
-            (Reply { front, behind }, true)
+            (ChainReply { front, behind }, true)
         }
         Sent::NoRoom => {
             let front = None;
-            (Reply { front, behind: 0 }, false)
+            (ChainReply { front, behind: 0 }, false)
         }
     }
 }
 
-impl Workbench {
+impl ChainHandle {
     // Keeps the reply of an answer.
-    fn keep_answered(&mut self, out: Out, answered: Answered, behind: usize) -> Replied
+    fn keep_answered(&mut self, out: InFlight, answered: Answered, behind: usize) -> Replied
         ensures told { result ≡ replied_of answered }
         ensures kept { self.new ≡ record self.old { state = at.HasReply out (reply_of answered.sent behind) } }
     {
         let (reply, has_room) = reply_of(answered.sent, behind);
-        self.state = State::HasReply(out, reply);
+        self.state = ChainState::HasReply(out, reply);
         Replied {
             has_room,
             forget: answered.forget,
@@ -76,13 +76,13 @@ impl Workbench {
     // Answers a call that waits.
     fn answer_waiting(
         &mut self,
-        out: Out,
+        out: InFlight,
         waiting: Waiting,
         answer: FileAnswer,
     ) -> Result<Replied, ChainError>
         ensures given { IfOk result (λ told. IsGiven (setting self.old.session.page_size self.old.session.options.0 waiting.room) waiting answer out self.new.session.options.0 told self.new.state) }
         ensures taken { OnOk result (CanBeGiven waiting answer) }
-        ensures refused { IfErr result (λ e. IsRefused waiting answer e) }
+        ensures refused { IfErr result (λ e. RefusesAnswer waiting answer e) }
         ensures same { OnErr result (self.new ≡ record self.old { state = at.Waits out waiting }) }
         ensures page_size { self.new.session.page_size ≡ self.old.session.page_size }
         ensures stays { IsAllBut self.old self.new × (self.new.descriptors ≡ self.old.descriptors) × (self.new.part ≡ self.old.part) }
@@ -92,7 +92,7 @@ impl Workbench {
             Ok(answered) => Ok(self.keep_answered(out, answered, behind)),
             Err(refusal) => {
                 let why = refusal.why;
-                self.state = State::Waits(out, refusal.waiting);
+                self.state = ChainState::Waits(out, refusal.waiting);
                 Err(error_of(why))
             }
         }
@@ -108,10 +108,10 @@ impl Workbench {
         ensures page_size { self.new.session.page_size ≡ self.old.session.page_size }
         ensures stays { IsAllBut self.old self.new × (self.new.descriptors ≡ self.old.descriptors) × (self.new.part ≡ self.old.part) }
     {
-        match mem::replace(&mut self.state, State::Free) {
-            State::Waits(out, waiting) => self.answer_waiting(out, waiting, answer),
-            State::Lists(out, listing) => {
-                self.state = State::Lists(out, listing);
+        match mem::replace(&mut self.state, ChainState::Free) {
+            ChainState::Waits(out, waiting) => self.answer_waiting(out, waiting, answer),
+            ChainState::Lists(out, listing) => {
+                self.state = ChainState::Lists(out, listing);
                 Err(ChainError::OtherKind)
             }
             other => {

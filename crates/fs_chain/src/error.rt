@@ -18,14 +18,14 @@ pub enum ChainError {
     WrongOrder,
     /// The queue is another one than that of the chain or of its walk, or was begun anew since; or a chain was taken or given up since the walk began.
     OtherQueue,
-    /// The answer is another call's than that which waits: its ticket is another one.
+    /// The answer is another call's than that which waits: its pop_id is another one.
     OtherCall,
     /// The call wants an answer of another kind.
     OtherKind,
     /// The queue has as many chains out as it may, or the handle has one.
-    ChainOut,
+    ChainInFlight,
     /// The return of another chain of the queue was told, and isn't ended.
-    Returning,
+    Pushing,
 }
 
 impl ChainError {
@@ -42,8 +42,8 @@ impl ChainError {
             ChainError::OtherQueue => 74,
             ChainError::OtherCall => 79,
             ChainError::OtherKind => 75,
-            ChainError::ChainOut => 76,
-            ChainError::Returning => 78,
+            ChainError::ChainInFlight => 76,
+            ChainError::Pushing => 78,
         }
     }
 }

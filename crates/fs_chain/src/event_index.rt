@@ -2,9 +2,9 @@
 
 ghost use Rattle.std.specs.Prelude.{◌≡◌, option_map};
 ghost use Rattle.fs_regions.specs.Places.{places_in};
-ghost use Rattle.fs_chain.specs.Events.{avail_event_at, event_fault, kick_store, seen_at, store_of, tells_of, used_event_at};
+ghost use Rattle.fs_chain.specs.Events.{avail_event_at, event_fault, notification_store, seen_at, store_of, tells_of, used_event_at};
 
-use crate::queue::KeptQueue;
+use crate::queue::QueueState;
 use fs_queue::{QueueError, QueueLayout, Return};
 use fs_regions::GuestMap;
 use vm_memory_core::Permissions;
@@ -14,7 +14,7 @@ const NO_NOTIFY: u16 = 1;
 
 /// A store by which the device wants to be told of new chains, or of none: a number as le16.
 #[derive(Clone, Copy, Debug, PartialEq, Eq)]
-pub struct KickStore {
+pub struct NotificationStore {
     /// The guest address of its two bytes.
     pub address: u64,
     /// What is stored.
@@ -46,13 +46,13 @@ pub(crate) fn seen_at(event_index: bool, layout: &QueueLayout) -> u64
     }
 }
 
-impl KeptQueue {
+impl QueueState {
     // Whether the driver wants to be told of the next chain that goes back, by those two bytes.
     pub(crate) fn tells(&self, seen: [u8; 2]) -> bool
         ensures { result ≡ tells_of self.now seen }
     {
         if self.event_index {
-            u16::from_le_bytes(seen) == self.returned
+            u16::from_le_bytes(seen) == self.next_used
         } else {
             Return::tells(seen)
         }
@@ -78,19 +78,19 @@ impl KeptQueue {
     /// index the driver notifies for the next chain alone, and nothing is stored to disable. A thread enables them
     /// before it sleeps, and when it takes a chain while another thread of the queue sleeps: behind a full barrier it
     /// then looks once more, by a new load of the available index. All of that is under the queue's lock.
-    pub fn kick_store(&self, wanted: bool) -> Option<KickStore>
-        ensures { option_map store_of result ≡ kick_store self.now wanted }
+    pub fn notification_store(&self, wanted: bool) -> Option<NotificationStore>
+        ensures { option_map store_of result ≡ notification_store self.now wanted }
     {
         if self.event_index {
             if !wanted {
                 return None;
             }
             let address = avail_event_at(&self.layout);
-            let value = self.position;
-            return Some(KickStore { address, value });
+            let value = self.next_avail;
+            return Some(NotificationStore { address, value });
         }
         let address = self.layout.used();
         let value = if wanted { 0 } else { NO_NOTIFY };
-        Some(KickStore { address, value })
+        Some(NotificationStore { address, value })
     }
 }

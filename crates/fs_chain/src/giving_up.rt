@@ -3,18 +3,18 @@
 ghost use Rattle.std.specs.Prelude.{◌≡◌, Some, None, IfErr, OnOk, OnErr, if◌then◌else◌};
 ghost use Rattle.fs_chain.specs.Orders.{give_up_error, is_out};
 ghost use Rattle.fs_chain.specs.Queues.{untook};
-ghost use Rattle.fs_chain.specs.Returns.{IsFreed};
+ghost use Rattle.fs_chain.specs.Pushes.{IsFreed};
 ghost use Rattle.fs_chain.specs.Serials.{freed};
-ghost use Rattle.fs_chain.specs.declared.state.State.TheVariants as at;
+ghost use Rattle.fs_chain.specs.declared.state.ChainState.TheVariants as at;
 
 use crate::error::ChainError;
-use crate::queue::KeptQueue;
-use crate::state::{Out, State};
-use crate::workbench::Workbench;
+use crate::queue::QueueState;
+use crate::state::{InFlight, ChainState};
+use crate::chain_handle::ChainHandle;
 
-impl Workbench {
+impl ChainHandle {
     // A chain that wasn't asked is out of its queue no more; or it stays, of another queue, or since others were taken after it.
-    fn give_back(&mut self, queue: &mut KeptQueue, out: Out) -> Result<(), ChainError>
+    fn give_back(&mut self, queue: &mut QueueState, out: InFlight) -> Result<(), ChainError>
         requires { self.old.state ≡ at.Taken out }
         ensures error { IfErr result (λ e. give_up_error (at.Taken out) queue.old ≡ Some e) }
         ensures ok { OnOk result (give_up_error (at.Taken out) queue.old ≡ None) }
@@ -35,7 +35,7 @@ impl Workbench {
     /// Gives up a walk, or a chain whose request wasn't asked: the handle is free, and the queue hands the same chain out at its next walk, read anew.
     /// `WrongOrder` if its request was asked, since then a reply ends it, or silence (`reply`), or if it isn't the last of those that were taken;
     /// `OtherQueue` if it isn't out of this queue.
-    pub fn give_up(&mut self, queue: &mut KeptQueue) -> Result<(), ChainError>
+    pub fn give_up(&mut self, queue: &mut QueueState) -> Result<(), ChainError>
         ensures error { IfErr result (λ e. give_up_error self.old.state queue.old ≡ Some e) }
         ensures ok { OnOk result (give_up_error self.old.state queue.old ≡ None) }
         ensures same { OnErr result ((self.new ≡ self.old) × (queue.new ≡ queue.old)) }
@@ -43,11 +43,11 @@ impl Workbench {
         ensures queue { OnOk result (queue.new ≡ (if is_out self.old.state then untook queue.old else queue.old)) }
     {
         match &self.state {
-            State::Free | State::Walking(_, _, _) => {
+            ChainState::Free | ChainState::Walking(_, _, _) => {
                 self.free();
                 Ok(())
             }
-            State::Taken(out) => {
+            ChainState::Taken(out) => {
                 let out = *out;
                 self.give_back(queue, out)
             }

@@ -9,15 +9,15 @@ ghost use Rattle.fs_regions.specs.Places.{left_in, places_in};
 ghost use Rattle.fs_regions.specs.Walks.{asked_by, asked_len};
 ghost use Rattle.fs_chain.specs.Orders.{begin_error, give_error, walk_error, entries_asked, IfWalking, IsWalking};
 ghost use Rattle.fs_chain.specs.Walks.{LacksRoom, WalksOn, IsAllBut};
-ghost use Rattle.fs_chain.specs.declared.state.State.TheVariants as at;
+ghost use Rattle.fs_chain.specs.declared.state.ChainState.TheVariants as at;
 
 use crate::error::ChainError;
-use crate::queue::KeptQueue;
-use crate::state::{State, Ticket};
-use crate::walking::WalkOutcome;
-use crate::workbench::Workbench;
+use crate::queue::QueueState;
+use crate::state::{ChainState, PopId};
+use crate::popping::PopOutcome;
+use crate::chain_handle::ChainHandle;
 use fs_queue::{QueueError, Walk};
-use fs_regions::{Course, GuestMap, QueueWalk, Step};
+use fs_regions::{Course, GuestMap, QueueWalk, CourseStep};
 use memory_requests::reserve_small;
 use std::mem;
 use vm_memory_core::{Permissions, VolatileSlice};
@@ -47,14 +47,14 @@ fn take(walk: &mut QueueWalk, course: &Course) -> QueueWalk
 }
 
 // Why a walk doesn't begin by so many bytes, of a queue as it stands.
-fn begin_refusal(queue: &KeptQueue, len: usize) -> Option<ChainError>
+fn begin_refusal(queue: &QueueState, len: usize) -> Option<ChainError>
     ensures { result ≡ begin_error queue.now len }
 {
     if len != 0 {
         return Some(ChainError::BadArgument);
     }
     if !queue.may_take() {
-        return Some(ChainError::ChainOut);
+        return Some(ChainError::ChainInFlight);
     }
     None
 }
@@ -62,31 +62,31 @@ fn begin_refusal(queue: &KeptQueue, len: usize) -> Option<ChainError>
 // Why a walk doesn't go on by so many bytes, of a queue as it stands.
 #[inline(always)]
 fn give_refusal(
-    queue: &KeptQueue,
+    queue: &QueueState,
     course: &Course,
-    ticket: Ticket,
+    pop_id: PopId,
     walk: &QueueWalk,
     len: usize,
 ) -> Option<ChainError>
-    ensures error { result ≡ give_error queue.now course.now ticket (asked_len walk.now) len }
+    ensures error { result ≡ give_error queue.now course.now pop_id (asked_len walk.now) len }
     ensures memory { IfSome result (λ e. e ≡ ChainError.OutOfMemory → ⊥) }
 {
     if len != walk.len() {
         return Some(ChainError::BadArgument);
     }
-    if !queue.has(course, ticket) {
+    if !queue.has(course, pop_id) {
         return Some(ChainError::OtherQueue);
     }
     if !queue.may_take() {
-        return Some(ChainError::ChainOut);
+        return Some(ChainError::ChainInFlight);
     }
     None
 }
 
-impl Workbench {
+impl ChainHandle {
     // Gives a walk the bytes of its load, in place.
     #[inline(always)]
-    fn give(&mut self, queue: &mut KeptQueue, loaded: &[u8]) -> WalkOutcome
+    fn give(&mut self, queue: &mut QueueState, loaded: &[u8]) -> PopOutcome
         requires walking { IsWalking self.old.state }
         requires bytes { IfWalking self.old.state (λ walk. length loaded.now ≡ asked_len walk) }
         requires room { HasRoomFor self.old.descriptors (entries_asked self.old.state) }
@@ -95,17 +95,17 @@ impl Workbench {
         ensures apart { (self.new.part ≡ self.old.part) × (self.new.session ≡ self.old.session) }
     {
         match &mut self.state {
-            State::Walking(course, ticket, walk) => {
+            ChainState::Walking(course, pop_id, walk) => {
                 let taken = take(walk, course);
                 match course.give(&self.regions, taken, loaded, &mut self.descriptors) {
-                    Step::Load(next) => {
+                    CourseStep::Load(next) => {
                         let len = next.len();
                         *walk = next;
-                        WalkOutcome::Load(len)
+                        PopOutcome::Load(len)
                     }
                     ended => {
-                        let (course, ticket) = (*course, *ticket);
-                        self.settle(queue, course, ticket, ended)
+                        let (course, pop_id) = (*course, *pop_id);
+                        self.settle(queue, course, pop_id, ended)
                     }
                 }
             }
@@ -122,7 +122,7 @@ impl Workbench {
         ensures same { IsAllBut self.old self.new × (self.new.state ≡ self.old.state) × (self.new.descriptors.items ≡ self.old.descriptors.items) }
         ensures apart { (self.new.part ≡ self.old.part) × (self.new.session ≡ self.old.session) }
     {
-        let State::Walking(_, _, walk) = &self.state else {
+        let ChainState::Walking(_, _, walk) = &self.state else {
             unreachable!()
         };
         let entries = walk.entries();
@@ -138,7 +138,7 @@ impl Workbench {
     // Goes on with a walk by these bytes, if it asked for so many and its queue is this one. A queue that was stopped
     // meanwhile refuses it.
     #[inline(always)]
-    fn go_on(&mut self, queue: &mut KeptQueue, loaded: &[u8]) -> Result<WalkOutcome, ChainError>
+    fn go_on(&mut self, queue: &mut QueueState, loaded: &[u8]) -> Result<PopOutcome, ChainError>
         requires { IsWalking self.old.state }
         ensures error { IfErr result (λ e. (walk_error self.old.state queue.old (length loaded.now) ≡ Some e)
             ⊎ ((e ≡ ChainError.OutOfMemory) × (walk_error self.old.state queue.old (length loaded.now) ≡ None))) }
@@ -149,8 +149,8 @@ impl Workbench {
         ensures apart { (self.new.part ≡ self.old.part) × (self.new.session ≡ self.old.session) }
     {
         match &self.state {
-            State::Walking(course, ticket, walk) => {
-                if let Some(error) = give_refusal(queue, course, *ticket, walk, loaded.len()) {
+            ChainState::Walking(course, pop_id, walk) => {
+                if let Some(error) = give_refusal(queue, course, *pop_id, walk, loaded.len()) {
                     return Err(error);
                 }
             }
@@ -158,7 +158,7 @@ impl Workbench {
         }
         if queue.stopped.is_some() {
             self.end_walk();
-            return Ok(WalkOutcome::Refused(QueueError::Stopped));
+            return Ok(PopOutcome::Refused(QueueError::Stopped));
         }
         match self.make_room() {
             Ok(()) => Ok(self.give(queue, loaded)),
@@ -170,9 +170,9 @@ impl Workbench {
     #[inline(always)]
     pub(crate) fn walk_load(
         &mut self,
-        queue: &mut KeptQueue,
+        queue: &mut QueueState,
         loaded: &[u8],
-    ) -> Result<WalkOutcome, ChainError>
+    ) -> Result<PopOutcome, ChainError>
         ensures error { IfErr result (λ e. (walk_error self.old.state queue.old (length loaded.now) ≡ Some e)
             ⊎ ((e ≡ ChainError.OutOfMemory) × (walk_error self.old.state queue.old (length loaded.now) ≡ None))) }
         ensures ok { OnOk result (walk_error self.old.state queue.old (length loaded.now) ≡ None) }
@@ -182,20 +182,20 @@ impl Workbench {
         ensures apart { (self.new.part ≡ self.old.part) × (self.new.session ≡ self.old.session) }
     {
         match self.state {
-            State::Free => self.begin_walk(queue, loaded),
-            State::Walking(_, _, _) => self.go_on(queue, loaded),
+            ChainState::Free => self.begin_walk(queue, loaded),
+            ChainState::Walking(_, _, _) => self.go_on(queue, loaded),
             _ => Err(ChainError::WrongOrder),
         }
     }
 
     /// Why a walk doesn't go on by a whole load of so many bytes, of a queue as it stands, or begin by none; None if only memory may be wanting.
-    pub fn walk_refusal(&self, queue: &KeptQueue, len: usize) -> Option<ChainError>
+    pub fn walk_refusal(&self, queue: &QueueState, len: usize) -> Option<ChainError>
         ensures { result ≡ walk_error self.now.state queue.now len }
     {
         match &self.state {
-            State::Free => begin_refusal(queue, len),
-            State::Walking(course, ticket, walk) => {
-                give_refusal(queue, course, *ticket, walk, len)
+            ChainState::Free => begin_refusal(queue, len),
+            ChainState::Walking(course, pop_id, walk) => {
+                give_refusal(queue, course, *pop_id, walk, len)
             }
             _ => Some(ChainError::WrongOrder),
         }
@@ -211,7 +211,7 @@ impl Workbench {
         ensures walking { OnSome result (IsWalking self.now.state) }
     {
         match &self.state {
-            State::Walking(_, _, walk) => window_of(&self.regions, walk, from),
+            ChainState::Walking(_, _, walk) => window_of(&self.regions, walk, from),
             _ => None,
         }
     }

@@ -2,7 +2,7 @@
 #![tactic(auto)]
 
 mod answering;
-mod asking;
+mod decoding;
 mod error;
 mod event_index;
 mod giving_up;
@@ -12,23 +12,23 @@ mod listing;
 mod loads;
 mod looking;
 mod own_reply;
-mod passed;
+mod window_cursor;
 mod queue;
-mod returning;
+mod pushing;
 mod serial;
 mod state;
-mod walking;
-mod workbench;
+mod popping;
+mod chain_handle;
 
 pub use answering::Replied;
-pub use asking::Told;
+pub use decoding::Decoded;
 pub use error::ChainError;
-pub use event_index::KickStore;
+pub use event_index::NotificationStore;
 pub use listing::Added;
-pub use loads::Went;
-pub use passed::Passed;
-pub use queue::KeptQueue;
-pub use returning::Stores;
-pub use state::{Out, Reply, State, Ticket};
-pub use walking::WalkOutcome;
-pub use workbench::Workbench;
+pub use loads::LoadOutcome;
+pub use window_cursor::WindowCursor;
+pub use queue::QueueState;
+pub use pushing::PushStores;
+pub use state::{InFlight, ChainReply, ChainState, PopId};
+pub use popping::PopOutcome;
+pub use chain_handle::ChainHandle;

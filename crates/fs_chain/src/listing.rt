@@ -4,14 +4,14 @@ ghost use Rattle.std.specs.Prelude.{◌≡◌, OnOk, OnErr, length};
 ghost use Rattle.fuse_fs.specs.Answers.{listed};
 ghost use Rattle.server_replies.specs.Entries.{no_node};
 ghost use Rattle.server_phases.specs.Gathering.{added_found, added_plain};
-ghost use Rattle.fs_chain.specs.Listings.{AddsTo, Ends, Fails, adding_error, answered_by, list_after, list_error, told_added};
+ghost use Rattle.fs_chain.specs.Listings.{AddsTo, EndsByEntries, EndsByError, adding_error, answered_by, list_after, list_error, told_added};
 ghost use Rattle.fs_chain.specs.Serials.{UnlessRefused, serial_error};
 ghost use Rattle.fs_chain.specs.Walks.{IsAllButPlace};
-ghost use Rattle.fs_chain.specs.declared.state.State.TheVariants as at;
+ghost use Rattle.fs_chain.specs.declared.state.ChainState.TheVariants as at;
 
 use crate::error::ChainError;
-use crate::state::{Out, Reply, State};
-use crate::workbench::Workbench;
+use crate::state::{InFlight, ChainReply, ChainState};
+use crate::chain_handle::ChainHandle;
 use fuse_fs::{DirEntry, Entry};
 use fuse_wire::Errno;
 use server_phases::{Listing, ListingReply, NotAdded};
@@ -54,7 +54,7 @@ fn list_after(before: usize, len: usize, told: Result<Added, ChainError>) -> usi
     }
 }
 
-impl Workbench {
+impl ChainHandle {
     // Why no entry is brought with this number by a list of this length.
     fn adding_error(&self, serial: u32, len: usize) -> Option<ChainError>
         ensures { result ≡ adding_error self.now serial len }
@@ -70,7 +70,7 @@ impl Workbench {
         ensures { result ≡ list_error self.now.state self.now.list_len len }
     {
         match &self.state {
-            State::Lists(_, _) => {
+            ChainState::Lists(_, _) => {
                 if self.list_len != 0 && self.list_len != len {
                     return Some(ChainError::BadArgument);
                 }
@@ -83,7 +83,7 @@ impl Workbench {
     // Brings an entry of READDIR to a listing.
     fn add_to(
         &mut self,
-        out: Out,
+        out: InFlight,
         mut listing: Listing,
         list: &mut [u8],
         entry: &DirEntry<'_>,
@@ -95,7 +95,7 @@ impl Workbench {
     {
         let len = list.len();
         let outcome = listing.add(list, entry);
-        self.state = State::Lists(out, listing);
+        self.state = ChainState::Lists(out, listing);
         let told = told_added(outcome);
         self.list_len = list_after(self.list_len, len, told);
         told
@@ -104,7 +104,7 @@ impl Workbench {
     // Brings an entry of READDIRPLUS to a listing.
     fn add_node_to(
         &mut self,
-        out: Out,
+        out: InFlight,
         mut listing: Listing,
         list: &mut [u8],
         entry: &DirEntry<'_>,
@@ -117,7 +117,7 @@ impl Workbench {
     {
         let len = list.len();
         let outcome = listing.add_with_node(list, entry, node);
-        self.state = State::Lists(out, listing);
+        self.state = ChainState::Lists(out, listing);
         let told = told_added(outcome);
         self.list_len = list_after(self.list_len, len, told);
         told
@@ -130,10 +130,10 @@ impl Workbench {
         ensures list { self.new.list_len ≡ list_after self.old.list_len (length list.old) result }
         ensures stays { IsAllButPlace self.old self.new }
     {
-        match mem::replace(&mut self.state, State::Free) {
-            State::Lists(out, listing) => self.add_to(out, listing, list, entry),
-            State::Waits(out, waiting) => {
-                self.state = State::Waits(out, waiting);
+        match mem::replace(&mut self.state, ChainState::Free) {
+            ChainState::Lists(out, listing) => self.add_to(out, listing, list, entry),
+            ChainState::Waits(out, waiting) => {
+                self.state = ChainState::Waits(out, waiting);
                 Err(ChainError::OtherKind)
             }
             other => {
@@ -178,10 +178,10 @@ impl Workbench {
         ensures list { self.new.list_len ≡ list_after self.old.list_len (length list.old) result }
         ensures stays { IsAllButPlace self.old self.new }
     {
-        match mem::replace(&mut self.state, State::Free) {
-            State::Lists(out, listing) => self.add_node_to(out, listing, list, entry, node),
-            State::Waits(out, waiting) => {
-                self.state = State::Waits(out, waiting);
+        match mem::replace(&mut self.state, ChainState::Free) {
+            ChainState::Lists(out, listing) => self.add_node_to(out, listing, list, entry, node),
+            ChainState::Waits(out, waiting) => {
+                self.state = ChainState::Waits(out, waiting);
                 Err(ChainError::OtherKind)
             }
             other => {
@@ -215,26 +215,26 @@ impl Workbench {
     }
 
     // Keeps the reply of a listing.
-    fn keep_listed(&mut self, out: Out, reply: ListingReply) -> usize
+    fn keep_listed(&mut self, out: InFlight, reply: ListingReply) -> usize
         ensures len { result ≡ reply.len }
         ensures kept { self.new ≡ record self.old { state = answered_by out reply } }
     {
         let behind = reply.len;
         let front = Some(reply.front);
-        self.state = State::HasReply(out, Reply { front, behind });
+        self.state = ChainState::HasReply(out, ChainReply { front, behind });
         behind
     }
 
     // Replies the entries of the listing, if one waits.
     fn end_asked(&mut self) -> Result<usize, ChainError>
-        ensures ended { Ends self.old.state self.new.state result }
+        ensures ended { EndsByEntries self.old.state self.new.state result }
         ensures same { OnErr result (self.new ≡ self.old) }
         ensures stays { IsAllButPlace self.old self.new }
     {
-        match mem::replace(&mut self.state, State::Free) {
-            State::Lists(out, listing) => Ok(self.keep_listed(out, listing.end())),
-            State::Waits(out, waiting) => {
-                self.state = State::Waits(out, waiting);
+        match mem::replace(&mut self.state, ChainState::Free) {
+            ChainState::Lists(out, listing) => Ok(self.keep_listed(out, listing.end())),
+            ChainState::Waits(out, waiting) => {
+                self.state = ChainState::Waits(out, waiting);
                 Err(ChainError::OtherKind)
             }
             other => {
@@ -247,8 +247,8 @@ impl Workbench {
     /// Replies the entries so far: how many bytes of the list are the data. `WrongOrder` if no call waits, `OtherCall` if another one does than that of this
     /// number, `OtherKind` if it is no listing.
     pub fn end(&mut self, serial: u32) -> Result<usize, ChainError>
-        ensures told { UnlessRefused (serial_error self.old.state self.old.serial serial) result (self.new ≡ self.old) (Ends self.old.state self.new.state result) }
-        ensures ended { OnOk result (Ends self.old.state self.new.state result) }
+        ensures told { UnlessRefused (serial_error self.old.state self.old.serial serial) result (self.new ≡ self.old) (EndsByEntries self.old.state self.new.state result) }
+        ensures ended { OnOk result (EndsByEntries self.old.state self.new.state result) }
         ensures same { OnErr result (self.new ≡ self.old) }
         ensures stays { IsAllButPlace self.old self.new }
     {
@@ -260,14 +260,14 @@ impl Workbench {
 
     // Replies that the listing failed, if one waits.
     fn fail_asked(&mut self, error: Errno) -> Result<usize, ChainError>
-        ensures failed { Fails error self.old.state self.new.state result }
+        ensures failed { EndsByError error self.old.state self.new.state result }
         ensures same { OnErr result (self.new ≡ self.old) }
         ensures stays { IsAllButPlace self.old self.new }
     {
-        match mem::replace(&mut self.state, State::Free) {
-            State::Lists(out, listing) => Ok(self.keep_listed(out, listing.fail(error))),
-            State::Waits(out, waiting) => {
-                self.state = State::Waits(out, waiting);
+        match mem::replace(&mut self.state, ChainState::Free) {
+            ChainState::Lists(out, listing) => Ok(self.keep_listed(out, listing.fail(error))),
+            ChainState::Waits(out, waiting) => {
+                self.state = ChainState::Waits(out, waiting);
                 Err(ChainError::OtherKind)
             }
             other => {
@@ -279,8 +279,8 @@ impl Workbench {
 
     /// Replies that the listing failed: how many bytes of the list are the data. It is refused as `end` is.
     pub fn fail(&mut self, serial: u32, error: Errno) -> Result<usize, ChainError>
-        ensures told { UnlessRefused (serial_error self.old.state self.old.serial serial) result (self.new ≡ self.old) (Fails error self.old.state self.new.state result) }
-        ensures failed { OnOk result (Fails error self.old.state self.new.state result) }
+        ensures told { UnlessRefused (serial_error self.old.state self.old.serial serial) result (self.new ≡ self.old) (EndsByError error self.old.state self.new.state result) }
+        ensures failed { OnOk result (EndsByError error self.old.state self.new.state result) }
         ensures same { OnErr result (self.new ≡ self.old) }
         ensures stays { IsAllButPlace self.old self.new }
     {

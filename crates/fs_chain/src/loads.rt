@@ -7,23 +7,23 @@ ghost use Rattle.fs_chain.specs.Orders.{load_len, walk_error};
 ghost use Rattle.fs_chain.specs.Walks.{IsAllBut, IsAllButPart, LacksRoom, WalksOn};
 
 use crate::error::ChainError;
-use crate::queue::KeptQueue;
-use crate::walking::WalkOutcome;
-use crate::workbench::Workbench;
+use crate::queue::QueueState;
+use crate::popping::PopOutcome;
+use crate::chain_handle::ChainHandle;
 use memory_requests::reserve;
 use std::mem;
 use vm_memory_core::VolatileSlice;
 
 /// What some bytes came to.
 #[derive(Clone, Copy, Debug, PartialEq, Eq)]
-pub enum Went {
+pub enum LoadOutcome {
     /// They are a part of the load, of which more is wanted.
     Part,
     /// The walk went on.
-    On(WalkOutcome),
+    On(PopOutcome),
 }
 
-impl Workbench {
+impl ChainHandle {
     /// The window of the bytes that a walk still asks for: of its load what didn't come yet, as long as its region goes on. None if it asks for
     /// none, or if they have no place.
     #[inline(always)]
@@ -92,9 +92,9 @@ impl Workbench {
     #[inline(never)]
     fn walk_joined(
         &mut self,
-        queue: &mut KeptQueue,
+        queue: &mut QueueState,
         before: usize,
-    ) -> Result<WalkOutcome, ChainError>
+    ) -> Result<PopOutcome, ChainError>
         ensures error { IfErr result (λ e. (walk_error self.old.state queue.old (came self.old) ≡ Some e)
             ⊎ ((e ≡ ChainError.OutOfMemory) × (walk_error self.old.state queue.old (came self.old) ≡ None))) }
         ensures ok { OnOk result (walk_error self.old.state queue.old (came self.old) ≡ None) }
@@ -122,7 +122,7 @@ impl Workbench {
 
     // Gives the walk its whole load, or begins it: no part came before.
     #[inline(always)]
-    fn walk_whole(&mut self, queue: &mut KeptQueue, loaded: &[u8]) -> Result<Went, ChainError>
+    fn walk_whole(&mut self, queue: &mut QueueState, loaded: &[u8]) -> Result<LoadOutcome, ChainError>
         requires whole { whole self.old loaded.now ≡ loaded.now }
         requires due { AreDue self.old loaded.now }
         requires len { length loaded.now ≡ due_len self.old loaded.now }
@@ -133,7 +133,7 @@ impl Workbench {
         match self.walk_load(queue, loaded) {
             Ok(walked) => {
                 self.clear_part();
-                Ok(Went::On(walked))
+                Ok(LoadOutcome::On(walked))
             }
             Err(error) => Err(error),
         }
@@ -141,7 +141,7 @@ impl Workbench {
 
     // Takes some bytes of the load that is asked for.
     #[tactic(auto, using(crate::proofs::LoadLemmas::fits))]
-    fn give_part(&mut self, queue: &mut KeptQueue, loaded: &[u8]) -> Result<Went, ChainError>
+    fn give_part(&mut self, queue: &mut QueueState, loaded: &[u8]) -> Result<LoadOutcome, ChainError>
         requires { 0 < load_len self.old.state }
         ensures goes { IfOk result (λ went. GoesSo self.old queue.old loaded.now went self.new queue.new) }
         ensures error { IfErr result (RefusesWalk self.old queue.old loaded.now) }
@@ -162,10 +162,10 @@ impl Workbench {
             return Err(error);
         }
         if self.part.len() != asked {
-            return Ok(Went::Part);
+            return Ok(LoadOutcome::Part);
         }
         match self.walk_joined(queue, before) {
-            Ok(walked) => Ok(Went::On(walked)),
+            Ok(walked) => Ok(LoadOutcome::On(walked)),
             Err(error) => Err(error),
         }
     }
@@ -174,9 +174,9 @@ impl Workbench {
     /// over the end of a region, or in parts: each time those of the window that is still wanted (`still_wanted`), until the walk goes on.
     ///
     /// `BadArgument` for other bytes than those, or if a walk begins by some. `WrongOrder` if a chain is out. `OtherQueue` if the walk is another queue's,
-    /// or if a chain was taken or given up since it began; `ChainOut` if the queue has as many chains out as it may; `OutOfMemory` if the descriptors
+    /// or if a chain was taken or given up since it began; `ChainInFlight` if the queue has as many chains out as it may; `OutOfMemory` if the descriptors
     /// of the entries that are asked for, or a part of a load, have no room. Then nothing is done.
-    pub fn walk(&mut self, queue: &mut KeptQueue, loaded: &[u8]) -> Result<Went, ChainError>
+    pub fn pop(&mut self, queue: &mut QueueState, loaded: &[u8]) -> Result<LoadOutcome, ChainError>
         ensures goes { IfOk result (λ went. GoesSo self.old queue.old loaded.now went self.new queue.new) }
         ensures error { IfErr result (RefusesWalk self.old queue.old loaded.now) }
         ensures same { OnErr result (IsSame self.old self.new × (queue.new ≡ queue.old)) }

@@ -9,13 +9,13 @@ ghost use Rattle.fs_regions.specs.Walks.{asked_len};
 ghost use Rattle.fs_regions.specs.Windows.{IsRangeFrom};
 ghost use Rattle.fs_chain.specs.Orders.{is_free, is_listing, is_out, load_len, room_len};
 
-use crate::state::State;
-use crate::workbench::Workbench;
+use crate::state::ChainState;
+use crate::chain_handle::ChainHandle;
 use fs_regions::range_from;
 use server_phases::Session;
 use vm_memory_core::{Permissions, VolatileSlice};
 
-impl Workbench {
+impl ChainHandle {
     /// The longest window of at most `most` bytes from a guest address on, for an access. None if the address has no place.
     pub fn window_at(&self, addr: u64, most: usize, access: Permissions) -> Option<VolatileSlice>
         requires { 0 < most }
@@ -30,7 +30,7 @@ impl Workbench {
     pub fn is_free(&self) -> bool
         ensures { result ≡ is_free self.now.state }
     {
-        matches!(self.state, State::Free)
+        matches!(self.state, ChainState::Free)
     }
 
     /// The session in which the chain was asked.
@@ -44,7 +44,7 @@ impl Workbench {
     pub fn is_listing(&self) -> bool
         ensures { result ≡ is_listing self.now.state }
     {
-        matches!(self.state, State::Lists(_, _))
+        matches!(self.state, ChainState::Lists(_, _))
     }
 
     /// How many bytes of a load a walk asks for; 0 if no walk asks.
@@ -52,7 +52,7 @@ impl Workbench {
         ensures { result ≡ load_len self.now.state }
     {
         match &self.state {
-            State::Walking(_, _, walk) => walk.len(),
+            ChainState::Walking(_, _, walk) => walk.len(),
             _ => 0,
         }
     }
@@ -62,12 +62,12 @@ impl Workbench {
         ensures { result ≡ room_len self.now.state }
     {
         match &self.state {
-            State::Taken(out)
-            | State::Waits(out, _)
-            | State::Lists(out, _)
-            | State::HasReply(out, _)
-            | State::Returning(out) => out.room_len,
-            State::Free | State::Walking(_, _, _) => 0,
+            ChainState::Taken(out)
+            | ChainState::Waits(out, _)
+            | ChainState::Lists(out, _)
+            | ChainState::HasReply(out, _)
+            | ChainState::Pushing(out) => out.room_len,
+            ChainState::Free | ChainState::Walking(_, _, _) => 0,
         }
     }
 

@@ -3,15 +3,15 @@
 ghost use Rattle.std.specs.Prelude.{◌≡◌, None, Some, IfErr, OnOk, OnErr};
 ghost use Rattle.fs_chain.specs.OwnReplies.{IfUnanswered, own_error, own_len_error, own_reply};
 ghost use Rattle.fs_chain.specs.Orders.{front_len, reply_len};
-ghost use Rattle.fs_chain.specs.declared.state.State.TheVariants as at;
+ghost use Rattle.fs_chain.specs.declared.state.ChainState.TheVariants as at;
 
 use crate::error::ChainError;
-use crate::state::{Out, Reply, State};
-use crate::workbench::Workbench;
+use crate::state::{InFlight, ChainReply, ChainState};
+use crate::chain_handle::ChainHandle;
 
-impl Workbench {
+impl ChainHandle {
     // Keeps a reply of so many bytes of a chain that has none yet.
-    fn keep_own(&mut self, out: Out, len: usize) -> Result<(), ChainError>
+    fn keep_own(&mut self, out: InFlight, len: usize) -> Result<(), ChainError>
         ensures error { IfErr result (λ e. own_len_error out.room_len len ≡ Some e) }
         ensures ok { OnOk result (own_len_error out.room_len len ≡ None) }
         ensures same { OnErr result (self.new ≡ self.old) }
@@ -22,13 +22,13 @@ impl Workbench {
             return Err(ChainError::LongReply);
         }
         let front = None;
-        self.state = State::HasReply(out, Reply { front, behind: len });
+        self.state = ChainState::HasReply(out, ChainReply { front, behind: len });
         Ok(())
     }
 
     /// Replies `len` bytes of the caller's own, header and all (struct fuse_out_header of linux/fuse.h): he puts them over the room's first places, before
     /// the used index is stored. 0 is silence. In place of `ask`, for a request that the server doesn't serve, or of the answer that a call waits for, of
-    /// which nothing is kept then. `begin_return` tells no front, and `len` in the used element (VIRTIO 1.2, 2.7.8).
+    /// which nothing is kept then. `push` tells no front, and `len` in the used element (VIRTIO 1.2, 2.7.8).
     ///
     /// `WrongOrder` if no chain is out, or its reply is known, as that of a faulty one is: none. `OtherCall` if its number is another one (`serial`).
     /// `LongReply` if the room is shorter, or from 2^32 bytes on.
@@ -40,7 +40,7 @@ impl Workbench {
         ensures told { OnOk result (IfUnanswered self.old.state (λ out. (front_len (own_reply len) ≡ 0) × (reply_len out (own_reply len) ≡ len))) }
     {
         match &self.state {
-            State::Taken(out) | State::Waits(out, _) | State::Lists(out, _) => {
+            ChainState::Taken(out) | ChainState::Waits(out, _) | ChainState::Lists(out, _) => {
                 let out = *out;
                 if self.serial != serial {
                     return Err(ChainError::OtherCall);

@@ -5,8 +5,8 @@ ghost use Rattle.fs_chain.specs.Orders.{is_free};
 ghost use Rattle.fs_chain.specs.Serials.{freed, number_error, serial_error};
 
 use crate::error::ChainError;
-use crate::state::State;
-use crate::workbench::Workbench;
+use crate::state::ChainState;
+use crate::chain_handle::ChainHandle;
 
 // Whether an answer's number is that of the chain; why not.
 pub(crate) fn number_error(mine: u32, serial: u32) -> Option<ChainError>
@@ -18,7 +18,7 @@ pub(crate) fn number_error(mine: u32, serial: u32) -> Option<ChainError>
     None
 }
 
-impl Workbench {
+impl ChainHandle {
     /// The number of the chain that is out, which each answer to its call brings: so an answer that comes late, to a chain that was given up, isn't taken
     /// for the one of the next chain. From chain to chain of a handle it grows by 1, modulo 2^32.
     pub fn serial(&self) -> u32
@@ -29,14 +29,14 @@ impl Workbench {
 
     /// Chooses the number of the handle's next chain; it grows by 1 from there. Handles that begin far apart have no
     /// number in common for as many chains, so an answer that is given to the wrong handle is refused (`OtherCall`).
-    /// `ChainOut` if a chain is walked or in flight.
+    /// `ChainInFlight` if a chain is walked or in flight.
     pub fn number_from(&mut self, first: u32) -> Result<(), ChainError>
-        ensures error { IfErr result (λ e. (e ≡ ChainError.ChainOut) × (is_free self.old.state ≡ false)) }
+        ensures error { IfErr result (λ e. (e ≡ ChainError.ChainInFlight) × (is_free self.old.state ≡ false)) }
         ensures ok { OnOk result ((is_free self.old.state ≡ true) × (self.new ≡ record self.old { serial = first })) }
         ensures same { OnErr result (self.new ≡ self.old) }
     {
         if !self.is_free() {
-            return Err(ChainError::ChainOut);
+            return Err(ChainError::ChainInFlight);
         }
         self.serial = first;
         Ok(())
@@ -49,7 +49,7 @@ impl Workbench {
         if self.is_out() {
             self.serial = self.serial.wrapping_add(1);
         }
-        self.state = State::Free;
+        self.state = ChainState::Free;
         self.list_len = 0;
     }
 
@@ -58,7 +58,7 @@ impl Workbench {
         ensures { result ≡ serial_error self.now.state self.now.serial serial }
     {
         match &self.state {
-            State::Waits(_, _) | State::Lists(_, _) => number_error(self.serial, serial),
+            ChainState::Waits(_, _) | ChainState::Lists(_, _) => number_error(self.serial, serial),
             _ => Some(ChainError::WrongOrder),
         }
     }

@@ -5,16 +5,16 @@ use server_phases::{Front, Listing, Waiting};
 
 /// What a walk is known by, and then its chain: how often its queue was begun anew before, and how often a chain was taken or given up.
 #[derive(Clone, Copy, Debug)]
-pub struct Ticket {
-    pub(crate) begun: u32,
-    pub(crate) taken: u32,
+pub struct PopId {
+    pub(crate) reset_count: u32,
+    pub(crate) pop_count: u32,
 }
 
 /// A chain that is out of its queue.
 #[derive(Clone, Copy, Debug)]
-pub struct Out {
+pub struct InFlight {
     pub(crate) course: Course,
-    pub(crate) ticket: Ticket,
+    pub(crate) pop_id: PopId,
     pub(crate) head: u16,
     pub(crate) request_len: usize,
     pub(crate) room_len: usize,
@@ -22,26 +22,26 @@ pub struct Out {
 
 /// A reply: its front, or that there is none, and how many bytes of data stand behind it.
 #[derive(Drop)]
-pub struct Reply {
+pub struct ChainReply {
     pub(crate) front: Option<Front>,
     pub(crate) behind: usize,
 }
 
 /// Where a chain is.
 #[derive(Drop)]
-pub enum State {
+pub enum ChainState {
     /// No chain: the handle is free for a walk.
     Free,
     /// It is walked.
-    Walking(Course, Ticket, QueueWalk),
+    Walking(Course, PopId, QueueWalk),
     /// It is out of its queue, and its request wasn't asked.
-    Taken(Out),
+    Taken(InFlight),
     /// Its call waits for an answer.
-    Waits(Out, Waiting),
+    Waits(InFlight, Waiting),
     /// Its listing gathers entries.
-    Lists(Out, Listing),
+    Lists(InFlight, Listing),
     /// Its reply is known.
-    HasReply(Out, Reply),
+    HasReply(InFlight, ChainReply),
     /// The stores of its return were told.
-    Returning(Out),
+    Pushing(InFlight),
 }

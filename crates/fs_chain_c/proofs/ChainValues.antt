@@ -1,4 +1,4 @@
--- A handle, and the parts of a box of a workbench, by value: what they own is taken out, and put in. Assumes `Logic`.
+-- A handle, and the parts of a box of a `ChainHandle`, by value: what they own is taken out, and put in. Assumes `Logic`.
 use Rattle.std.specs.Prelude.{Option, Some, None, is_some, if◌then◌else◌}
 use Rattle.std.specs.Global.{Global}
 use Rattle.std.proofs.Common.{lit<}
@@ -7,9 +7,9 @@ use Rattle.std.specs.Box.Ownership.{box_owns}
 use Rattle.std_heap.specs.contracts.Global as Heap
 use Rattle.std_heap.specs.contracts.GlobalAllocator.TheImpl.{ghosts, dict}
 use Rattle.std_heap.proofs.Global.TheLaws as heap
-use Rattle.fs_chain.specs.contracts.workbench.Workbench as workbench
+use Rattle.fs_chain.specs.contracts.chain_handle.ChainHandle as handle
 use Rattle.fs_chain_c.specs.contracts.handle.FsChain as chain
-use Rattle.fs_chain_c.specs.contracts.parts.Parts as parts
+use Rattle.fs_chain_c.specs.contracts.parts.BoxParts as parts
 use Rattle.fs_chain_c.specs.Owned.{chain_owns}
 use Prim.Native.Nat.{ℕ, ◌<◌, ◌^◌}
 use mathlib.Core.Path.{◌≡◌, refl, subst}
@@ -34,7 +34,7 @@ abbrev pub al : Al
 al = record { row = Heap.the_row; laws = heap.the_row_laws; g = ghosts; d = dict; drops = impl [] tnil dnil }
 
 abbrev pub Work : RattleType
-Work = workbench.the_row
+Work = handle.the_row
 
 abbrev pub Chain : RattleType
 Chain = chain.the_row

@@ -1,31 +1,31 @@
--- What is done with the workbench of a handle, by what the handle holds before and after.
+-- What is done with the `ChainHandle` of a handle, by what the handle holds before and after.
 use Rattle.std.proofs.Common.{◌≡◌, ℕ, List, Option, Some, Result, Ok, Err, IfErr, inr, sym, subst}
 use Rattle.vm_memory.specs.Layout.{Region}
 use Rattle.fs_chain.specs.declared.error.ChainError.{ChainError}
 use Rattle.fs_chain.specs.Orders.{memory_error}
-use Rattle.fs_chain.specs.declared.workbench.Workbench.{Workbench}
+use Rattle.fs_chain.specs.declared.chain_handle.ChainHandle.{ChainHandle}
 use Rattle.fs_chain_c.specs.declared.device.FsDevice.{FsDevice}
 use Rattle.fs_chain_c.specs.declared.memory.FsRegion.{FsRegion}
-use Rattle.fs_chain_c.specs.Handles.{GoesOver, OnWorkbench, RefusesMemory, SetsWorkbench, SetsMemory}
+use Rattle.fs_chain_c.specs.Handles.{GoesOver, OnHandle, RefusesMemory, SetsHandle, SetsMemory}
 use Rattle.fs_chain_c.specs.Memory.{IsDevice, IsMemory}
 
-pub on_workbench : (Does : Workbench → Workbench → Type 0) (Nothing : Type 0) (before after : Option Workbench) (b b' : Workbench)
-    → before ≡ Some b → after ≡ Some b' → Does b b' → OnWorkbench Does Nothing before after
-on_workbench Does Nothing before after b b' was is does =
-    subst (λ (o : Option Workbench). OnWorkbench Does Nothing o after) (sym was) (subst (λ (o : Option Workbench). OnWorkbench Does Nothing (Some b) o) (sym is) does)
+pub on_handle : (Does : ChainHandle → ChainHandle → Type 0) (Nothing : Type 0) (before after : Option ChainHandle) (b b' : ChainHandle)
+    → before ≡ Some b → after ≡ Some b' → Does b b' → OnHandle Does Nothing before after
+on_handle Does Nothing before after b b' was is does =
+    subst (λ (o : Option ChainHandle). OnHandle Does Nothing o after) (sym was) (subst (λ (o : Option ChainHandle). OnHandle Does Nothing (Some b) o) (sym is) does)
 
--- a workbench is told its memory
-pub sets_some : (d : FsDevice) (regions : List FsRegion) (status : ℕ) (before after : Option Workbench) (b b' : Workbench)
-    → before ≡ Some b → after ≡ Some b' → SetsWorkbench b d regions status b' → SetsMemory before d regions status after
+-- a `ChainHandle` is told its memory
+pub sets_some : (d : FsDevice) (regions : List FsRegion) (status : ℕ) (before after : Option ChainHandle) (b b' : ChainHandle)
+    → before ≡ Some b → after ≡ Some b' → SetsHandle b d regions status b' → SetsMemory before d regions status after
 sets_some d regions status before after b b' was is sets =
-    subst (λ (o : Option Workbench). SetsMemory o d regions status after) (sym was) (subst (λ (o : Option Workbench). SetsMemory (Some b) d regions status o) (sym is) sets)
+    subst (λ (o : Option ChainHandle). SetsMemory o d regions status after) (sym was) (subst (λ (o : Option ChainHandle). SetsMemory (Some b) d regions status o) (sym is) sets)
 
--- the same workbench is told the same
-pub goes_along : (b : Workbench) (d : FsDevice) (regions : List FsRegion) (b' b'' : Workbench) → b'' ≡ b' → GoesOver b d regions b' → GoesOver b d regions b''
-goes_along b d regions b' b'' same goes = let P : Workbench → Type 0 = λ x. GoesOver b d regions x in subst P (sym same) goes
+-- the same `ChainHandle` is told the same
+pub goes_along : (b : ChainHandle) (d : FsDevice) (regions : List FsRegion) (b' b'' : ChainHandle) → b'' ≡ b' → GoesOver b d regions b' → GoesOver b d regions b''
+goes_along b d regions b' b'' same goes = let P : ChainHandle → Type 0 = λ x. GoesOver b d regions x in subst P (sym same) goes
 
 -- where the chain is is looked at behind the device's numbers and the regions
-pub state_refuses : {A : Type 0} (b : Workbench) (d : FsDevice) (regions : List FsRegion) (memory : List Region) (r : Result A ChainError)
+pub state_refuses : {A : Type 0} (b : ChainHandle) (d : FsDevice) (regions : List FsRegion) (memory : List Region) (r : Result A ChainError)
     → IsDevice d → IsMemory regions memory → IfErr r (λ e. memory_error b.state d.limit ≡ Some e) → IfErr r (RefusesMemory b d regions)
 state_refuses b d regions memory (Ok x) device is why = tt
 state_refuses b d regions memory (Err e) device is why = inr (inr (device, (memory, is), why))

@@ -5,7 +5,7 @@ use Rattle.std.specs.Prelude.{◌==◌, nat_lt, nat_le}
 use Rattle.std.proofs.lemmas.Bool.{eq-eqb, eqb-true, ltb-false}
 use Rattle.std.proofs.lemmas.List.{drop-drop, drop-take, length-drop, length-take-le, take-take, take_all}
 use Rattle.std.proofs.lemmas.List.Elements.{All-cons, All-nil}
-use Rattle.fuse_in.specs.Shapes.{Shape, size, made}
+use Rattle.fuse_in.specs.Shapes.{RecordShape, size, made}
 use Rattle.fuse_wire.specs.declared.others.ForgetOne.{ForgetOne}
 use Rattle.fuse_wire.specs.Records.{forget_one}
 use Rattle.fuse_fs.specs.Calls.{Extra, NewLink}
@@ -73,10 +73,10 @@ exactly_read : (n : ℕ) (bytes : List ℕ) → IfRead (AreFirst n bytes) (exact
 exactly_read n bytes = exactly_by (nat_lt (length bytes) n) n bytes refl
 
 -- a record that was read, and the bytes behind it
-abbrev pub IsRecord : {R : Type 0} → Shape R → (bytes : List ℕ) → R → (more : List ℕ) → Type 0
+abbrev pub IsRecord : {R : Type 0} → RecordShape R → (bytes : List ℕ) → R → (more : List ℕ) → Type 0
 IsRecord s bytes r more = (r ≡ made s.parts s.make (take (size s.parts) bytes)) × (more ≡ drop (size s.parts) bytes) × (size s.parts ≤ length bytes)
 
-pub record_read : {R : Type 0} (s : Shape R) (bytes : List ℕ) → IfRead (IsRecord s bytes) (reading_of s bytes)
+pub record_read : {R : Type 0} (s : RecordShape R) (bytes : List ℕ) → IfRead (IsRecord s bytes) (reading_of s bytes)
 unfolding reading_of
 record_read {R} s bytes =
     then_read (AreFirst (size s.parts) bytes) (IsRecord s bytes) (exactly (size s.parts) bytes) (λ x. Ok (made s.parts s.make x.0, x.1)) (exactly_read (size s.parts) bytes)
@@ -99,7 +99,7 @@ counted_read len k bytes =
 abbrev pub StandBehind : (k : ℕ) → (request : List ℕ) → {R : Type 0} → R × List ℕ → List ℕ → Type 0
 StandBehind k request x more = (n : ℕ) × (x.1 ≡ take n (drop k request))
 
-pub with_bytes_read : {R : Type 0} (s : Shape R) (k len : ℕ) (request : List ℕ) → size s.parts ≡ k
+pub with_bytes_read : {R : Type 0} (s : RecordShape R) (k len : ℕ) (request : List ℕ) → size s.parts ≡ k
     → IfRead (λ (x : R × List ℕ) (more : List ℕ). StandBehind (40 + k) request x more) (with_bytes s k len (drop 40 request))
 unfolding with_bytes
 with_bytes_read {R} s k len request is =

@@ -9,15 +9,15 @@ use Rattle.fs_chain.specs.declared.error.ChainError.{ChainError}
 use Rattle.fs_chain.specs.declared.error.ChainError.TheVariants as error
 use Rattle.fs_chain.specs.Events.{tells_of}
 use Rattle.fs_chain.specs.Numbers.{chain_error_number}
-use Rattle.notify.specs.Threads.{Queue, Wishes, WishIsThere, after_act}
+use Rattle.notify.specs.Threads.{ThreadedQueue, Wishes, WishIsThere, after_act}
 use Rattle.fs_notify.proofs.Returns as givers
 use Rattle.fs_notify.proofs.Wishes as takers
 use Rattle.fs_notify.specs.Takers.{SaysWish, ways_of}
-use Rattle.fs_chain_c.specs.declared.kicks.FsStore.{FsStore}
-use Rattle.fs_chain_c.specs.Kicks.{TellsStore}
+use Rattle.fs_chain_c.specs.declared.notifications.FsStore.{FsStore}
+use Rattle.fs_chain_c.specs.Notifications.{TellsStore}
 use Rattle.fs_chain_c.specs.Notifying.{NotifyIsACheck, StoresAWish}
 use Rattle.fs_chain_c.specs.Queues.{flag}
-use Rattle.fs_chain_c.specs.Returning.{StandsHere}
+use Rattle.fs_chain_c.specs.Pushing.{StandsHere}
 
 -- a refusal has a number
 refused : (e : ChainError) → 0 ≡ chain_error_number e → ⊥
@@ -42,7 +42,7 @@ wishes b q told s (inr is) = (
   λ counted of walker.
       let asked = takers.asks is.1 s counted of walker in
       let store = asked.0 in
-      let end : Queue = after_act (ways_of is.1) (after_act (ways_of is.1) s Wishes) WishIsThere in
+      let end : ThreadedQueue = after_act (ways_of is.1) (after_act (ways_of is.1) s Wishes) WishIsThere in
       let stored = told_store b.regions store told (subst (λ (x : Option Store). TellsStore b.regions x told 0) asked.1 is.3) in (
         subst (λ (a : ℕ). StandsHere b.regions Write a 2 told.at) asked.2 stored.0,
         stored.2,

@@ -9,7 +9,7 @@ use Rattle.fs_record.specs.Record.{Second, end_bytes, head_of, queue_bytes, reco
 use Rattle.fs_chain.specs.declared.error.ChainError.{ChainError}
 use Rattle.fs_chain_c.specs.declared.queue.FsQueue.{FsQueue}
 use Rattle.fs_chain_c.specs.Queues.{IsQueue}
-use Rattle.fs_chain_c.specs.Records.{HasNoneOut, RefusesQueue, RefusesQueues}
+use Rattle.fs_chain_c.specs.Records.{HasNoneOut, RefusesToSave, RefusesQueues}
 
 head_length : (page_size limit options count : ℕ) → length (spelled (head_fields (head_of (Second page_size limit) options count))) ≡ 24
 unfolding field_bytes
@@ -57,7 +57,7 @@ parted (p ∷ qs) (suc k) q within is = ap (λ (l : List FsQueue). p ∷ l) (par
 
 -- one that is refused is the first, if those before it aren't
 pub first_refused : (qs : List FsQueue) (k : ℕ) (q : FsQueue) (e : ChainError) → k < length qs → q ≡ get_or qs k q → All IsQueue (take k qs) → All HasNoneOut (take k qs)
-    → RefusesQueue q e → RefusesQueues qs e
+    → RefusesToSave q e → RefusesQueues qs e
 first_refused qs k q e within is are none_out why = record {
   before = take k qs;
   queue = q;

@@ -1,4 +1,4 @@
--- What pk_ask tells of the names of a request.
+-- What pk_decode tells of the names of a request.
 use Rattle.std.proofs.Common.{◌≡◌, ◌∙◌, ℕ, ◌+◌, ◌-◌, ◌<◌, ◌≤◌, ◌^◌, Bool, true, false, ◌&&◌, ◌||◌, List, [], ◌++◌, length, take, drop, replicate, Option, Some, None, Ok, Err, is_ok, refl, ap, sym, subst, arith, le_refl}
 use Rattle.std.specs.Prelude.{◌==◌, nat_lt, nat_le, if◌then◌else◌}
 use Rattle.std.specs.Int.{w32, from_le_bytes}
@@ -18,24 +18,24 @@ use Rattle.server_segments.specs.declared.error.Error.TheVariants.{DecodeMessage
 use Rattle.server_requests.specs.Reading.{Read, ReadFailure, Faults, and_then, needs, reading_of}
 use Rattle.server_calls.specs.Requests.{write_call}
 use Rattle.server_phases.specs.declared.session.Session.{Session}
-use Rattle.server_phases.specs.Asking.{IsFront, front_tells}
+use Rattle.server_phases.specs.Asking.{IsRequestFront, front_tells}
 use Rattle.server_phases.specs.Waiting.{first_call}
 use Rattle.virtiofsd_fuse.specs.DataApart.{begins_a_write, is_write}
 use Rattle.virtiofsd_fuse.specs.Grammar.{Asks, FileCommand, Given, Meaning, given, meaning, one, row}
 use Rattle.virtiofsd_fuse.specs.Serving.{Setting, setting}
-use Rattle.fs_chain.specs.declared.asking.Told as told
-use Rattle.fs_chain.specs.declared.asking.Told.TheVariants as tells
+use Rattle.fs_chain.specs.declared.decoding.Decoded as told
+use Rattle.fs_chain.specs.declared.decoding.Decoded.TheVariants as tells
 use Rattle.fs_chain.specs.declared.error.ChainError.{ChainError}
 use Rattle.fs_chain.specs.declared.error.ChainError.TheVariants.{BadArgument}
-use Rattle.fs_chain.specs.declared.state.Out.{Out}
-use Rattle.fs_chain.specs.declared.state.State as state
-use Rattle.fs_chain.specs.declared.state.State.TheVariants as at
-use Rattle.fs_chain.specs.declared.workbench.Workbench.{Workbench}
-use Rattle.fs_chain.specs.Asking.{IfTaken, KeepsCall, wanted_after, wanted_by}
+use Rattle.fs_chain.specs.declared.state.InFlight.{InFlight}
+use Rattle.fs_chain.specs.declared.state.ChainState as state
+use Rattle.fs_chain.specs.declared.state.ChainState.TheVariants as at
+use Rattle.fs_chain.specs.declared.chain_handle.ChainHandle.{ChainHandle}
+use Rattle.fs_chain.specs.Decoding.{IfUndecoded, KeepsCall, wanted_after, wanted_by}
 use Rattle.fs_chain.specs.Orders.{ask_error, room_len}
 use Rattle.fs_chain_c.specs.declared.call.FsCall.{FsCall}
-use Rattle.fs_chain_c.specs.Asking as asking
-use Rattle.fs_chain_c.specs.Asking.{TellsAsked}
+use Rattle.fs_chain_c.specs.Decoding as asking
+use Rattle.fs_chain_c.specs.Decoding.{TellsAsked}
 use Rattle.fs_chain_c.specs.Calls.{call_fields, opcode_in, told_call}
 use Rattle.fs_chain_c.specs.Spans.{AskedSpansHoldNames, HasNames, IfCall}
 use Rattle.fs_chain_c.proofs.NamePlaces.{IfRead, both, quiet, then_read}
@@ -108,19 +108,19 @@ opcode_more front more long =
 -- ---- what is told
 
 -- a call that is told is the first one of what the request means
-asks_of : (s : Setting) (m : Meaning) (bytes : List ℕ) (made : values.FileCall) (out : Out) (kept : state.State) → KeepsCall s m bytes made out kept
+asks_of : (s : Setting) (m : Meaning) (bytes : List ℕ) (made : values.FileCall) (out : InFlight) (kept : state.ChainState) → KeepsCall s m bytes made out kept
     → (command : FileCommand) × (m ≡ Asks command) × (call_of bytes made ≡ first_call command)
 asks_of s m bytes made out (at.Waits same w) h = (h.1.0, h.1.1, h.1.2)
 asks_of s m bytes made out (at.Lists same l) h = (h.1.0, h.1.1, h.1.2)
 asks_of s m bytes made out _ h = absurd h
 
 -- requests that begin so keep this call
-abbrev Keeps : Out → state.State → Session → (request : List ℕ) → values.FileCall → Type 0
+abbrev Keeps : InFlight → state.ChainState → Session → (request : List ℕ) → values.FileCall → Type 0
 Keeps out kept s request made =
-    (all : List ℕ) → out.request_len ≡ length all → IsFront request all
+    (all : List ℕ) → out.request_len ≡ length all → IsRequestFront request all
     → KeepsCall (setting s.page_size s.options.0 out.room_len) (meaning s.options.0 all out.room_len) (drop 80 all) made out kept
 
-by_front : (b : Bool) (out : Out) (kept : state.State) (s : Session) (request : List ℕ) (made : values.FileCall) (other : ℕ) → (length request == out.request_len) ≡ b
+by_front : (b : Bool) (out : InFlight) (kept : state.ChainState) (s : Session) (request : List ℕ) (made : values.FileCall) (other : ℕ) → (length request == out.request_len) ≡ b
     → length request < 2 ^ 32 → length request ≤ out.request_len
     → (b || (nat_le 80 (length request) && nat_le (length request) out.request_len && begins_a_write request)) ≡ true
     → Keeps out kept s request made → HasNames request made (told_call (opcode_in request) s.options.0 other made)
@@ -153,16 +153,16 @@ tells_by : (test : Bool) (n : ℕ) → ◌≡◌ {A = Option ℕ} None (if test 
 tells_by true n e = refl
 tells_by false n e = absurd (cc)
 
-call_named : (before kept : state.State) (s : Session) (request : List ℕ) (made : values.FileCall) (other : ℕ) → length request < 2 ^ 32
-    → ask_error before (length request) ≡ None → IfTaken before (λ out. Keeps out kept s request made)
-    → IfTaken before (λ out. wanted_by (tells.Call made) ≡ wanted_after request out.request_len) → HasNames request made (told_call (opcode_in request) s.options.0 other made)
+call_named : (before kept : state.ChainState) (s : Session) (request : List ℕ) (made : values.FileCall) (other : ℕ) → length request < 2 ^ 32
+    → ask_error before (length request) ≡ None → IfUndecoded before (λ out. Keeps out kept s request made)
+    → IfUndecoded before (λ out. wanted_by (tells.Call made) ≡ wanted_after request out.request_len) → HasNames request made (told_call (opcode_in request) s.options.0 other made)
 call_named (at.Taken out) kept s request made other small can keeps wanted =
     by_front (length request == out.request_len) out kept s request made other refl small
     (ltb-false out.request_len (length request) (fits_by (nat_lt out.request_len (length request)) can)) (tells_by (front_tells request out.request_len) _ wanted) keeps
 call_named _ kept s request made other small can keeps wanted = absurd (cc)
 
-told_named : (b asked b' : Workbench) (s : Session) (request : List ℕ) (made : told.Told) (fields call : FsCall) (status ticket : ℕ) → length request < 2 ^ 32
-    → asking.Asks b s request made asked → TellsAsked asked request made fields status b' → call ≡ record fields { ticket = ticket }
+told_named : (b asked b' : ChainHandle) (s : Session) (request : List ℕ) (made : told.Decoded) (fields call : FsCall) (status ticket : ℕ) → length request < 2 ^ 32
+    → asking.Decodes b s request made asked → TellsAsked asked request made fields status b' → call ≡ record fields { ticket = ticket }
     → IfCall made (λ (made : values.FileCall). HasNames request made call)
 told_named b asked b' s request (tells.Call made) fields call status ticket small asks tells is =
     let room = room_len asked.state in

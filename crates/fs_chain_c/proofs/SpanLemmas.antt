@@ -5,7 +5,7 @@ use Rattle.std.specs.Prelude.{◌==◌, nat_lt, nat_le, not, bit_and, slice_get,
 use Rattle.std.specs.Int.{w32, from_le_bytes}
 use Rattle.std.proofs.lemmas.Bool.{eq-eqb, eqb-true, le-ltb, ltb-false}
 use Rattle.std.proofs.lemmas.List.{drop-drop, drop-take, length-drop, length-take, take-take}
-use Rattle.fuse_in.specs.Shapes.{Shape, made, size}
+use Rattle.fuse_in.specs.Shapes.{RecordShape, made, size}
 use Rattle.fuse_in.specs.Records as inputs
 use Rattle.fuse_in.specs.declared.session.InHeader.{InHeader}
 use Rattle.fuse_in.specs.declared.nodes.SetxattrIn.{SetxattrIn}
@@ -91,7 +91,7 @@ module _ (all : List ℕ) (o : Option Opcode) (g : Given) where
   then_any (Ok x) f go = go x
   then_any (Err e) f go = tt
 
-  record_stands : {R : Type 0} (s : Shape R) (c : InHeader → R → FileCall) → ((r : R) → Has (c g.header r)) → Stands (grammar.record_row s c g (drop 40 all))
+  record_stands : {R : Type 0} (s : RecordShape R) (c : InHeader → R → FileCall) → ((r : R) → Has (c g.header r)) → Stands (grammar.record_row s c g (drop 40 all))
   record_stands s c has = then_any (reading_of s (drop 40 all)) (λ x. one g (c g.header x.0) x.1) (λ x. has x.0)
 
   -- what is read of some bytes at a place
@@ -124,19 +124,19 @@ module _ (all : List ℕ) (o : Option Opcode) (g : Given) where
       (λ x. and_then (within x.0.1 (parts g x.0.0) x.1) (λ y. one g (c g.header x.0.0 y.0) y.1)) begins
       (λ x h. inside (parts g x.0.0) (c g.header x.0.0) Is x.0.1 x.1 k h.0 h.1 (reads x.0.0 x.0.1) (λ a i. has x.0.0 a h.0 i))
 
-  new_stands : {R : Type 0} (s : Shape R) (k : ℕ) (c : InHeader → R → List ℕ × Extra → FileCall) → size s.parts ≡ k
+  new_stands : {R : Type 0} (s : RecordShape R) (k : ℕ) (c : InHeader → R → List ℕ × Extra → FileCall) → size s.parts ≡ k
       → ((r : R) (x : List ℕ × Extra) → NameStandsAt (40 + k) all x.0 → Has (c g.header r x)) → Stands (grammar.new_name_row s k c g (drop 40 all))
   new_stands {R} s k c is has =
       bytes_stands (λ g. with_bytes s k g.header.len) (λ g r. new_name g.options) c (40 + k) (λ (bytes : List ℕ) (x : List ℕ × Extra). IsName bytes x.0)
       (with_bytes_read s k g.header.len all is) (λ r bytes. new_read g.options bytes) (λ r x n h. has r x (name_kept all x.0 (40 + k) n h))
 
-  record_name_stands : {R : Type 0} (s : Shape R) (k : ℕ) (c : InHeader → R → List ℕ → FileCall) → size s.parts ≡ k
+  record_name_stands : {R : Type 0} (s : RecordShape R) (k : ℕ) (c : InHeader → R → List ℕ → FileCall) → size s.parts ≡ k
       → ((r : R) (name : List ℕ) → NameStandsAt (40 + k) all name → Has (c g.header r name)) → Stands (grammar.record_name_row s k c g (drop 40 all))
   record_name_stands {R} s k c is has =
       bytes_stands (λ g. with_bytes s k g.header.len) (λ g r. last_name) c (40 + k) IsName (with_bytes_read s k g.header.len all is) (λ r bytes. last_read bytes)
       (λ r name n h. has r name (name_kept all name (40 + k) n h))
 
-  two_names_stands : {R : Type 0} (s : Shape R) (k : ℕ) (c : InHeader → R → List ℕ × List ℕ → FileCall) → size s.parts ≡ k
+  two_names_stands : {R : Type 0} (s : RecordShape R) (k : ℕ) (c : InHeader → R → List ℕ × List ℕ → FileCall) → size s.parts ≡ k
       → ((r : R) (names : List ℕ × List ℕ) → NameStandsAt (40 + k) all names.0 × NameStandsAt (40 + k + (length names.0 + 1)) all names.1 → Has (c g.header r names))
       → Stands (grammar.two_names_row s k c g (drop 40 all))
   two_names_stands {R} s k c is has =

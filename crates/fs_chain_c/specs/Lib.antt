@@ -1,7 +1,7 @@
-pub mod Asking
+pub mod Decoding
 pub mod Calls
 pub mod Handles
-pub mod Kicks
+pub mod Notifications
 pub mod Listing
 pub mod Memory
 pub mod Names
@@ -12,7 +12,7 @@ pub mod Queues
 pub mod Ranges
 pub mod Records
 pub mod Replies
-pub mod Returning
+pub mod Pushing
 pub mod Spans
-pub mod Walking
+pub mod Popping
 pub mod Windows

@@ -12,15 +12,15 @@ use Rattle.fs_chain.specs.declared.error.ChainError.{ChainError}
 use Rattle.fs_chain.specs.declared.error.ChainError.TheVariants.{BadArgument, WrongOrder}
 use Rattle.fs_chain.specs.declared.listing.Added.{Added}
 use Rattle.fs_chain.specs.declared.listing.Added.TheVariants as added
-use Rattle.fs_chain.specs.Listings.{AddsTo, Ends, Fails, adding_error, list_after}
+use Rattle.fs_chain.specs.Listings.{AddsTo, EndsByEntries, EndsByError, adding_error, list_after}
 use Rattle.fs_chain.specs.Numbers.{chain_error_number}
 use Rattle.fs_chain.specs.Orders.{is_listing}
 use Rattle.fs_chain.specs.Serials.{UnlessRefused, serial_error}
 use Rattle.fs_chain.specs.Walks.{IsAllButPlace}
 use Rattle.fs_chain_c.specs.declared.answers.FsEntry.{FsEntry}
-use Rattle.fs_chain.specs.declared.workbench.Workbench.{Workbench}
-use Rattle.fs_chain_c.specs.Asking.{AnswersWorkbench}
-use Rattle.fs_chain_c.specs.Handles.{OnWorkbench}
+use Rattle.fs_chain.specs.declared.chain_handle.ChainHandle.{ChainHandle}
+use Rattle.fs_chain_c.specs.Decoding.{AnswersHandle}
+use Rattle.fs_chain_c.specs.Handles.{OnHandle}
 
 -- ---- entries
 
@@ -32,9 +32,9 @@ added_status (Ok added.NoRoom) = 37
 added_status (Ok added.TooLong) = 37
 added_status (Err e) = chain_error_number e
 
--- an entry is brought to a workbench's listing, by the ticket of its chain, in the list that has those before it; or it is refused, and nothing is done
-abbrev pub AddsWorkbench : Workbench → (ticket : ℕ) → Brought → (outcome : Listing → Result (Unit {0}) reason.NotAdded) → (list : List ℕ) → (status : ℕ) → Workbench → (list' : List ℕ) → Type 0
-AddsWorkbench b ticket e outcome list status b' list' =
+-- an entry is brought to a `ChainHandle`'s listing, by the ticket of its chain, in the list that has those before it; or it is refused, and nothing is done
+abbrev pub AddsToHandle : ChainHandle → (ticket : ℕ) → Brought → (outcome : Listing → Result (Unit {0}) reason.NotAdded) → (list : List ℕ) → (status : ℕ) → ChainHandle → (list' : List ℕ) → Type 0
+AddsToHandle b ticket e outcome list status b' list' =
     (told : Result Added ChainError) × UnlessRefused (adding_error b ticket (length list)) told ((b' ≡ b) × (list' ≡ list)) (AddsTo b.state b'.state list list' e outcome told)
     × (b'.list_len ≡ list_after b.list_len (length list) told) × IsAllButPlace b b' × (status ≡ added_status told)
 
@@ -55,10 +55,10 @@ abbrev pub listed_as : (name : List ℕ) → (ino offset type : ℕ) → Listed
 listed_as name ino offset type = record { ino = ino; offset = offset; kind = type; name = name }
 
 -- an entry of READDIR is brought; a bad argument, if it has no name or no type
-abbrev pub AddsEntry : (is : Bool) → Listed → (ticket : ℕ) → Option Workbench → (list : List ℕ) → (status : ℕ) → Option Workbench → (list' : List ℕ) → Type 0
+abbrev pub AddsEntry : (is : Bool) → Listed → (ticket : ℕ) → Option ChainHandle → (list : List ℕ) → (status : ℕ) → Option ChainHandle → (list' : List ℕ) → Type 0
 AddsEntry false d ticket before list status after list' = (status ≡ chain_error_number BadArgument) × (after ≡ before) × (list' ≡ list)
 AddsEntry true d ticket before list status after list' =
-    OnWorkbench (λ b b'. AddsWorkbench b ticket (d, no_node d) (λ l. added_plain l (length list) (length d.name)) list status b' list')
+    OnHandle (λ b b'. AddsToHandle b ticket (d, no_node d) (λ l. added_plain l (length list) (length d.name)) list status b' list')
     ((status ≡ chain_error_number WrongOrder) × (list' ≡ list)) before after
 
 -- the kind of an entry with these attributes: the bits of S_IFMT
@@ -66,9 +66,9 @@ abbrev pub type_of : FsEntry → ℕ
 type_of e = e.attr.mode / 4096 % 16
 
 -- an entry of READDIRPLUS is brought; a bad argument, if it has no name or no type, or a time isn't one
-abbrev pub AddsNode : (is : Bool) → Listed → Option (Entry ℕ) → (ticket : ℕ) → Option Workbench → (list : List ℕ) → (status : ℕ) → Option Workbench → (list' : List ℕ) → Type 0
+abbrev pub AddsNode : (is : Bool) → Listed → Option (Entry ℕ) → (ticket : ℕ) → Option ChainHandle → (list : List ℕ) → (status : ℕ) → Option ChainHandle → (list' : List ℕ) → Type 0
 AddsNode true d (Some entry) ticket before list status after list' =
-    OnWorkbench (λ b b'. AddsWorkbench b ticket (d, entry) (λ l. added_found l (length list) (length d.name)) list status b' list')
+    OnHandle (λ b b'. AddsToHandle b ticket (d, entry) (λ l. added_found l (length list) (length d.name)) list status b' list')
     ((status ≡ chain_error_number WrongOrder) × (list' ≡ list)) before after
 AddsNode true d None ticket before list status after list' = (status ≡ chain_error_number BadArgument) × (after ≡ before) × (list' ≡ list)
 AddsNode false d entry ticket before list status after list' = (status ≡ chain_error_number BadArgument) × (after ≡ before) × (list' ≡ list)
@@ -89,36 +89,36 @@ abbrev pub ended_len : Result ℕ ChainError → ℕ
 ended_len (Ok n) = n
 ended_len (Err e) = 0
 
--- a workbench's listing ends by the entries so far
-abbrev pub EndsListing : Workbench → (ticket status len : ℕ) → Workbench → Type 0
+-- a `ChainHandle`'s listing ends by the entries so far
+abbrev pub EndsListing : ChainHandle → (ticket status len : ℕ) → ChainHandle → Type 0
 EndsListing b ticket status len b' =
-    (told : Result ℕ ChainError) × UnlessRefused (serial_error b.state b.serial ticket) told (b' ≡ b) (Ends b.state b'.state told) × OnErr told (b' ≡ b) × IsAllButPlace b b' ×
+    (told : Result ℕ ChainError) × UnlessRefused (serial_error b.state b.serial ticket) told (b' ≡ b) (EndsByEntries b.state b'.state told) × OnErr told (b' ≡ b) × IsAllButPlace b b' ×
     (status ≡ ended_status told) × (len ≡ ended_len told)
 
 -- a handle's listing ends so
-abbrev pub EndsList : (ticket : ℕ) → Option Workbench → (status len : ℕ) → Option Workbench → Type 0
-EndsList ticket before status len after = OnWorkbench (λ b b'. EndsListing b ticket status len b') ((status ≡ chain_error_number WrongOrder) × (len ≡ 0)) before after
+abbrev pub EndsHandleList : (ticket : ℕ) → Option ChainHandle → (status len : ℕ) → Option ChainHandle → Type 0
+EndsHandleList ticket before status len after = OnHandle (λ b b'. EndsListing b ticket status len b') ((status ≡ chain_error_number WrongOrder) × (len ≡ 0)) before after
 
--- a workbench's listing fails by an errno
-abbrev pub FailsListing : (errno ticket : ℕ) → Workbench → (status : ℕ) → Workbench → Type 0
+-- a `ChainHandle`'s listing fails by an errno
+abbrev pub FailsListing : (errno ticket : ℕ) → ChainHandle → (status : ℕ) → ChainHandle → Type 0
 FailsListing errno ticket b status b' =
-    (told : Result ℕ ChainError) × UnlessRefused (serial_error b.state b.serial ticket) told (b' ≡ b) (Fails errno b.state b'.state told) × OnErr told (b' ≡ b) × IsAllButPlace b b' × (status ≡ failed_status told)
+    (told : Result ℕ ChainError) × UnlessRefused (serial_error b.state b.serial ticket) told (b' ≡ b) (EndsByError errno b.state b'.state told) × OnErr told (b' ≡ b) × IsAllButPlace b b' × (status ≡ failed_status told)
 
--- a workbench's call fails by an errno: a listing by what it has, another call by its answer
-abbrev pub FailsWorkbench : (listing : Bool) → (errno ticket : ℕ) → Workbench → (status : ℕ) → Workbench → Type 0
-FailsWorkbench true errno ticket b status b' = FailsListing errno ticket b status b'
-FailsWorkbench false errno ticket b status b' = AnswersWorkbench b ticket (answer.Failed errno) status b'
+-- a `ChainHandle`'s call fails by an errno: a listing by what it has, another call by its answer
+abbrev pub FailsHandle : (listing : Bool) → (errno ticket : ℕ) → ChainHandle → (status : ℕ) → ChainHandle → Type 0
+FailsHandle true errno ticket b status b' = FailsListing errno ticket b status b'
+FailsHandle false errno ticket b status b' = AnswersHandle b ticket (answer.Failed errno) status b'
 
 -- the errno of a number, from 1 to 4095
 abbrev pub errno_of : ℕ → Option ℕ
 errno_of n = if nat_le 1 n && nat_le n 4095 then Some n else None
 
 -- a handle's call fails by an errno, or is done (0), or the number is a bad argument
-abbrev pub RepliesBy : (errno : Option ℕ) → (done : Bool) → (ticket : ℕ) → Option Workbench → (status : ℕ) → Option Workbench → Type 0
-RepliesBy (Some errno) done ticket before status after =
-    OnWorkbench (λ b b'. FailsWorkbench (is_listing b.state) errno ticket b status b') (status ≡ chain_error_number WrongOrder) before after
-RepliesBy None true ticket before status after = OnWorkbench (λ b b'. AnswersWorkbench b ticket answer.Done status b') (status ≡ chain_error_number WrongOrder) before after
-RepliesBy None false ticket before status after = (status ≡ chain_error_number BadArgument) × (after ≡ before)
+abbrev pub RepliesErr : (errno : Option ℕ) → (done : Bool) → (ticket : ℕ) → Option ChainHandle → (status : ℕ) → Option ChainHandle → Type 0
+RepliesErr (Some errno) done ticket before status after =
+    OnHandle (λ b b'. FailsHandle (is_listing b.state) errno ticket b status b') (status ≡ chain_error_number WrongOrder) before after
+RepliesErr None true ticket before status after = OnHandle (λ b b'. AnswersHandle b ticket answer.Done status b') (status ≡ chain_error_number WrongOrder) before after
+RepliesErr None false ticket before status after = (status ≡ chain_error_number BadArgument) × (after ≡ before)
 
-abbrev pub RepliesError : (error ticket : ℕ) → Option Workbench → (status : ℕ) → Option Workbench → Type 0
-RepliesError error ticket before status after = RepliesBy (errno_of error) (error == 0) ticket before status after
+abbrev pub RepliesError : (error ticket : ℕ) → Option ChainHandle → (status : ℕ) → Option ChainHandle → Type 0
+RepliesError error ticket before status after = RepliesErr (errno_of error) (error == 0) ticket before status after

@@ -2,27 +2,27 @@
 use Rattle.std.specs.Prelude.{◌≡◌, ℕ, ◌^◌, ◌<◌, ◌==◌, ◌||◌}
 use Rattle.std.specs.Int.{w16, to_le_bytes}
 use Rattle.vm_iotlb.specs.declared.permissions.Permissions.TheVariants.{Write}
-use Rattle.fs_chain.specs.declared.queue.KeptQueue.{KeptQueue}
-use Rattle.fs_chain.specs.declared.workbench.Workbench.{Workbench}
+use Rattle.fs_chain.specs.declared.queue.QueueState.{QueueState}
+use Rattle.fs_chain.specs.declared.chain_handle.ChainHandle.{ChainHandle}
 use Rattle.fs_chain.specs.Queues.{gave}
-use Rattle.notify.specs.Kicks.{State, Checks, after}
-use Rattle.notify.specs.Threads.{Queue, Walker, Wishes, WishIsThere, after_act}
+use Rattle.notify.specs.Kicks.{NotifyState, Checks, after}
+use Rattle.notify.specs.Threads.{ThreadedQueue, Walker, Wishes, WishIsThere, after_act}
 use Rattle.fs_notify.specs.Givers.{rules_of}
 use Rattle.fs_notify.specs.Takers.{IsCounted, IsOf, SaysWish, ways_of, wish_at}
-use Rattle.fs_chain_c.specs.declared.kicks.FsStore.{FsStore}
+use Rattle.fs_chain_c.specs.declared.notifications.FsStore.{FsStore}
 use Rattle.fs_chain_c.specs.declared.queue.FsQueue.{FsQueue}
-use Rattle.fs_chain_c.specs.Kicks.{AsksWorkbench}
-use Rattle.fs_chain_c.specs.Queues.{IsKept}
-use Rattle.fs_chain_c.specs.Returning.{EndsWorkbench, StandsHere}
+use Rattle.fs_chain_c.specs.Notifications.{SetsNotification}
+use Rattle.fs_chain_c.specs.Queues.{IsQueueState}
+use Rattle.fs_chain_c.specs.Pushing.{EndsHandlePush, StandsHere}
 
 -- the store that C is told to make before a thread sleeps is the model's wish for the next chain, where the
 -- device has it, once it has reached memory
 abbrev pub StoresAWish : Type 0
 StoresAWish =
-    (b : Workbench) (q : FsQueue) (told : FsStore) (s : Queue)
-    → AsksWorkbench b q 1 told 0
-    → (k : KeptQueue)
-    × IsKept q k
+    (b : ChainHandle) (q : FsQueue) (told : FsStore) (s : ThreadedQueue)
+    → SetsNotification b q 1 told 0
+    → (k : QueueState)
+    × IsQueueState q k
     × (IsCounted k
     → IsOf k s
     → s.holder ≡ Walker
@@ -35,13 +35,13 @@ StoresAWish =
 -- of the two bytes that C has loaded behind the barrier, `notify` tells what the model's giver checks
 abbrev pub NotifyIsACheck : Type 0
 NotifyIsACheck =
-    (b b' : Workbench) (q q' : FsQueue) (seen notify : ℕ) (u : State)
-    → EndsWorkbench b q seen notify 0 b' q'
+    (b b' : ChainHandle) (q q' : FsQueue) (seen notify : ℕ) (u : NotifyState)
+    → EndsHandlePush b q seen notify 0 b' q'
     → seen < 2 ^ 16
-    → (k : KeptQueue)
-    × IsKept q k
-    × (k.returned < 2 ^ 16
-    → u.published ≡ (gave k).returned
+    → (k : QueueState)
+    × IsQueueState q k
+    × (k.next_used < 2 ^ 16
+    → u.published ≡ (gave k).next_used
     → u.unchecked ≡ 1
     → SaysWish k.event_index (to_le_bytes w16 seen) u.event u.muted
     → (after (rules_of k) u Checks).owes ≡ (u.owes || notify == 1))

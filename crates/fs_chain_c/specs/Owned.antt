@@ -7,17 +7,17 @@ use Rattle.std.specs.Coded.{coded_option}
 use Rattle.std.specs.Box.Ownership.{box_owns}
 use Rattle.std.specs.Global.{Global}
 use Rattle.std_heap.specs.contracts.GlobalAllocator.TheImpl.{ghosts}
-use Rattle.fs_chain.specs.contracts.workbench.Workbench as workbench
+use Rattle.fs_chain.specs.contracts.chain_handle.ChainHandle as handle
 
 -- the null pointer
 abbrev pub null : Ptr
 null = null_ptr
 
 -- the box behind its pointer, if it has one
-abbrev pub chain_owns : Global → Ptr → Option (workbench.the_row).Denot → Fml
+abbrev pub chain_owns : Global → Ptr → Option (handle.the_row).Denot → Fml
 chain_owns alloc p None = ftrue
-chain_owns alloc p (Some w) = box_owns (ghosts.dealloc_token alloc) workbench.the_row p w
+chain_owns alloc p (Some w) = box_owns (ghosts.dealloc_token alloc) handle.the_row p w
 
--- how the workbench there is coded
-abbrev pub chain_value_coded : Coded (Option (workbench.the_row).Denot)
-chain_value_coded = coded_option (workbench.the_row).coded
+-- how the `ChainHandle` there is coded
+abbrev pub chain_value_coded : Coded (Option (handle.the_row).Denot)
+chain_value_coded = coded_option (handle.the_row).coded

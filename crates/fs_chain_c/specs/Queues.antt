@@ -5,7 +5,7 @@ use Rattle.fs_queue.specs.Numbers.{queue_number}
 use Rattle.fs_queue.specs.declared.fault.QueueError.{QueueError}
 use Rattle.fs_queue.specs.declared.fault.QueueError.TheVariants as stop
 use Rattle.fs_chain.specs.declared.error.ChainError.TheVariants.{BadArgument}
-use Rattle.fs_chain.specs.declared.queue.KeptQueue.{KeptQueue}
+use Rattle.fs_chain.specs.declared.queue.QueueState.{QueueState}
 use Rattle.fs_chain.specs.Numbers.{chain_error_number}
 use Rattle.fs_chain_c.specs.declared.queue.FsQueue.{FsQueue}
 
@@ -34,45 +34,45 @@ flag false = 0
 flag true = 1
 
 -- how many chains are out
-abbrev pub chains_out : FsQueue → ℕ
-chains_out q = (q.position + (2 ^ 16 - q.returned)) % 2 ^ 16
+abbrev pub chains_in_flight : FsQueue → ℕ
+chains_in_flight q = (q.next_avail + (2 ^ 16 - q.next_used)) % 2 ^ 16
 
 -- these are a queue's numbers: no more chains are out, or may be, than it has descriptors
 abbrev pub IsQueue : FsQueue → Type 0
 IsQueue q =
-    (layout_error q.size q.desc q.avail q.used ≡ None) × (chains_out q ≤ q.size) × (q.most_out ≤ q.size) × (q.returning ≤ 1) × (q.event_index ≤ 1) × IsSome (stop_of q.stopped)
+    (layout_error q.size q.desc q.avail q.used ≡ None) × (chains_in_flight q ≤ q.size) × (q.max_in_flight ≤ q.size) × (q.pushing ≤ 1) × (q.event_index ≤ 1) × IsSome (stop_of q.stopped)
 
 -- the core's queue has these numbers
-pub record IsKept (q : FsQueue) (k : KeptQueue) : Type 0 where
+pub record IsQueueState (q : FsQueue) (k : QueueState) : Type 0 where
   pub lawful : layout_error q.size q.desc q.avail q.used ≡ None
   pub size : k.layout.size ≡ q.size
   pub desc : k.layout.desc ≡ q.desc
   pub avail : k.layout.avail ≡ q.avail
   pub used : k.layout.used ≡ q.used
-  pub position : k.position ≡ q.position
-  pub returned : k.returned ≡ q.returned
-  pub out : chains_out q ≤ q.size
-  pub most_out : k.most_out ≡ max 1 q.most_out
-  pub few : q.most_out ≤ q.size
-  pub returning : k.returning ≡ (q.returning == 1)
-  pub bit : q.returning ≤ 1
+  pub next_avail : k.next_avail ≡ q.next_avail
+  pub next_used : k.next_used ≡ q.next_used
+  pub out : chains_in_flight q ≤ q.size
+  pub max_in_flight : k.max_in_flight ≡ max 1 q.max_in_flight
+  pub few : q.max_in_flight ≤ q.size
+  pub pushing : k.pushing ≡ (q.pushing == 1)
+  pub bit : q.pushing ≤ 1
   pub event_index : k.event_index ≡ (q.event_index == 1)
   pub event_bit : q.event_index ≤ 1
-  pub begun : k.begun ≡ q.begun
-  pub taken : k.taken ≡ q.taken
+  pub reset_count : k.reset_count ≡ q.reset_count
+  pub pop_count : k.pop_count ≡ q.pop_count
   pub stopped : stop_of q.stopped ≡ Some k.stopped
 
 -- a queue's numbers with what a call changes: where the next chain is taken and where it goes back, whether a return was told, how often a chain was taken, and what
 -- stopped it
-abbrev pub put : FsQueue → KeptQueue → FsQueue
-put q k = record q { position = k.position; returned = k.returned; returning = flag k.returning; taken = k.taken; stopped = stop_number k.stopped }
+abbrev pub put : FsQueue → QueueState → FsQueue
+put q k = record q { next_avail = k.next_avail; next_used = k.next_used; pushing = flag k.pushing; pop_count = k.pop_count; stopped = stop_number k.stopped }
 
 -- a queue that is begun anew at a position: no chain is out of it, and those that were are its own no more
-abbrev pub begun_anew : FsQueue → (position : ℕ) → FsQueue
-begun_anew q position = record q { position = position; returned = position; returning = 0; begun = (q.begun + 1) % 2 ^ 32; stopped = 0 }
+abbrev pub reset_to : FsQueue → (position : ℕ) → FsQueue
+reset_to q position = record q { next_avail = position; next_used = position; pushing = 0; reset_count = (q.reset_count + 1) % 2 ^ 32; stopped = 0 }
 
 -- it is begun so, if its numbers are a queue's; a bad argument, if they are none, and then nothing is done
 abbrev pub BeginsQueue : FsQueue → (position status : ℕ) → FsQueue → Type 0
 BeginsQueue q position status q' =
-    (IsQueue (begun_anew q position) × (status ≡ 0) × (q' ≡ begun_anew q position))
-    ⊎ ((IsQueue (begun_anew q position) → ⊥) × (status ≡ chain_error_number BadArgument) × (q' ≡ q))
+    (IsQueue (reset_to q position) × (status ≡ 0) × (q' ≡ reset_to q position))
+    ⊎ ((IsQueue (reset_to q position) → ⊥) × (status ≡ chain_error_number BadArgument) × (q' ≡ q))

@@ -3,19 +3,19 @@ use Rattle.std.specs.Prelude.{◌≡◌, ◌≤◌, ◌<◌, ◌+◌, ◌-◌, �
 use Rattle.fs_queue.specs.Taking.{total_len, of_direction}
 use Rattle.fs_regions.specs.Windows.{IsRangeFrom}
 use Rattle.fs_chain.specs.Orders.{is_out}
-use Rattle.fs_chain.specs.declared.workbench.Workbench.{Workbench}
+use Rattle.fs_chain.specs.declared.chain_handle.ChainHandle.{ChainHandle}
 use Rattle.fs_chain_c.specs.declared.ranges.FsRange.{FsRange}
-use Rattle.fs_chain_c.specs.Handles.{OnWorkbench}
+use Rattle.fs_chain_c.specs.Handles.{OnHandle}
 
 -- a stretch of the guest's addresses of the room's bytes from one on, at least one and at most so many: in one descriptor, as long as it goes on
-abbrev pub IsRange : Workbench → (from most : ℕ) → FsRange → Type 0
-IsRange w from most told =
+abbrev pub IsReplyRange : ChainHandle → (from most : ℕ) → FsRange → Type 0
+IsReplyRange w from most told =
     (is_out w.state ≡ true) × (n : ℕ) × IsRangeFrom true w.descriptors.items from told.guest n × (told.len ≡ min n most) × (0 < told.len)
 
 -- stretches, one behind another
-abbrev pub AreRanges : Workbench → (from most : ℕ) → List FsRange → Type 0
-AreRanges w from most [] = Unit {0}
-AreRanges w from most (r ∷ rs) = IsRange w from most r × AreRanges w (from + r.len) (most - r.len) rs
+abbrev pub AreReplyRanges : ChainHandle → (from most : ℕ) → List FsRange → Type 0
+AreReplyRanges w from most [] = Unit {0}
+AreReplyRanges w from most (r ∷ rs) = IsReplyRange w from most r × AreReplyRanges w (from + r.len) (most - r.len) rs
 
 -- how many bytes they have
 abbrev pub range_bytes : List FsRange → ℕ
@@ -23,16 +23,16 @@ range_bytes [] = 0
 range_bytes (r ∷ rs) = r.len + range_bytes rs
 
 -- no byte of the room stands at this one or behind it
-abbrev pub RoomEnds : Workbench → (from : ℕ) → Type 0
+abbrev pub RoomEnds : ChainHandle → (from : ℕ) → Type 0
 RoomEnds w from = is_out w.state ≡ true → total_len (of_direction true w.descriptors.items) ≤ from
 
 -- stretches over the first ranges of some, as many as there is place for and bytes for
-abbrev pub FillsRanges : Workbench → (from most : ℕ) → (ranges ranges' : List FsRange) → (count : ℕ) → Type 0
+abbrev pub FillsRanges : ChainHandle → (from most : ℕ) → (ranges ranges' : List FsRange) → (count : ℕ) → Type 0
 FillsRanges w from most ranges ranges' count =
-    (rs : List FsRange) × (length rs ≡ count) × (count ≤ length ranges) × (ranges' ≡ rs ++ drop count ranges) × AreRanges w from most rs
+    (rs : List FsRange) × (length rs ≡ count) × (count ≤ length ranges) × (ranges' ≡ rs ++ drop count ranges) × AreReplyRanges w from most rs
     × (count < length ranges → range_bytes rs < most → RoomEnds w (from + range_bytes rs))
 
--- the stretches of a handle's room are told, and its workbench stays as it was
-abbrev pub TellsRanges : Option Workbench → (from most : ℕ) → (ranges : List FsRange) → (count : ℕ) → Option Workbench → (ranges' : List FsRange) → Type 0
+-- the stretches of a handle's room are told, and its `ChainHandle` stays as it was
+abbrev pub TellsRanges : Option ChainHandle → (from most : ℕ) → (ranges : List FsRange) → (count : ℕ) → Option ChainHandle → (ranges' : List FsRange) → Type 0
 TellsRanges before from most ranges count after ranges' =
-    OnWorkbench (λ b b'. FillsRanges b from (min most (2 ^ 64 - 1 - from)) ranges ranges' count × (b' ≡ b)) ((count ≡ 0) × (ranges' ≡ ranges)) before after
+    OnHandle (λ b b'. FillsRanges b from (min most (2 ^ 64 - 1 - from)) ranges ranges' count × (b' ≡ b)) ((count ≡ 0) × (ranges' ≡ ranges)) before after

@@ -7,20 +7,20 @@ use Rattle.fs_record.specs.Record.{HasKnownBits, IsRecordFor, Second, record_byt
 use Rattle.fs_record.specs.Restoring.{LeavesSource, RefusesRecord}
 use Rattle.fs_record.specs.declared.error.RestoreError.{RestoreError}
 use Rattle.fs_chain.specs.declared.error.ChainError.{ChainError}
-use Rattle.fs_chain.specs.declared.error.ChainError.TheVariants.{BadArgument, ChainOut, OutOfMemory, ShortBuffer}
+use Rattle.fs_chain.specs.declared.error.ChainError.TheVariants.{BadArgument, ChainInFlight, OutOfMemory, ShortBuffer}
 use Rattle.fs_chain.specs.Numbers.{chain_error_number}
 use Rattle.fs_chain_c.specs.declared.device.FsDevice.{FsDevice}
 use Rattle.fs_chain_c.specs.declared.queue.FsQueue.{FsQueue}
 use Rattle.fs_chain_c.specs.Memory.{IsDevice}
-use Rattle.fs_chain_c.specs.Queues.{IsQueue, chains_out}
+use Rattle.fs_chain_c.specs.Queues.{IsQueue, chains_in_flight}
 
 -- the queue that a record has of these numbers
 abbrev pub queue_of : FsQueue → Queue
-queue_of q = resumed q.size q.desc q.avail q.used q.position (not (q.stopped == 0))
+queue_of q = resumed q.size q.desc q.avail q.used q.next_avail (not (q.stopped == 0))
 
 -- no chain is out of it
 abbrev pub HasNoneOut : FsQueue → Type 0
-HasNoneOut q = chains_out q ≡ 0
+HasNoneOut q = chains_in_flight q ≡ 0
 
 -- ---- a record is saved
 
@@ -33,10 +33,10 @@ abbrev pub CanSave : FsDevice → List FsQueue → Type 0
 CanSave d qs = IsDevice d × HasKnownBits d.options × (1 ≤ length qs) × (length qs ≤ 64) × All IsQueue qs
 
 -- why a record can't have a queue: its numbers are none; or they are, and a chain is out of it
-abbrev pub RefusesQueue : FsQueue → ChainError → Type 0
-RefusesQueue q BadArgument = IsQueue q → ⊥
-RefusesQueue q ChainOut = IsQueue q × (HasNoneOut q → ⊥)
-RefusesQueue q _ = ⊥
+abbrev pub RefusesToSave : FsQueue → ChainError → Type 0
+RefusesToSave q BadArgument = IsQueue q → ⊥
+RefusesToSave q ChainInFlight = IsQueue q × (HasNoneOut q → ⊥)
+RefusesToSave q _ = ⊥
 
 -- why it can't have some queues: of the first that it can't have
 pub record RefusesQueues (qs : List FsQueue) (e : ChainError) : Type 0 where
@@ -46,7 +46,7 @@ pub record RefusesQueues (qs : List FsQueue) (e : ChainError) : Type 0 where
   pub parts : qs ≡ before ++ queue ∷ after
   pub are : All IsQueue before
   pub none_out : All HasNoneOut before
-  pub why : RefusesQueue queue e
+  pub why : RefusesToSave queue e
 
 -- the bytes of the record, of version 2
 abbrev pub bytes_of : FsDevice → List FsQueue → List ℕ
@@ -60,7 +60,7 @@ SavesSo d qs buffer (Some ShortBuffer) len buffer' =
     CanSave d qs × All HasNoneOut qs × (len ≡ length (bytes_of d qs)) × (length buffer < len) × (buffer' ≡ buffer)
 SavesSo d qs buffer (Some BadArgument) len buffer' =
     ((CanSaveSome d (length qs) → ⊥) ⊎ (CanSaveSome d (length qs) × RefusesQueues qs BadArgument)) × (len ≡ 0) × (buffer' ≡ buffer)
-SavesSo d qs buffer (Some ChainOut) len buffer' = CanSaveSome d (length qs) × RefusesQueues qs ChainOut × (len ≡ 0) × (buffer' ≡ buffer)
+SavesSo d qs buffer (Some ChainInFlight) len buffer' = CanSaveSome d (length qs) × RefusesQueues qs ChainInFlight × (len ≡ 0) × (buffer' ≡ buffer)
 SavesSo d qs buffer (Some OutOfMemory) len buffer' = CanSave d qs × All HasNoneOut qs × RoomWasRefused (length qs) × (len ≡ 0) × (buffer' ≡ buffer)
 SavesSo d qs buffer (Some _) len buffer' = ⊥
 
@@ -81,11 +81,11 @@ numbers_over old q = record old {
   avail = q.avail;
   used = q.used;
   size = q.size;
-  position = q.position;
-  returned = q.position;
+  next_avail = q.position;
+  next_used = q.position;
   stopped = if q.stopped then 1 else 0;
-  returning = 0;
-  begun = (old.begun + 1) % 2 ^ 32;
+  pushing = 0;
+  reset_count = (old.reset_count + 1) % 2 ^ 32;
 }
 
 -- the numbers of a record's queues over the first of some
@@ -104,21 +104,21 @@ HasNoRecord d saved e =
     (taken rest : List ℕ) × (saved ≡ taken ++ rest) × RefusesRecord taken d.page_size d.limit e × LeavesSource e (Some rest) false false
 
 -- how reading it ends
-pub data Outcome : Type 0 where
-  Read : (options : ℕ) → List Queue → Outcome
-  NoPlace : (options : ℕ) → List Queue → Outcome
-  NoRecord : RestoreError → Outcome
-  NoDevice : Outcome
+pub data RestoreOutcome : Type 0 where
+  Read : (options : ℕ) → List Queue → RestoreOutcome
+  NoPlace : (options : ℕ) → List Queue → RestoreOutcome
+  NoRecord : RestoreError → RestoreOutcome
+  NoDevice : RestoreOutcome
 
 -- what is told of it
-abbrev pub read_status : Outcome → ℕ
+abbrev pub read_status : RestoreOutcome → ℕ
 read_status (Read options qs) = 0
 read_status (NoPlace options qs) = chain_error_number ShortBuffer
 read_status (NoRecord e) = 80 + restore_error_number e
 read_status NoDevice = chain_error_number BadArgument
 
 -- and done: device and queues go on from the record, or stay as they are
-abbrev pub ReadsSo : FsDevice → List FsQueue → (saved : List ℕ) → Outcome → (count : ℕ) → FsDevice → List FsQueue → Type 0
+abbrev pub ReadsSo : FsDevice → List FsQueue → (saved : List ℕ) → RestoreOutcome → (count : ℕ) → FsDevice → List FsQueue → Type 0
 ReadsSo d queues saved (Read options qs) count d' queues' =
     IsDevice d × HasRecord d saved options qs × (count ≡ length qs) × (count ≤ length queues) × (d' ≡ record d { options = options })
     × (queues' ≡ restored_over queues qs)
@@ -128,4 +128,4 @@ ReadsSo d queues saved (NoRecord e) count d' queues' = IsDevice d × HasNoRecord
 ReadsSo d queues saved NoDevice count d' queues' = (IsDevice d → ⊥) × (count ≡ 0) × (d' ≡ d) × (queues' ≡ queues)
 
 abbrev pub Restores : FsDevice → List FsQueue → (saved : List ℕ) → (status count : ℕ) → FsDevice → List FsQueue → Type 0
-Restores d queues saved status count d' queues' = (how : Outcome) × (status ≡ read_status how) × ReadsSo d queues saved how count d' queues'
+Restores d queues saved status count d' queues' = (how : RestoreOutcome) × (status ≡ read_status how) × ReadsSo d queues saved how count d' queues'

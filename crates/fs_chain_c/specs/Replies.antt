@@ -6,15 +6,15 @@ use Rattle.fuse_values.specs.declared.answer.FileAnswer.{FileAnswer}
 use Rattle.fuse_values.specs.declared.answer.FileAnswer.TheVariants as answer
 use Rattle.fs_chain.specs.declared.error.ChainError.{ChainError}
 use Rattle.fs_chain.specs.declared.error.ChainError.TheVariants.{BadArgument, WrongOrder}
-use Rattle.fs_chain.specs.declared.state.State.TheVariants as at
+use Rattle.fs_chain.specs.declared.state.ChainState.TheVariants as at
 use Rattle.fs_chain.specs.Numbers.{chain_error_number}
 use Rattle.fs_chain.specs.OwnReplies.{IfUnanswered, own_error, own_reply}
 use Rattle.fs_chain_c.specs.declared.answers.FsEntry.{FsEntry}
 use Rattle.fs_chain_c.specs.declared.answers.FsStatfs.{FsStatfs}
-use Rattle.fs_chain.specs.declared.workbench.Workbench.{Workbench}
+use Rattle.fs_chain.specs.declared.chain_handle.ChainHandle.{ChainHandle}
 use Rattle.fs_chain_c.specs.declared.call.FsAttr.{FsAttr}
-use Rattle.fs_chain_c.specs.Asking.{AnswersWorkbench, AsksWorkbench}
-use Rattle.fs_chain_c.specs.Handles.{OnWorkbench}
+use Rattle.fs_chain_c.specs.Decoding.{AnswersHandle, DecodesHandle}
+use Rattle.fs_chain_c.specs.Handles.{OnHandle}
 use Rattle.fs_chain_c.specs.Calls.{no_call}
 use Rattle.fs_chain_c.specs.declared.call.FsCall.{FsCall}
 use Rattle.fs_chain_c.specs.declared.device.FsDevice.{FsDevice}
@@ -87,38 +87,38 @@ abbrev pub wish_said : ℕ → FileAnswer
 wish_said wanted = answer.Wants (record { 0 = wanted; 1 = record {} })
 
 -- a handle's call is answered by this, with a ticket; a bad argument, if C's numbers are no answer
-abbrev pub MayReply : Option FileAnswer → (ticket : ℕ) → Option Workbench → (status : ℕ) → Option Workbench → Type 0
+abbrev pub MayReply : Option FileAnswer → (ticket : ℕ) → Option ChainHandle → (status : ℕ) → Option ChainHandle → Type 0
 MayReply None ticket before status after = (status ≡ chain_error_number BadArgument) × (after ≡ before)
-MayReply (Some a) ticket before status after = OnWorkbench (λ b b'. AnswersWorkbench b ticket a status b') (status ≡ chain_error_number WrongOrder) before after
+MayReply (Some a) ticket before status after = OnHandle (λ b b'. AnswersHandle b ticket a status b') (status ≡ chain_error_number WrongOrder) before after
 
 -- the same by an answer that is always one
-abbrev pub Replies : FileAnswer → (ticket : ℕ) → Option Workbench → (status : ℕ) → Option Workbench → Type 0
-Replies a ticket before status after = OnWorkbench (λ b b'. AnswersWorkbench b ticket a status b') (status ≡ chain_error_number WrongOrder) before after
+abbrev pub RepliesWith : FileAnswer → (ticket : ℕ) → Option ChainHandle → (status : ℕ) → Option ChainHandle → Type 0
+RepliesWith a ticket before status after = OnHandle (λ b b'. AnswersHandle b ticket a status b') (status ≡ chain_error_number WrongOrder) before after
 
 -- an INIT is answered, and the device has the options that were agreed
-abbrev pub Starts : (wanted ticket : ℕ) → Option Workbench → FsDevice → (status : ℕ) → Option Workbench → FsDevice → Type 0
-Starts wanted ticket before d status after d' =
-    OnWorkbench
-    (λ b b'. AnswersWorkbench b ticket (wish_said wanted) status b'
+abbrev pub RepliesInit : (wanted ticket : ℕ) → Option ChainHandle → FsDevice → (status : ℕ) → Option ChainHandle → FsDevice → Type 0
+RepliesInit wanted ticket before d status after d' =
+    OnHandle
+    (λ b b'. AnswersHandle b ticket (wish_said wanted) status b'
     × (d' ≡ (if status == 0 || status == 35 then record d { options = b'.session.options.0 } else d)))
     ((status ≡ chain_error_number WrongOrder) × (d' ≡ d)) before after
 
 -- a handle's chain is asked
-abbrev pub AsksChain : Option Workbench → FsDevice → (request : List ℕ) → (status : ℕ) → FsCall → Option Workbench → Type 0
+abbrev pub AsksChain : Option ChainHandle → FsDevice → (request : List ℕ) → (status : ℕ) → FsCall → Option ChainHandle → Type 0
 AsksChain before d request status call after =
-    OnWorkbench (λ b b'. AsksWorkbench b d request call status b') ((status ≡ chain_error_number WrongOrder) × (call ≡ no_call)) before after
+    OnHandle (λ b b'. DecodesHandle b d request call status b') ((status ≡ chain_error_number WrongOrder) × (call ≡ no_call)) before after
 
--- a workbench keeps a reply of so many bytes of C's own, and all else as it is
-abbrev pub KeepsOwn : (len : ℕ) → Workbench → Workbench → Type 0
+-- a `ChainHandle` keeps a reply of so many bytes of C's own, and all else as it is
+abbrev pub KeepsOwn : (len : ℕ) → ChainHandle → ChainHandle → Type 0
 KeepsOwn len b b' =
     IfUnanswered b.state (λ out. b' ≡ record b { state = at.HasReply out (own_reply len) })
 
 -- it replies them, by the ticket of its chain, or says why not, and nothing is done
-abbrev pub RepliesOwn : (ticket len : ℕ) → Workbench → (status : ℕ) → Workbench → Type 0
+abbrev pub RepliesOwn : (ticket len : ℕ) → ChainHandle → (status : ℕ) → ChainHandle → Type 0
 RepliesOwn ticket len b status b' =
     ((own_error b.state b.serial ticket len ≡ None) × (status ≡ 0) × KeepsOwn len b b')
     ⊎ ((e : ChainError) × (own_error b.state b.serial ticket len ≡ Some e) × (status ≡ chain_error_number e) × (b' ≡ b))
 
 -- a handle's chain is replied so
-abbrev pub RepliesBytes : (ticket len : ℕ) → Option Workbench → (status : ℕ) → Option Workbench → Type 0
-RepliesBytes ticket len before status after = OnWorkbench (λ b b'. RepliesOwn ticket len b status b') (status ≡ chain_error_number WrongOrder) before after
+abbrev pub RepliesBytes : (ticket len : ℕ) → Option ChainHandle → (status : ℕ) → Option ChainHandle → Type 0
+RepliesBytes ticket len before status after = OnHandle (λ b b'. RepliesOwn ticket len b status b') (status ≡ chain_error_number WrongOrder) before after

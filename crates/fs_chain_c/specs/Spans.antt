@@ -5,13 +5,13 @@ use Rattle.fuse_values.specs.declared.call.FileCall.TheVariants as value
 use Rattle.fuse_values.specs.Values.{call_of, pairs_in}
 use Rattle.server_phases.specs.Waiting.{first_call}
 use Rattle.virtiofsd_fuse.specs.Grammar.{Asks, FileCommand, meaning}
-use Rattle.fs_chain.specs.declared.asking.Told as told
-use Rattle.fs_chain.specs.declared.asking.Told.TheVariants as tells
-use Rattle.fs_chain.specs.declared.workbench.Workbench.{Workbench}
+use Rattle.fs_chain.specs.declared.decoding.Decoded as told
+use Rattle.fs_chain.specs.declared.decoding.Decoded.TheVariants as tells
+use Rattle.fs_chain.specs.declared.chain_handle.ChainHandle.{ChainHandle}
 use Rattle.fs_chain_c.specs.declared.call.FsCall.{FsCall}
 use Rattle.fs_chain_c.specs.declared.call.FsSpan.{FsSpan}
 use Rattle.fs_chain_c.specs.declared.device.FsDevice.{FsDevice}
-use Rattle.fs_chain_c.specs.Asking.{AsksSo}
+use Rattle.fs_chain_c.specs.Decoding.{DecodesSo}
 use Rattle.fs_chain_c.specs.Calls.{opcode_in, told_call}
 
 -- the bytes of a place in a request
@@ -54,12 +54,12 @@ SpansHoldNames =
     → call_of bytes made ≡ first_call command → HasNames request made (told_call (opcode_in request) options room made)
 
 -- of a call, if one is told
-abbrev pub IfCall : told.Told → (FileCall → Type 0) → Type 0
+abbrev pub IfCall : told.Decoded → (FileCall → Type 0) → Type 0
 IfCall (tells.Call made) P = P made
 IfCall _ P = Unit {0}
 
--- what pk_ask tells of a request, by all of its bytes or by a WRITE's first ones, has its names in the bytes that it was handed
+-- what pk_decode tells of a request, by all of its bytes or by a WRITE's first ones, has its names in the bytes that it was handed
 abbrev pub AskedSpansHoldNames : Type 0
 AskedSpansHoldNames =
-    (b : Workbench) (d : FsDevice) (request : List ℕ) (call : FsCall) (status : ℕ) (b' : Workbench) → length request < 2 ^ 32
-    → (so : AsksSo b d request call status b') → IfCall so.3 (λ (made : FileCall). HasNames request made call)
+    (b : ChainHandle) (d : FsDevice) (request : List ℕ) (call : FsCall) (status : ℕ) (b' : ChainHandle) → length request < 2 ^ 32
+    → (so : DecodesSo b d request call status b') → IfCall so.3 (λ (made : FileCall). HasNames request made call)

@@ -1,24 +1,24 @@
 //! The functions on a chain that C calls. Each answers 0, or a number that says why not.
 
 ghost use Rattle.std.specs.Prelude.{◌≡◌, false, true, None};
-ghost use Rattle.fs_chain_c.specs.Handles.{Abandons, Drops, Ends, IsZeros, Numbers, NumbersWorkbench, Returns, SetsMemory, TellsStretches, Walks};
+ghost use Rattle.fs_chain_c.specs.Handles.{AbandonsChain, DropsChain, EndsPush, IsZeros, Numbers, NumbersHandle, Pushes, SetsMemory, TellsStretches, Pops};
 ghost use Rattle.fs_chain_c.specs.Queues.{BeginsQueue};
 
 use crate::device::FsDevice;
 use crate::handle::FsChain;
 use crate::memory::FsRegion;
 use crate::queue::FsQueue;
-use crate::returning::{FsStores, drop_workbench, end_workbench, return_workbench};
-use crate::setting::{make_workbench, set_workbench};
-use crate::walking::{FsStep, walk_workbench};
+use crate::pushing::{FsStores, drop_handle_chain, end_handle_push, push_handle};
+use crate::setting::{make_handle, set_handle};
+use crate::popping::{FsPop, pop_handle};
 use crate::windows::{FsWindow, fill};
-use fs_chain::{ChainError, Workbench};
+use fs_chain::{ChainError, ChainHandle};
 use std::alloc::Global;
 
 /// The header's number.
-const VERSION: u32 = 7;
+const VERSION: u32 = 8;
 
-/// What is told of a handle that has no workbench.
+/// What is told of a handle that has no `ChainHandle`.
 pub(crate) fn wrong_order() -> u32
     ensures { result ≡ 73 }
 {
@@ -28,12 +28,12 @@ pub(crate) fn wrong_order() -> u32
 /// The number of the header that the archive goes with.
 #[unsafe(no_mangle)]
 pub extern "C" fn pk_version() -> u32
-    ensures { result ≡ 7 }
+    ensures { result ≡ 8 }
 {
     VERSION
 }
 
-/// Over which memory the chain's next walks go, and the device's limit. A handle without a workbench gets one.
+/// Over which memory the chain's next walks go, and the device's limit. A handle without a `ChainHandle` gets one.
 #[unsafe(no_mangle)]
 pub extern "C" fn pk_chain_set_memory(
     alloc: Global,
@@ -44,16 +44,16 @@ pub extern "C" fn pk_chain_set_memory(
     ensures { SetsMemory chain.old.value device.now regions.now result chain.new.value }
 {
     match chain.take(alloc) {
-        Some(mut workbench) => {
-            let status = set_workbench(alloc, &mut workbench, device, regions);
-            *chain = FsChain::of_box(workbench);
+        Some(mut handle) => {
+            let status = set_handle(alloc, &mut handle, device, regions);
+            *chain = FsChain::of_box(handle);
             status
         }
         None => {
-            let (made, status) = make_workbench(alloc, device, regions);
+            let (made, status) = make_handle(alloc, device, regions);
             match made {
-                Some(workbench) => {
-                    *chain = FsChain::of_box(workbench);
+                Some(handle) => {
+                    *chain = FsChain::of_box(handle);
                     status
                 }
                 None => status,
@@ -62,7 +62,7 @@ pub extern "C" fn pk_chain_set_memory(
     }
 }
 
-/// Frees what a handle holds; then it has no workbench. The queue of a chain that is out isn't told.
+/// Frees what a handle holds; then it has no `ChainHandle`. The queue of a chain that is out isn't told.
 #[unsafe(no_mangle)]
 pub extern "C" fn pk_chain_free(alloc: Global, chain: &mut FsChain)
     ensures { IsZeros chain.new }
@@ -70,11 +70,11 @@ pub extern "C" fn pk_chain_free(alloc: Global, chain: &mut FsChain)
     *chain = FsChain::empty(alloc);
 }
 
-// Chooses the number of a workbench's next chain, and says a status.
-fn number_workbench(workbench: &mut Workbench, first: u32) -> u32
-    ensures { NumbersWorkbench workbench.old first result workbench.new }
+// Chooses the number of a `ChainHandle`'s next chain, and says a status.
+fn number_handle(handle: &mut ChainHandle, first: u32) -> u32
+    ensures { NumbersHandle handle.old first result handle.new }
 {
-    match workbench.number_from(first) {
+    match handle.number_from(first) {
         Ok(()) => 0,
         Err(error) => u32::from(error.number()),
     }
@@ -82,44 +82,44 @@ fn number_workbench(workbench: &mut Workbench, first: u32) -> u32
 
 /// Chooses the number of a handle's next chain: its ticket.
 #[unsafe(no_mangle)]
-pub extern "C" fn pk_chain_number_from(alloc: Global, chain: &mut FsChain, first: u32) -> u32
+pub extern "C" fn pk_chain_set_ticket(alloc: Global, chain: &mut FsChain, first: u32) -> u32
     ensures { Numbers chain.old.value first result chain.new.value }
 {
-    let Some(mut workbench) = chain.take(alloc) else {
+    let Some(mut handle) = chain.take(alloc) else {
         return wrong_order();
     };
-    let status = number_workbench(&mut workbench, first);
-    *chain = FsChain::of_box(workbench);
+    let status = number_handle(&mut handle, first);
+    *chain = FsChain::of_box(handle);
     status
 }
 
 /// Takes the next chain of a queue: at first without bytes, then with those of each load that was told.
 #[unsafe(no_mangle)]
-pub extern "C" fn pk_walk(
+pub extern "C" fn pk_pop(
     alloc: Global,
     chain: &mut FsChain,
     queue: &mut FsQueue,
     loaded: &[u8],
-    step: &mut FsStep,
+    pop: &mut FsPop,
 ) -> u32
-    ensures { Walks chain.old.value queue.old loaded.now result step.new chain.new.value queue.new }
+    ensures { Pops chain.old.value queue.old loaded.now result pop.new chain.new.value queue.new }
 {
-    let Some(mut workbench) = chain.take(alloc) else {
-        *step = FsStep::nothing();
+    let Some(mut handle) = chain.take(alloc) else {
+        *pop = FsPop::nothing();
         return wrong_order();
     };
-    let (told, status) = walk_workbench(&mut workbench, queue, loaded);
-    *step = told;
-    *chain = FsChain::of_box(workbench);
+    let (told, status) = pop_handle(&mut handle, queue, loaded);
+    *pop = told;
+    *chain = FsChain::of_box(handle);
     status
 }
 
 /// Begins a queue anew at a position, by the parts that it has: its walks and its chains are refused from then on.
 #[unsafe(no_mangle)]
-pub extern "C" fn pk_queue_begin(queue: &mut FsQueue, position: u16) -> u32
-    ensures { BeginsQueue queue.old position result queue.new }
+pub extern "C" fn pk_queue_begin(queue: &mut FsQueue, next_avail: u16) -> u32
+    ensures { BeginsQueue queue.old next_avail result queue.new }
 {
-    if queue.begin(position) {
+    if queue.begin(next_avail) {
         0
     } else {
         u32::from(ChainError::BadArgument.number())
@@ -129,25 +129,25 @@ pub extern "C" fn pk_queue_begin(queue: &mut FsQueue, position: u16) -> u32
 /// Frees a handle whose queue was begun anew: no queue is told.
 #[unsafe(no_mangle)]
 pub extern "C" fn pk_abandon(alloc: Global, chain: &mut FsChain)
-    ensures { Abandons chain.old.value chain.new.value }
+    ensures { AbandonsChain chain.old.value chain.new.value }
 {
-    let Some(mut workbench) = chain.take(alloc) else {
+    let Some(mut handle) = chain.take(alloc) else {
         return;
     };
-    workbench.abandon();
-    *chain = FsChain::of_box(workbench);
+    handle.abandon();
+    *chain = FsChain::of_box(handle);
 }
 
 /// Gives a chain up that wasn't asked; the queue hands it out again at its next walk. A walk ends.
 #[unsafe(no_mangle)]
 pub extern "C" fn pk_drop(alloc: Global, chain: &mut FsChain, queue: &mut FsQueue) -> u32
-    ensures { Drops chain.old.value queue.old result chain.new.value queue.new }
+    ensures { DropsChain chain.old.value queue.old result chain.new.value queue.new }
 {
-    let Some(mut workbench) = chain.take(alloc) else {
+    let Some(mut handle) = chain.take(alloc) else {
         return 0;
     };
-    let status = drop_workbench(&mut workbench, queue);
-    *chain = FsChain::of_box(workbench);
+    let status = drop_handle_chain(&mut handle, queue);
+    *chain = FsChain::of_box(handle);
     status
 }
 
@@ -162,17 +162,17 @@ pub extern "C" fn pk_request_windows(
 ) -> usize
     ensures { TellsStretches chain.old.value false from len windows.old result chain.new.value windows.new }
 {
-    let Some(workbench) = chain.take(alloc) else {
+    let Some(handle) = chain.take(alloc) else {
         return 0;
     };
-    let count = fill(&workbench, false, from, len, windows);
-    *chain = FsChain::of_box(workbench);
+    let count = fill(&handle, false, from, len, windows);
+    *chain = FsChain::of_box(handle);
     count
 }
 
 /// Where the bytes of a chain's room stand from one on, at most so many: how many windows are filled.
 #[unsafe(no_mangle)]
-pub extern "C" fn pk_room_windows(
+pub extern "C" fn pk_reply_windows(
     alloc: Global,
     chain: &mut FsChain,
     from: u64,
@@ -181,52 +181,52 @@ pub extern "C" fn pk_room_windows(
 ) -> usize
     ensures { TellsStretches chain.old.value true from len windows.old result chain.new.value windows.new }
 {
-    let Some(workbench) = chain.take(alloc) else {
+    let Some(handle) = chain.take(alloc) else {
         return 0;
     };
-    let count = fill(&workbench, true, from, len, windows);
-    *chain = FsChain::of_box(workbench);
+    let count = fill(&handle, true, from, len, windows);
+    *chain = FsChain::of_box(handle);
     count
 }
 
 /// Says how a chain goes back: its reply's front at the front of a buffer, and the stores. Until they are made no other chain of the queue goes back.
 #[unsafe(no_mangle)]
-pub extern "C" fn pk_return(
+pub extern "C" fn pk_push(
     alloc: Global,
     chain: &mut FsChain,
     queue: &mut FsQueue,
     front: &mut [u8],
     stores: &mut FsStores,
 ) -> u32
-    ensures { Returns chain.old.value queue.old front.old result stores.new chain.new.value queue.new front.new }
+    ensures { Pushes chain.old.value queue.old front.old result stores.new chain.new.value queue.new front.new }
 {
-    let Some(mut workbench) = chain.take(alloc) else {
+    let Some(mut handle) = chain.take(alloc) else {
         *stores = FsStores::nothing();
         return wrong_order();
     };
-    let (told, status) = return_workbench(&mut workbench, queue, front);
+    let (told, status) = push_handle(&mut handle, queue, front);
     *stores = told;
-    *chain = FsChain::of_box(workbench);
+    *chain = FsChain::of_box(handle);
     status
 }
 
 /// The stores are made, and these are the two bytes at `seen_at`: the queue's next chain goes back at the next position, and whether the driver wants to be told.
 #[unsafe(no_mangle)]
-pub extern "C" fn pk_returned(
+pub extern "C" fn pk_pushed(
     alloc: Global,
     chain: &mut FsChain,
     queue: &mut FsQueue,
     seen: u16,
     notify: &mut u8,
 ) -> u32
-    ensures { Ends chain.old.value queue.old seen result notify.new chain.new.value queue.new }
+    ensures { EndsPush chain.old.value queue.old seen result notify.new chain.new.value queue.new }
 {
-    let Some(mut workbench) = chain.take(alloc) else {
+    let Some(mut handle) = chain.take(alloc) else {
         *notify = 0;
         return wrong_order();
     };
-    let (told, status) = end_workbench(&mut workbench, queue, seen);
+    let (told, status) = end_handle_push(&mut handle, queue, seen);
     *notify = told;
-    *chain = FsChain::of_box(workbench);
+    *chain = FsChain::of_box(handle);
     status
 }

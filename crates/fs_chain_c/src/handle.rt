@@ -1,23 +1,23 @@
-//! What C holds: a chain's workbench in a box behind a pointer whose type C may see, or none.
+//! What C holds: a chain's `ChainHandle` in a box behind a pointer whose type C may see, or none.
 
 ghost use Rattle.std.specs.Prelude.{◌≡◌, Option, Some, None, is_some, option_map, if◌then◌else◌};
-ghost use Rattle.fs_chain.specs.declared.workbench.Workbench.{Workbench};
+ghost use Rattle.fs_chain.specs.declared.chain_handle.ChainHandle.{ChainHandle};
 ghost use Rattle.fs_chain_c.specs.Owned.{chain_owns, chain_value_coded, null};
 
-use crate::parts::Parts;
-use fs_chain::Workbench;
+use crate::parts::BoxParts;
+use fs_chain::ChainHandle;
 use std::alloc::Global;
 use std::marker::Model;
 use std::mem;
 
-/// A workbench that C holds, in a box, or none: all zeros is none.
+/// A `ChainHandle` that C holds, in a box, or none: all zeros is none.
 #[repr(C)]
 pub struct FsChain {
     at: *mut (),
     alloc: Global,
     full: u32,
-    /// The workbench behind the pointer, if there is one.
-    pub ghost value: { Option Workbench } by { chain_value_coded },
+    /// The `ChainHandle` behind the pointer, if there is one.
+    pub ghost value: { Option ChainHandle } by { chain_value_coded },
     ghost known: { full ≡ (if is_some value then 1 else 0) },
 }
 
@@ -26,7 +26,7 @@ impl Model for FsChain {
 }
 
 impl FsChain {
-    /// No workbench: a null pointer.
+    /// No `ChainHandle`: a null pointer.
     pub fn empty(alloc: Global) -> FsChain
         ensures { (result.value ≡ None) × (result.at ≡ null) × (result.full ≡ 0) }
     {
@@ -37,15 +37,15 @@ impl FsChain {
         }
     }
 
-    /// A workbench, which leaves its box for the pointer.
-    pub fn of_box(workbench: Box<Workbench>) -> FsChain
-        ensures { result.value ≡ Some workbench.value }
+    /// A `ChainHandle`, which leaves its box for the pointer.
+    pub fn of_box(handle: Box<ChainHandle>) -> FsChain
+        ensures { result.value ≡ Some handle.value }
     {
-        FsChain::of_parts(Parts::of(workbench))
+        FsChain::of_parts(BoxParts::of(handle))
     }
 
-    /// The workbench in a box again, if there is one.
-    pub fn into_box(self) -> Option<Box<Workbench>>
+    /// The `ChainHandle` in a box again, if there is one.
+    pub fn into_box(self) -> Option<Box<ChainHandle>>
         ensures { self.value ≡ option_map (λ b. b.value) result }
     {
         match self.into_parts() {
@@ -54,8 +54,8 @@ impl FsChain {
         }
     }
 
-    /// Takes the workbench out, if there is one.
-    pub fn take(&mut self, alloc: Global) -> Option<Box<Workbench>>
+    /// Takes the `ChainHandle` out, if there is one.
+    pub fn take(&mut self, alloc: Global) -> Option<Box<ChainHandle>>
         ensures taken { self.old.value ≡ option_map (λ b. b.value) result }
         ensures none { self.new.value ≡ None }
     {
@@ -63,10 +63,10 @@ impl FsChain {
     }
 
     // The pointer to a box that was taken apart.
-    fn of_parts(parts: Parts<Workbench, Global>) -> FsChain
+    fn of_parts(parts: BoxParts<ChainHandle, Global>) -> FsChain
         ensures { result.value ≡ Some parts.value }
     {
-        let Parts { ptr, alloc } = parts;
+        let BoxParts { ptr, alloc } = parts;
         FsChain {
             at: ptr as *mut (),
             alloc,
@@ -75,25 +75,25 @@ impl FsChain {
     }
 
     // The parts of the box behind the pointer, if there is one.
-    fn into_parts(self) -> Option<Parts<Workbench, Global>>
+    fn into_parts(self) -> Option<BoxParts<ChainHandle, Global>>
         ensures { self.value ≡ option_map (λ p. p.value) result }
     {
         let FsChain { at, alloc, full } = self;
         if full == 0 {
             None
         } else {
-            let ptr = at as *mut Workbench;
-            Some(Parts { ptr, alloc })
+            let ptr = at as *mut ChainHandle;
+            Some(BoxParts { ptr, alloc })
         }
     }
 }
 
 impl Drop for FsChain {
-    // In sight of the calls, which put a workbench where none is and drop none so.
+    // In sight of the calls, which put a `ChainHandle` where none is and drop none so.
     #[inline(always)]
     fn drop(self) {
         match self.into_box() {
-            Some(workbench) => drop(workbench),
+            Some(handle) => drop(handle),
             None => {}
         }
     }

@@ -3,14 +3,14 @@
 
 mod answer_kind;
 mod answers;
-mod asking;
+mod decoding;
 mod call;
 mod call_table;
 mod device;
 mod exports;
 mod fields;
 mod handle;
-mod kicks;
+mod notifications;
 pub mod laws;
 mod listing;
 mod memory;
@@ -21,22 +21,22 @@ mod ranges;
 mod record;
 mod record_place;
 mod replies;
-mod returning;
+mod pushing;
 mod saved_bytes;
 mod setting;
-mod walking;
+mod popping;
 mod windows;
 
 pub use exports::{
-    pk_abandon, pk_chain_free, pk_chain_number_from, pk_chain_set_memory, pk_drop, pk_queue_begin,
-    pk_request_windows, pk_return, pk_returned, pk_room_windows, pk_version, pk_walk,
+    pk_abandon, pk_chain_free, pk_chain_set_ticket, pk_chain_set_memory, pk_drop, pk_queue_begin,
+    pk_request_windows, pk_push, pk_pushed, pk_reply_windows, pk_version, pk_pop,
 };
-pub use kicks::pk_ask_kicks;
+pub use notifications::pk_set_notification;
 pub use listing::{pk_add_direntry, pk_add_direntry_plus, pk_reply_entries, pk_reply_err};
 pub use names::pk_is_name;
-pub use ranges::pk_room_ranges;
+pub use ranges::pk_reply_ranges;
 pub use record::{pk_restore, pk_save};
 pub use replies::{
-    pk_ask, pk_reply_attr, pk_reply_bytes, pk_reply_create, pk_reply_data, pk_reply_entry,
+    pk_decode, pk_reply_attr, pk_reply_bytes, pk_reply_create, pk_reply_data, pk_reply_entry,
     pk_reply_init, pk_reply_lseek, pk_reply_open, pk_reply_statfs, pk_reply_write, pk_reply_xattr,
 };

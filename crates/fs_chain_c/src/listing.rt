@@ -4,18 +4,18 @@ ghost use Rattle.std.specs.Prelude.{◌≡◌, true, length};
 ghost use Rattle.fuse_fs.specs.Answers.{listed};
 ghost use Rattle.server_replies.specs.Entries.{no_node};
 ghost use Rattle.server_phases.specs.Gathering.{added_found, added_plain};
-ghost use Rattle.fs_chain_c.specs.Listing.{AddsEntry, AddsNode, AddsWorkbench, EndsList, EndsListing, FailsListing, FailsWorkbench, RepliesError};
+ghost use Rattle.fs_chain_c.specs.Listing.{AddsEntry, AddsNode, AddsToHandle, EndsHandleList, EndsListing, FailsListing, FailsHandle, RepliesError};
 ghost use Rattle.fs_chain_c.specs.Listing.{added_status, errno_of, is_entry, is_name, is_type, listed_as, type_of};
 ghost use Rattle.fs_chain.specs.Orders.{is_listing};
-ghost use Rattle.fs_chain_c.specs.Handles.{OnWorkbench};
+ghost use Rattle.fs_chain_c.specs.Handles.{OnHandle};
 ghost use Rattle.fs_chain_c.specs.Replies.{entry_of};
 
 use crate::answers::{FsEntry, entry_of};
-use crate::asking::answer_workbench;
+use crate::decoding::answer_handle;
 use crate::exports::wrong_order;
 use crate::handle::FsChain;
 use crate::replies::reply;
-use fs_chain::{Added, ChainError, Workbench};
+use fs_chain::{Added, ChainError, ChainHandle};
 use fuse_base::Errno;
 use fuse_fs::{DirEntry, Entry};
 use fuse_values::FileAnswer;
@@ -74,28 +74,28 @@ fn is_entry(name: &[u8], type_: u32) -> bool
 }
 
 // Brings an entry of READDIR.
-fn add_workbench(
-    workbench: &mut Workbench,
+fn add_to_handle(
+    handle: &mut ChainHandle,
     ticket: u32,
     list: &mut [u8],
     entry: &DirEntry<'_>,
 ) -> u32
-    ensures { AddsWorkbench workbench.old ticket (listed entry.now, no_node (listed entry.now)) (λ l. added_plain l (length list.old) (length entry.now.name.now)) list.old result workbench.new list.new }
+    ensures { AddsToHandle handle.old ticket (listed entry.now, no_node (listed entry.now)) (λ l. added_plain l (length list.old) (length entry.now.name.now)) list.old result handle.new list.new }
 {
-    added_status(workbench.add(ticket, list, entry))
+    added_status(handle.add(ticket, list, entry))
 }
 
 // Brings an entry of READDIRPLUS.
-fn add_node_workbench(
-    workbench: &mut Workbench,
+fn add_node_to_handle(
+    handle: &mut ChainHandle,
     ticket: u32,
     list: &mut [u8],
     entry: &DirEntry<'_>,
     node: Entry<u64>,
 ) -> u32
-    ensures { AddsWorkbench workbench.old ticket (listed entry.now, node) (λ l. added_found l (length list.old) (length entry.now.name.now)) list.old result workbench.new list.new }
+    ensures { AddsToHandle handle.old ticket (listed entry.now, node) (λ l. added_found l (length list.old) (length entry.now.name.now)) list.old result handle.new list.new }
 {
-    added_status(workbench.add_with_node(ticket, list, entry, node))
+    added_status(handle.add_with_node(ticket, list, entry, node))
 }
 
 /// Puts an entry of READDIR behind those before it.
@@ -115,7 +115,7 @@ pub extern "C" fn pk_add_direntry(
     if !is_entry(name, type_) {
         return u32::from(ChainError::BadArgument.number());
     }
-    let Some(mut workbench) = chain.take(alloc) else {
+    let Some(mut handle) = chain.take(alloc) else {
         return wrong_order();
     };
     let entry = DirEntry {
@@ -124,8 +124,8 @@ pub extern "C" fn pk_add_direntry(
         type_,
         name,
     };
-    let status = add_workbench(&mut workbench, ticket, list, &entry);
-    *chain = FsChain::of_box(workbench);
+    let status = add_to_handle(&mut handle, ticket, list, &entry);
+    *chain = FsChain::of_box(handle);
     status
 }
 
@@ -143,11 +143,11 @@ fn add_node(
     let Some(node) = node else {
         return u32::from(ChainError::BadArgument.number());
     };
-    let Some(mut workbench) = chain.take(alloc) else {
+    let Some(mut handle) = chain.take(alloc) else {
         return wrong_order();
     };
-    let status = add_node_workbench(&mut workbench, ticket, list, entry, node);
-    *chain = FsChain::of_box(workbench);
+    let status = add_node_to_handle(&mut handle, ticket, list, entry, node);
+    *chain = FsChain::of_box(handle);
     status
 }
 
@@ -179,10 +179,10 @@ pub extern "C" fn pk_add_direntry_plus(
 }
 
 // Replies the entries so far: a status, and how many bytes of the list are the data.
-fn end_listing(workbench: &mut Workbench, ticket: u32) -> (u32, u64)
-    ensures { EndsListing workbench.old ticket result.0 result.1 workbench.new }
+fn end_listing(handle: &mut ChainHandle, ticket: u32) -> (u32, u64)
+    ensures { EndsListing handle.old ticket result.0 result.1 handle.new }
 {
-    match workbench.end(ticket) {
+    match handle.end(ticket) {
         Ok(len) => (0, len as u64),
         Err(error) => (u32::from(error.number()), 0),
     }
@@ -196,36 +196,36 @@ pub extern "C" fn pk_reply_entries(
     ticket: u32,
     len: &mut u64,
 ) -> u32
-    ensures { EndsList ticket chain.old.value result len.new chain.new.value }
+    ensures { EndsHandleList ticket chain.old.value result len.new chain.new.value }
 {
-    let Some(mut workbench) = chain.take(alloc) else {
+    let Some(mut handle) = chain.take(alloc) else {
         *len = 0;
         return wrong_order();
     };
-    let (status, told) = end_listing(&mut workbench, ticket);
+    let (status, told) = end_listing(&mut handle, ticket);
     *len = told;
-    *chain = FsChain::of_box(workbench);
+    *chain = FsChain::of_box(handle);
     status
 }
 
 // A listing fails by an errno.
-fn fail_listing(workbench: &mut Workbench, ticket: u32, error: Errno) -> u32
-    ensures { FailsListing error ticket workbench.old result workbench.new }
+fn fail_listing(handle: &mut ChainHandle, ticket: u32, error: Errno) -> u32
+    ensures { FailsListing error ticket handle.old result handle.new }
 {
-    match workbench.fail(ticket, error) {
+    match handle.fail(ticket, error) {
         Ok(behind) => { if behind == 0 { 0 } else { ENTRIES } }
         Err(error) => u32::from(error.number()),
     }
 }
 
 // A chain's call fails by an errno.
-fn fail_workbench(workbench: &mut Workbench, ticket: u32, error: Errno) -> u32
-    ensures { FailsWorkbench (is_listing workbench.old.state) error ticket workbench.old result workbench.new }
+fn fail_handle(handle: &mut ChainHandle, ticket: u32, error: Errno) -> u32
+    ensures { FailsHandle (is_listing handle.old.state) error ticket handle.old result handle.new }
 {
-    if workbench.is_listing() {
-        fail_listing(workbench, ticket, error)
+    if handle.is_listing() {
+        fail_listing(handle, ticket, error)
     } else {
-        answer_workbench(workbench, ticket, FileAnswer::Failed(error))
+        answer_handle(handle, ticket, FileAnswer::Failed(error))
     }
 }
 
@@ -238,13 +238,13 @@ fn errno_of(number: u32) -> Option<Errno>
 
 // A handle's call fails by an errno.
 fn fail_chain(alloc: Global, chain: &mut FsChain, ticket: u32, error: Errno) -> u32
-    ensures { OnWorkbench (λ b b'. FailsWorkbench (is_listing b.state) error ticket b result b') (result ≡ 73) chain.old.value chain.new.value }
+    ensures { OnHandle (λ b b'. FailsHandle (is_listing b.state) error ticket b result b') (result ≡ 73) chain.old.value chain.new.value }
 {
-    let Some(mut workbench) = chain.take(alloc) else {
+    let Some(mut handle) = chain.take(alloc) else {
         return wrong_order();
     };
-    let status = fail_workbench(&mut workbench, ticket, error);
-    *chain = FsChain::of_box(workbench);
+    let status = fail_handle(&mut handle, ticket, error);
+    *chain = FsChain::of_box(handle);
     status
 }
 

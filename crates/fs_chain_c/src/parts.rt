@@ -7,7 +7,7 @@ use std::alloc::Allocator;
 use std::marker::Model;
 
 /// A box that was taken apart: where its value stands, and its allocator.
-pub struct Parts<T, A: Allocator> {
+pub struct BoxParts<T, A: Allocator> {
     /// Where the value stands.
     pub ptr: *mut T,
     /// What its memory came from.
@@ -16,26 +16,26 @@ pub struct Parts<T, A: Allocator> {
     pub ghost value: { T },
 }
 
-impl<T, A: Allocator> Model for Parts<T, A> {
+impl<T, A: Allocator> Model for BoxParts<T, A> {
     ghost also_owns = { λ p. box_owns (A.dealloc_token p.alloc) T.row p.ptr p.value };
 }
 
-impl<T, A: Allocator> Parts<T, A> {
+impl<T, A: Allocator> BoxParts<T, A> {
     /// Takes a box apart.
-    pub fn of(b: Box<T, A>) -> Parts<T, A>
+    pub fn of(b: Box<T, A>) -> BoxParts<T, A>
     where
         T: Drop,
         ensures { result.value ≡ b.value }
     {
         let (ptr, alloc) = Box::into_raw_with_allocator(b);
-        Parts { ptr, alloc }
+        BoxParts { ptr, alloc }
     }
 
     /// Puts the box together again.
     pub fn into_box(self) -> Box<T, A>
         ensures { result.value ≡ self.value }
     {
-        let Parts { ptr, alloc } = self;
+        let BoxParts { ptr, alloc } = self;
         unsafe { Box::from_raw(alloc, ptr) }
     }
 }

@@ -1,9 +1,9 @@
 //! Queues as numbers that C keeps.
 
 ghost use Rattle.std.specs.Prelude.{◌≡◌, false, true, IfSome, IfNone, OnSome};
-ghost use Rattle.fs_chain_c.specs.Queues.{IsKept, IsQueue, begun_anew, chains_out, put, stop_number, stop_of};
+ghost use Rattle.fs_chain_c.specs.Queues.{IsQueueState, IsQueue, reset_to, chains_in_flight, put, stop_number, stop_of};
 
-use fs_chain::KeptQueue;
+use fs_chain::QueueState;
 use fs_queue::{QueueError, QueueLayout};
 
 /// A queue: numbers that C keeps.
@@ -19,21 +19,21 @@ pub struct FsQueue {
     /// How many descriptors it has.
     pub size: u16,
     /// Where in the available ring the next chain is taken, modulo 2^16.
-    pub position: u16,
+    pub next_avail: u16,
     /// Where in the used ring the next chain goes back, modulo 2^16.
-    pub returned: u16,
+    pub next_used: u16,
     /// How many chains may be out, up to its size: 0 counts as 1.
-    pub most_out: u16,
+    pub max_in_flight: u16,
     /// The refusal that stopped it, from 2 to 8, 1 if a record tells that one did, or 0.
     pub stopped: u16,
     /// Whether the stores of a return were told, and not made yet: 0 or 1.
-    pub returning: u8,
+    pub pushing: u8,
     /// Whether VIRTIO_F_EVENT_IDX was agreed on: 0 or 1.
     pub event_index: u8,
     /// How often it was begun anew, modulo 2^32.
-    pub begun: u32,
+    pub reset_count: u32,
     /// How often a chain was taken or given up, modulo 2^32.
-    pub taken: u32,
+    pub pop_count: u32,
 }
 
 // The refusal that a number tells of a queue, if it tells one; 0 is none.
@@ -66,16 +66,16 @@ fn stop_number(stopped: &Option<QueueError>) -> u16
 
 impl FsQueue {
     /// How many chains are out.
-    pub fn out(&self) -> u16
-        ensures { result ≡ chains_out self.now }
+    pub fn in_flight(&self) -> u16
+        ensures { result ≡ chains_in_flight self.now }
     {
-        self.position.wrapping_sub(self.returned)
+        self.next_avail.wrapping_sub(self.next_used)
     }
 
     /// The queue as the core has it; None if these are no queue's numbers.
     #[inline(always)]
-    pub fn kept(&self) -> Option<KeptQueue>
-        ensures kept { IfSome result (IsKept self.now) }
+    pub fn kept(&self) -> Option<QueueState>
+        ensures kept { IfSome result (IsQueueState self.now) }
         ensures is { OnSome result (IsQueue self.now) }
         ensures none { IfNone result (IsQueue self.now → ⊥) }
     {
@@ -85,46 +85,46 @@ impl FsQueue {
         let Some(stopped) = stop_of(self.stopped) else {
             return None;
         };
-        if self.out() > self.size || self.most_out > self.size {
+        if self.in_flight() > self.size || self.max_in_flight > self.size {
             return None;
         }
-        if self.returning > 1 || self.event_index > 1 {
+        if self.pushing > 1 || self.event_index > 1 {
             return None;
         }
-        Some(KeptQueue {
+        Some(QueueState {
             layout,
-            position: self.position,
-            returned: self.returned,
-            most_out: self.most_out.max(1),
-            returning: self.returning == 1,
-            begun: self.begun,
-            taken: self.taken,
+            next_avail: self.next_avail,
+            next_used: self.next_used,
+            max_in_flight: self.max_in_flight.max(1),
+            pushing: self.pushing == 1,
+            reset_count: self.reset_count,
+            pop_count: self.pop_count,
             event_index: self.event_index == 1,
             stopped,
         })
     }
 
     /// Puts back what a call changed of a queue.
-    pub fn put(&mut self, kept: &KeptQueue)
+    pub fn put(&mut self, kept: &QueueState)
         ensures { self.new ≡ put self.old kept.now }
     {
-        self.position = kept.position;
-        self.returned = kept.returned;
-        self.returning = u8::from(kept.returning);
-        self.taken = kept.taken;
+        self.next_avail = kept.next_avail;
+        self.next_used = kept.next_used;
+        self.pushing = u8::from(kept.pushing);
+        self.pop_count = kept.pop_count;
         self.stopped = stop_number(&kept.stopped);
     }
 
     /// Begins the queue anew at a position, if its numbers are a queue's then: no chain is out of it.
     pub fn begin(&mut self, position: u16) -> bool
-        ensures begun { result ≡ true → IsQueue (begun_anew self.old position) × (self.new ≡ begun_anew self.old position) }
-        ensures none { result ≡ false → (IsQueue (begun_anew self.old position) → ⊥) × (self.new ≡ self.old) }
+        ensures begun { result ≡ true → IsQueue (reset_to self.old position) × (self.new ≡ reset_to self.old position) }
+        ensures none { result ≡ false → (IsQueue (reset_to self.old position) → ⊥) × (self.new ≡ self.old) }
     {
         let mut fresh = *self;
-        fresh.position = position;
-        fresh.returned = position;
-        fresh.returning = 0;
-        fresh.begun = self.begun.wrapping_add(1);
+        fresh.next_avail = position;
+        fresh.next_used = position;
+        fresh.pushing = 0;
+        fresh.reset_count = self.reset_count.wrapping_add(1);
         fresh.stopped = 0;
         if fresh.kept().is_none() {
             return false;

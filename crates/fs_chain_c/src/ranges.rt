@@ -1,10 +1,10 @@
 //! Where a room's bytes stand for the guest.
 
 ghost use Rattle.std.specs.Prelude.{◌≡◌, ◌<◌, ◌≤◌, ◌-◌, ◌^◌, min, IfSome, None};
-ghost use Rattle.fs_chain_c.specs.Ranges.{FillsRanges, IsRange, RoomEnds, TellsRanges};
+ghost use Rattle.fs_chain_c.specs.Ranges.{FillsRanges, IsReplyRange, RoomEnds, TellsRanges};
 
 use crate::handle::FsChain;
-use fs_chain::Workbench;
+use fs_chain::ChainHandle;
 use std::alloc::Global;
 
 /// A stretch of the guest's addresses.
@@ -18,13 +18,13 @@ pub struct FsRange {
 }
 
 // The stretch of the room's bytes from one on, at most so many.
-fn range(workbench: &Workbench, from: u64, most: u64) -> Option<FsRange>
+fn range(handle: &ChainHandle, from: u64, most: u64) -> Option<FsRange>
     requires { 0 < most }
-    ensures some { IfSome result (IsRange workbench.now from most) }
-    ensures none { result ≡ None → RoomEnds workbench.now from }
+    ensures some { IfSome result (IsReplyRange handle.now from most) }
+    ensures none { result ≡ None → RoomEnds handle.now from }
     ensures low { IfSome result (λ r. r.len ≤ most) }
 {
-    match workbench.room_range(from) {
+    match handle.room_range(from) {
         Some((guest, len)) => {
             let len = len.min(most);
             Some(FsRange { guest, len })
@@ -34,15 +34,15 @@ fn range(workbench: &Workbench, from: u64, most: u64) -> Option<FsRange>
 }
 
 // Puts the stretches of the room's bytes from one on, at most so many and none past 2^64 - 1, over the first ranges of some: how many there are.
-fn fill_ranges(workbench: &Workbench, from: u64, most: u64, ranges: &mut [FsRange]) -> usize
-    ensures { FillsRanges workbench.now from (min most (2 ^ 64 - 1 - from)) ranges.old ranges.new result }
+fn fill_ranges(handle: &ChainHandle, from: u64, most: u64, ranges: &mut [FsRange]) -> usize
+    ensures { FillsRanges handle.now from (min most (2 ^ 64 - 1 - from)) ranges.old ranges.new result }
 {
     let (mut at, mut left) = (from, most.min(u64::MAX - from));
     for k in 0..ranges.len() {
         if left == 0 {
             return k;
         }
-        let Some(range) = range(workbench, at, left) else {
+        let Some(range) = range(handle, at, left) else {
             return k;
         };
         ranges[k] = range;
@@ -54,7 +54,7 @@ fn fill_ranges(workbench: &Workbench, from: u64, most: u64, ranges: &mut [FsRang
 
 /// The guest's addresses of the bytes of a chain's room from one on, at most so many: how many ranges are filled.
 #[unsafe(no_mangle)]
-pub extern "C" fn pk_room_ranges(
+pub extern "C" fn pk_reply_ranges(
     alloc: Global,
     chain: &mut FsChain,
     from: u64,
@@ -63,10 +63,10 @@ pub extern "C" fn pk_room_ranges(
 ) -> usize
     ensures { TellsRanges chain.old.value from len ranges.old result chain.new.value ranges.new }
 {
-    let Some(workbench) = chain.take(alloc) else {
+    let Some(handle) = chain.take(alloc) else {
         return 0;
     };
-    let count = fill_ranges(&workbench, from, len, ranges);
-    *chain = FsChain::of_box(workbench);
+    let count = fill_ranges(&handle, from, len, ranges);
+    *chain = FsChain::of_box(handle);
     count
 }

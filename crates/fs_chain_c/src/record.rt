@@ -1,11 +1,11 @@
 //! The record of a device and its queues.
 
 ghost use Rattle.std.specs.Prelude.{◌≡◌, ◌⊎◌, ◌≤◌, All, Err, IfErr, IfOk, IfSome, None, OnOk, length, map};
-ghost use Rattle.fs_chain.specs.declared.error.ChainError.TheVariants.{BadArgument, ChainOut, OutOfMemory};
+ghost use Rattle.fs_chain.specs.declared.error.ChainError.TheVariants.{BadArgument, ChainInFlight, OutOfMemory};
 ghost use Rattle.memory_requests.specs.Refused.{RoomWasRefused};
 ghost use Rattle.fs_record.specs.Record.{HasKnownBits};
 ghost use Rattle.fs_chain_c.specs.Queues.{IsQueue};
-ghost use Rattle.fs_chain_c.specs.Records.{HasNoneOut, RefusesQueue, RefusesQueues, Restores, Saves, SavesSo, numbers_over, queue_of, restored_over, saved_status};
+ghost use Rattle.fs_chain_c.specs.Records.{HasNoneOut, RefusesToSave, RefusesQueues, Restores, Saves, SavesSo, numbers_over, queue_of, restored_over, saved_status};
 
 use crate::device::FsDevice;
 use crate::queue::FsQueue;
@@ -25,29 +25,29 @@ const MOST_QUEUES: usize = 64;
 /// So much more than its number is a record's refusal.
 const OF_RECORD: u32 = 80;
 
-// The queue that a record has of some numbers: `BadArgument` if they are none, `ChainOut` if a chain is out.
+// The queue that a record has of some numbers: `BadArgument` if they are none, `ChainInFlight` if a chain is out.
 fn queue_of(queue: &FsQueue) -> Result<Queue, ChainError>
     ensures ok { IfOk result (λ q. q ≡ queue_of queue.now) }
     ensures is { OnOk result (IsQueue queue.now × HasNoneOut queue.now) }
     ensures bad { result ≡ Err BadArgument → IsQueue queue.now → ⊥ }
-    ensures out { result ≡ Err ChainOut → HasNoneOut queue.now → ⊥ }
-    ensures err { IfErr result (λ e. (e ≡ BadArgument) ⊎ (e ≡ ChainOut)) }
-    ensures why { IfErr result (RefusesQueue queue.now) }
+    ensures out { result ≡ Err ChainInFlight → HasNoneOut queue.now → ⊥ }
+    ensures err { IfErr result (λ e. (e ≡ BadArgument) ⊎ (e ≡ ChainInFlight)) }
+    ensures why { IfErr result (RefusesToSave queue.now) }
 {
     let Some(kept) = queue.kept() else {
         return Err(ChainError::BadArgument);
     };
-    if queue.out() != 0 {
-        return Err(ChainError::ChainOut);
+    if queue.in_flight() != 0 {
+        return Err(ChainError::ChainInFlight);
     }
-    Ok(Queue::resume(kept.layout, queue.position, queue.stopped != 0))
+    Ok(Queue::resume(kept.layout, queue.next_avail, queue.stopped != 0))
 }
 
-// Whether a record can have these queues: `BadArgument` or `ChainOut` of the first that it can't.
+// Whether a record can have these queues: `BadArgument` or `ChainInFlight` of the first that it can't.
 fn check_queues(queues: &[FsQueue]) -> Result<(), ChainError>
     ensures are { OnOk result (All IsQueue queues.now) }
     ensures none_out { OnOk result (All HasNoneOut queues.now) }
-    ensures err { IfErr result (λ e. (e ≡ BadArgument) ⊎ (e ≡ ChainOut)) }
+    ensures err { IfErr result (λ e. (e ≡ BadArgument) ⊎ (e ≡ ChainInFlight)) }
     ensures why { IfErr result (RefusesQueues queues.now) }
 {
     for queue in queues {
@@ -64,8 +64,8 @@ fn queues_of(alloc: Global, queues: &[FsQueue]) -> Result<Vec<Queue>, ChainError
     ensures are { OnOk result (All IsQueue queues.now) }
     ensures none_out { OnOk result (All HasNoneOut queues.now) }
     ensures bad { result ≡ Err BadArgument → All IsQueue queues.now → ⊥ }
-    ensures out { result ≡ Err ChainOut → All HasNoneOut queues.now → ⊥ }
-    ensures err { IfErr result (λ e. (e ≡ BadArgument) ⊎ (e ≡ ChainOut) ⊎ ((e ≡ OutOfMemory) × RoomWasRefused (length queues.now))) }
+    ensures out { result ≡ Err ChainInFlight → All HasNoneOut queues.now → ⊥ }
+    ensures err { IfErr result (λ e. (e ≡ BadArgument) ⊎ (e ≡ ChainInFlight) ⊎ ((e ≡ OutOfMemory) × RoomWasRefused (length queues.now))) }
 {
     let Ok(mut made) = list_with_room(alloc, queues.len()) else {
         return Err(ChainError::OutOfMemory);
@@ -160,14 +160,14 @@ fn numbers_over(old: &FsQueue, queue: &Queue) -> FsQueue
         avail: layout.avail(),
         used: layout.used(),
         size: layout.size(),
-        position: queue.position(),
-        returned: queue.position(),
-        most_out: old.most_out,
+        next_avail: queue.position(),
+        next_used: queue.position(),
+        max_in_flight: old.max_in_flight,
         stopped: u16::from(queue.is_stopped()),
-        returning: 0,
+        pushing: 0,
         event_index: old.event_index,
-        begun: old.begun.wrapping_add(1),
-        taken: old.taken,
+        reset_count: old.reset_count.wrapping_add(1),
+        pop_count: old.pop_count,
     }
 }
 

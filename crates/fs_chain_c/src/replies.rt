@@ -2,31 +2,31 @@
 
 ghost use Rattle.std.specs.Prelude.{◌≡◌};
 ghost use Rattle.fuse_values.specs.declared.answer.FileAnswer.TheVariants as answer;
-ghost use Rattle.fs_chain_c.specs.Replies.{AsksChain, MayReply, Replies, RepliesBytes, RepliesOwn, Starts, attr_said, create_said, entry_of, entry_said, open_said, statfs_said, wish_said};
+ghost use Rattle.fs_chain_c.specs.Replies.{AsksChain, MayReply, RepliesWith, RepliesBytes, RepliesOwn, RepliesInit, attr_said, create_said, entry_of, entry_said, open_said, statfs_said, wish_said};
 
 use crate::answers::{
     FsEntry, FsStatfs, attr_said, create_said, entry_of, entry_said, open_said, statfs_said,
     wish_said,
 };
-use crate::asking::{NO_ROOM, answer_workbench, ask_workbench};
+use crate::decoding::{NO_ROOM, answer_handle, decode_handle};
 use crate::call::{FsAttr, FsCall};
 use crate::device::FsDevice;
 use crate::exports::wrong_order;
 use crate::handle::FsChain;
 use bitflags::Flags;
-use fs_chain::{ChainError, Workbench};
+use fs_chain::{ChainError, ChainHandle};
 use fuse_values::FileAnswer;
 use std::alloc::Global;
 
 /// Answers the call of a handle's chain that has this ticket.
 pub(crate) fn reply(alloc: Global, chain: &mut FsChain, ticket: u32, said: FileAnswer) -> u32
-    ensures { Replies said ticket chain.old.value result chain.new.value }
+    ensures { RepliesWith said ticket chain.old.value result chain.new.value }
 {
-    let Some(mut workbench) = chain.take(alloc) else {
+    let Some(mut handle) = chain.take(alloc) else {
         return wrong_order();
     };
-    let status = answer_workbench(&mut workbench, ticket, said);
-    *chain = FsChain::of_box(workbench);
+    let status = answer_handle(&mut handle, ticket, said);
+    *chain = FsChain::of_box(handle);
     status
 }
 
@@ -42,7 +42,7 @@ fn may_reply(alloc: Global, chain: &mut FsChain, ticket: u32, said: Option<FileA
 
 /// Tells what a chain's request asks, by its first bytes.
 #[unsafe(no_mangle)]
-pub extern "C" fn pk_ask(
+pub extern "C" fn pk_decode(
     alloc: Global,
     chain: &mut FsChain,
     device: &FsDevice,
@@ -51,12 +51,12 @@ pub extern "C" fn pk_ask(
 ) -> u32
     ensures { AsksChain chain.old.value device.now request.now result call.new chain.new.value }
 {
-    let Some(mut workbench) = chain.take(alloc) else {
+    let Some(mut handle) = chain.take(alloc) else {
         *call = FsCall::none();
         return wrong_order();
     };
-    let status = ask_workbench(&mut workbench, device, request, call);
-    *chain = FsChain::of_box(workbench);
+    let status = decode_handle(&mut handle, device, request, call);
+    *chain = FsChain::of_box(handle);
     status
 }
 
@@ -117,7 +117,7 @@ pub extern "C" fn pk_reply_open(
     handle: u64,
     open_flags: u32,
 ) -> u32
-    ensures { Replies (open_said handle open_flags) ticket chain.old.value result chain.new.value }
+    ensures { RepliesWith (open_said handle open_flags) ticket chain.old.value result chain.new.value }
 {
     reply(alloc, chain, ticket, open_said(handle, open_flags))
 }
@@ -125,7 +125,7 @@ pub extern "C" fn pk_reply_open(
 /// Answers a call that wants data: so many bytes, which stand in the room behind the header.
 #[unsafe(no_mangle)]
 pub extern "C" fn pk_reply_data(alloc: Global, chain: &mut FsChain, ticket: u32, len: u64) -> u32
-    ensures { Replies (answer.Bytes len) ticket chain.old.value result chain.new.value }
+    ensures { RepliesWith (answer.Bytes len) ticket chain.old.value result chain.new.value }
 {
     let len = len as usize;
     reply(alloc, chain, ticket, FileAnswer::Bytes { len })
@@ -134,7 +134,7 @@ pub extern "C" fn pk_reply_data(alloc: Global, chain: &mut FsChain, ticket: u32,
 /// Answers GETXATTR and LISTXATTR with size 0: how many bytes there are.
 #[unsafe(no_mangle)]
 pub extern "C" fn pk_reply_xattr(alloc: Global, chain: &mut FsChain, ticket: u32, len: u32) -> u32
-    ensures { Replies (answer.Count len) ticket chain.old.value result chain.new.value }
+    ensures { RepliesWith (answer.Count len) ticket chain.old.value result chain.new.value }
 {
     reply(alloc, chain, ticket, FileAnswer::Count(len))
 }
@@ -142,7 +142,7 @@ pub extern "C" fn pk_reply_xattr(alloc: Global, chain: &mut FsChain, ticket: u32
 /// Answers WRITE and COPY_FILE_RANGE: how many bytes were written.
 #[unsafe(no_mangle)]
 pub extern "C" fn pk_reply_write(alloc: Global, chain: &mut FsChain, ticket: u32, count: u32) -> u32
-    ensures { Replies (answer.Wrote count) ticket chain.old.value result chain.new.value }
+    ensures { RepliesWith (answer.Wrote count) ticket chain.old.value result chain.new.value }
 {
     reply(alloc, chain, ticket, FileAnswer::Wrote(count))
 }
@@ -155,7 +155,7 @@ pub extern "C" fn pk_reply_statfs(
     ticket: u32,
     statfs: &FsStatfs,
 ) -> u32
-    ensures { Replies (statfs_said statfs.now) ticket chain.old.value result chain.new.value }
+    ensures { RepliesWith (statfs_said statfs.now) ticket chain.old.value result chain.new.value }
 {
     reply(alloc, chain, ticket, statfs_said(statfs))
 }
@@ -168,7 +168,7 @@ pub extern "C" fn pk_reply_lseek(
     ticket: u32,
     offset: u64,
 ) -> u32
-    ensures { Replies (answer.Offset offset) ticket chain.old.value result chain.new.value }
+    ensures { RepliesWith (answer.Offset offset) ticket chain.old.value result chain.new.value }
 {
     reply(alloc, chain, ticket, FileAnswer::Offset(offset))
 }
@@ -183,38 +183,38 @@ pub extern "C" fn pk_reply_init(
     device: &mut FsDevice,
     wanted: u64,
 ) -> u32
-    ensures { Starts wanted ticket chain.old.value device.old result chain.new.value device.new }
+    ensures { RepliesInit wanted ticket chain.old.value device.old result chain.new.value device.new }
 {
-    let Some(mut workbench) = chain.take(alloc) else {
+    let Some(mut handle) = chain.take(alloc) else {
         return wrong_order();
     };
-    let status = answer_workbench(&mut workbench, ticket, wish_said(wanted));
+    let status = answer_handle(&mut handle, ticket, wish_said(wanted));
     if status == 0 || status == NO_ROOM {
-        device.options = workbench.session().options().bits();
+        device.options = handle.session().options().bits();
     }
-    *chain = FsChain::of_box(workbench);
+    *chain = FsChain::of_box(handle);
     status
 }
 
 // Replies so many bytes of C's own, and says a status.
-fn reply_own(workbench: &mut Workbench, ticket: u32, len: usize) -> u32
-    ensures { RepliesOwn ticket len workbench.old result workbench.new }
+fn reply_own(handle: &mut ChainHandle, ticket: u32, len: usize) -> u32
+    ensures { RepliesOwn ticket len handle.old result handle.new }
 {
-    match workbench.reply(ticket, len) {
+    match handle.reply(ticket, len) {
         Ok(()) => 0,
         Err(error) => u32::from(error.number()),
     }
 }
 
-/// Replies so many bytes of C's own, which stand in the room from its first place on: in place of `pk_ask`, or of an answer.
+/// Replies so many bytes of C's own, which stand in the room from its first place on: in place of `pk_decode`, or of an answer.
 #[unsafe(no_mangle)]
 pub extern "C" fn pk_reply_bytes(alloc: Global, chain: &mut FsChain, ticket: u32, len: u64) -> u32
     ensures { RepliesBytes ticket len chain.old.value result chain.new.value }
 {
-    let Some(mut workbench) = chain.take(alloc) else {
+    let Some(mut handle) = chain.take(alloc) else {
         return wrong_order();
     };
-    let status = reply_own(&mut workbench, ticket, len as usize);
-    *chain = FsChain::of_box(workbench);
+    let status = reply_own(&mut handle, ticket, len as usize);
+    *chain = FsChain::of_box(handle);
     status
 }

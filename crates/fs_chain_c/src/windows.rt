@@ -2,10 +2,10 @@
 
 ghost use Rattle.std.specs.Prelude.{◌≡◌, ◌<◌, ◌≤◌, ◌-◌, ◌^◌, min, true, IfSome, None};
 ghost use Rattle.fs_chain.specs.Passing.{HasPassed};
-ghost use Rattle.fs_chain_c.specs.Windows.{Fills, HasNoMore, IsStretch};
+ghost use Rattle.fs_chain_c.specs.Windows.{FillsWindows, HasNoMore, IsStretch};
 
-use crate::walking::host_at;
-use fs_chain::{Passed, Workbench};
+use crate::popping::host_at;
+use fs_chain::{WindowCursor, ChainHandle};
 
 /// A stretch of memory here, laid out as `struct iovec` is.
 #[repr(C)]
@@ -19,20 +19,20 @@ pub struct FsWindow {
 
 // The stretch of the bytes of one direction from one on, at most so many, behind the descriptors that were passed.
 fn stretch(
-    workbench: &Workbench,
+    handle: &ChainHandle,
     write_only: bool,
     from: u64,
     most: u64,
-    passed: &mut Passed,
+    passed: &mut WindowCursor,
 ) -> Option<FsWindow>
     requires some { 0 < most }
-    requires passed { HasPassed write_only workbench.now.descriptors.items passed.old }
-    ensures passed { HasPassed write_only workbench.now.descriptors.items passed.new }
-    ensures some { IfSome result (IsStretch workbench.now write_only from most) }
-    ensures none { result ≡ None → HasNoMore workbench.now write_only from }
+    requires passed { HasPassed write_only handle.now.descriptors.items passed.old }
+    ensures passed { HasPassed write_only handle.now.descriptors.items passed.new }
+    ensures some { IfSome result (IsStretch handle.now write_only from most) }
+    ensures none { result ≡ None → HasNoMore handle.now write_only from }
     ensures low { IfSome result (λ s. s.len ≤ most) }
 {
-    match workbench.next_window(write_only, from, passed) {
+    match handle.next_window(write_only, from, passed) {
         Some(window) => {
             let at = host_at(&window);
             let len = (window.len() as u64).min(most) as usize;
@@ -45,21 +45,21 @@ fn stretch(
 /// Puts the stretches of the bytes of one direction from one on, at most so many and none past 2^64 - 1, over the first windows of some:
 /// how many there are.
 pub fn fill(
-    workbench: &Workbench,
+    handle: &ChainHandle,
     write_only: bool,
     from: u64,
     most: u64,
     windows: &mut [FsWindow],
 ) -> usize
-    ensures { Fills workbench.now write_only from (min most (2 ^ 64 - 1 - from)) windows.old windows.new result }
+    ensures { FillsWindows handle.now write_only from (min most (2 ^ 64 - 1 - from)) windows.old windows.new result }
 {
     let (mut at, mut left) = (from, most.min(u64::MAX - from));
-    let mut passed = Passed::none();
+    let mut passed = WindowCursor::none();
     for k in 0..windows.len() {
         if left == 0 {
             return k;
         }
-        let Some(stretch) = stretch(workbench, write_only, at, left, &mut passed) else {
+        let Some(stretch) = stretch(handle, write_only, at, left, &mut passed) else {
             return k;
         };
         windows[k] = stretch;

@@ -19,9 +19,9 @@ use Rattle.virtiofsd_fuse.specs.Serving.{May}
 use Rattle.fs_device.specs.declared.error.DeviceError.{DeviceError}
 use Rattle.fs_device.specs.declared.error.DeviceError.TheVariants as device
 use Rattle.fs_device.specs.declared.refusal.Refusal.TheVariants as why
-use Rattle.fs_device.specs.Step.{State, Exchange, Calls, Idle, Refused, Exchanged, Exchanges, StepOf, Outcome}
+use Rattle.fs_device.specs.Step.{State, Exchange, Calls, Idle, Refused, Exchanged, Exchanges, StepOf, StepEnd}
 use Rattle.fs_device.specs.Run as run
-use Rattle.fs_device.specs.Run.{Told, Command, Answer, Effect, KickEnds, KickRun, Kicks, Kicked, HasEffect, Does, Performs, Run, RunTold, Affects, IsDecided, effect}
+use Rattle.fs_device.specs.Run.{Turns, Command, Answer, Effect, KickEnds, KickRun, Kicks, KickAnswer, HasEffect, Does, Performs, Run, RunTold, Affects, IsDecided, effect}
 use Rattle.fs_device.specs.Run.{insert, insert_block, is_known, some_overlap, reset}
 use Rattle.fs_confinement.specs.ReadSet.{place_if, places_for, is_at, is_among, Touched, nothing, and_then, step_touches}
 use Rattle.fs_confinement.specs.ReadSet.{end_touches, kick_touches, kicks_touch, guest_reads, guest_writes, plain_touches, command_touches, run_touches}
@@ -112,7 +112,7 @@ misses_nothing block = record { read = refl; written = refl }
 misses_both : (block : ℕ) (t u : Touched) → Misses block t → Misses block u → Misses block (and_then t u)
 misses_both block t u p q = record { read = out-append block t.read u.read p.read q.read; written = out-append block t.written u.written p.written q.written }
 
-step_misses : {F : Type 0} (block : ℕ) (s : State F) (o : Option Queue) (outcome : Outcome) → Hides block s.memory.layout → Misses block (step_touches s o outcome)
+step_misses : {F : Type 0} (block : ℕ) (s : State F) (o : Option Queue) (outcome : StepEnd) → Hides block s.memory.layout → Misses block (step_touches s o outcome)
 step_misses block s None outcome e = misses_nothing block
 step_misses block s (Some q) outcome e = record { read = places_outside block s.memory Read _ e; written = places_outside block s.memory Write _ e }
 
@@ -170,7 +170,7 @@ end_misses block s i zero refused e = misses_nothing block
 end_misses block s i (suc most) None e = step_misses block s (slice_get s.queues i) Idle e
 end_misses block s i (suc most) (Some error) e = step_misses block s (slice_get s.queues i) (Refused error) e
 
-kick_misses : {F : Type 0} (may : May F) (block : ℕ) (s : State F) (i most : ℕ) (told : Told) (refused : Option DeviceError) (after : State F) (ran : KickRun may s i most told refused after) →
+kick_misses : {F : Type 0} (may : May F) (block : ℕ) (s : State F) (i most : ℕ) (told : Turns) (refused : Option DeviceError) (after : State F) (ran : KickRun may s i most told refused after) →
     Hides block s.memory.layout → MissesAnd block (kick_touches may s i most told refused after ran) (layout_of after)
 unfolding KickRun kick_touches
 kick_misses may block s i most [] refused after is e = (end_misses block s i most refused e, subst (Hides block) (sym (end_layout may s i most refused after is)) e)
@@ -182,7 +182,7 @@ kick_misses may block s i (suc most) (x ∷ told) refused after (mid, step, rest
       later.1,
     )
 
-kicks_miss : {F : Type 0} (may : May F) (block : ℕ) (s : State F) (i most : ℕ) (o : Option Queue) (told : Told) (k : Kicked) (after : State F) (ran : Kicks may s i most o told k after) →
+kicks_miss : {F : Type 0} (may : May F) (block : ℕ) (s : State F) (i most : ℕ) (o : Option Queue) (told : Turns) (k : KickAnswer) (after : State F) (ran : Kicks may s i most o told k after) →
     Hides block s.memory.layout → MissesAnd block (kicks_touch may s i most o told k after ran) (layout_of after)
 kicks_miss {F} may block s i most None told k after is e = (misses_nothing block, subst (λ (t : State F). Hides block (layout_of t)) (sym is.0) e)
 kicks_miss may block s i most (Some q) told k after is e = kick_misses may block s i most told k.refused after is.0 e
@@ -283,35 +283,35 @@ plain_misses block s (run.GuestRead a n) answer e = read_misses block s a n answ
 plain_misses block s (run.GuestWrite a bytes) answer e = write_misses block s a (length bytes) answer e
 plain_misses block s _ answer e = misses_nothing block
 
-lacks_hides : {F : Type 0} (block : ℕ) (s : State F) (command : Command) (told : Told) (after : State F) → run.LacksMemory s command told after →
+lacks_hides : {F : Type 0} (block : ℕ) (s : State F) (command : Command) (told : Turns) (after : State F) → run.LacksMemory s command told after →
     Hides block s.memory.layout → Hides block (layout_of after)
 lacks_hides {F} block s command [] after t e = subst (λ (k : State F). Hides block (layout_of k)) (sym t.1) e
 lacks_hides block s command (x ∷ told) after t e = absurd t
 
-effect_hides : {F : Type 0} (block : ℕ) (s : State F) (command : Command) (told : Told) (answer : Answer) (after : State F) → IsTrue (leaves_hidden block command) → Hides block s.memory.layout →
+effect_hides : {F : Type 0} (block : ℕ) (s : State F) (command : Command) (told : Turns) (answer : Answer) (after : State F) → IsTrue (leaves_hidden block command) → Hides block s.memory.layout →
     HasEffect s command told answer after → Hides block (layout_of after)
 effect_hides block s command [] answer after leaves e t = affect_hides block s command answer after leaves e t
 effect_hides block s command (x ∷ told) answer after leaves e t = absurd t
 
-does_hides : {F : Type 0} (may : May F) (block : ℕ) (s : State F) (command : Command) (told : Told) (answer : Answer) (after : State F) →
+does_hides : {F : Type 0} (may : May F) (block : ℕ) (s : State F) (command : Command) (told : Turns) (answer : Answer) (after : State F) →
     IsTrue (leaves_hidden block command) → Hides block s.memory.layout →
     Does may s command told answer after → Hides block (layout_of after)
 does_hides may block s (run.Kick i most) told (run.Served k) after leaves e t = (kicks_miss may block s i most (slice_get s.queues i) told k after t e).1
 does_hides may block s (run.Kick i most) told answer after leaves e t = absurd t
 does_hides may block s command told answer after leaves e t = effect_hides block s command told answer after leaves e t
 
-performs_hides : {F : Type 0} (may : May F) (block : ℕ) (s : State F) (command : Command) (told : Told) (answer : Answer) (after : State F) →
+performs_hides : {F : Type 0} (may : May F) (block : ℕ) (s : State F) (command : Command) (told : Turns) (answer : Answer) (after : State F) →
     IsTrue (leaves_hidden block command) → Hides block s.memory.layout →
     Performs may s command told answer after → Hides block (layout_of after)
 performs_hides may block s command told (run.IsRefused why.OutOfMemory) after leaves e t = lacks_hides block s command told after t e
 performs_hides may block s command told answer after leaves e t = does_hides may block s command told answer after leaves e t
 
-kick_answer_misses : {F : Type 0} (may : May F) (block : ℕ) (s : State F) (i most : ℕ) (told : Told) (answer : Answer) (after : State F) (done : Performs may s (run.Kick i most) told answer after) →
+kick_answer_misses : {F : Type 0} (may : May F) (block : ℕ) (s : State F) (i most : ℕ) (told : Turns) (answer : Answer) (after : State F) (done : Performs may s (run.Kick i most) told answer after) →
     Hides block s.memory.layout → Misses block (command_touches may s (run.Kick i most) told answer after done)
 kick_answer_misses may block s i most told (run.Served k) after done e = (kicks_miss may block s i most (slice_get s.queues i) told k after done e).0
 kick_answer_misses may block s i most told _ after done e = misses_nothing block
 
-command_misses : {F : Type 0} (may : May F) (block : ℕ) (s : State F) (command : Command) (told : Told) (answer : Answer) (after : State F) (done : Performs may s command told answer after) →
+command_misses : {F : Type 0} (may : May F) (block : ℕ) (s : State F) (command : Command) (told : Turns) (answer : Answer) (after : State F) (done : Performs may s command told answer after) →
     Hides block s.memory.layout → Misses block (command_touches may s command told answer after done)
 command_misses may block s (run.Kick i most) told answer after done e = kick_answer_misses may block s i most told answer after done e
 command_misses may block s command told answer after done e = plain_misses block s command answer e
@@ -322,7 +322,7 @@ both_true : (a b : Bool) → IsTrue (a && b) → IsTrue a × IsTrue b
 both_true true b e = (refl, e)
 both_true false b e = absurd (cc)
 
-run_misses : {F : Type 0} (may : May F) (block : ℕ) (s after : State F) (events : List (Command × Answer)) (tolds : List Told) (ran : RunTold may s events tolds after) →
+run_misses : {F : Type 0} (may : May F) (block : ℕ) (s after : State F) (events : List (Command × Answer)) (tolds : List Turns) (ran : RunTold may s events tolds after) →
     IsTrue (list_all (leaves_hidden block) (map (λ e. e.0) events)) → Hides block s.memory.layout → Misses block (run_touches may s events tolds after ran)
 unfolding RunTold run_touches
 run_misses may block s after [] [] ran leaves e = misses_nothing block
@@ -349,7 +349,7 @@ no_copies block (v ∷ vs) e =
     let parts = both_true (leaves_hidden block v.0) (list_all (leaves_hidden block) (map (λ e. e.0) vs)) e in
     and_both (not (copies v.0)) (copies_nothing vs) (no_copy block v.0 parts.0) (no_copies block vs parts.1)
 
-pub touches_nothing_of : {F : Type 0} (may : May F) (block : ℕ) (a after : State F) (events : List (Command × Answer)) (tolds : List Told) (ran : RunTold may a events tolds after) →
+pub touches_nothing_of : {F : Type 0} (may : May F) (block : ℕ) (a after : State F) (events : List (Command × Answer)) (tolds : List Turns) (ran : RunTold may a events tolds after) →
     IsHidden block a (map (λ e. e.0) events) → TouchesNothingOf may block a after events tolds ran
 touches_nothing_of may block a after events tolds ran hidden =
     let misses = run_misses may block a after events tolds ran hidden.1 (negated (list_any (is_of block) a.memory.layout) hidden.0) in record {

@@ -21,7 +21,7 @@ use Rattle.fs_device.specs.declared.refusal.Refusal.{Refusal}
 use Rattle.fs_device.specs.declared.refusal.Refusal.TheVariants as why
 use Rattle.fs_device.specs.Step.{State, with_queue}
 use Rattle.fs_device.specs.Run as run
-use Rattle.fs_device.specs.Run.{Told, Command, Answer, Effect, Affects, ChangesTable, HasEffect, Does, IsDecided, Performs, LacksMemory, RunTold, effect}
+use Rattle.fs_device.specs.Run.{Turns, Command, Answer, Effect, Affects, ChangesTable, HasEffect, Does, IsDecided, Performs, LacksMemory, RunTold, effect}
 use Rattle.fs_device.specs.Run.{guest_written, insert, insert_block, remove_region, set_layout, is_known}
 use Rattle.fs_device.specs.Run.{has_len, some_overlap, reset, with_host, with_layout, with_ranges, goes_in, block_goes_in, command_takes_memory, ends_fit, no}
 use Rattle.fs_confinement.specs.ReadSet.{places_for, Touched, nothing, guest_reads, guest_writes, plain_touches, command_touches, run_touches}
@@ -249,7 +249,7 @@ module _ {F : Type 0} (s : State F) (h : Host) (same : without_bytes s.memory.ho
   affect_follows run.Image answer after few agree t = absurd (cc)
   affect_follows run.Harvest answer after few agree t = absurd (cc)
 
-  effect_follows : (command : Command) (told : Told) (answer : Answer) (after : State F) → IsTrue (not (copies command)) → AgreeOn s.memory.host h (plain_touches s command answer).read →
+  effect_follows : (command : Command) (told : Turns) (answer : Answer) (after : State F) → IsTrue (not (copies command)) → AgreeOn s.memory.host h (plain_touches s command answer).read →
       HasEffect s command told answer after → Follows (λ end. HasEffect (with_host s h) command told answer end) s h after (plain_touches s command answer).written
   effect_follows command [] answer after few agree t = affect_follows command answer after few agree t
   effect_follows command (x ∷ told) answer after few agree t = absurd t
@@ -262,7 +262,7 @@ module _ {F : Type 0} (s : State F) (h : Host) (same : without_bytes s.memory.ho
   takes_alike (run.Unmap iova n) = ap (λ (t : Table). (nat_lt 0 n && ends_fit iova n) && goes_on_at t (iova + n)) table_alike
   takes_alike _ = refl
 
-  lack_follows : (command : Command) (told : Told) (after : State F) → LacksMemory s command told after → Follows (λ end. LacksMemory (with_host s h) command told end) s h after []
+  lack_follows : (command : Command) (told : Turns) (after : State F) → LacksMemory s command told after → Follows (λ end. LacksMemory (with_host s h) command told end) s h after []
   lack_follows command [] after t = stays s h same _ after t.1 (subst IsTrue (takes_alike command) t.0, refl)
   lack_follows command (x ∷ told) after t = absurd t
 
@@ -290,7 +290,7 @@ PlainFollows {F} Can s h command answer after =
     Follows (λ end. Can (with_host s h) end × (plain_touches (with_host s h) command answer ≡ plain_touches s command answer)) s h after (plain_touches s command answer).written
 
 module _ {F : Type 0} (may : May F) (s : State F) (h : Host) (same : without_bytes s.memory.host ≡ without_bytes h) where
-  does_follow : (command : Command) (told : Told) (answer : Answer) (after : State F) → IsTrue (not (is_kick command)) → IsTrue (not (copies command)) →
+  does_follow : (command : Command) (told : Turns) (answer : Answer) (after : State F) → IsTrue (not (is_kick command)) → IsTrue (not (copies command)) →
       AgreeOn s.memory.host h (plain_touches s command answer).read →
       Does may s command told answer after → PlainFollows (λ from end. Does may from command told answer end) s h command answer after
   does_follow (run.Kick i most) told answer after plain few agree t = absurd (cc)
@@ -298,7 +298,7 @@ module _ {F : Type 0} (may : May F) (s : State F) (h : Host) (same : without_byt
       let done = effect_follows s h same command told answer after few agree t in
       record { end = done.end; can = (done.can, plain_same s h same command answer); rest = done.rest; bytes = done.bytes }
 
-  plain_follows : (command : Command) (told : Told) (answer : Answer) (after : State F) → IsTrue (not (is_kick command)) → IsTrue (not (copies command)) →
+  plain_follows : (command : Command) (told : Turns) (answer : Answer) (after : State F) → IsTrue (not (is_kick command)) → IsTrue (not (copies command)) →
       AgreeOn s.memory.host h (plain_touches s command answer).read →
       Performs may s command told answer after → PlainFollows (λ from end. Performs may from command told answer end) s h command answer after
   plain_follows command told (run.IsRefused why.OutOfMemory) after plain few agree t =
@@ -314,13 +314,13 @@ module _ {F : Type 0} (may : May F) (s : State F) (h : Host) (same : without_byt
 -- what is touched in two ways that are the same
 module _ {F : Type 0} (may : May F) where
   -- a command may be answered so from another state, where it touches the same
-  abbrev CommandFollows : (s t : State F) (command : Command) (told : Told) (answer : Answer) (after : State F) → Performs may s command told answer after → Type 0
+  abbrev CommandFollows : (s t : State F) (command : Command) (told : Turns) (answer : Answer) (after : State F) → Performs may s command told answer after → Type 0
   CommandFollows s t command told answer after done =
       Follows (λ end. (other : Performs may t command told answer end) ×
       (command_touches may t command told answer end other ≡ command_touches may s command told answer after done)) s t.memory.host after
       (command_touches may s command told answer after done).written
 
-  kick_answered : (s t : State F) → SameButBytes s t → (i most : ℕ) (told : Told) (answer : Answer) (after : State F) (done : Performs may s (run.Kick i most) told answer after) →
+  kick_answered : (s t : State F) → SameButBytes s t → (i most : ℕ) (told : Turns) (answer : Answer) (after : State F) (done : Performs may s (run.Kick i most) told answer after) →
       AgreeOn s.memory.host t.memory.host (command_touches may s (run.Kick i most) told answer after done).read → CommandFollows s t (run.Kick i most) told answer after done
   kick_answered s t same i most told (run.Served k) after done agree =
       over_host s t
@@ -333,7 +333,7 @@ module _ {F : Type 0} (may : May F) where
       let lacks = lack_follows s h alike (run.Kick i most) told after done in record { end = lacks.end; can = (lacks.can, refl); rest = lacks.rest; bytes = lacks.bytes })
   kick_answered s t same i most told answer after done agree = absurd done
 
-  command_follows : (s t : State F) → SameButBytes s t → (command : Command) (told : Told) (answer : Answer) (after : State F)
+  command_follows : (s t : State F) → SameButBytes s t → (command : Command) (told : Turns) (answer : Answer) (after : State F)
       (done : Performs may s command told answer after) → IsTrue (not (copies command)) →
       AgreeOn s.memory.host t.memory.host (command_touches may s command told answer after done).read → CommandFollows s t command told answer after done
   command_follows s t same (run.Kick i most) told answer after done few agree = kick_answered s t same i most told answer after done agree
@@ -343,7 +343,7 @@ module _ {F : Type 0} (may : May F) where
 
   -- ---- runs
 
-  pub run_follows : (s t after : State F) (events : List (Command × Answer)) (tolds : List Told) (ran : RunTold may s events tolds after) → IsTrue (copies_nothing events) → SameButBytes s t →
+  pub run_follows : (s t after : State F) (events : List (Command × Answer)) (tolds : List Turns) (ran : RunTold may s events tolds after) → IsTrue (copies_nothing events) → SameButBytes s t →
       AgreeOn s.memory.host t.memory.host (run_touches may s events tolds after ran).read → AllowsToo may s t after events tolds ran
   unfolding RunTold run_touches
   run_follows s t after [] [] ran few same agree = record {

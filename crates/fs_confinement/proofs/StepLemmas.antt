@@ -13,8 +13,8 @@ use Rattle.virtiofsd_fuse.specs.Serving.{May}
 use Rattle.fs_device.specs.declared.error.DeviceError.{DeviceError}
 use Rattle.fs_device.specs.declared.error.DeviceError.TheVariants as device
 use Rattle.fs_device.specs.MarkedPages.{returned_addresses}
-use Rattle.fs_device.specs.Step.{State, Exchange, Calls, Outcome, Idle, Refused, Exchanged, Exchanges, ServesRequest, Acts, StepOf, Step, Returns, after_return, faulty, served_exchange, with_queue}
-use Rattle.fs_device.specs.Run.{Told, KickEnds, KickRun, Kicks, Kicked, with_host}
+use Rattle.fs_device.specs.Step.{State, Exchange, Calls, StepEnd, Idle, Refused, Exchanged, Exchanges, ServesRequest, Acts, StepOf, Step, Returns, after_return, faulty, served_exchange, with_queue}
+use Rattle.fs_device.specs.Run.{Turns, KickEnds, KickRun, Kicks, KickAnswer, with_host}
 use Rattle.fs_confinement.specs.ReadSet.{places_for, offer_reads, flag_reads, room_in, step_writes, Touched, and_then, step_touches, end_touches, kick_touches, kicks_touch}
 use Rattle.fs_confinement.specs.Confinement.{without_bytes, without_its_bytes, SameButBytes, AgreeOn, KeepDifference}
 use Rattle.fs_confinement.proofs.HostLemmas.{bare, same_hosts, nothing_differs, keep_both, agree_front, agree_back, agree_later, agree_stored, stores_aside, stores_keep}
@@ -91,7 +91,7 @@ module _ {F : Type 0} (may : May F) (s : State F) (h : Host) (same : without_byt
   exchange_follows i q taking.Idle calls x notice after r agree = absurd r
   exchange_follows i q (Refuses e) calls x notice after r agree = absurd r
 
-  act_follows : (i : ℕ) (q : Queue) (o : Offer) (calls : Calls) (outcome : Outcome) (after : State F) → Acts may s i q o calls outcome after → Agree s.memory h same (flag_reads q outcome) →
+  act_follows : (i : ℕ) (q : Queue) (o : Offer) (calls : Calls) (outcome : StepEnd) (after : State F) → Acts may s i q o calls outcome after → Agree s.memory h same (flag_reads q outcome) →
       Follows (λ end. Acts may (with_host s h) i q o calls outcome end) s h after (places_for s.memory Write (step_writes q o outcome))
   act_follows i q o calls Idle after t agree = stays s h same _ after t.1.same (t.0, record { same = refl; no_call = t.1.no_call })
   act_follows i q o calls (Exchanged x notice) after t agree = exchange_follows i q o calls x notice after t agree
@@ -106,7 +106,7 @@ module _ {F : Type 0} (may : May F) (s : State F) (h : Host) (same : without_byt
         bytes = subst (λ (k : State F). KeepDifference s.memory.host h k.memory.host h []) (sym t.2) (nothing_differs s.memory.host h);
       }
 
-  step_of_follows : (i : ℕ) (o : Option Queue) (calls : Calls) (outcome : Outcome) (after : State F) → StepOf may s i o calls outcome after → AgreeOn s.memory.host h (step_touches s o outcome).read →
+  step_of_follows : (i : ℕ) (o : Option Queue) (calls : Calls) (outcome : StepEnd) (after : State F) → StepOf may s i o calls outcome after → AgreeOn s.memory.host h (step_touches s o outcome).read →
       Follows (λ end. StepOf may (with_host s h) i o calls outcome end × (step_touches (with_host s h) o outcome ≡ step_touches s o outcome)) s h after (step_touches s o outcome).written
   step_of_follows i None calls outcome after t agree = stays s h same _ after t.1.same ((t.0, record { same = refl; no_call = t.1.no_call }), refl)
   step_of_follows i (Some q) calls outcome after t agree =
@@ -138,7 +138,7 @@ pub both_same : (a b c d : Touched) → a ≡ b → c ≡ d → and_then a c ≡
 both_same a b c d first later = ap (λ (k : Touched). and_then k c) first ∙ ap (and_then b) later
 
 module _ {F : Type 0} (may : May F) where
-  step_follows : (s t : State F) → SameButBytes s t → (i : ℕ) (calls : Calls) (outcome : Outcome) (after : State F) → Step may s i calls outcome after →
+  step_follows : (s t : State F) → SameButBytes s t → (i : ℕ) (calls : Calls) (outcome : StepEnd) (after : State F) → Step may s i calls outcome after →
       AgreeOn s.memory.host t.memory.host (step_touches s (slice_get s.queues i) outcome).read →
       Follows (λ end. Step may t i calls outcome end × (step_touches t (slice_get t.queues i) outcome ≡ step_touches s (slice_get s.queues i) outcome)) s t.memory.host after
       (step_touches s (slice_get s.queues i) outcome).written
@@ -164,7 +164,7 @@ module _ {F : Type 0} (may : May F) where
   end_follows s t same i (suc most) None after step agree = step_follows s t same i [] Idle after step agree
   end_follows s t same i (suc most) (Some e) after step agree = step_follows s t same i [] (Refused e) after step agree
 
-  kick_follows : (s t : State F) → SameButBytes s t → (i most : ℕ) (told : Told) (refused : Option DeviceError) (after : State F) (ran : KickRun may s i most told refused after) →
+  kick_follows : (s t : State F) → SameButBytes s t → (i most : ℕ) (told : Turns) (refused : Option DeviceError) (after : State F) (ran : KickRun may s i most told refused after) →
       AgreeOn s.memory.host t.memory.host (kick_touches may s i most told refused after ran).read →
       Follows (λ end. (other : KickRun may t i most told refused end) × (kick_touches may t i most told refused end other ≡ kick_touches may s i most told refused after ran)) s t.memory.host after
       (kick_touches may s i most told refused after ran).written
@@ -188,7 +188,7 @@ module _ {F : Type 0} (may : May F) where
         bytes = keep_both own.written later.written first.bytes others.bytes;
       }
 
-  pub kicks_follow : (s t : State F) → SameButBytes s t → (i most : ℕ) (o : Option Queue) (told : Told) (k : Kicked) (after : State F) (ran : Kicks may s i most o told k after) →
+  pub kicks_follow : (s t : State F) → SameButBytes s t → (i most : ℕ) (o : Option Queue) (told : Turns) (k : KickAnswer) (after : State F) (ran : Kicks may s i most o told k after) →
       AgreeOn s.memory.host t.memory.host (kicks_touch may s i most o told k after ran).read →
       Follows (λ end. (other : Kicks may t i most o told k end) × (kicks_touch may t i most o told k end other ≡ kicks_touch may s i most o told k after ran)) s t.memory.host after
       (kicks_touch may s i most o told k after ran).written

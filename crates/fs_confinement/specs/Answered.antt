@@ -3,17 +3,17 @@ use Rattle.std.specs.Prelude.{◌≡◌, ℕ, Bool, List, length, Some, slice_ge
 use Rattle.fs_queue.specs.Queue.{Queue}
 use Rattle.fs_queue.specs.Returning.{returned}
 use Rattle.fs_queue.specs.Taking.{IsRequest, Offers, offer}
-use Rattle.virtiofsd_fuse.specs.Serving.{May, Served, served, setting}
+use Rattle.virtiofsd_fuse.specs.Serving.{May, ServedMessage, served, setting}
 use Rattle.virtiofsd_fuse.specs.Grammar.{meaning}
 use Rattle.fs_device.specs.Step.{State, Exchange, Exchanged, Calls, Step, answers_alone, calls_alone, served_exchange}
 
 -- a queue of a state offers this request with a room of these addresses
-pub record Asks {F : Type 0} (s : State F) (i : ℕ) (q : Queue) (head : ℕ) (request room : List ℕ) : Type 0 where
+pub record OffersRequest {F : Type 0} (s : State F) (i : ℕ) (q : Queue) (head : ℕ) (request room : List ℕ) : Type 0 where
   pub there : slice_get s.queues i ≡ Some q
   pub offered : offer s.memory s.limit q ≡ Offers head (IsRequest request room)
 
 -- what comes of a request by what its calls were answered: of the room, only how long it is has a part in it
-abbrev pub comes_of : {F : Type 0} → State F → (request room : List ℕ) → Calls → Served
+abbrev pub comes_of : {F : Type 0} → State F → (request room : List ℕ) → Calls → ServedMessage
 comes_of s request room calls = served (setting s.page_size s.options (length room)) (meaning s.options request (length room)) (answers_alone calls)
 
 -- that is all that goes over: the exchange is told by it, and so are the calls; the guest's memory then has the reply over the room, the used element and the used index, and is else as it was
@@ -26,4 +26,4 @@ pub record ToldByAnswers {F : Type 0} (s after : State F) (q : Queue) (head : �
 abbrev pub AnswersAreSeen : {F : Type 0} → May F → Type 0
 AnswersAreSeen {F} may =
     (s after : State F) (i : ℕ) (q : Queue) (head : ℕ) (request room : List ℕ) (calls : Calls) (x : Exchange) (notice : Bool) →
-    Asks s i q head request room → Step may s i calls (Exchanged x notice) after → ToldByAnswers s after q head request room calls x
+    OffersRequest s i q head request room → Step may s i calls (Exchanged x notice) after → ToldByAnswers s after q head request room calls x

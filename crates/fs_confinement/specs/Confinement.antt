@@ -5,7 +5,7 @@ use Rattle.vm_memory_core.specs.Host.{Host, Block, Place, with_blocks}
 use Rattle.virtiofsd_fuse.specs.Serving.{May}
 use Rattle.fs_device.specs.Step.{State}
 use Rattle.fs_device.specs.Run as run
-use Rattle.fs_device.specs.Run.{Command, Answer, Told, RunTold, with_host}
+use Rattle.fs_device.specs.Run.{Command, Answer, Turns, RunTold, with_host}
 use Rattle.fs_confinement.specs.ReadSet.{is_among, byte_of, run_touches, read_set, written_set}
 
 -- a block of as many zeros, with its marks
@@ -47,7 +47,7 @@ copies_nothing events = list_all (λ e. not (copies e.0)) events
 
 -- a run is allowed from another state too: the same commands with the same answers, exchanges, notices and calls; it touches the same places, and the states after it differ in bytes alone,
 -- which are those that differed before and weren't written
-pub record AllowsToo {F : Type 0} (may : May F) (a b after : State F) (events : List (Command × Answer)) (tolds : List Told) (ran : RunTold may a events tolds after) : Type 0 where
+pub record AllowsToo {F : Type 0} (may : May F) (a b after : State F) (events : List (Command × Answer)) (tolds : List Turns) (ran : RunTold may a events tolds after) : Type 0 where
   pub end : State F
   pub run : RunTold may b events tolds end
   pub touched : run_touches may b events tolds end run ≡ run_touches may a events tolds after ran
@@ -57,5 +57,5 @@ pub record AllowsToo {F : Type 0} (may : May F) (a b after : State F) (events : 
 -- each run without an image and a harvest is allowed from each state that differs only in bytes outside its read set
 abbrev pub Confinement : {F : Type 0} → May F → Type 0
 Confinement {F} may =
-    (a b after : State F) (events : List (Command × Answer)) (tolds : List Told) (ran : RunTold may a events tolds after) → IsTrue (copies_nothing events) → SameButBytes a b →
+    (a b after : State F) (events : List (Command × Answer)) (tolds : List Turns) (ran : RunTold may a events tolds after) → IsTrue (copies_nothing events) → SameButBytes a b →
     AgreeOn a.memory.host b.memory.host (read_set may a events tolds after ran) → AllowsToo may a b after events tolds ran

@@ -5,7 +5,7 @@ use Rattle.vm_memory.specs.Layout.{Region}
 use Rattle.virtiofsd_fuse.specs.Serving.{May}
 use Rattle.fs_device.specs.Step.{State}
 use Rattle.fs_device.specs.Run as run
-use Rattle.fs_device.specs.Run.{Command, Answer, Told, Run, RunTold}
+use Rattle.fs_device.specs.Run.{Command, Answer, Turns, Run, RunTold}
 use Rattle.fs_confinement.specs.ReadSet.{is_among, byte_of, read_set, written_set}
 use Rattle.fs_confinement.specs.Confinement.{copies, SameButBytes, AllowsToo}
 
@@ -33,18 +33,18 @@ pub record DifferInBlock {F : Type 0} (block : ℕ) (a b : State F) : Type 0 whe
   pub others : (other offset : ℕ) → other ≢ block → byte_of a.memory.host other offset ≡ byte_of b.memory.host other offset
 
 -- a run neither reads nor writes the block
-pub record TouchesNothingOf {F : Type 0} (may : May F) (block : ℕ) (a after : State F) (events : List (Command × Answer)) (tolds : List Told) (ran : RunTold may a events tolds after) : Type 0 where
+pub record TouchesNothingOf {F : Type 0} (may : May F) (block : ℕ) (a after : State F) (events : List (Command × Answer)) (tolds : List Turns) (ran : RunTold may a events tolds after) : Type 0 where
   pub unread : (offset : ℕ) → is_among block offset (read_set may a events tolds after ran) ≡ false
   pub unwritten : (offset : ℕ) → is_among block offset (written_set may a events tolds after ran) ≡ false
 
 -- so that run is allowed whatever stands in the block
 abbrev pub HiddenBlocksAreSecret : {F : Type 0} → May F → Type 0
 HiddenBlocksAreSecret {F} may =
-    (block : ℕ) (a after : State F) (events : List (Command × Answer)) (tolds : List Told) (ran : RunTold may a events tolds after) → IsHidden block a (map (λ e. e.0) events) →
+    (block : ℕ) (a after : State F) (events : List (Command × Answer)) (tolds : List Turns) (ran : RunTold may a events tolds after) → IsHidden block a (map (λ e. e.0) events) →
     TouchesNothingOf may block a after events tolds ran × ((b : State F) → DifferInBlock block a b → AllowsToo may a b after events tolds ran)
 
 -- a run has exchanges, notices and calls behind its answers that may come with the same answers whatever stands in a block, and leave a state that again differs only there
 abbrev pub KeepsSecret : {F : Type 0} → May F → (block : ℕ) → (before after : State F) → List (Command × Answer) → Type 0
 KeepsSecret {F} may block before after events =
-    (tolds : List Told) × RunTold may before events tolds after
+    (tolds : List Turns) × RunTold may before events tolds after
     × ((other : State F) → DifferInBlock block before other → (end : State F) × RunTold may other events tolds end × DifferInBlock block after end)

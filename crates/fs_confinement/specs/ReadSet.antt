@@ -18,9 +18,9 @@ use Rattle.virtiofsd_fuse.specs.Serving.{May}
 use Rattle.fs_device.specs.declared.error.DeviceError.{DeviceError}
 use Rattle.fs_device.specs.MarkedPages.{returned_addresses}
 use Rattle.fs_device.specs.Step as step
-use Rattle.fs_device.specs.Step.{State, Exchange, Outcome, Refused, Exchanged}
+use Rattle.fs_device.specs.Step.{State, Exchange, StepEnd, Refused, Exchanged}
 use Rattle.fs_device.specs.Run as run
-use Rattle.fs_device.specs.Run.{Command, Answer, Told, KickRun, Kicks, Kicked, Performs, RunTold}
+use Rattle.fs_device.specs.Run.{Command, Answer, Turns, KickRun, Kicks, KickAnswer, Performs, RunTold}
 
 -- ---- places
 
@@ -88,7 +88,7 @@ abbrev pub offer_reads : Memory → (limit : ℕ) → Queue → List ℕ
 offer_reads m limit q = if q.stopped then [] else ring_reads q (next_avail m q) ++ waiting_reads m q (next_avail m q) (offer m limit q)
 
 -- behind its stores: the available flags (2.7.7), if a chain goes back
-abbrev pub flag_reads : Queue → Outcome → List ℕ
+abbrev pub flag_reads : Queue → StepEnd → List ℕ
 flag_reads q (Exchanged x notice) = addresses q.avail 2
 flag_reads q step.Idle = []
 flag_reads q (Refused e) = []
@@ -102,7 +102,7 @@ room_in (Refuses e) = []
 room_in Idle = []
 
 -- by what is offered: the reply over the room, the used element and the used index (2.7.8), if a chain goes back
-abbrev pub step_writes : Queue → Offer → Outcome → List ℕ
+abbrev pub step_writes : Queue → Offer → StepEnd → List ℕ
 step_writes q offered (Exchanged x notice) = returned_addresses q x.head (room_in offered) x.reply
 step_writes q offered step.Idle = []
 step_writes q offered (Refused e) = []
@@ -123,7 +123,7 @@ abbrev pub and_then : Touched → Touched → Touched
 and_then t u = record { read = t.read ++ u.read; written = t.written ++ u.written }
 
 -- by a step that ends so; where the flags are doesn't change before they are read
-abbrev pub step_touches : {F : Type 0} → State F → Option Queue → Outcome → Touched
+abbrev pub step_touches : {F : Type 0} → State F → Option Queue → StepEnd → Touched
 step_touches s None outcome = nothing
 step_touches s (Some q) outcome =
     record { read = places_for s.memory Read (offer_reads s.memory s.limit q ++ flag_reads q outcome); written = places_for s.memory Write (step_writes q (offer s.memory s.limit q) outcome) }
@@ -135,7 +135,7 @@ end_touches s i (suc most) None = step_touches s (slice_get s.queues i) step.Idl
 end_touches s i (suc most) (Some e) = step_touches s (slice_get s.queues i) (Refused e)
 
 -- by a kick, step by step
-unfoldable pub kick_touches : {F : Type 0} → (may : May F) → (s : State F) → (queue most : ℕ) → (told : Told) → (refused : Option DeviceError) → (after : State F) →
+unfoldable pub kick_touches : {F : Type 0} → (may : May F) → (s : State F) → (queue most : ℕ) → (told : Turns) → (refused : Option DeviceError) → (after : State F) →
     KickRun may s queue most told refused after → Touched
 unfolding KickRun
 kick_touches may s i most [] refused after ends = end_touches s i most refused
@@ -144,7 +144,7 @@ kick_touches may s i (suc most) (t ∷ ts) refused after (mid, first, rest) =
     and_then (step_touches s (slice_get s.queues i) (Exchanged t.exchange t.notice)) (kick_touches may mid i most ts refused after rest)
 
 -- by a kick of a queue that may be missing
-abbrev pub kicks_touch : {F : Type 0} → (may : May F) → (s : State F) → (queue most : ℕ) → (o : Option Queue) → (told : Told) → (k : Kicked) → (after : State F) →
+abbrev pub kicks_touch : {F : Type 0} → (may : May F) → (s : State F) → (queue most : ℕ) → (o : Option Queue) → (told : Turns) → (k : KickAnswer) → (after : State F) →
     Kicks may s queue most o told k after → Touched
 kicks_touch may s i most None told k after kicked = nothing
 kicks_touch may s i most (Some q) told k after kicked = kick_touches may s i most told k.refused after kicked.0
@@ -166,14 +166,14 @@ plain_touches s (run.GuestWrite a bytes) answer = guest_writes s a (length bytes
 plain_touches s _ answer = nothing
 
 -- by a command
-abbrev pub command_touches : {F : Type 0} → (may : May F) → (s : State F) → (command : Command) → (told : Told) → (answer : Answer) → (after : State F) →
+abbrev pub command_touches : {F : Type 0} → (may : May F) → (s : State F) → (command : Command) → (told : Turns) → (answer : Answer) → (after : State F) →
     Performs may s command told answer after → Touched
 command_touches may s (run.Kick i most) told (run.Served k) after done = kicks_touch may s i most (slice_get s.queues i) told k after done
 command_touches may s (run.Kick i most) told _ after done = nothing
 command_touches may s command told answer after done = plain_touches s command answer
 
 -- by a run, command by command
-unfoldable pub run_touches : {F : Type 0} → (may : May F) → (s : State F) → (events : List (Command × Answer)) → (tolds : List Told) → (after : State F) →
+unfoldable pub run_touches : {F : Type 0} → (may : May F) → (s : State F) → (events : List (Command × Answer)) → (tolds : List Turns) → (after : State F) →
     RunTold may s events tolds after → Touched
 unfolding RunTold
 run_touches may s [] [] after ran = nothing
@@ -182,11 +182,11 @@ run_touches may s (e ∷ es) [] after none = nothing
 run_touches may s (e ∷ es) (told ∷ tolds) after (mid, first, rest) = and_then (command_touches may s e.0 told e.1 mid first) (run_touches may mid es tolds after rest)
 
 -- the read set of a run
-abbrev pub read_set : {F : Type 0} → (may : May F) → (s : State F) → (events : List (Command × Answer)) → (tolds : List Told) → (after : State F) →
+abbrev pub read_set : {F : Type 0} → (may : May F) → (s : State F) → (events : List (Command × Answer)) → (tolds : List Turns) → (after : State F) →
     RunTold may s events tolds after → List Place
 read_set may s events tolds after ran = (run_touches may s events tolds after ran).read
 
 -- the places that it writes
-abbrev pub written_set : {F : Type 0} → (may : May F) → (s : State F) → (events : List (Command × Answer)) → (tolds : List Told) → (after : State F) →
+abbrev pub written_set : {F : Type 0} → (may : May F) → (s : State F) → (events : List (Command × Answer)) → (tolds : List Turns) → (after : State F) →
     RunTold may s events tolds after → List Place
 written_set may s events tolds after ran = (run_touches may s events tolds after ran).written

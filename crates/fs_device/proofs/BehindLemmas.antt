@@ -10,7 +10,7 @@ use Rattle.vm_memory_core.specs.declared.window.IoMarks.{IoMarks}
 use Rattle.vm_memory_core.specs.Parts.{part_of, sub_window}
 use Rattle.vm_memory_core.specs.Window.{AllLieIn, LiesIn, Window, places, places_of, span}
 use Rattle.vm_memory_core.proofs.WindowLemmas.{length-span, places-part}
-use Rattle.fs_device.specs.Behind.{Front, RoomLeft}
+use Rattle.fs_device.specs.Behind.{IsFrontWindow, RoomLeft}
 
 abbrev rooms_of : List Window → List ℕ
 rooms_of ws = filled (map (λ w. w.len) ws)
@@ -80,7 +80,7 @@ module _ (ws : List Window) (i : ℕ) (w : Window) (next : drop i ws ≡ w ∷ d
 
   -- the part of a window that is left, or the front of it, of what is left of a room
   pub front_of : (r : RoomLeft) (at n most : ℕ) (f : Window) → drop at (places (drop i ws)) ≡ r.places → past at (rooms_of (drop i ws)) ≡ r.rooms → at < w.len → n ≡ min most (w.len - at) →
-      f ≡ part_of w at n → Front r most f
+      f ≡ part_of w at n → IsFrontWindow r most f
   front_of r at n most f left rooms lt is part =
       let size : f.len ≡ n = ap (λ (v : Window). v.len) part in
       let most_there : first r.rooms ≡ w.len - at = ap first (sym rooms) ∙ first_there at lt in

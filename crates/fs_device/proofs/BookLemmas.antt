@@ -17,14 +17,14 @@ use Rattle.fs_queue.specs.Taking.{Offer, IsRequest, CannotFetch, Refuses, Offers
 use Rattle.fs_queue.specs.Taking as taking
 use Rattle.virtiofsd_fuse.specs.Grammar.{Meaning, IsFault, Replies, IsSilent, One, Starts, Lists, meaning}
 use Rattle.virtiofsd_fuse.specs.Grammar as grammar
-use Rattle.virtiofsd_fuse.specs.Listings.{Listing, list_entries, readdir_call}
-use Rattle.virtiofsd_fuse.specs.Serving.{May, Served, Setting, setting, served, no_reply, answer_bytes, start_options, start_answered, list_ended}
+use Rattle.virtiofsd_fuse.specs.Listings.{ListRequest, list_entries, readdir_call}
+use Rattle.virtiofsd_fuse.specs.Serving.{May, ServedMessage, Setting, setting, served, no_reply, answer_bytes, start_options, start_answered, list_ended}
 use Rattle.server_replies.proofs.ReplyLemmas.{length_reply, length_error}
 use Rattle.fs_device.specs.declared.error.DeviceError.{DeviceError}
 use Rattle.fs_device.specs.declared.refusal.Refusal.TheVariants as why
 use Rattle.fs_device.specs.Step.{State, Exchange, Calls, Exchanged, Exchanges, StepOf, faulty, served_exchange, EachSuits, calls_alone, answers_alone}
 use Rattle.fs_device.specs.Run as run
-use Rattle.fs_device.specs.Run.{Turn, Told, Command, Answer, KickRun, Kicks, Kicked, Does, Performs, RunTold}
+use Rattle.fs_device.specs.Run.{Turn, Turns, Command, Answer, KickRun, Kicks, KickAnswer, Does, Performs, RunTold}
 use Rattle.fs_device.specs.Books.{answered, sent, written, accepted, nodes_in, nodes_listed, opcode_in, entry_count, forget_count, forgets_meant, IsBalanced}
 use Rattle.fs_device.proofs.NodeLemmas.{drop_reply, drop_error, none_in_nothing, not_zero}
 use Rattle.fs_device.proofs.MeaningLemmas.{has_entry, no_entry, not_true, CallFits, MeaningFits, ListFits, meaning_fits}
@@ -41,7 +41,7 @@ taken_made : (n : ℕ) (step : FileCall × FileAnswer) (calls : Calls) (m : Mean
 taken_made n step calls m = let some = not_zero (length (step ∷ calls)) (omega arith) in rw some refl
 
 -- what comes of a request balances
-abbrev Balanced : (n : ℕ) → Option Opcode → Calls → (back : ℕ) → Served → Type 0
+abbrev Balanced : (n : ℕ) → Option Opcode → Calls → (back : ℕ) → ServedMessage → Type 0
 Balanced n o calls back given = entries_in n calls + back ≡ times n (nodes_in o (drop 16 given.reply)) + counts_in n calls
 
 either_way : (b : Bool) (k : ℕ) → (if b then k else k) ≡ k
@@ -52,13 +52,13 @@ silent : (n : ℕ) (o : Option Opcode) → times n (nodes_in o (drop 16 [])) ≡
 silent n o = ap (times n) (none_in_nothing o)
 
 -- nothing was asked, and no node is in the reply
-nothing_asked : (n : ℕ) (o : Option Opcode) (calls : Calls) (m : Meaning) (given : Served) → [] ≡ calls_alone calls → times n (nodes_in o (drop 16 given.reply)) ≡ 0 →
+nothing_asked : (n : ℕ) (o : Option Opcode) (calls : Calls) (m : Meaning) (given : ServedMessage) → [] ≡ calls_alone calls → times n (nodes_in o (drop 16 given.reply)) ≡ 0 →
     Balanced n o calls (taken n calls m) given
 nothing_asked n o calls m given asks none =
     subst (λ (l : Calls). Balanced n o l (taken n l m) given) (sym (no_step calls asks)) (omega (arith, none))
 
 -- a reply goes in whole, or not at all
-abbrev in_room : Bool → List FileCall → (options : ℕ) → List ℕ → Served
+abbrev in_room : Bool → List FileCall → (options : ℕ) → List ℕ → ServedMessage
 in_room long fetched options bytes = if long then no_reply fetched options (Some EncodeMessage) else record { calls = fetched; options = options; reply = bytes; fault = None }
 
 replied_asks : (long : Bool) (fetched : List FileCall) (options : ℕ) (bytes : List ℕ) → (in_room long fetched options bytes).calls ≡ fetched
@@ -158,7 +158,7 @@ module _ (n : ℕ) (some : n ≢ 0) (s : Setting) (o : Option Opcode) where
       subst (λ (l : Calls). Balanced n o l 0 (served s (grammar.Asks (Starts unique capable readahead)) (answers_alone l))) (sym one.1) (start_given unique capable readahead one.0 fits only.0)
 
   -- a directory's entries, with the calls that come with them
-  went_balances : (unique : ℕ) (l : Listing) (ds : List Listed) (steps : Calls) (nodes : Bool) → l.with_nodes ≡ nodes → ListFits s.room o nodes → EachSuits steps →
+  went_balances : (unique : ℕ) (l : ListRequest) (ds : List Listed) (steps : Calls) (nodes : Bool) → l.with_nodes ≡ nodes → ListFits s.room o nodes → EachSuits steps →
       (list_entries l ds l.size (s.room - 16) (answers_alone steps)).calls ≡ calls_alone steps →
       Balanced n o ((readdir_call l, call.Entries ds) ∷ steps) 0 (list_ended s unique l (list_entries l ds l.size (s.room - 16) (answers_alone steps)))
   went_balances unique l ds steps true is fits suit asks =
@@ -190,7 +190,7 @@ module _ (n : ℕ) (some : n ≢ 0) (s : Setting) (o : Option Opcode) where
       (ap (times n) (fits (drop 16 bytes))) (omega (arith, y, b))
 
   -- an answer that lists nothing
-  unlisted : (l : Listing) (c : FileCall) (a : FileAnswer) (steps : Calls) (bytes : List ℕ) (long : Bool) → readdir_call l ≡ c → IsTrue (suits c a) →
+  unlisted : (l : ListRequest) (c : FileCall) (a : FileAnswer) (steps : Calls) (bytes : List ℕ) (long : Bool) → readdir_call l ≡ c → IsTrue (suits c a) →
       [] ≡ calls_alone steps → nodes_in o (drop 16 bytes) ≡ [] →
       Balanced n o ((c, a) ∷ steps) 0 (in_room long (readdir_call l ∷ []) s.options bytes)
   unlisted l c a steps bytes long is suit asks none =
@@ -202,7 +202,7 @@ module _ (n : ℕ) (some : n ≢ 0) (s : Setting) (o : Option Opcode) where
       let e : entry_count n a ≡ 0 = no_entry n c a (ap (λ (c : FileCall). has_entry (kind_of c)) (sym is)) suit in
       replied_balances n o ((c, a) ∷ steps) 0 s.options (readdir_call l ∷ []) bytes long (omega (arith, x, z, e)) (ap (times n) none) (omega (arith, y, v, f))
 
-  list_given : (unique : ℕ) (l : Listing) (c : FileCall) (a : FileAnswer) (steps : Calls) → ListFits s.room o l.with_nodes → EachSuits ((c, a) ∷ steps) →
+  list_given : (unique : ℕ) (l : ListRequest) (c : FileCall) (a : FileAnswer) (steps : Calls) → ListFits s.room o l.with_nodes → EachSuits ((c, a) ∷ steps) →
       (served s (grammar.Asks (Lists unique l)) (a ∷ answers_alone steps)).calls ≡ c ∷ calls_alone steps →
       Balanced n o ((c, a) ∷ steps) 0 (served s (grammar.Asks (Lists unique l)) (a ∷ answers_alone steps))
   list_given unique l c (call.Failed errno) steps fits suit asks =
@@ -227,7 +227,7 @@ module _ (n : ℕ) (some : n ≢ 0) (s : Setting) (o : Option Opcode) where
       subst (λ (c : FileCall). Balanced n o ((c, call.Entries ds) ∷ steps) 0 (list_ended s unique l w)) same (went_balances unique l ds steps l.with_nodes refl fits suit.1 (cc))
   list_given unique l c (call.Wants options) steps fits suit asks = unlisted l c (call.Wants options) steps [] false (cc) suit.0 (cc) (none_in_nothing o)
 
-  list_all : (unique : ℕ) (l : Listing) (calls : Calls) → ListFits s.room o l.with_nodes → EachSuits calls →
+  list_all : (unique : ℕ) (l : ListRequest) (calls : Calls) → ListFits s.room o l.with_nodes → EachSuits calls →
       (served s (grammar.Asks (Lists unique l)) (answers_alone calls)).calls ≡ calls_alone calls →
       Balanced n o calls 0 (served s (grammar.Asks (Lists unique l)) (answers_alone calls))
   list_all unique l [] fits suit asks = absurd (cc)
@@ -272,7 +272,7 @@ exchange_balances may n some s i q (Offers head (IsRequest request room)) calls 
     let set = setting s.page_size s.options (length room) in
     let m = meaning s.options request (length room) in
     let fits = meaning_fits n s.options (length room) request in
-    let asks : (served set m (answers_alone calls)).calls ≡ calls_alone calls = ap (λ (g : Served). g.calls) (sym r.serves.gives) ∙ r.serves.asks in
+    let asks : (served set m (answers_alone calls)).calls ≡ calls_alone calls = ap (λ (g : ServedMessage). g.calls) (sym r.serves.gives) ∙ r.serves.asks in
     let bal = meaning_balances n some set (opcode_in request) m calls fits.0 (all_suit may s.files calls after.files r.serves.run) asks in
     let given = served set m (answers_alone calls) in
     let back : taken n calls m ≡ taken n calls (meaning 0 request 0) = ap (λ (k : ℕ). if length calls == 0 then 0 else k) fits.1 in
@@ -289,10 +289,10 @@ step_balances may n some s i (Some q) calls x notice after t = exchange_balances
 -- ---- kicks
 
 -- over exchanges
-abbrev ToldBalances : (n : ℕ) → Told → Type 0
+abbrev ToldBalances : (n : ℕ) → Turns → Type 0
 ToldBalances n told = sum_by (answered n) told + sum_by (accepted n) told ≡ sum_by (written n) told + sum_by (sent n) told
 
-kick_balances : {F : Type 0} (may : May F) (n : ℕ) → n ≢ 0 → (s : State F) (i most : ℕ) (told : Told) (refused : Option DeviceError) (after : State F) →
+kick_balances : {F : Type 0} (may : May F) (n : ℕ) → n ≢ 0 → (s : State F) (i most : ℕ) (told : Turns) (refused : Option DeviceError) (after : State F) →
     KickRun may s i most told refused after → ToldBalances n told
 unfolding KickRun
 kick_balances may n some s i most [] refused after t = refl
@@ -306,14 +306,14 @@ kick_balances may n some s i (suc most) (x ∷ told) refused after (mid, step, r
     let d = sum_by-cons (sent n) x told in
     omega (arith, own, others, a, b, c, d)
 
-kicks_balance : {F : Type 0} (may : May F) (n : ℕ) → n ≢ 0 → (s : State F) (i most : ℕ) (o : Option Queue) (told : Told) (k : Kicked) (after : State F) →
+kicks_balance : {F : Type 0} (may : May F) (n : ℕ) → n ≢ 0 → (s : State F) (i most : ℕ) (o : Option Queue) (told : Turns) (k : KickAnswer) (after : State F) →
     Kicks may s i most o told k after → ToldBalances n told
 kicks_balance may n some s i most None told k after t = subst (ToldBalances n) (sym t.1) refl
 kicks_balance may n some s i most (Some q) told k after t = kick_balances may n some s i most told k.refused after t.0
 
 -- ---- runs
 
-does_balance : {F : Type 0} (may : May F) (n : ℕ) → n ≢ 0 → (s : State F) (command : Command) (told : Told) (answer : Answer) (after : State F) →
+does_balance : {F : Type 0} (may : May F) (n : ℕ) → n ≢ 0 → (s : State F) (command : Command) (told : Turns) (answer : Answer) (after : State F) →
     Does may s command told answer after → ToldBalances n told
 does_balance may n some s command [] answer after t = refl
 does_balance may n some s (run.Kick i most) (x ∷ told) (run.Served k) after t = kicks_balance may n some s i most (slice_get s.queues i) (x ∷ told) k after t
@@ -337,7 +337,7 @@ does_balance may n some s (run.ResetQueue queue size desc avail used) (x ∷ tol
 does_balance may n some s run.Image (x ∷ told) answer after t = absurd t
 does_balance may n some s run.Harvest (x ∷ told) answer after t = absurd t
 
-performs_balance : {F : Type 0} (may : May F) (n : ℕ) → n ≢ 0 → (s : State F) (command : Command) (told : Told) (answer : Answer) (after : State F) →
+performs_balance : {F : Type 0} (may : May F) (n : ℕ) → n ≢ 0 → (s : State F) (command : Command) (told : Turns) (answer : Answer) (after : State F) →
     Performs may s command told answer after → ToldBalances n told
 performs_balance may n some s command [] (run.IsRefused why.OutOfMemory) after t = refl
 performs_balance may n some s command (x ∷ told) (run.IsRefused why.OutOfMemory) after t = absurd t
@@ -357,7 +357,7 @@ performs_balance may n some s command told (run.Copied host) after t = does_bala
 performs_balance may n some s command told (run.Pages pages) after t = does_balance may n some s command told _ after t
 
 -- a run balances
-pub run_balances : {F : Type 0} (may : May F) (n : ℕ) → n ≢ 0 → (s : State F) (events : List (Command × Answer)) (tolds : List Told) (after : State F) →
+pub run_balances : {F : Type 0} (may : May F) (n : ℕ) → n ≢ 0 → (s : State F) (events : List (Command × Answer)) (tolds : List Turns) (after : State F) →
     RunTold may s events tolds after → IsBalanced n tolds
 unfolding RunTold
 run_balances may n some s [] [] after t = refl
@@ -366,8 +366,8 @@ run_balances may n some s (e ∷ es) [] after t = absurd t
 run_balances may n some s (e ∷ es) (told ∷ tolds) after (mid, performs, rest) =
     let own = performs_balance may n some s e.0 told e.1 mid performs in
     let others = run_balances may n some mid es tolds after rest in
-    let a = sum_by-cons (λ (l : Told). sum_by (answered n) l) told tolds in
-    let b = sum_by-cons (λ (l : Told). sum_by (accepted n) l) told tolds in
-    let c = sum_by-cons (λ (l : Told). sum_by (written n) l) told tolds in
-    let d = sum_by-cons (λ (l : Told). sum_by (sent n) l) told tolds in
+    let a = sum_by-cons (λ (l : Turns). sum_by (answered n) l) told tolds in
+    let b = sum_by-cons (λ (l : Turns). sum_by (accepted n) l) told tolds in
+    let c = sum_by-cons (λ (l : Turns). sum_by (written n) l) told tolds in
+    let d = sum_by-cons (λ (l : Turns). sum_by (sent n) l) told tolds in
     omega (arith, own, others, a, b, c, d)

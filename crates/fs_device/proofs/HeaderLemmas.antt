@@ -5,7 +5,7 @@ use Rattle.std.specs.Int.{w32, to_le_bytes}
 use Rattle.std.proofs.lemmas.Bool.{ltb-false}
 use Rattle.vm_values.specs.Fields.{field_bytes}
 use Rattle.fuse_in.specs.declared.session.InHeader.{InHeader}
-use Rattle.fuse_in.specs.Shapes.{Shape}
+use Rattle.fuse_in.specs.Shapes.{RecordShape}
 use Rattle.fuse_in.specs.Records as inputs
 use Rattle.fuse_wire.specs.declared.opcodes.Opcode.{Opcode}
 use Rattle.fuse_wire.specs.declared.opcodes.Opcode.TheVariants as op
@@ -23,7 +23,7 @@ use Rattle.server_replies.proofs.ReplyLemmas.{length_reply, length_error}
 use Rattle.virtiofsd_fuse.specs.Grammar as grammar
 use Rattle.virtiofsd_fuse.specs.Grammar.{Meaning, IsFault, Replies, IsSilent, Asks, FileCommand, One, Starts, Lists, Given, given, one, row, row_of, refused, ended, meant, meaning, with_header}
 use Rattle.virtiofsd_fuse.specs.Listings as listings
-use Rattle.virtiofsd_fuse.specs.Listings.{Listing, list_entries}
+use Rattle.virtiofsd_fuse.specs.Listings.{ListRequest, list_entries}
 use Rattle.virtiofsd_fuse.specs.Serving.{Setting, served, replied, commanded, list_answered, start_answered, answer_bytes, agreed}
 use Rattle.fs_device.specs.UsedLength.{header_length}
 
@@ -112,7 +112,7 @@ replied_told : (room : ℕ) (calls : List FileCall) (options : ℕ) (bytes : Lis
 replied_told room calls options bytes headed =
     which_reply room calls options bytes (nat_lt room (length bytes)) (unless_long room calls options bytes (nat_lt room (length bytes)) refl headed) refl
 
-list_told : (s : Setting) (unique : ℕ) (l : Listing) (a : FileAnswer) (answers : List FileAnswer) → IsTold s.room (list_answered s unique l a answers).reply
+list_told : (s : Setting) (unique : ℕ) (l : ListRequest) (a : FileAnswer) (answers : List FileAnswer) → IsTold s.room (list_answered s unique l a answers).reply
 list_told s unique l (call.Entries ds) answers =
     let w = list_entries l ds l.size (s.room - 16) answers in
     replied_told s.room _ s.options (listing_bytes unique l.with_nodes w.bytes w.error) (data_headed unique (listing_answer (length w.bytes) l.with_nodes w.error) w.bytes)
@@ -164,7 +164,7 @@ module _ (g : Given) where
   if_ends true p q bytes x y = x
   if_ends false p q bytes x y = y
 
-  record_ends : {R : Type 0} (s : Shape R) (c : InHeader → R → FileCall) (bytes : List ℕ) → Ends (grammar.record_row s c g bytes)
+  record_ends : {R : Type 0} (s : RecordShape R) (c : InHeader → R → FileCall) (bytes : List ℕ) → Ends (grammar.record_row s c g bytes)
   record_ends s c bytes = then_ends (reading_of s bytes) (λ r. one g (c g.header r)) (λ r more. tt)
 
   name_ends : (c : InHeader → List ℕ → FileCall) (bytes : List ℕ) → Ends (grammar.name_row c g bytes)

@@ -23,9 +23,9 @@ use Rattle.fs_device.specs.declared.error.DeviceError.{DeviceError}
 use Rattle.fs_device.specs.declared.error.DeviceError.TheVariants as device
 use Rattle.fs_device.specs.declared.refusal.Refusal.{Refusal}
 use Rattle.fs_device.specs.declared.refusal.Refusal.TheVariants as why
-use Rattle.fs_device.specs.Step.{State, Exchange, Calls, Outcome, Idle, Refused, Exchanged, Exchanges, Acts, StepOf, Step, Returns, after_return, faulty, served_exchange, with_queue}
+use Rattle.fs_device.specs.Step.{State, Exchange, Calls, StepEnd, Idle, Refused, Exchanged, Exchanges, Acts, StepOf, Step, Returns, after_return, faulty, served_exchange, with_queue}
 use Rattle.fs_device.specs.Run as run
-use Rattle.fs_device.specs.Run.{Told, Command, Answer, Effect, KickEnds, KickRun, Kicks, Kicked, Affects, ChangesTable, HasEffect, Does, IsDecided, Performs, LacksMemory, RunTold, effect}
+use Rattle.fs_device.specs.Run.{Turns, Command, Answer, Effect, KickEnds, KickRun, Kicks, KickAnswer, Affects, ChangesTable, HasEffect, Does, IsDecided, Performs, LacksMemory, RunTold, effect}
 use Rattle.fs_device.specs.Run.{guest_read, guest_write, make_block, insert, insert_block, remove_region, set_layout, is_known, has_len, some_overlap, reset, with_host}
 use Rattle.fs_device.specs.Run.{with_layout, with_ranges, goes_in, block_goes_in, command_takes_memory, ends_fit, no}
 use Rattle.fs_device.specs.Marks.{without_marks, without_its_marks, SameButMarks, SameAnswer, SameEvents}
@@ -88,7 +88,7 @@ module _ {F : Type 0} (may : May F) (s : State F) (h : Host) (same : without_mar
   exchange_alike i q taking.Idle calls x notice after r = absurd r
   exchange_alike i q (Refuses e) calls x notice after r = absurd r
 
-  act_alike : (i : ℕ) (q : Queue) (o : Offer) (calls : Calls) (outcome : Outcome) (after : State F) → Acts may s i q o calls outcome after →
+  act_alike : (i : ℕ) (q : Queue) (o : Offer) (calls : Calls) (outcome : StepEnd) (after : State F) → Acts may s i q o calls outcome after →
       Matched (λ end. Acts may (with_host s h) i q o calls outcome end) after
   act_alike i q o calls Idle after t = (with_host s h, (t.0, record { same = refl; no_call = t.1.no_call }), unchanged_alike s h same after t.1.same)
   act_alike i q o calls (Exchanged x notice) after t = exchange_alike i q o calls x notice after t
@@ -98,7 +98,7 @@ module _ {F : Type 0} (may : May F) (s : State F) (h : Host) (same : without_mar
   act_alike i q o calls (Refused (device.Queue e)) after t =
       let stopped = with_queue s i (after_refusal q e) in (with_host stopped h, (t.0, t.1, refl), ap without_its_marks t.2 ∙ ap (with_host stopped) same)
 
-  step_of_alike : (i : ℕ) (o : Option Queue) (calls : Calls) (outcome : Outcome) (after : State F) → StepOf may s i o calls outcome after →
+  step_of_alike : (i : ℕ) (o : Option Queue) (calls : Calls) (outcome : StepEnd) (after : State F) → StepOf may s i o calls outcome after →
       Matched (λ end. StepOf may (with_host s h) i o calls outcome end) after
   step_of_alike i None calls outcome after t = (with_host s h, (t.0, record { same = refl; no_call = t.1.no_call }), unchanged_alike s h same after t.1.same)
   step_of_alike i (Some q) calls outcome after t =
@@ -106,7 +106,7 @@ module _ {F : Type 0} (may : May F) (s : State F) (h : Host) (same : without_mar
       (offers_same s.memory (with_host s h).memory (same_memory s h same) s.limit q) (act_alike i q (offer s.memory s.limit q) calls outcome after t)
 
 module _ {F : Type 0} (may : May F) where
-  step_alike : (s t : State F) → SameButMarks s t → (i : ℕ) (calls : Calls) (outcome : Outcome) (after : State F) → Step may s i calls outcome after →
+  step_alike : (s t : State F) → SameButMarks s t → (i : ℕ) (calls : Calls) (outcome : StepEnd) (after : State F) → Step may s i calls outcome after →
       Matched (λ end. Step may t i calls outcome end) after
   step_alike s t same i calls outcome after step =
       over_host s t (λ (k : State F). Matched (λ end. Step may k i calls outcome end) after) same
@@ -121,7 +121,7 @@ module _ {F : Type 0} (may : May F) where
   end_alike s t same i (suc most) None after step = step_alike s t same i [] Idle after step
   end_alike s t same i (suc most) (Some e) after step = step_alike s t same i [] (Refused e) after step
 
-  kick_alike : (s t : State F) → SameButMarks s t → (i most : ℕ) (told : Told) (refused : Option DeviceError) (after : State F) → KickRun may s i most told refused after →
+  kick_alike : (s t : State F) → SameButMarks s t → (i most : ℕ) (told : Turns) (refused : Option DeviceError) (after : State F) → KickRun may s i most told refused after →
       Matched (λ end. KickRun may t i most told refused end) after
   unfolding KickRun
   kick_alike s t same i most [] refused after is = end_alike s t same i most refused after is
@@ -131,7 +131,7 @@ module _ {F : Type 0} (may : May F) where
       let others = kick_alike mid first.0 first.2 i most told refused after rest in
       (others.0, (first.0, first.1, others.1), others.2)
 
-  kicks_alike : (s t : State F) → SameButMarks s t → (i most : ℕ) (o : Option Queue) (told : Told) (k : Kicked) (after : State F) → Kicks may s i most o told k after →
+  kicks_alike : (s t : State F) → SameButMarks s t → (i most : ℕ) (o : Option Queue) (told : Turns) (k : KickAnswer) (after : State F) → Kicks may s i most o told k after →
       Matched (λ end. Kicks may t i most o told k end) after
   kicks_alike s t same i most None told k after is = (t, (refl, is.1, is.2), ap without_its_marks is.0 ∙ same)
   kicks_alike s t same i most (Some q) told k after is =
@@ -318,12 +318,12 @@ module _ {F : Type 0} (s : State F) (h : Host) (same : without_marks s.memory.ho
   affect_alike (run.Kick i most) answer after t = absurd t
   affect_alike command answer after t = answered_by_effect command answer after t
 
-  has_effect_alike : (command : Command) (told : Told) (answer : Answer) (after : State F) → HasEffect s command told answer after →
+  has_effect_alike : (command : Command) (told : Turns) (answer : Answer) (after : State F) → HasEffect s command told answer after →
       AnsweredAlike (λ other end. HasEffect (with_host s h) command told other end) answer after
   has_effect_alike command [] answer after t = affect_alike command answer after t
   has_effect_alike command (x ∷ told) answer after t = absurd t
 
-  lack_alike : (command : Command) (told : Told) (after : State F) → LacksMemory s command told after → Matched (λ end. LacksMemory (with_host s h) command told end) after
+  lack_alike : (command : Command) (told : Turns) (after : State F) → LacksMemory s command told after → Matched (λ end. LacksMemory (with_host s h) command told end) after
   lack_alike command [] after t = (with_host s h, (subst IsTrue (takes_alike command) t.0, refl), unchanged_alike s h same after t.1)
   lack_alike command (x ∷ told) after t = absurd t
 
@@ -333,7 +333,7 @@ Suffices (run.IsRefused why.OutOfMemory) = ⊥
 Suffices answer = Unit {0}
 
 module _ {F : Type 0} (may : May F) where
-  does_alike : (s : State F) (h : Host) → without_marks s.memory.host ≡ without_marks h → (command : Command) (told : Told) (answer : Answer) (after : State F) →
+  does_alike : (s : State F) (h : Host) → without_marks s.memory.host ≡ without_marks h → (command : Command) (told : Turns) (answer : Answer) (after : State F) →
       Does may s command told answer after → AnsweredAlike (λ other end. Does may (with_host s h) command told other end) answer after
   does_alike s h same (run.Kick i most) told (run.Served k) after t =
       answered_so (λ other end. Does may (with_host s h) (run.Kick i most) told other end) (run.Served k) after
@@ -341,7 +341,7 @@ module _ {F : Type 0} (may : May F) where
   does_alike s h same (run.Kick i most) told answer after t = absurd t
   does_alike s h same command told answer after t = has_effect_alike s h same command told answer after t
 
-  performed : (s : State F) (command : Command) (told : Told) (answer other : Answer) (end : State F) → Suffices answer → SameAnswer answer other →
+  performed : (s : State F) (command : Command) (told : Turns) (answer other : Answer) (end : State F) → Suffices answer → SameAnswer answer other →
       Does may s command told other end → Performs may s command told other end
   performed s command told (run.IsRefused why.OutOfMemory) other end enough same does = absurd enough
   performed s command told (run.Pages old) (run.Pages new) end enough same does = does
@@ -351,7 +351,7 @@ module _ {F : Type 0} (may : May F) where
   performed s command told answer other end enough same does =
       subst (λ (a : Answer). Performs may s command told a end) (sym same) (subst (λ (a : Answer). Does may s command told a end) same does)
 
-  performs_over : (s : State F) (h : Host) → without_marks s.memory.host ≡ without_marks h → (command : Command) (told : Told) (answer : Answer) (after : State F) →
+  performs_over : (s : State F) (h : Host) → without_marks s.memory.host ≡ without_marks h → (command : Command) (told : Turns) (answer : Answer) (after : State F) →
       Performs may s command told answer after → AnsweredAlike (λ other end. Performs may (with_host s h) command told other end) answer after
   performs_over s h same command told (run.IsRefused why.OutOfMemory) after t =
       answered_so (λ other end. Performs may (with_host s h) command told other end) (run.IsRefused why.OutOfMemory) after (lack_alike s h same command told after t)
@@ -359,7 +359,7 @@ module _ {F : Type 0} (may : May F) where
       let new = does_alike s h same command told answer after t in
       (new.0, new.1, new.2, performed (with_host s h) command told answer new.0 new.1 tt new.2 new.3, new.4)
 
-  performs_alike : (s t : State F) → SameButMarks s t → (command : Command) (told : Told) (answer : Answer) (after : State F) → Performs may s command told answer after →
+  performs_alike : (s t : State F) → SameButMarks s t → (command : Command) (told : Turns) (answer : Answer) (after : State F) → Performs may s command told answer after →
       AnsweredAlike (λ other end. Performs may t command told other end) answer after
   performs_alike s t same command told answer after performs =
       over_host s t (λ (k : State F). AnsweredAlike (λ other end. Performs may k command told other end) answer after) same
@@ -368,7 +368,7 @@ module _ {F : Type 0} (may : May F) where
   -- ---- runs
 
   -- a run from a state that differs in marks alone
-  pub run_alike : (s t after : State F) (events : List (Command × Answer)) (tolds : List Told) → SameButMarks s t → RunTold may s events tolds after →
+  pub run_alike : (s t after : State F) (events : List (Command × Answer)) (tolds : List Turns) → SameButMarks s t → RunTold may s events tolds after →
       (others : List (Command × Answer)) × (end : State F) × SameEvents events others × RunTold may t others tolds end × SameButMarks after end
   unfolding RunTold
   run_alike s t after [] [] same ran = ([], t, tt, refl, ap without_its_marks ran ∙ same)

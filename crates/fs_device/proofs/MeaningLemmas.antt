@@ -9,7 +9,7 @@ use Rattle.fuse_in.specs.declared.session.InHeader.{InHeader}
 use Rattle.fuse_in.specs.declared.files.ReadIn.{ReadIn}
 use Rattle.fuse_in.specs.declared.files.WriteIn.{WriteIn}
 use Rattle.fuse_in.specs.declared.nodes.GetxattrIn.{GetxattrIn}
-use Rattle.fuse_in.specs.Shapes.{Shape, made}
+use Rattle.fuse_in.specs.Shapes.{RecordShape, made}
 use Rattle.fuse_in.specs.Records as inputs
 use Rattle.fuse_wire.specs.declared.opcodes.Opcode.{Opcode}
 use Rattle.fuse_wire.specs.declared.opcodes.Opcode.TheVariants as op
@@ -18,7 +18,7 @@ use Rattle.fuse_wire.specs.Records.{entry_out, open_out}
 use Rattle.fuse_fs.specs.declared.answers.Entry.{Entry}
 use Rattle.fuse_fs.specs.Answers.{entry_out_of}
 use Rattle.fuse_fs.specs.Replies.{open_out_of}
-use Rattle.fuse_fs.specs.Calls.{FileCall, FileAnswer, Kind, kind_of, suits, is_of, NewLink}
+use Rattle.fuse_fs.specs.Calls.{FileCall, FileAnswer, AnswerForm, kind_of, suits, is_of, NewLink}
 use Rattle.fuse_fs.specs.Calls as call
 use Rattle.server_segments.specs.declared.error.Error.TheVariants.{DecodeMessage, EncodeMessage}
 use Rattle.server_requests.specs.Reading.{ReadFailure, Faults, Sends, Reading, and_then, needs, give, many, rest, reading_of, ◌>>=◌, ◌>>◌, within, last_name, two_names, name_and_value}
@@ -37,12 +37,12 @@ use Rattle.fs_device.proofs.NodeLemmas.{drop_reply, drop_error, no_nodes, none_i
 -- ---- answers
 
 -- the kinds of answers that have an entry
-abbrev pub has_entry : Kind → Bool
+abbrev pub has_entry : AnswerForm → Bool
 has_entry call.IsEntry = true
 has_entry call.IsCreate = true
 has_entry _ = false
 
-of_other_kind : (n : ℕ) (kind : Kind) (a : FileAnswer) → has_entry kind ≡ false → IsTrue (is_of kind a) → entry_count n a ≡ 0
+of_other_kind : (n : ℕ) (kind : AnswerForm) (a : FileAnswer) → has_entry kind ≡ false → IsTrue (is_of kind a) → entry_count n a ≡ 0
 of_other_kind n kind (call.Failed errno) without h = refl
 of_other_kind n kind call.Done without h = refl
 of_other_kind n call.IsDone (call.HasEntry e) without h = absurd (cc)
@@ -234,7 +234,7 @@ module _ (n : ℕ) (g : Given) (o : Opcode) where
   abbrev RequestAndRoom : FileCall → Type 0
   RequestAndRoom c = CallFits n (Some o) c × (forget_count n c ≡ 0)
 
-  record_ends : {R : Type 0} (s : Shape R) (c : InHeader → R → FileCall) (bytes : List ℕ) → ((r : R) → RequestAndRoom (c g.header r)) → Ends (grammar.record_row s c g bytes)
+  record_ends : {R : Type 0} (s : RecordShape R) (c : InHeader → R → FileCall) (bytes : List ℕ) → ((r : R) → RequestAndRoom (c g.header r)) → Ends (grammar.record_row s c g bytes)
   record_ends s c bytes good = then_ends (reading_of s bytes) (λ r. one g (c g.header r)) (λ r more. good r)
 
   name_ends : (c : InHeader → List ℕ → FileCall) (bytes : List ℕ) → ((name : List ℕ) → RequestAndRoom (c g.header name)) → Ends (grammar.name_row c g bytes)

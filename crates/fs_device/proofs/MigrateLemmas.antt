@@ -26,7 +26,7 @@ use Rattle.fs_device.specs.declared.command.Answer as told
 use Rattle.fs_device.specs.declared.command.Command as fetched
 use Rattle.fs_device.specs.Step.{State}
 use Rattle.fs_device.specs.Run as run
-use Rattle.fs_device.specs.Run.{Command, Answer, Told, Performs, RunTold, Run, with_host}
+use Rattle.fs_device.specs.Run.{Command, Answer, Turns, Performs, RunTold, Run, with_host}
 use Rattle.fs_device.specs.CommandView.{answer_of, command_of}
 use Rattle.fs_device.specs.Moving.{CanMoveAgain, HasItsMarks, ImageCatchesUp, RunsFromImage, follows_image, pages_answered, pages_of_answer}
 use Rattle.fs_device.proofs.LayoutLemmas.{page_count-is}
@@ -143,7 +143,7 @@ answered_all first now whole answers i ge left = sym (ap (λ (l : List told.Answ
 -- ---- runs
 
 -- one run after another
-runs_joined : {F : Type 0} (may : May F) (s mid after : State F) (es fs : List (Command × Answer)) (ts us : List Told) → RunTold may s es ts mid →
+runs_joined : {F : Type 0} (may : May F) (s mid after : State F) (es fs : List (Command × Answer)) (ts us : List Turns) → RunTold may s es ts mid →
     RunTold may mid fs us after → RunTold may s (es ++ fs) (ts ++ us) after
 unfolding RunTold
 runs_joined may s mid after [] fs [] us one other = subst (λ k. RunTold may k fs us after) one other
@@ -155,7 +155,7 @@ one_command : {F : Type 0} (may : May F) (s after : State F) (e : Command × Ans
 unfolding RunTold
 one_command may s after e performs = (after, performs, refl)
 
-one_before : {F : Type 0} (may : May F) (s mid after : State F) (e : Command × Answer) (es : List (Command × Answer)) (ts : List Told) → Performs may s e.0 [] e.1 mid → RunTold may mid es ts after →
+one_before : {F : Type 0} (may : May F) (s mid after : State F) (e : Command × Answer) (es : List (Command × Answer)) (ts : List Turns) → Performs may s e.0 [] e.1 mid → RunTold may mid es ts after →
     RunTold may s (e ∷ es) ([] ∷ ts) after
 unfolding RunTold
 one_before may s mid after e es ts performs rest = (mid, performs, rest)

@@ -24,7 +24,7 @@ use Rattle.fs_device.specs.declared.error.DeviceError.TheVariants as device
 use Rattle.fs_device.specs.declared.refusal.Refusal.TheVariants as why
 use Rattle.fs_device.specs.Step.{State, Exchange, Calls, Idle, Refused, Exchanged, Exchanges, StepOf}
 use Rattle.fs_device.specs.Run as run
-use Rattle.fs_device.specs.Run.{Told, Command, Answer, Effect, KickEnds, KickRun, Kicks, Kicked, HasEffect, Does, Performs, RunTold, Affects, effect, insert}
+use Rattle.fs_device.specs.Run.{Turns, Command, Answer, Effect, KickEnds, KickRun, Kicks, KickAnswer, HasEffect, Does, Performs, RunTold, Affects, effect, insert}
 use Rattle.fs_device.specs.Run.{insert_block, is_known, some_overlap, reset}
 use Rattle.fs_device.specs.Moving.{follows_image, made_over, pages_of_answer, pages_answered, HasItsMarks, IsStale, MovedIsLast, page_mark, RunsFromImage}
 
@@ -109,7 +109,7 @@ end_held may image s i zero (Some e) after t h = absurd t
 end_held may image s i (suc most) None after t h = idle_held may image s i (slice_get s.queues i) [] after t h
 end_held may image s i (suc most) (Some e) after t h = refused_held may image s i (slice_get s.queues i) [] e after t h
 
-kick_held : {F : Type 0} (may : May F) (image : Host) (s : State F) (i most : ℕ) (told : Told) (refused : Option DeviceError) (after : State F) →
+kick_held : {F : Type 0} (may : May F) (image : Host) (s : State F) (i most : ℕ) (told : Turns) (refused : Option DeviceError) (after : State F) →
     KickRun may s i most told refused after → HeldIn image s → HeldIn image after
 unfolding KickRun
 kick_held may image s i most [] refused after t h = end_held may image s i most refused after t h
@@ -117,7 +117,7 @@ kick_held may image s i zero (x ∷ told) refused after t h = absurd t
 kick_held may image s i (suc most) (x ∷ told) refused after (mid, step, rest) h =
     kick_held may image mid i most told refused after rest (step_held may image s i (slice_get s.queues i) x.calls x.exchange x.notice mid step h)
 
-kicks_held : {F : Type 0} (may : May F) (image : Host) (s : State F) (i most : ℕ) (o : Option Queue) (told : Told) (k : Kicked) (after : State F) →
+kicks_held : {F : Type 0} (may : May F) (image : Host) (s : State F) (i most : ℕ) (o : Option Queue) (told : Turns) (k : KickAnswer) (after : State F) →
     Kicks may s i most o told k after → HeldIn image s → HeldIn image after
 kicks_held may image s i most None told k after t h = subst (HeldIn image) (sym t.0) h
 kicks_held may image s i most (Some q) told k after t h = kick_held may image s i most told k.refused after t.0 h
@@ -188,12 +188,12 @@ affect_goes image s (run.ResetQueue queue size desc avail used) answer after fol
 affect_goes image s run.Image answer after follows h t = absurd (cc)
 affect_goes image s run.Harvest answer after follows h t = by_effect image (run.harvest s) answer after t (harvest_goes image s h)
 
-effect_goes : {F : Type 0} (image : Host) (s : State F) (command : Command) (told : Told) (answer : Answer) (after : State F) → IsTrue (follows_image command) → HeldIn image s →
+effect_goes : {F : Type 0} (image : Host) (s : State F) (command : Command) (told : Turns) (answer : Answer) (after : State F) → IsTrue (follows_image command) → HeldIn image s →
     HasEffect s command told answer after → GoesOn image (answer, after)
 effect_goes image s command [] answer after follows h t = affect_goes image s command answer after follows h t
 effect_goes image s command (x ∷ told) answer after follows h t = absurd t
 
-does_goes : {F : Type 0} (may : May F) (image : Host) (s : State F) (command : Command) (told : Told) (answer : Answer) (after : State F) → IsTrue (follows_image command) → HeldIn image s →
+does_goes : {F : Type 0} (may : May F) (image : Host) (s : State F) (command : Command) (told : Turns) (answer : Answer) (after : State F) → IsTrue (follows_image command) → HeldIn image s →
     Does may s command told answer after → GoesOn image (answer, after)
 does_goes may image s (run.Kick i most) told (run.Served k) after follows h t = goes image (kicks_held may image s i most (slice_get s.queues i) told k after t h)
 does_goes may image s (run.Kick i most) told run.Done after follows h t = absurd t
@@ -217,7 +217,7 @@ does_goes may image s (run.ResetQueue queue size desc avail used) told answer af
 does_goes may image s run.Image told answer after follows h t = effect_goes image s run.Image told answer after follows h t
 does_goes may image s run.Harvest told answer after follows h t = effect_goes image s run.Harvest told answer after follows h t
 
-performs_goes : {F : Type 0} (may : May F) (image : Host) (s : State F) (command : Command) (told : Told) (answer : Answer) (after : State F) → IsTrue (follows_image command) → HeldIn image s →
+performs_goes : {F : Type 0} (may : May F) (image : Host) (s : State F) (command : Command) (told : Turns) (answer : Answer) (after : State F) → IsTrue (follows_image command) → HeldIn image s →
     Performs may s command told answer after → GoesOn image (answer, after)
 performs_goes may image s command [] (run.IsRefused why.OutOfMemory) after follows h t = goes image (subst (HeldIn image) (sym t.1) h)
 performs_goes may image s command (x ∷ told) (run.IsRefused why.OutOfMemory) after follows h t = absurd t
@@ -245,7 +245,7 @@ CanFollow events = AllByRecursion (λ e. IsTrue (follows_image e.0)) events
 abbrev Arrives : {F : Type 0} → Host → List (Command × Answer) → State F → Type 0
 Arrives image events after = HeldIn (pages_put image (pages_answered events)) after × HavePlaces (lengths image) (pages_answered events)
 
-run_goes : {F : Type 0} (may : May F) (image : Host) (s : State F) (events : List (Command × Answer)) (tolds : List Told) (after : State F) → CanFollow events → HeldIn image s →
+run_goes : {F : Type 0} (may : May F) (image : Host) (s : State F) (events : List (Command × Answer)) (tolds : List Turns) (after : State F) → CanFollow events → HeldIn image s →
     RunTold may s events tolds after → Arrives image events after
 unfolding RunTold
 run_goes may image s [] [] after follows h t = subst (λ s. Arrives image [] s) (sym t) (let now = goes image h in (now.0, now.1))
@@ -259,7 +259,7 @@ run_goes may image s (e ∷ es) (told ∷ tolds) after follows h (mid, performs,
     )
 
 -- an image that answered its copy tracks the state after
-image_held : {F : Type 0} (may : May F) (s : State F) (copy : Host) (told : Told) (after : State F) → s.memory.translates ≡ false → HasItsMarks s.memory.host →
+image_held : {F : Type 0} (may : May F) (s : State F) (copy : Host) (told : Turns) (after : State F) → s.memory.translates ≡ false → HasItsMarks s.memory.host →
     Performs may s run.Image told (run.Copied copy) after → HeldIn copy after
 unfolding effect
 image_held {F} may s copy [] after off marks t =
@@ -270,9 +270,9 @@ image_held may s copy (x ∷ told) after off marks t = absurd t
 
 -- what a run from an image begins with, once the image was made
 abbrev GoesFrom : {F : Type 0} → May F → Host → List (Command × Answer) → State F → Type 0
-GoesFrom {F} may copy events after = (mid : State F) × (tolds : List Told) × HeldIn copy mid × RunTold may mid events tolds after
+GoesFrom {F} may copy events after = (mid : State F) × (tolds : List Turns) × HeldIn copy mid × RunTold may mid events tolds after
 
-begins : {F : Type 0} (may : May F) (s after : State F) (copy : Host) (events : List (Command × Answer)) (tolds : List Told) → s.memory.translates ≡ false → HasItsMarks s.memory.host →
+begins : {F : Type 0} (may : May F) (s after : State F) (copy : Host) (events : List (Command × Answer)) (tolds : List Turns) → s.memory.translates ≡ false → HasItsMarks s.memory.host →
     RunTold may s ((run.Image, run.Copied copy) ∷ events) tolds after → GoesFrom may copy events after
 unfolding RunTold
 begins may s after copy events [] off marks t = absurd t
@@ -305,9 +305,9 @@ can_move_again may s after copy events r =
 
 -- a run up to its last command, and that command
 abbrev Ends : {F : Type 0} → May F → State F → List (Command × Answer) → Command × Answer → State F → Type 0
-Ends {F} may s events e after = (mid : State F) × (tolds : List Told) × (told : Told) × RunTold may s events tolds mid × Performs may mid e.0 told e.1 after
+Ends {F} may s events e after = (mid : State F) × (tolds : List Turns) × (told : Turns) × RunTold may s events tolds mid × Performs may mid e.0 told e.1 after
 
-ends : {F : Type 0} (may : May F) (s after : State F) (events : List (Command × Answer)) (e : Command × Answer) (tolds : List Told) →
+ends : {F : Type 0} (may : May F) (s after : State F) (events : List (Command × Answer)) (e : Command × Answer) (tolds : List Turns) →
     RunTold may s (events ++ e ∷ []) tolds after → Ends may s events e after
 unfolding RunTold
 ends may s after [] e [] t = absurd t
@@ -322,7 +322,7 @@ follow_front : (events : List (Command × Answer)) (e : Command × Answer) → C
 follow_front [] e f = tt
 follow_front (x ∷ events) e f = (f.0, follow_front events e f.1)
 
-last_is_host : {F : Type 0} (may : May F) (image : Host) (mid after : State F) (told : Told) (last : List Page) → Tracks image mid.memory.host →
+last_is_host : {F : Type 0} (may : May F) (image : Host) (mid after : State F) (told : Turns) (last : List Page) → Tracks image mid.memory.host →
     Performs may mid run.Harvest told (run.Pages last) after → pages_put image last ≡ after.memory.host
 unfolding effect
 last_is_host {F} may image mid after [] last f t =

@@ -17,7 +17,7 @@ use Rattle.fs_device.specs.declared.error.DeviceError.{DeviceError}
 use Rattle.fs_device.specs.declared.refusal.Refusal.TheVariants as why
 use Rattle.fs_device.specs.Step.{State}
 use Rattle.fs_device.specs.Run as run
-use Rattle.fs_device.specs.Run.{Told, Command, Answer, Effect, ChangesTable, KickEnds, KickRun, Kicks, Kicked, HasEffect, Does, Performs, Affects, effect, insert}
+use Rattle.fs_device.specs.Run.{Turns, Command, Answer, Effect, ChangesTable, KickEnds, KickRun, Kicks, KickAnswer, HasEffect, Does, Performs, Affects, effect, insert}
 use Rattle.fs_device.specs.Run.{insert_block, is_known, some_overlap, reset}
 use Rattle.fs_device.specs.MarkedPages.{Marks, KickWrites, ClearsMarks, KeepsMarks, DoneMarks, AnswerMarks, CommandsMark}
 use Rattle.fs_device.proofs.TellingLemmas.{end_keeps}
@@ -62,14 +62,14 @@ grown_marks (b ∷ blocks) n (suc block) page = grown_marks blocks n block page
 
 module _ {F : Type 0} (may : May F) where
   -- nothing was written
-  abbrev Marked : State F → ℕ → ℕ → Told → State F → Type 0
+  abbrev Marked : State F → ℕ → ℕ → Turns → State F → Type 0
   Marked s i most told after = (written : List ℕ) × KickWrites may s i most told written × Marks s.memory written after.memory.host
 
   nothing_marked : (s : State F) (i most : ℕ) (after : State F) → after.memory ≡ s.memory → Marked s i most [] after
   unfolding KickWrites
   nothing_marked s i most after same = ([], refl, subst (λ (m : Memory). Marks s.memory [] m.host) (sym same) (none_written s.memory))
 
-  kick_marks : (s : State F) (i most : ℕ) (told : Told) (refused : Option DeviceError) (after : State F) → KickRun may s i most told refused after → Marked s i most told after
+  kick_marks : (s : State F) (i most : ℕ) (told : Turns) (refused : Option DeviceError) (after : State F) → KickRun may s i most told refused after → Marked s i most told after
   unfolding KickRun KickWrites
   kick_marks s i most [] refused after t = nothing_marked s i most after (end_keeps may s i most refused after t)
   kick_marks s i zero (x ∷ told) refused after t = absurd t
@@ -83,8 +83,8 @@ module _ {F : Type 0} (may : May F) where
       let later = kick_marks mid i most told refused after rest in
       (map (λ w. w.0) ws ++ later.0, (mid, step, o, later.0, later.1, refl), marks_join s.memory mid.memory (map (λ w. w.0) ws) later.0 after.memory.host same here later.2)
 
-  kicks_mark : (s : State F) (i most : ℕ) (o : Option Queue) (told : Told) (k : Kicked) (after : State F) → Kicks may s i most o told k after → Marked s i most told after
-  kicks_mark s i most None told k after t = subst (λ (l : Told). Marked s i most l after) (sym t.1) (nothing_marked s i most after (ap (λ (k : State F). k.memory) t.0))
+  kicks_mark : (s : State F) (i most : ℕ) (o : Option Queue) (told : Turns) (k : KickAnswer) (after : State F) → Kicks may s i most o told k after → Marked s i most told after
+  kicks_mark s i most None told k after t = subst (λ (l : Turns). Marked s i most l after) (sym t.1) (nothing_marked s i most after (ap (λ (k : State F). k.memory) t.0))
   kicks_mark s i most (Some q) told k after t = kick_marks s i most told k.refused after t.0
 
 -- ---- what the other commands do
@@ -165,11 +165,11 @@ module _ {F : Type 0} (may : May F) (s : State F) where
   affect_marks run.Image answer after t = by_effect may s run.Image (run.image s) answer after t (clears s.memory.host)
   affect_marks run.Harvest answer after t = by_effect may s run.Harvest (run.harvest s) answer after t (clears s.memory.host)
 
-  effect_marks : (command : Command) (told : Told) (answer : Answer) (after : State F) → HasEffect s command told answer after → AnswerMarks may answer s command told after
+  effect_marks : (command : Command) (told : Turns) (answer : Answer) (after : State F) → HasEffect s command told answer after → AnswerMarks may answer s command told after
   effect_marks command [] answer after t = affect_marks command answer after t
   effect_marks command (x ∷ told) answer after t = absurd t
 
-  does_mark : (command : Command) (told : Told) (answer : Answer) (after : State F) → Does may s command told answer after → AnswerMarks may answer s command told after
+  does_mark : (command : Command) (told : Turns) (answer : Answer) (after : State F) → Does may s command told answer after → AnswerMarks may answer s command told after
   does_mark (run.Kick i most) told (run.Served k) after t = kicks_mark may s i most (slice_get s.queues i) told k after t
   does_mark (run.Kick i most) told run.Done after t = absurd t
   does_mark (run.Kick i most) told (run.Bytes bytes) after t = absurd t

@@ -2,7 +2,7 @@
 use Rattle.std.proofs.Common.{◌≡◌, suc, List, [], ◌∷◌, ◌++◌, length, map, zip, append_assoc, append-nil, ◌∙◌, arith, sym, refl, ap, subst}
 use Rattle.virtiofsd_fuse.specs.Serving.{May}
 use Rattle.fs_device.specs.Step.{State}
-use Rattle.fs_device.specs.Run.{Command, Answer, Told, Performs, RunTold, Run}
+use Rattle.fs_device.specs.Run.{Command, Answer, Turns, Performs, RunTold, Run}
 
 -- one more of each
 zip_more : {X Y A B : Type 0} (f : X → A) (g : Y → B) (xs : List X) (ys : List Y) (x : X) (y : Y) → length ys ≡ length xs →
@@ -17,7 +17,7 @@ abbrev Goes : {F : Type 0} → May F → State F → List (Command × Answer) �
 Goes {F} may s done mid = (events : List (Command × Answer)) (after : State F) → Run may mid events after → Run may s (done ++ events) after
 
 pub run_more : {F X Y : Type 0} (may : May F) (f : X → Command) (g : Y → Answer) (s mid next : State F) (xs : List X) (ys : List Y) (x : X) (y : Y) → length ys ≡ length xs →
-    Goes may s (zip (map f xs) (map g ys)) mid → (told : Told) × Performs may mid (f x) told (g y) next → Goes may s (zip (map f (xs ++ x ∷ [])) (map g (ys ++ y ∷ []))) next
+    Goes may s (zip (map f xs) (map g ys)) mid → (told : Turns) × Performs may mid (f x) told (g y) next → Goes may s (zip (map f (xs ++ x ∷ [])) (map g (ys ++ y ∷ []))) next
 unfolding RunTold
 run_more may f g s mid next xs ys x y same goes (told, done) events after (tolds, run) =
     let one : zip (map f (xs ++ x ∷ [])) (map g (ys ++ y ∷ [])) ++ events ≡ zip (map f xs) (map g ys) ++ (f x, g y) ∷ events =

@@ -9,7 +9,7 @@ use Rattle.fs_queue.specs.Windows.{HoldsChain}
 use Rattle.fs_queue.proofs.TakeLemmas.{length-located}
 use Rattle.server_segments.specs.declared.error.Error.{Error}
 use Rattle.virtiofsd_fuse.specs.Grammar.{meaning}
-use Rattle.virtiofsd_fuse.specs.Serving.{May, Served, setting, served_of, Handles, is_memory}
+use Rattle.virtiofsd_fuse.specs.Serving.{May, ServedMessage, setting, served_of, Handles, is_memory}
 use Rattle.virtiofsd_fuse.specs.Serving as server
 use Rattle.fs_device.specs.declared.exchange.Fault.{Fault}
 use Rattle.fs_device.specs.declared.exchange.Fault.TheVariants as fault

@@ -22,7 +22,7 @@ use Rattle.fs_queue.specs.Returning.{Store, writes_of, stores_after_reply, retur
 use Rattle.fs_device.proofs.ApartLemmas.{put_all_comm}
 use Rattle.virtiofsd_fuse.specs.Serving.{May}
 use Rattle.fs_device.specs.declared.error.DeviceError.TheVariants as device
-use Rattle.fs_device.specs.Step.{State, Exchange, Outcome, Idle, Refused, Exchanged, Calls, Unchanged, Acts, Exchanges, Returns, StepOf, with_queue, faulty, served_exchange}
+use Rattle.fs_device.specs.Step.{State, Exchange, StepEnd, Idle, Refused, Exchanged, Calls, Unchanged, Acts, Exchanges, Returns, StepOf, with_queue, faulty, served_exchange}
 use Rattle.fs_device.specs.StepBy.{StepLoads, AreStepLoadsOf, byte_store, reply_stores, return_stores, after_stores, Act, Effects, stores_among, return_acts}
 use Rattle.fs_device.specs.StepBy.{DoesNothing, FindFlags, ReturnsBy, ExchangesBy, ActsBy, StepOfBy, IsFrontApart, MayStoreLast, IsOfMemory, HasEffects, StepByIsStep}
 use Rattle.fs_device.specs.StepBy.{StepIsStepBy, StoresOnlyThere, return_addresses}
@@ -179,7 +179,7 @@ module _ {F : Type 0} (may : May F) (s : State F) (i : ℕ) (e : Effects) (after
     exchanges_still taking.Idle calls x notice last made = absurd made
     exchanges_still (Refuses error) calls x notice last made = absurd made
 
-    acts_still : (o : Offer) (calls : Calls) (outcome : Outcome) →
+    acts_still : (o : Offer) (calls : Calls) (outcome : StepEnd) →
         ((head : ℕ) (request room : List ℕ) → o ≡ Offers head (IsRequest request room) → MayStoreLast s.memory room e.last) →
         ActsBy may s i q o calls outcome e after → Acts may s i q o calls outcome (at after stored)
     acts_still o calls Idle last (offered, same, none) = (offered, still calls same none)
@@ -195,7 +195,7 @@ module _ {F : Type 0} (may : May F) (s : State F) (i : ℕ) (e : Effects) (after
     acts_still o calls (Refused device.NoSuchQueue) last made = absurd made
     acts_still o calls (Exchanged x notice) last made = exchanges_still o calls x notice last made
 
-by_queue : {F : Type 0} (may : May F) (s : State F) (i : ℕ) (l : StepLoads) (calls : Calls) (outcome : Outcome) (e : Effects) (after : State F) → IsOfMemory s i l e →
+by_queue : {F : Type 0} (may : May F) (s : State F) (i : ℕ) (l : StepLoads) (calls : Calls) (outcome : StepEnd) (e : Effects) (after : State F) → IsOfMemory s i l e →
     (o : Option Queue) → slice_get s.queues i ≡ o → StepOfBy may s i o l calls outcome e after → StepOf may s i o calls outcome (at after (after_stores s.memory (stores_among e.acts)))
 by_queue may s i l calls outcome e after one None there (is, same, none, loaded) = (is, still may s i e after calls same none)
 by_queue may s i l calls outcome e after one (Some q) there (offered, is, acts) =
@@ -218,7 +218,7 @@ module _ {F : Type 0} (may : May F) (s : State F) (i : ℕ) (q : Queue) (there :
   same_queue : (p : Queue) → slice_get s.queues i ≡ Some p → q ≡ p
   same_queue p at = some_same q p (sym there ∙ at)
 
-  with_effects : (h : HasLoads s.memory s.limit q) (did : List Act) (calls : Calls) (outcome : Outcome) (after : State F) → FindFlags s.memory q did →
+  with_effects : (h : HasLoads s.memory s.limit q) (did : List Act) (calls : Calls) (outcome : StepEnd) (after : State F) → FindFlags s.memory q did →
       after.memory ≡ after_stores s.memory (stores_among did) →
       ActsBy may s i q (offer s.memory s.limit q) calls outcome (effects_of did) (at after s.memory) → HasEffects may s i calls outcome after
   with_effects h did calls outcome after found memory acts =
@@ -297,7 +297,7 @@ module _ {F : Type 0} (may : May F) (s : State F) (i : ℕ) (q : Queue) (there :
   over_same : (after t : State F) → after ≡ t → at after s.memory ≡ at t s.memory
   over_same after t is = ap (λ (u : State F). at u s.memory) is
 
-  acts_by : (h : HasLoads s.memory s.limit q) (calls : Calls) (outcome : Outcome) (after : State F) → Acts may s i q (offer s.memory s.limit q) calls outcome after →
+  acts_by : (h : HasLoads s.memory s.limit q) (calls : Calls) (outcome : StepEnd) (after : State F) → Acts may s i q (offer s.memory s.limit q) calls outcome after →
       HasEffects may s i calls outcome after
   acts_by h calls Idle after (offered, same) = with_effects h [] calls Idle after tt (kept_memory after s same.same refl) (offered, unchanged_by calls after same, refl)
   acts_by h calls (Refused (device.Queue stop.OutOfMemory)) after (lacks, same) =
@@ -313,7 +313,7 @@ module _ {F : Type 0} (may : May F) (s : State F) (i : ℕ) (q : Queue) (there :
   acts_by h calls (Refused device.NoSuchQueue) after made = absurd made
   acts_by h calls (Exchanged x notice) after made = exchange_by h (offer s.memory s.limit q) refl calls x notice after made
 
-missing_by : {F : Type 0} (may : May F) (s : State F) (i : ℕ) (calls : Calls) (outcome : Outcome) (after : State F) → slice_get s.queues i ≡ None →
+missing_by : {F : Type 0} (may : May F) (s : State F) (i : ℕ) (calls : Calls) (outcome : StepEnd) (after : State F) → slice_get s.queues i ≡ None →
     outcome ≡ Refused device.NoSuchQueue → Unchanged s calls after → HasEffects may s i calls outcome after
 unfolding stored_all
 missing_by {F} may s i calls outcome after missing is same =
@@ -332,7 +332,7 @@ missing_by {F} may s i calls outcome after missing is same =
           (is, record { same = ap (λ (t : State F). at t s.memory) same.same; no_call = same.no_call }, refl, refl);
     }
 
-by_found : {F : Type 0} (may : May F) (s : State F) (i : ℕ) (calls : Calls) (outcome : Outcome) (after : State F) (o : Option Queue) → slice_get s.queues i ≡ o →
+by_found : {F : Type 0} (may : May F) (s : State F) (i : ℕ) (calls : Calls) (outcome : StepEnd) (after : State F) (o : Option Queue) → slice_get s.queues i ≡ o →
     StepOf may s i o calls outcome after → HasEffects may s i calls outcome after
 by_found may s i calls outcome after None there (is, same) = missing_by may s i calls outcome after there is same
 by_found may s i calls outcome after (Some q) there made = acts_by may s i q there (offer_finds s.memory s.limit q) calls outcome after made
@@ -410,7 +410,7 @@ module _ {F : Type 0} (may : May F) (s : State F) (i : ℕ) (q : Queue) (e : Eff
   exchange_there taking.Idle calls x notice made = absurd made
   exchange_there (Refuses error) calls x notice made = absurd made
 
-  acts_there : (o : Offer) (calls : Calls) (outcome : Outcome) → ActsBy may s i q o calls outcome e after → There o
+  acts_there : (o : Offer) (calls : Calls) (outcome : StepEnd) → ActsBy may s i q o calls outcome e after → There o
   acts_there o calls Idle made = none_there (return_addresses q o) e.acts made.2
   acts_there o calls (Refused (device.Queue stop.OutOfMemory)) made = none_there (return_addresses q o) e.acts made.2
   acts_there o calls (Refused (device.Queue stop.Stopped)) made = none_there (return_addresses q o) e.acts made.3

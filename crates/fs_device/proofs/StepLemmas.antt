@@ -12,11 +12,11 @@ use Rattle.fs_queue.specs.Returning.{returned, wants_notice, advanced}
 use Rattle.fs_queue.specs.Windows.{IsTaken, Taken, Takes, after_taking, taken_if}
 use Rattle.virtiofsd_fuse.specs.Serving.{May}
 use Rattle.fs_device.specs.declared.error.DeviceError.TheVariants as device
-use Rattle.fs_device.specs.Step.{State, Exchange, Outcome, Idle, Refused, Exchanged, Calls, ServesRequest, Exchanges, Acts, StepOf, Step, after_return}
+use Rattle.fs_device.specs.Step.{State, Exchange, StepEnd, Idle, Refused, Exchanged, Calls, ServesRequest, Exchanges, Acts, StepOf, Step, after_return}
 use Rattle.fs_device.specs.DevicePartsView.{DeviceParts}
 use Rattle.fs_device.specs.DeviceView.{ServesChain, state_of}
 use Rattle.fs_queue.specs.Windows as queue
-use Rattle.fs_device.specs.Phases.{GoesBack, HasTaken, IsEmptyUnlessTaken, IsTakenFrom, TakesOrEnds}
+use Rattle.fs_device.specs.Phases.{GoesBack, HasTaken, IsEmptyUnlessDeviceTook, IsTakenFrom, TakesOrEnds}
 use Rattle.vm_memory_core.proofs.Stores.{changed_at-set}
 
 -- a queue that goes on by one chain is set among the others
@@ -26,7 +26,7 @@ advanced_at (x ∷ l) zero p q there is = let same : x ≡ p = cc in ap (λ (y :
 advanced_at (x ∷ l) (suc i) p q there is = ap (λ (r : List Queue). x ∷ r) (advanced_at l i p q there is)
 
 -- a place that a queue left empty is one that the device did
-pub empty_unless_taken : (t : Taken) (waits : Bool) → queue.IsEmptyUnlessTaken (Ok waits) t → IsEmptyUnlessTaken (Ok waits) t
+pub empty_unless_taken : (t : Taken) (waits : Bool) → queue.IsEmptyUnlessTaken (Ok waits) t → IsEmptyUnlessDeviceTook (Ok waits) t
 empty_unless_taken t true is = tt
 empty_unless_taken t false is = is
 
@@ -52,7 +52,7 @@ moved : {F : Type 0} (f : Fixed) (m : Memory) (queues : List Queue) (i : ℕ) (q
 moved f m queues i q q' s same = ap (λ (l : List Queue). state f m l s) (ap (set queues i) same ∙ sym (changed_at-set queues i (λ _. q) q))
 
 -- a step on a queue that is there
-on_queue : {F : Type 0} (may : May F) (before : State F) (i : ℕ) (q : Queue) (calls : Calls) (outcome : Outcome) (after : State F) → slice_get before.queues i ≡ Some q →
+on_queue : {F : Type 0} (may : May F) (before : State F) (i : ℕ) (q : Queue) (calls : Calls) (outcome : StepEnd) (after : State F) → slice_get before.queues i ≡ Some q →
     Acts may before i q (offer before.memory before.limit q) calls outcome after → Step may before i calls outcome after
 on_queue may before i q calls outcome after there acts = subst (λ (o : Option Queue). StepOf may before i o calls outcome after) (sym there) acts
 

@@ -14,19 +14,19 @@ use Rattle.fs_queue.specs.Taking as taking
 use Rattle.fuse_fs.specs.Calls.{FileCall, FileAnswer, FileRun}
 use Rattle.server_segments.specs.declared.error.Error.{Error}
 use Rattle.virtiofsd_fuse.specs.Grammar.{meaning}
-use Rattle.virtiofsd_fuse.specs.Serving.{May, Served, setting, served}
+use Rattle.virtiofsd_fuse.specs.Serving.{May, ServedMessage, setting, served}
 use Rattle.fs_device.specs.declared.error.DeviceError.{DeviceError}
 use Rattle.fs_device.specs.declared.error.DeviceError.TheVariants as device
 use Rattle.fs_device.specs.declared.exchange.Fault.{Fault}
 use Rattle.fs_device.specs.declared.refusal.Refusal.TheVariants as why
 use Rattle.fs_device.specs.Step.{State, Exchange, Calls, Idle, Refused, Exchanged, Exchanges, StepOf, served_fault, served_exchange}
 use Rattle.fs_device.specs.Run as run
-use Rattle.fs_device.specs.Run.{Turn, Told, Command, Answer, Effect, KickEnds, KickRun, Kicks, Kicked, Affects, ChangesTable, HasEffect, Does, IsDecided, Performs}
+use Rattle.fs_device.specs.Run.{Turn, Turns, Command, Answer, Effect, KickEnds, KickRun, Kicks, KickAnswer, Affects, ChangesTable, HasEffect, Does, IsDecided, Performs}
 use Rattle.fs_device.specs.Run.{RunTold, effect, insert, insert_block, is_known, some_overlap, reset}
 use Rattle.fs_device.specs.Telling.{calls_of, calls_told, IsMeant, IsServedBy, IsServed}
 
 -- what exchanges tell: their calls lead from one state of the file system to another
-abbrev Tells : {F : Type 0} → May F → F → Told → F → Type 0
+abbrev Tells : {F : Type 0} → May F → F → Turns → F → Type 0
 Tells may before told after = FileRun may before (calls_of told) after × AllByRecursion IsServed told
 
 files_joined : {F : Type 0} (may : May F) (a b c : F) (xs ys : Calls) → FileRun may a xs b → FileRun may b ys c → FileRun may a (xs ++ ys) c
@@ -54,9 +54,9 @@ exchange_tells may s i q (Offers head (IsRequest request room)) calls x notice a
     let same_head : x.head ≡ head = ap (λ (e : Exchange). e.head) r.returns.exchange in
     let same : x.request ≡ request = ap (λ (e : Exchange). e.request) r.returns.exchange in
     let own : (served set (meaning s.options x.request (length room)) answers).calls ≡ map (λ (step : FileCall × FileAnswer). step.0) calls =
-    ap (λ (bytes : List ℕ). (served set (meaning s.options bytes (length room)) answers).calls) same ∙ ap (λ (g : Served). g.calls) (sym r.serves.gives) ∙ r.serves.asks in
+    ap (λ (bytes : List ℕ). (served set (meaning s.options bytes (length room)) answers).calls) same ∙ ap (λ (g : ServedMessage). g.calls) (sym r.serves.gives) ∙ r.serves.asks in
     let told : x ≡ served_exchange head request (served set (meaning s.options request (length room)) answers) =
-    r.returns.exchange ∙ ap (λ (g : Served). served_exchange head request g) r.serves.gives in
+    r.returns.exchange ∙ ap (λ (g : ServedMessage). served_exchange head request g) r.serves.gives in
     let is : x ≡ served_exchange x.head x.request (served set (meaning s.options x.request (length room)) answers) =
     subst (λ (n : ℕ). x ≡ served_exchange n x.request (served set (meaning s.options x.request (length room)) answers)) (sym same_head)
     (subst (λ (bytes : List ℕ). x ≡ served_exchange head bytes (served set (meaning s.options bytes (length room)) answers)) (sym same) told) in
@@ -107,7 +107,7 @@ end_stays may s i most refused after t = ap (λ k. k.1) (end_leaves may s i most
 pub end_keeps : {F : Type 0} (may : May F) (s : State F) (i most : ℕ) (refused : Option DeviceError) (after : State F) → KickEnds may s i most refused after → after.memory ≡ s.memory
 end_keeps may s i most refused after t = ap (λ k. k.0) (end_leaves may s i most refused after t)
 
-kick_tells : {F : Type 0} (may : May F) (s : State F) (i most : ℕ) (told : Told) (refused : Option DeviceError) (after : State F) →
+kick_tells : {F : Type 0} (may : May F) (s : State F) (i most : ℕ) (told : Turns) (refused : Option DeviceError) (after : State F) →
     KickRun may s i most told refused after → Tells may s.files told after.files
 unfolding KickRun
 kick_tells may s i most [] refused after t = (end_stays may s i most refused after t, tt)
@@ -117,9 +117,9 @@ kick_tells may s i (suc most) (x ∷ told) refused after (mid, step, rest) =
     let others = kick_tells may mid i most told refused after rest in
     (files_joined may s.files mid.files after.files x.calls (calls_of told) own.0 others.0, (own.1, others.1))
 
-kicks_tell : {F : Type 0} (may : May F) (s : State F) (i most : ℕ) (o : Option Queue) (told : Told) (k : Kicked) (after : State F) → Kicks may s i most o told k after →
+kicks_tell : {F : Type 0} (may : May F) (s : State F) (i most : ℕ) (o : Option Queue) (told : Turns) (k : KickAnswer) (after : State F) → Kicks may s i most o told k after →
     Tells may s.files told after.files
-kicks_tell may s i most None told k after t = subst (λ (l : Told). Tells may s.files l after.files) (sym t.1) (ap (λ s. s.files) t.0, tt)
+kicks_tell may s i most None told k after t = subst (λ (l : Turns). Tells may s.files l after.files) (sym t.1) (ap (λ s. s.files) t.0, tt)
 kicks_tell may s i most (Some q) told k after t = kick_tells may s i most told k.refused after t.0
 
 -- ---- the other commands ask nothing
@@ -185,14 +185,14 @@ affect_stays s (run.ResetQueue queue size desc avail used) answer after t = by_e
 affect_stays s run.Image answer after t = by_effect s run.Image answer after t
 affect_stays s run.Harvest answer after t = by_effect s run.Harvest answer after t
 
-effect_tells : {F : Type 0} (may : May F) (s : State F) (command : Command) (told : Told) (answer : Answer) (after : State F) → HasEffect s command told answer after →
+effect_tells : {F : Type 0} (may : May F) (s : State F) (command : Command) (told : Turns) (answer : Answer) (after : State F) → HasEffect s command told answer after →
     Tells may s.files told after.files
 effect_tells may s command [] answer after t = (affect_stays s command answer after t, tt)
 effect_tells may s command (x ∷ told) answer after t = absurd t
 
 -- ---- runs
 
-does_tell : {F : Type 0} (may : May F) (s : State F) (command : Command) (told : Told) (answer : Answer) (after : State F) → Does may s command told answer after → Tells may s.files told after.files
+does_tell : {F : Type 0} (may : May F) (s : State F) (command : Command) (told : Turns) (answer : Answer) (after : State F) → Does may s command told answer after → Tells may s.files told after.files
 does_tell may s (run.Kick i most) told (run.Served k) after t = kicks_tell may s i most (slice_get s.queues i) told k after t
 does_tell may s (run.Kick i most) told run.Done after t = absurd t
 does_tell may s (run.Kick i most) told (run.Bytes bytes) after t = absurd t
@@ -214,7 +214,7 @@ does_tell may s (run.ResetQueue queue size desc avail used) told answer after t 
 does_tell may s run.Image told answer after t = effect_tells may s run.Image told answer after t
 does_tell may s run.Harvest told answer after t = effect_tells may s run.Harvest told answer after t
 
-performs_tell : {F : Type 0} (may : May F) (s : State F) (command : Command) (told : Told) (answer : Answer) (after : State F) →
+performs_tell : {F : Type 0} (may : May F) (s : State F) (command : Command) (told : Turns) (answer : Answer) (after : State F) →
     Performs may s command told answer after → Tells may s.files told after.files
 performs_tell may s command [] (run.IsRefused why.OutOfMemory) after t = (ap (λ s. s.files) t.1, tt)
 performs_tell may s command (x ∷ told) (run.IsRefused why.OutOfMemory) after t = absurd t
@@ -234,7 +234,7 @@ performs_tell may s command told (run.Copied host) after t = does_tell may s com
 performs_tell may s command told (run.Pages pages) after t = does_tell may s command told _ after t
 
 -- a run tells its calls
-pub run_tells : {F : Type 0} (may : May F) (s : State F) (events : List (Command × Answer)) (tolds : List Told) (after : State F) → RunTold may s events tolds after →
+pub run_tells : {F : Type 0} (may : May F) (s : State F) (events : List (Command × Answer)) (tolds : List Turns) (after : State F) → RunTold may s events tolds after →
     FileRun may s.files (calls_told tolds) after.files × AllByRecursion (AllByRecursion IsServed) tolds
 unfolding RunTold
 run_tells may s [] [] after t = (ap (λ s. s.files) t, tt)

@@ -17,7 +17,7 @@ pub record RoomLeft : Type 0 where
   pub rooms : List ℕ
 
 -- a window is the front of what is left: of the first window that has a place, all that is left of it or `most` bytes
-pub record Front (r : RoomLeft) (most : ℕ) (f : Window) : Type 0 where
+pub record IsFrontWindow (r : RoomLeft) (most : ℕ) (f : Window) : Type 0 where
   pub places : places_of f ≡ take f.len r.places
   pub len : f.len ≡ min most (first r.rooms)
   pub some : 0 < first r.rooms

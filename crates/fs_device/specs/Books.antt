@@ -9,7 +9,7 @@ use Rattle.server_replies.specs.Entries.{entry_len}
 use Rattle.virtiofsd_fuse.specs.Grammar.{Meaning, Asks, One, meaning}
 use Rattle.virtiofsd_fuse.specs.Serving.{May}
 use Rattle.fs_device.specs.Step.{State}
-use Rattle.fs_device.specs.Run.{Turn, Told, Command, Answer, RunTold}
+use Rattle.fs_device.specs.Run.{Turn, Turns, Command, Answer, RunTold}
 
 -- ---- what the file system was asked, and what it answered
 
@@ -106,18 +106,18 @@ accepted n t = if length t.calls == 0 then 0 else forgets_meant n (meaning 0 t.e
 -- ---- over whole runs
 
 -- over all exchanges of a run
-abbrev pub over : (Turn → ℕ) → List Told → ℕ
+abbrev pub over : (Turn → ℕ) → List Turns → ℕ
 over amount tolds = sum_by (λ told. sum_by amount told) tolds
 
 -- answered minus sent is written minus accepted
-abbrev pub IsBalanced : (node : ℕ) → List Told → Type 0
+abbrev pub IsBalanced : (node : ℕ) → List Turns → Type 0
 IsBalanced n tolds = over (answered n) tolds + over (accepted n) tolds ≡ over (written n) tolds + over (sent n) tolds
 
 -- each run balances, whatever the state that it begins in, for each node but 0, which stands for no node
 abbrev pub Balances : {F : Type 0} → May F → Type 0
 Balances {F} may =
-    (s after : State F) (events : List (Command × Answer)) (tolds : List Told) (n : ℕ) → n ≢ 0 → RunTold may s events tolds after → IsBalanced n tolds
+    (s after : State F) (events : List (Command × Answer)) (tolds : List Turns) (n : ℕ) → n ≢ 0 → RunTold may s events tolds after → IsBalanced n tolds
 
 -- a run that balances for each node but 0
 abbrev pub BalancedRun : {F : Type 0} → May F → State F → List (Command × Answer) → State F → Type 0
-BalancedRun may s events after = (tolds : List Told) × RunTold may s events tolds after × ((n : ℕ) → n ≢ 0 → IsBalanced n tolds)
+BalancedRun may s events after = (tolds : List Turns) × RunTold may s events tolds after × ((n : ℕ) → n ≢ 0 → IsBalanced n tolds)

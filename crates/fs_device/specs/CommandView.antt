@@ -11,7 +11,7 @@ use Rattle.fs_device.specs.declared.command.Answer as told
 use Rattle.fs_device.specs.declared.queues.QueueRun.{QueueRun}
 use Rattle.fs_device.specs.Step.{State, Exchange}
 use Rattle.fs_device.specs.Run.{Command, GuestRead, GuestWrite, NewBlock, InsertRegion, RemoveRegion, SetLayout, Map, Unmap, UnmapAll, SetIommu, Kick, ResetQueue}
-use Rattle.fs_device.specs.Run.{Image, Harvest, Kicked, Answer, Done, Bytes, NewBlockIs, Served, Copied, Pages, IsRefused, Told, shown, KickRun, kick_takes_memory}
+use Rattle.fs_device.specs.Run.{Image, Harvest, KickAnswer, Answer, Done, Bytes, NewBlockIs, Served, Copied, Pages, IsRefused, Turns, shown, KickRun, kick_takes_memory}
 use Rattle.fs_device.specs.DeviceView.{exchange_of}
 
 -- an exchange with its notice
@@ -19,7 +19,7 @@ abbrev pub exchanged_of : code.Exchange × Bool → Exchange × Bool
 exchanged_of x = (exchange_of x.0, x.1)
 
 -- what a kick lists
-abbrev pub kicked_of : QueueRun → Kicked
+abbrev pub kicked_of : QueueRun → KickAnswer
 kicked_of run = record { exchanges = map exchanged_of run.done.items; refused = run.refused }
 
 -- a command
@@ -51,7 +51,7 @@ answer_of (told.TheVariants.Refused why) = IsRefused why
 
 -- a kick of a queue that is there lists these exchanges, each with the calls that it made
 abbrev pub KickLists : {F : Type 0} → May F → State F → (queue most : ℕ) → List (Exchange × Bool) → Option DeviceError → State F → Type 0
-KickLists may s i most listed refused after = (told : Told) × KickRun may s i most told refused after × (listed ≡ map shown told)
+KickLists may s i most listed refused after = (told : Turns) × KickRun may s i most told refused after × (listed ≡ map shown told)
 
 -- what serving a queue's chains answers: of a missing queue that alone; nothing is done if there is no room for so many exchanges
 abbrev pub ServesQueue : {F : Type 0} → May F → State F → (queue most : ℕ) → Result QueueRun DeviceError → State F → Type 0

@@ -3,11 +3,11 @@ use Rattle.std.specs.Prelude.{◌≡◌, ℕ, Bool, List, [], length, Option, So
 use Rattle.vm_memory.specs.Memory.{Memory}
 use Rattle.fs_queue.specs.Taking.{RequestAndRoom, IsRequest, CannotFetch}
 use Rattle.virtiofsd_fuse.specs.declared.server.Server.{Server}
-use Rattle.virtiofsd_fuse.specs.Serving.{May, Served}
+use Rattle.virtiofsd_fuse.specs.Serving.{May, ServedMessage}
 use Rattle.fs_device.specs.declared.error.DeviceError.{DeviceError}
 use Rattle.fs_device.specs.declared.exchange.Exchange as code
 use Rattle.fs_device.specs.declared.exchange.Fault.{Fault}
-use Rattle.fs_device.specs.Step.{State, Exchange, Outcome, Idle, Refused, Exchanged, Calls, ServesRequest, faulty, served_exchange, served_fault}
+use Rattle.fs_device.specs.Step.{State, Exchange, StepEnd, Idle, Refused, Exchanged, Calls, ServesRequest, faulty, served_exchange, served_fault}
 use Rattle.fs_device.specs.DevicePartsView.{DeviceParts}
 
 -- an exchange
@@ -15,7 +15,7 @@ abbrev pub exchange_of : code.Exchange → Exchange
 exchange_of e = record { head = e.head; request = e.request.items; reply = e.reply.items; fault = e.fault }
 
 -- how a step ends
-abbrev pub outcome_of : Result (Option (code.Exchange × Bool)) DeviceError → Outcome
+abbrev pub outcome_of : Result (Option (code.Exchange × Bool)) DeviceError → StepEnd
 outcome_of (Ok None) = Idle
 outcome_of (Ok (Some x)) = Exchanged (exchange_of x.0) x.1
 outcome_of (Err e) = Refused e
@@ -37,9 +37,9 @@ request_of (CannotFetch why) = []
 abbrev pub ServesChain : {F : Type 0} → May F → (page_size : ℕ) → ℕ × F → (head : ℕ) → RequestAndRoom → Calls → Exchange → ℕ × F → Type 0
 ServesChain may page_size old head (CannotFetch why) calls x new = (x ≡ faulty head why) × (calls ≡ []) × (new ≡ old)
 ServesChain may page_size old head (IsRequest request room) calls x new =
-    (given : Served) × ServesRequest may page_size old.0 request (length room) old.1 calls given new.1 × (x ≡ served_exchange head request given) × (new.0 ≡ given.options)
+    (given : ServedMessage) × ServesRequest may page_size old.0 request (length room) old.1 calls given new.1 × (x ≡ served_exchange head request given) × (new.0 ≡ given.options)
 
 -- from these options and this file system a request is answered by this reply or fault, after these calls
 abbrev pub AnswersRequest : {F : Type 0} → May F → (page_size : ℕ) → ℕ × F → (request : List ℕ) → (room : ℕ) → Calls → (reply : List ℕ) → Option Fault → ℕ × F → Type 0
 AnswersRequest may page_size old request room calls reply fault new =
-    (given : Served) × ServesRequest may page_size old.0 request room old.1 calls given new.1 × (reply ≡ given.reply) × (fault ≡ served_fault given.fault) × (new.0 ≡ given.options)
+    (given : ServedMessage) × ServesRequest may page_size old.0 request room old.1 calls given new.1 × (reply ≡ given.reply) × (fault ≡ served_fault given.fault) × (new.0 ≡ given.options)

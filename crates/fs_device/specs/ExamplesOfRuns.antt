@@ -27,7 +27,7 @@ use Rattle.server_replies.specs.WholeReplies.{error_bytes, reply_bytes}
 use Rattle.virtiofsd_fuse.specs.Examples.{le16, le32, le64, zeros, nobody, in_header_bytes}
 use Rattle.virtiofsd_fuse.specs.Grammar.{meaning, meant, row}
 use Rattle.virtiofsd_fuse.specs.Listings.{list_entries}
-use Rattle.virtiofsd_fuse.specs.Serving.{May, Served, served, setting}
+use Rattle.virtiofsd_fuse.specs.Serving.{May, ServedMessage, served, setting}
 use Rattle.fs_device.specs.declared.error.DeviceError.TheVariants as device_error
 use Rattle.fs_device.specs.declared.exchange.Fault.TheVariants as fault
 use Rattle.fs_device.specs.declared.refusal.Refusal.TheVariants as why
@@ -288,7 +288,7 @@ abbrev list_answers : List files.FileAnswer
 list_answers = files.Entries (record { ino = 1; offset = 1; kind = 4; name = 46 ∷ [] } ∷ listed_a ∷ []) ∷ files.HasEntry entry_of_a ∷ files.Done ∷ []
 
 -- what is served for it
-abbrev as_listed : Served
+abbrev as_listed : ServedMessage
 as_listed = served (setting 4096 0 176) (meaning 0 list_two 176) list_answers
 
 -- its exchange, whose reply has the entry of `.` alone

@@ -4,7 +4,7 @@ use Rattle.vm_memory.specs.Memory.{Memory, bytes}
 use Rattle.fs_queue.specs.Queue.{Queue}
 use Rattle.fs_queue.specs.Chain.{Descriptor, IsChain, chain}
 use Rattle.fs_queue.specs.Taking.{readable, writable, total_len, IsRequest, request_and_room, Offers, offer}
-use Rattle.virtiofsd_fuse.specs.Serving.{May, Served}
+use Rattle.virtiofsd_fuse.specs.Serving.{May, ServedMessage}
 use Rattle.fs_device.specs.Step.{Calls, ServesRequest}
 
 -- the flat bytes of a chain's request
@@ -17,7 +17,7 @@ CutsDoNotMatter {F} may =
     (m n : Memory) (limit other : ℕ) (ds es : List Descriptor) (request room request' room' : List ℕ) →
     request_and_room m limit ds ≡ IsRequest request room → request_and_room n other es ≡ IsRequest request' room' →
     joined_request m ds ≡ joined_request n es → total_len (writable ds) ≡ total_len (writable es) →
-    (page_size options : ℕ) (before after : F) (calls : Calls) (given : Served) →
+    (page_size options : ℕ) (before after : F) (calls : Calls) (given : ServedMessage) →
     ServesRequest may page_size options request (length room) before calls given after
     ↔ ServesRequest may page_size options request' (length room') before calls given after
 
@@ -33,6 +33,6 @@ OffersAreServedAlike {F} may =
     (m n : Memory) (limit other : ℕ) (q p : Queue) (ds es : List Descriptor) (request room request' room' : List ℕ) →
     OffersChain m limit q ds request room → OffersChain n other p es request' room' →
     joined_request m ds ≡ joined_request n es → total_len (writable ds) ≡ total_len (writable es) →
-    (page_size options : ℕ) (before after : F) (calls : Calls) (given : Served) →
+    (page_size options : ℕ) (before after : F) (calls : Calls) (given : ServedMessage) →
     ServesRequest may page_size options request (length room) before calls given after
     ↔ ServesRequest may page_size options request' (length room') before calls given after

@@ -12,7 +12,7 @@ use Rattle.fs_queue.specs.Returning.{writes}
 use Rattle.virtiofsd_fuse.specs.Serving.{May}
 use Rattle.fs_device.specs.Step.{State, Exchange, Exchanged, Calls, Step}
 use Rattle.fs_device.specs.UsedLength.{IsOffered}
-use Rattle.fs_device.specs.Run.{Command, GuestWrite, Kick, Answer, Done, Served, Copied, Pages, Told, Performs}
+use Rattle.fs_device.specs.Run.{Command, GuestWrite, Kick, Answer, Done, Served, Copied, Pages, Turns, Performs}
 
 -- the mark of a page of a block, if there is such a page
 abbrev pub block_mark : Host → (block page : ℕ) → Option Bool
@@ -64,7 +64,7 @@ StepsMark {F} may =
 -- ---- over commands
 
 -- the addresses that a kick writes, one exchange after the other; at an idle or refused step it writes none
-unfoldable pub KickWrites : {F : Type 0} → May F → State F → ℕ → ℕ → Told → List ℕ → Type 0
+unfoldable pub KickWrites : {F : Type 0} → May F → State F → ℕ → ℕ → Turns → List ℕ → Type 0
 KickWrites may s i most [] written = written ≡ []
 KickWrites may s i zero (t ∷ ts) written = ⊥
 KickWrites {F} may s i (suc most) (t ∷ ts) written =
@@ -87,12 +87,12 @@ DoneMarks s (GuestWrite a bytes) after = Marks (physical s.memory) (addresses a 
 DoneMarks s command after = KeepsMarks s.memory.host after.memory.host
 
 -- a kick marks what its exchanges write, one after the other
-abbrev pub ServedMarks : {F : Type 0} → May F → State F → Command → Told → State F → Type 0
+abbrev pub ServedMarks : {F : Type 0} → May F → State F → Command → Turns → State F → Type 0
 ServedMarks may s (Kick i most) told after = (written : List ℕ) × KickWrites may s i most told written × Marks s.memory written after.memory.host
 ServedMarks may s command told after = KeepsMarks s.memory.host after.memory.host
 
 -- by the answer to a command: an image and a harvest clear the marks of blocks; what has another answer keeps the marks that there are
-abbrev pub AnswerMarks : {F : Type 0} → May F → Answer → State F → Command → Told → State F → Type 0
+abbrev pub AnswerMarks : {F : Type 0} → May F → Answer → State F → Command → Turns → State F → Type 0
 AnswerMarks may Done s command told after = DoneMarks s command after
 AnswerMarks may (Served k) s command told after = ServedMarks may s command told after
 AnswerMarks may (Copied copy) s command told after = ClearsMarks s.memory.host after.memory.host
@@ -102,4 +102,4 @@ AnswerMarks may answer s command told after = KeepsMarks s.memory.host after.mem
 -- so it is of each command of a run
 abbrev pub CommandsMark : {F : Type 0} → May F → Type 0
 CommandsMark {F} may =
-    (s after : State F) (command : Command) (told : Told) (answer : Answer) → Performs may s command told answer after → AnswerMarks may answer s command told after
+    (s after : State F) (command : Command) (told : Turns) (answer : Answer) → Performs may s command told answer after → AnswerMarks may answer s command told after

@@ -3,7 +3,7 @@ use Rattle.std.specs.Prelude.{◌≡◌, Bool, false, List, [], ◌∷◌, map}
 use Rattle.vm_memory_core.specs.Host.{Host, unmarked}
 use Rattle.virtiofsd_fuse.specs.Serving.{May}
 use Rattle.fs_device.specs.Step.{State}
-use Rattle.fs_device.specs.Run.{Command, Answer, Done, Bytes, NewBlockIs, Served, Copied, Pages, IsRefused, Told, RunTold, with_host}
+use Rattle.fs_device.specs.Run.{Command, Answer, Done, Bytes, NewBlockIs, Served, Copied, Pages, IsRefused, Turns, RunTold, with_host}
 
 -- as many pages, none of which is marked
 abbrev pub none_marked : List Bool → List Bool
@@ -44,5 +44,5 @@ SameEvents (event ∷ events) (other ∷ others) = (other.0 ≡ event.0) × Same
 -- exchanges, notices and calls behind the answers, and they end in states that differ in marks alone
 abbrev pub MarksDoNotMatter : {F : Type 0} → May F → Type 0
 MarksDoNotMatter {F} may =
-    (a b after : State F) (events : List (Command × Answer)) (tolds : List Told) → SameButMarks a b → RunTold may a events tolds after →
+    (a b after : State F) (events : List (Command × Answer)) (tolds : List Turns) → SameButMarks a b → RunTold may a events tolds after →
     (others : List (Command × Answer)) × (end : State F) × SameEvents events others × RunTold may b others tolds end × SameButMarks after end

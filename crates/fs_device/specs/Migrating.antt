@@ -7,7 +7,7 @@ use Rattle.vm_memory_core.specs.Host.{Host}
 use Rattle.virtiofsd_fuse.specs.Serving.{May}
 use Rattle.fs_device.specs.declared.command.Answer as told
 use Rattle.fs_device.specs.Step.{State}
-use Rattle.fs_device.specs.Run.{Command, Image, Harvest, Answer, Copied, Pages, Told, Run, RunTold, with_host}
+use Rattle.fs_device.specs.Run.{Command, Image, Harvest, Answer, Copied, Pages, Turns, Run, RunTold, with_host}
 use Rattle.fs_device.specs.CommandView.{answer_of}
 use Rattle.fs_device.specs.Moving.{RunsFromImage, pages_answered, pages_of_answer}
 
@@ -21,9 +21,9 @@ until_harvest events last = events ++ (Harvest, Pages last) ∷ []
 
 -- whatever runs there could have run here, after these events with this behind their answers: the same commands with the same answers, the
 -- same calls, exchanges and notices behind them, and the same state at the end
-abbrev pub CouldRunHere : {F : Type 0} → May F → State F → List (Command × Answer) → (before : List Told) → (there : State F) → Type 0
+abbrev pub CouldRunHere : {F : Type 0} → May F → State F → List (Command × Answer) → (before : List Turns) → (there : State F) → Type 0
 CouldRunHere {F} may s events before there =
-    (later : List (Command × Answer)) (tolds : List Told) (end : State F) → RunTold may there later tolds end →
+    (later : List (Command × Answer)) (tolds : List Turns) (end : State F) → RunTold may there later tolds end →
     RunTold may s (events ++ later) (before ++ tolds) end
 
 -- by one run here, from an image that answered its copy over these events to a last harvest: the machine there is the one here over the

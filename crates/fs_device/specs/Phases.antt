@@ -52,10 +52,10 @@ IfTaken P t (Ok false) = Unit {0}
 IfTaken P t (Err e) = Unit {0}
 
 -- a place is empty unless a chain was taken into it
-abbrev pub IsEmptyUnlessTaken : Result Bool DeviceError → Taken → Type 0
-IsEmptyUnlessTaken (Ok true) t = Unit {0}
-IsEmptyUnlessTaken (Ok false) t = IsEmpty t
-IsEmptyUnlessTaken (Err e) t = IsEmpty t
+abbrev pub IsEmptyUnlessDeviceTook : Result Bool DeviceError → Taken → Type 0
+IsEmptyUnlessDeviceTook (Ok true) t = Unit {0}
+IsEmptyUnlessDeviceTook (Ok false) t = IsEmpty t
+IsEmptyUnlessDeviceTook (Err e) t = IsEmpty t
 
 -- these are the bytes of the request of a chain that was taken, in each memory of this host in which it was
 abbrev pub HoldsRequest : Host → Taken → (bytes : List ℕ) → Type 0

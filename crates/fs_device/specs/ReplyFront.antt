@@ -12,7 +12,7 @@ use Rattle.fs_device.specs.declared.exchange.Fault.{Fault}
 use Rattle.fs_device.specs.declared.reply_front.PreparedReply.{PreparedReply}
 use Rattle.fs_device.specs.declared.reply_front.ReplyFront.{ReplyFront}
 use Rattle.fs_device.specs.declared.reply_front.ReplyFront.TheVariants as front
-use Rattle.fs_device.specs.declared.answer_by_copy.Reply.{Reply}
+use Rattle.fs_device.specs.declared.answer_by_copy.CopiedReply.{CopiedReply}
 use Rattle.fs_device.specs.Step.{Calls, Exchange}
 use Rattle.fs_device.specs.DeviceView.{AnswersRequest, ServesChain, request_of, server_state}
 
@@ -27,7 +27,7 @@ is_header (front.Reply bytes) = false
 is_header (front.Header bytes) = true
 
 -- a reply that is yet to be written whole
-abbrev pub whole : Reply → PreparedReply
+abbrev pub whole : CopiedReply → PreparedReply
 whole r = record { front = front.Reply r.bytes; len = length r.bytes.items; fault = r.fault }
 
 -- the exchange of a chain with this head that was offered so, by this reply or fault

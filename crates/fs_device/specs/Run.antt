@@ -38,7 +38,7 @@ pub data Command : Type 0 where
   Harvest : Command
 
 -- the exchanges of a kick with whether each was told, and the refusal that ended it
-pub record Kicked : Type 0 where
+pub record KickAnswer : Type 0 where
   pub exchanges : List (Exchange × Bool)
   pub refused : Option DeviceError
 
@@ -47,7 +47,7 @@ pub data Answer : Type 0 where
   Done : Answer
   Bytes : List ℕ → Answer
   NewBlockIs : ℕ → Answer
-  Served : Kicked → Answer
+  Served : KickAnswer → Answer
   Copied : Host → Answer
   Pages : List Page → Answer
   IsRefused : Refusal → Answer
@@ -217,8 +217,8 @@ pub record Turn : Type 0 where
   pub calls : Calls
 
 -- what is behind the answer to a command: the exchanges of a kick, one after the other; behind other answers there is nothing
-abbrev pub Told : Type 0
-Told = List Turn
+abbrev pub Turns : Type 0
+Turns = List Turn
 
 -- what a kick lists of an exchange
 abbrev pub shown : Turn → Exchange × Bool
@@ -232,14 +232,14 @@ KickEnds may s i zero (Some e) after = ⊥
 KickEnds may s i (suc most) (Some e) after = Step may s i [] (Refused e) after
 
 -- these exchanges, one after the other, each with its calls, and this end
-unfoldable pub KickRun : {F : Type 0} → May F → State F → ℕ → ℕ → Told → Option DeviceError → State F → Type 0
+unfoldable pub KickRun : {F : Type 0} → May F → State F → ℕ → ℕ → Turns → Option DeviceError → State F → Type 0
 KickRun may s i most [] refused after = KickEnds may s i most refused after
 KickRun may s i zero (t ∷ ts) refused after = ⊥
 KickRun {F} may s i (suc most) (t ∷ ts) refused after =
     (mid : State F) × Step may s i t.calls (Exchanged t.exchange t.notice) mid × KickRun may mid i most ts refused after
 
 -- of a missing queue a kick lists that, whatever most
-abbrev pub Kicks : {F : Type 0} → May F → State F → ℕ → ℕ → Option Queue → Told → Kicked → State F → Type 0
+abbrev pub Kicks : {F : Type 0} → May F → State F → ℕ → ℕ → Option Queue → Turns → KickAnswer → State F → Type 0
 Kicks may s i most None told k after = (after ≡ s) × (told ≡ []) × (k ≡ record { exchanges = []; refused = Some device.NoSuchQueue })
 Kicks may s i most (Some q) told k after = KickRun may s i most told k.refused after × (k.exchanges ≡ map shown told)
 
@@ -283,28 +283,28 @@ command_takes_memory s Image = true
 command_takes_memory s Harvest = true
 
 -- a command has its effect, and nothing is behind its answer
-abbrev pub HasEffect : {F : Type 0} → State F → Command → Told → Answer → State F → Type 0
+abbrev pub HasEffect : {F : Type 0} → State F → Command → Turns → Answer → State F → Type 0
 HasEffect s command [] answer after = Affects s command answer after
 HasEffect s command (t ∷ ts) answer after = ⊥
 
 -- a command that has enough memory
-abbrev pub Does : {F : Type 0} → May F → State F → Command → Told → Answer → State F → Type 0
+abbrev pub Does : {F : Type 0} → May F → State F → Command → Turns → Answer → State F → Type 0
 Does may s (Kick queue most) told (Served k) after = Kicks may s queue most (slice_get s.queues queue) told k after
 Does may s (Kick queue most) told answer after = ⊥
 Does may s command told answer after = HasEffect s command told answer after
 
 -- a failed allocation changes nothing
-abbrev pub LacksMemory : {F : Type 0} → State F → Command → Told → State F → Type 0
+abbrev pub LacksMemory : {F : Type 0} → State F → Command → Turns → State F → Type 0
 LacksMemory s command [] after = IsTrue (command_takes_memory s command) × (after ≡ s)
 LacksMemory s command (t ∷ ts) after = ⊥
 
 -- a command may be answered so, with this behind its answer, and leave this state
-abbrev pub Performs : {F : Type 0} → May F → State F → Command → Told → Answer → State F → Type 0
+abbrev pub Performs : {F : Type 0} → May F → State F → Command → Turns → Answer → State F → Type 0
 Performs may s command told (IsRefused why.OutOfMemory) after = LacksMemory s command told after
 Performs may s command told answer after = Does may s command told answer after
 
 -- these answers to these commands, one after the other, with what is behind each
-unfoldable pub RunTold : {F : Type 0} → May F → State F → List (Command × Answer) → List Told → State F → Type 0
+unfoldable pub RunTold : {F : Type 0} → May F → State F → List (Command × Answer) → List Turns → State F → Type 0
 RunTold may s [] [] after = after ≡ s
 RunTold may s [] (told ∷ tolds) after = ⊥
 RunTold may s (e ∷ es) [] after = ⊥
@@ -312,4 +312,4 @@ RunTold {F} may s (e ∷ es) (told ∷ tolds) after = (mid : State F) × Perform
 
 -- these answers to these commands, one after the other
 abbrev pub Run : {F : Type 0} → May F → State F → List (Command × Answer) → State F → Type 0
-Run may s events after = (tolds : List Told) × RunTold may s events tolds after
+Run may s events after = (tolds : List Turns) × RunTold may s events tolds after

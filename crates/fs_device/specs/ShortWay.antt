@@ -17,6 +17,6 @@ ReadsInPlace h (Ok c) = HasBehind (places c.writable.items) 16 × HoldARead h (p
 ReadsInPlace h (Err fault) = ⊥
 
 -- these are the first bytes of what stands at some places: all of them, or 80
-pub record IsFront (h : Host) (ps : List Place) (front : List ℕ) : Type 0 where
+pub record IsFetchedFront (h : Host) (ps : List Place) (front : List ℕ) : Type 0 where
   pub size : length front ≡ min (length ps) 80
   pub bytes : front ≡ map (byte_in h) (take (length front) ps)

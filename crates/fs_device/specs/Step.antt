@@ -11,7 +11,7 @@ use Rattle.fs_queue.specs.Returning.{returned, wants_notice, advanced}
 use Rattle.fuse_fs.specs.Calls.{FileCall, FileAnswer, FileRun, suits}
 use Rattle.server_segments.specs.declared.error.Error.{Error}
 use Rattle.virtiofsd_fuse.specs.Grammar.{meaning}
-use Rattle.virtiofsd_fuse.specs.Serving.{May, Served, served, setting}
+use Rattle.virtiofsd_fuse.specs.Serving.{May, ServedMessage, served, setting}
 use Rattle.fs_device.specs.declared.error.DeviceError.{DeviceError}
 use Rattle.fs_device.specs.declared.error.DeviceError.TheVariants as device
 use Rattle.fs_device.specs.declared.exchange.Fault.{Fault}
@@ -34,10 +34,10 @@ pub record Exchange : Type 0 where
   pub fault : Option Fault
 
 -- how a step ends: nothing waits, it is refused, or a chain was exchanged, with whether the driver is told
-pub data Outcome : Type 0 where
-  Idle : Outcome
-  Refused : DeviceError → Outcome
-  Exchanged : Exchange → (notice : Bool) → Outcome
+pub data StepEnd : Type 0 where
+  Idle : StepEnd
+  Refused : DeviceError → StepEnd
+  Exchanged : Exchange → (notice : Bool) → StepEnd
 
 -- the calls of a file system, in order, with what each was answered
 abbrev pub Calls : Type 0
@@ -81,7 +81,7 @@ served_fault None = None
 served_fault (Some e) = Some (fault.Served e)
 
 -- what the server does for a request: these calls, along which the file system's state moves, and what comes of their answers
-pub record ServesRequest {F : Type 0} (may : May F) (page_size options : ℕ) (request : List ℕ) (room : ℕ) (before : F) (calls : Calls) (given : Served) (after : F) : Type 0 where
+pub record ServesRequest {F : Type 0} (may : May F) (page_size options : ℕ) (request : List ℕ) (room : ℕ) (before : F) (calls : Calls) (given : ServedMessage) (after : F) : Type 0 where
   pub gives : given ≡ served (setting page_size options room) (meaning options request room) (answers_alone calls)
   pub asks : given.calls ≡ calls_alone calls
   pub run : FileRun may before calls after
@@ -97,7 +97,7 @@ abbrev pub faulty : (head : ℕ) → ChainFault → Exchange
 faulty head why = record { head = head; request = []; reply = []; fault = Some (fault.Chain why) }
 
 -- a request is answered by what it means: its reply whole, or not at all
-abbrev pub served_exchange : (head : ℕ) → (request : List ℕ) → Served → Exchange
+abbrev pub served_exchange : (head : ℕ) → (request : List ℕ) → ServedMessage → Exchange
 served_exchange head request given = record { head = head; request = request; reply = given.reply; fault = served_fault given.fault }
 
 -- a faulty chain goes back with nothing, and no call is made
@@ -108,7 +108,7 @@ pub record ReturnsFaulty {F : Type 0} (before : State F) (i : ℕ) (q : Queue) (
 
 -- a request is answered: what it means, its calls in order, its reply whole or not at all, then the used element and the used index
 pub record Answers {F : Type 0} (may : May F) (before : State F) (i : ℕ) (q : Queue) (head : ℕ) (request room : List ℕ) (calls : Calls) (x : Exchange) (notice : Bool) (after : State F) : Type 0 where
-  pub given : Served
+  pub given : ServedMessage
   pub serves : ServesRequest may before.page_size before.options request (length room) before.files calls given after.files
   pub returns : Returns before i q room (served_exchange head request given) given.options x notice after
 
@@ -120,7 +120,7 @@ Exchanges may before i q taking.Idle calls x notice after = ⊥
 Exchanges may before i q (Refuses e) calls x notice after = ⊥
 
 -- what may happen at an offer: a step may be refused since an allocation fails, if a chain is offered, and then nothing changes and no call is made
-abbrev pub Acts : {F : Type 0} → May F → State F → ℕ → Queue → Offer → Calls → Outcome → State F → Type 0
+abbrev pub Acts : {F : Type 0} → May F → State F → ℕ → Queue → Offer → Calls → StepEnd → State F → Type 0
 Acts may before i q offered calls Idle after = (offered ≡ taking.Idle) × Unchanged before calls after
 Acts may before i q offered calls (Refused (device.Queue stop.OutOfMemory)) after = IsTrue (may_lack_memory offered) × Unchanged before calls after
 Acts may before i q offered calls (Refused (device.Queue e)) after = (offered ≡ Refuses e) × (calls ≡ []) × (after ≡ with_queue before i (after_refusal q e))
@@ -128,10 +128,10 @@ Acts may before i q offered calls (Refused device.NoSuchQueue) after = ⊥
 Acts may before i q offered calls (Exchanged x notice) after = Exchanges may before i q offered calls x notice after
 
 -- a step on a queue that may be missing
-abbrev pub StepOf : {F : Type 0} → May F → State F → ℕ → Option Queue → Calls → Outcome → State F → Type 0
+abbrev pub StepOf : {F : Type 0} → May F → State F → ℕ → Option Queue → Calls → StepEnd → State F → Type 0
 StepOf may before i None calls outcome after = (outcome ≡ Refused device.NoSuchQueue) × Unchanged before calls after
 StepOf may before i (Some q) calls outcome after = Acts may before i q (offer before.memory before.limit q) calls outcome after
 
 -- a step on queue i may make these calls, end so, and leave this state
-abbrev pub Step : {F : Type 0} → May F → State F → ℕ → Calls → Outcome → State F → Type 0
+abbrev pub Step : {F : Type 0} → May F → State F → ℕ → Calls → StepEnd → State F → Type 0
 Step may before i calls outcome after = StepOf may before i (slice_get before.queues i) calls outcome after

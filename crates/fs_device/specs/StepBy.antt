@@ -13,9 +13,9 @@ use Rattle.fs_queue.specs.Loads.{Load}
 use Rattle.fs_queue.specs.OfferLoads.{offer_by, AreLoadsOf}
 use Rattle.fs_queue.specs.Returning.{Store, writes_of, stores_after_reply, tells, advanced}
 use Rattle.fs_device.specs.Apart.{Apart}
-use Rattle.virtiofsd_fuse.specs.Serving.{May, Served}
+use Rattle.virtiofsd_fuse.specs.Serving.{May, ServedMessage}
 use Rattle.fs_device.specs.declared.error.DeviceError.TheVariants as device
-use Rattle.fs_device.specs.Step.{State, Exchange, Outcome, Idle, Refused, Exchanged, Calls, Unchanged, ServesRequest, with_queue, faulty, served_exchange, Step}
+use Rattle.fs_device.specs.Step.{State, Exchange, StepEnd, Idle, Refused, Exchanged, Calls, Unchanged, ServesRequest, with_queue, faulty, served_exchange, Step}
 
 -- what a step loads before its calls: the available index, the ring's entry, the tables' entries, and the request's bytes (VIRTIO 1.2, 2.7.5 and 2.7.6)
 pub record StepLoads : Type 0 where
@@ -92,7 +92,7 @@ pub record ReturnsFaultyBy {F : Type 0} (before : State F) (i : ℕ) (q : Queue)
 -- a request is answered by what its loaded bytes mean
 pub record AnswersBy {F : Type 0} (may : May F) (before : State F) (i : ℕ) (q : Queue) (head : ℕ) (request room : List ℕ) (calls : Calls) (x : Exchange) (notice : Bool)
     (e : Effects) (after : State F) : Type 0 where
-  pub given : Served
+  pub given : ServedMessage
   pub serves : ServesRequest may before.page_size before.options request (length room) before.files calls given after.files
   pub returns : ReturnsBy before i q room (served_exchange head request given) given.options x notice e after
 
@@ -104,7 +104,7 @@ ExchangesBy may before i q taking.Idle calls x notice e after = ⊥
 ExchangesBy may before i q (Refuses error) calls x notice e after = ⊥
 
 -- what may happen at an offer
-abbrev pub ActsBy : {F : Type 0} → May F → State F → ℕ → Queue → Offer → Calls → Outcome → Effects → State F → Type 0
+abbrev pub ActsBy : {F : Type 0} → May F → State F → ℕ → Queue → Offer → Calls → StepEnd → Effects → State F → Type 0
 ActsBy may before i q offered calls Idle e after = (offered ≡ taking.Idle) × Unchanged before calls after × DoesNothing e
 ActsBy may before i q offered calls (Refused (device.Queue stop.OutOfMemory)) e after =
     IsTrue (may_lack_memory offered) × Unchanged before calls after × DoesNothing e
@@ -118,13 +118,13 @@ abbrev pub LoadsNothing : StepLoads → Type 0
 LoadsNothing l = l ≡ record { index = None; entry = None; entries = []; request = [] }
 
 -- a step on a queue that may be missing, for which nothing is loaded: its loads say what is offered
-abbrev pub StepOfBy : {F : Type 0} → May F → State F → ℕ → Option Queue → StepLoads → Calls → Outcome → Effects → State F → Type 0
+abbrev pub StepOfBy : {F : Type 0} → May F → State F → ℕ → Option Queue → StepLoads → Calls → StepEnd → Effects → State F → Type 0
 StepOfBy may before i None l calls outcome e after = (outcome ≡ Refused device.NoSuchQueue) × Unchanged before calls after × DoesNothing e × LoadsNothing l
 StepOfBy may before i (Some q) l calls outcome e after =
     (o : Offer) × (offered_by before.memory before.limit q l ≡ Some o) × ActsBy may before i q o calls outcome e after
 
 -- a step on queue i that loads this may make these calls, end so, store this, and leave this state; of both states' memories only the places count
-abbrev pub StepBy : {F : Type 0} → May F → State F → ℕ → StepLoads → Calls → Outcome → Effects → State F → Type 0
+abbrev pub StepBy : {F : Type 0} → May F → State F → ℕ → StepLoads → Calls → StepEnd → Effects → State F → Type 0
 StepBy may before i l calls outcome e after = StepOfBy may before i (slice_get before.queues i) l calls outcome e after
 
 -- ---- laws
@@ -157,11 +157,11 @@ pub record IsOfMemory {F : Type 0} (s : State F) (i : ℕ) (l : StepLoads) (e : 
 -- a step by loads that one memory has is a step of the plain machine over it: the stores leave its memory
 abbrev pub StepByIsStep : {F : Type 0} → May F → Type 0
 StepByIsStep {F} may =
-    (s : State F) (i : ℕ) (l : StepLoads) (calls : Calls) (outcome : Outcome) (e : Effects) (after : State F) → IsOfMemory s i l e →
+    (s : State F) (i : ℕ) (l : StepLoads) (calls : Calls) (outcome : StepEnd) (e : Effects) (after : State F) → IsOfMemory s i l e →
     StepBy may s i l calls outcome e after → Step may s i calls outcome (record after { memory = after_stores s.memory (stores_among e.acts) })
 
 -- and each step of the plain machine is one by such loads and stores
-pub record HasEffects {F : Type 0} (may : May F) (s : State F) (i : ℕ) (calls : Calls) (outcome : Outcome) (after : State F) : Type 0 where
+pub record HasEffects {F : Type 0} (may : May F) (s : State F) (i : ℕ) (calls : Calls) (outcome : StepEnd) (after : State F) : Type 0 where
   pub loads : StepLoads
   pub effects : Effects
   pub are : IsOfMemory s i loads effects
@@ -169,7 +169,7 @@ pub record HasEffects {F : Type 0} (may : May F) (s : State F) (i : ℕ) (calls 
   pub step : StepBy may s i loads calls outcome effects (record after { memory = s.memory })
 
 abbrev pub StepIsStepBy : {F : Type 0} → May F → Type 0
-StepIsStepBy {F} may = (s : State F) (i : ℕ) (calls : Calls) (outcome : Outcome) (after : State F) → Step may s i calls outcome after → HasEffects may s i calls outcome after
+StepIsStepBy {F} may = (s : State F) (i : ℕ) (calls : Calls) (outcome : StepEnd) (after : State F) → Step may s i calls outcome after → HasEffects may s i calls outcome after
 
 -- whatever was loaded, a step stores nothing unless a chain goes back, and then in its room as it was walked, in the used element and in the used index alone
 abbrev pub return_addresses : Queue → Offer → List ℕ
@@ -180,5 +180,5 @@ return_addresses q (Refuses error) = []
 
 abbrev pub StoresOnlyThere : {F : Type 0} → May F → Type 0
 StoresOnlyThere {F} may =
-    (s : State F) (i : ℕ) (l : StepLoads) (calls : Calls) (outcome : Outcome) (e : Effects) (after : State F) (q : Queue) (o : Offer) → slice_get s.queues i ≡ Some q →
+    (s : State F) (i : ℕ) (l : StepLoads) (calls : Calls) (outcome : StepEnd) (e : Effects) (after : State F) (q : Queue) (o : Offer) → slice_get s.queues i ≡ Some q →
     offered_by s.memory s.limit q l ≡ Some o → StepBy may s i l calls outcome e after → AllByRecursion (λ (w : ℕ × ℕ). Contains (return_addresses q o) w.0) (flat_map writes_of (stores_among e.acts))

@@ -7,14 +7,14 @@ use Rattle.virtiofsd_fuse.specs.Serving.{May, Setting, served}
 use Rattle.fs_device.specs.declared.exchange.Fault.{Fault}
 use Rattle.fs_device.specs.declared.exchange.Fault.TheVariants as fault
 use Rattle.fs_device.specs.Step.{State, Calls, served_exchange, calls_alone, answers_alone}
-use Rattle.fs_device.specs.Run.{Turn, Told, Command, Answer, RunTold}
+use Rattle.fs_device.specs.Run.{Turn, Turns, Command, Answer, RunTold}
 
 -- the calls of a kick, in their order
-abbrev pub calls_of : Told → Calls
+abbrev pub calls_of : Turns → Calls
 calls_of told = flat_map (λ t. t.calls) told
 
 -- and of a run
-abbrev pub calls_told : List Told → Calls
+abbrev pub calls_told : List Turns → Calls
 calls_told tolds = flat_map calls_of tolds
 
 -- in some setting the request means these calls, each by the answers before it, and they make this exchange
@@ -36,5 +36,5 @@ IsServed t = IsServedBy t.exchange.fault t
 -- all calls of a run are a run of the file system from its first state to its last, and each exchange is what its request means in some setting
 abbrev pub CallsAreTold : {F : Type 0} → May F → Type 0
 CallsAreTold {F} may =
-    (s after : State F) (events : List (Command × Answer)) (tolds : List Told) → RunTold may s events tolds after →
+    (s after : State F) (events : List (Command × Answer)) (tolds : List Turns) → RunTold may s events tolds after →
     FileRun may s.files (calls_told tolds) after.files × AllByRecursion (AllByRecursion IsServed) tolds

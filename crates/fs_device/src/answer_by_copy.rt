@@ -12,7 +12,7 @@ use virtiofsd_fuse::{Error, Reader, Server, Writer};
 
 /// A reply, or why there is none.
 #[derive(Drop)]
-pub(crate) struct Reply {
+pub(crate) struct CopiedReply {
     pub bytes: Vec<u8>,
     pub fault: Option<Fault>,
 }
@@ -38,7 +38,7 @@ pub(crate) fn answer<F: FileSystem>(
     server: &mut Server<F>,
     request: Reader<'_>,
     room: Writer,
-) -> Option<Reply>
+) -> Option<CopiedReply>
     requires unwritten { room.written ≡ [] }
     requires short { room.free < 2 ^ 32 }
     ensures answered { IsAnswered F.may server.old request.entry.left room.free result server.new }
@@ -47,7 +47,7 @@ pub(crate) fn answer<F: FileSystem>(
 {
     let mut writer = room;
     match server.handle_message(alloc, request, &mut writer) {
-        Ok(_) => Some(Reply {
+        Ok(_) => Some(CopiedReply {
             bytes: writer.into_written(),
             fault: None,
         }),
@@ -55,7 +55,7 @@ pub(crate) fn answer<F: FileSystem>(
             if is_memory(error) {
                 return None;
             }
-            Some(Reply {
+            Some(CopiedReply {
                 bytes: Vec::new(alloc),
                 fault: Some(Fault::Served(error)),
             })

@@ -11,9 +11,9 @@ ghost use Rattle.fs_queue.specs.Windows.{HoldsChain, IsTaken, TakenLiesIn, room_
 ghost use Rattle.fs_device.specs.Answering.{IsAnswered};
 ghost use Rattle.fs_device.specs.DeviceView.{request_of};
 ghost use Rattle.fs_device.specs.ReplyFront.{AnswersAt, AnswersFront, front_bytes, is_header};
-ghost use Rattle.fs_device.specs.ShortWay.{IsFront, ReadsInPlace};
+ghost use Rattle.fs_device.specs.ShortWay.{IsFetchedFront, ReadsInPlace};
 
-use crate::answer_by_copy::{Reply, answer};
+use crate::answer_by_copy::{CopiedReply, answer};
 use crate::exchange::Fault;
 use crate::reply_front::{PreparedReply, ReplyFront};
 use crate::request_windows::{copy_front, segments_behind};
@@ -34,9 +34,9 @@ fn answer_behind<F: FileSystem, H: HostBlocks>(
     chain: &Chain,
     front: &[u8],
     room: Writer,
-) -> Option<Reply>
+) -> Option<CopiedReply>
     requires lie { AllLieIn (lengths (H.host host.now)) chain.now.readable.items }
-    requires front { IsFront (H.host host.now) (places chain.now.readable.items) front.now }
+    requires front { IsFetchedFront (H.host host.now) (places chain.now.readable.items) front.now }
     requires unwritten { room.written ≡ [] }
     requires short { room.free < 2 ^ 32 }
     ensures answered { IsAnswered F.may server.old (map (byte_in (H.host host.now)) (places chain.now.readable.items)) room.free result server.new }
@@ -61,9 +61,9 @@ fn answer_longer<F: FileSystem, H: HostBlocks>(
     chain: &Chain,
     front: &[u8],
     room: Writer,
-) -> Option<Reply>
+) -> Option<CopiedReply>
     requires lie { AllLieIn (lengths (H.host host.now)) chain.now.readable.items }
-    requires front { IsFront (H.host host.now) (places chain.now.readable.items) front.now }
+    requires front { IsFetchedFront (H.host host.now) (places chain.now.readable.items) front.now }
     requires unwritten { room.written ≡ [] }
     requires short { room.free < 2 ^ 32 }
     ensures answered { IsAnswered F.may server.old (map (byte_in (H.host host.now)) (places chain.now.readable.items)) room.free result server.new }
@@ -87,9 +87,9 @@ fn answer_in_buffer<F: FileSystem, H: HostBlocks>(
     host: &H,
     chain: &Chain,
     front: &[u8],
-) -> Option<Reply>
+) -> Option<CopiedReply>
     requires lie { AllLieIn (lengths (H.host host.now)) chain.now.readable.items }
-    requires front { IsFront (H.host host.now) (places chain.now.readable.items) front.now }
+    requires front { IsFetchedFront (H.host host.now) (places chain.now.readable.items) front.now }
     ensures answered { IsAnswered F.may server.old (map (byte_in (H.host host.now)) (places chain.now.readable.items)) (length (places chain.now.writable.items)) result server.new }
     ensures page_size { server.new.page_size ≡ server.old.page_size }
 {

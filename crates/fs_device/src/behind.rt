@@ -4,7 +4,7 @@ ghost use Rattle.std.specs.Prelude.{◌≡◌, ◌↔◌, ℕ, ◌<◌, ◌≤�
 ghost use Rattle.fuse_fs.specs.Lengths.{filled, past};
 ghost use Rattle.vm_memory_core.specs.Window.{AllLieIn, LiesIn, Window, places, places_of};
 ghost use Rattle.fs_device.specs.Apart.{Apart, are_apart};
-ghost use Rattle.fs_device.specs.Behind.{Front, HasBehind};
+ghost use Rattle.fs_device.specs.Behind.{IsFrontWindow, HasBehind};
 
 use crate::room_left::RoomLeft;
 use vm_memory_core::VolatileSlice;
@@ -55,7 +55,7 @@ impl<'a> RoomLeft<'a> {
     pub(crate) fn front(&mut self, most: usize) -> VolatileSlice
         requires { 0 < length self.old.places }
         ensures same { self.new ≡ self.old }
-        ensures front { Front self.old most result }
+        ensures front { IsFrontWindow self.old most result }
         ensures lies { (lengths : List ℕ) → AllLieIn lengths self.old.windows → LiesIn lengths result }
     {
         let (index, at) = window_at(self.windows, self.index, self.at);

@@ -10,7 +10,7 @@ ghost use Rattle.fs_queue.specs.Returning.{advanced};
 ghost use Rattle.fs_queue.specs.ReturningView.{put_back, tells_by};
 ghost use Rattle.fs_queue.specs.Windows.{HasItsWindows, IsEmpty, TakenLiesIn, room_places};
 ghost use Rattle.fs_device.specs.DeviceView.{exchange_of, state_of};
-ghost use Rattle.fs_device.specs.Phases.{GoesBack, IfTaken, IsEmptyUnlessTaken, IsTakenFrom, MayLackToAnswer, ServesBytes, ServesTaken, TakesOrEnds, TakesFrom};
+ghost use Rattle.fs_device.specs.Phases.{GoesBack, IfTaken, IsEmptyUnlessDeviceTook, IsTakenFrom, MayLackToAnswer, ServesBytes, ServesTaken, TakesOrEnds, TakesFrom};
 
 use crate::answer_by_copy::serve;
 use crate::device::Device;
@@ -41,7 +41,7 @@ impl<F: FileSystem> Device<F> {
         ensures windows { (q : Queue) → slice_get queues.old.items queue ≡ Some q → IfTaken (HasItsWindows (M.memory mem.now (H.host host.now)) q) taken.new result }
         ensures there { IfTaken (λ t. queue < length queues.new.items) taken.new result }
         ensures count { length queues.new.items ≡ length queues.old.items }
-        ensures empty { IsEmptyUnlessTaken result taken.new }
+        ensures empty { IsEmptyUnlessDeviceTook result taken.new }
     {
         if queue >= queues.len() {
             *taken = Taken::empty(alloc);
@@ -72,7 +72,7 @@ impl<F: FileSystem> Device<F> {
         ensures lies { IfTaken (TakenLiesIn (lengths (H.host host.now))) taken.new result }
         ensures windows { (q : Queue) → slice_get self.old.queues queue ≡ Some q → IfTaken (HasItsWindows (M.memory mem.now (H.host host.now)) q) taken.new result }
         ensures there { IfTaken (λ t. queue < length self.new.queues) taken.new result }
-        ensures empty { IsEmptyUnlessTaken result taken.new }
+        ensures empty { IsEmptyUnlessDeviceTook result taken.new }
     {
         Self::take_from(alloc, host, mem, self.limit, &mut self.queues, queue, taken)
     }

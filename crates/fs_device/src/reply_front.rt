@@ -2,7 +2,7 @@
 
 ghost use Rattle.std.specs.Prelude.{◌≡◌};
 
-use crate::answer_by_copy::Reply;
+use crate::answer_by_copy::CopiedReply;
 use crate::exchange::Fault;
 use virtiofsd_fuse::REPLY_FRONT;
 
@@ -41,7 +41,7 @@ impl PreparedReply {
 
     /// A reply that is yet to be written whole, or the fault.
     #[inline(always)]
-    pub(crate) fn whole(reply: Reply) -> PreparedReply
+    pub(crate) fn whole(reply: CopiedReply) -> PreparedReply
         ensures { result ≡ whole reply }
     {
         let len = reply.bytes.len();

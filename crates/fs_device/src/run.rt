@@ -3,7 +3,7 @@
 ghost use Rattle.std.specs.Prelude.{◌≡◌, ◌<◌, [], IfOk, OnErr, true, length, map, zip};
 ghost use Rattle.vm_iotlb.specs.declared.permissions.Permissions.TheVariants.{Read, Write};
 ghost use Rattle.vm_memory.specs.Memory.{physical, reach, bytes};
-ghost use Rattle.fs_device.specs.Run.{Run, Performs, Told, GuestRead, GuestWrite, Kick, ResetQueue, guest_written};
+ghost use Rattle.fs_device.specs.Run.{Run, Performs, Turns, GuestRead, GuestWrite, Kick, ResetQueue, guest_written};
 ghost use Rattle.fs_device.specs.CommandView.{answer_of, command_of};
 ghost use Rattle.fs_device.specs.MachineView.{machine_of};
 
@@ -79,7 +79,7 @@ impl<F: FileSystem, I: Iommu + Drop> Machine<F, I> {
     }
 
     fn kick(&mut self, alloc: Global, queue: usize, most: u16) -> Answer
-        ensures { (told : Told) × Performs F.may (machine_of self.old) (Kick queue most) told (answer_of result) (machine_of self.new) }
+        ensures { (told : Turns) × Performs F.may (machine_of self.old) (Kick queue most) told (answer_of result) (machine_of self.new) }
     {
         match self
             .device
@@ -106,7 +106,7 @@ impl<F: FileSystem, I: Iommu + Drop> Machine<F, I> {
 
     // Does one command.
     fn perform(&mut self, alloc: Global, command: Command) -> Answer
-        ensures { (told : Told) × Performs F.may (machine_of self.old) (command_of command) told (answer_of result) (machine_of self.new) }
+        ensures { (told : Turns) × Performs F.may (machine_of self.old) (command_of command) told (answer_of result) (machine_of self.new) }
     {
         match command {
             Command::GuestRead { addr, len } => self.guest_read(alloc, addr, len),

@@ -7,7 +7,7 @@ ghost use Rattle.virtiofsd_fuse.specs.ReadApart.{read_meaning};
 ghost use Rattle.virtiofsd_fuse.specs.Serving.{ServerHandles};
 ghost use Rattle.fs_device.specs.Fills.{Fills};
 ghost use Rattle.fs_device.specs.ReplyFront.{AnswersAt, front_bytes, is_header};
-ghost use Rattle.fs_device.specs.ShortWay.{IsFront, ReadsInPlace};
+ghost use Rattle.fs_device.specs.ShortWay.{IsFetchedFront, ReadsInPlace};
 
 use crate::behind::room_behind;
 use crate::reply_front::{PreparedReply, ReplyFront};
@@ -57,7 +57,7 @@ pub(crate) fn read_in_place<F: FileSystem, H: HostBlocks>(
     front: &[u8],
 ) -> Option<PreparedReply>
     requires lie { AllLieIn (lengths (H.host host.old)) chain.now.writable.items }
-    requires front { IsFront (H.host host.old) (places chain.now.readable.items) front.now }
+    requires front { IsFetchedFront (H.host host.old) (places chain.now.readable.items) front.now }
     ensures some { IfSome result (λ a. AnswersAt F.may server.old (H.host host.old) (places chain.now.readable.items) (places chain.now.writable.items) a (H.host host.new) server.new) }
     ensures none { IfNone result ((server.new ≡ server.old) × (host.new ≡ host.old)) }
     ensures taken { IsSome result ↔ (IsTrue (F.reads_whole server.old.fs) × ReadsInPlace (H.host host.old) (Ok chain.now)) }

@@ -19,7 +19,7 @@ use Rattle.fs_device.specs.declared.refusal.Refusal.{Refusal}
 use Rattle.fs_device.specs.declared.refusal.Refusal.TheVariants.{NoPlace}
 use Rattle.fs_device.specs.Step.{State, Exchanged, Step}
 use Rattle.fs_device.specs.Run as run
-use Rattle.fs_device.specs.Run.{Turn, Told, Command, Answer, Kicked, Kicks, KickRun, Run, RunTold, Effect, IsDecided, effect}
+use Rattle.fs_device.specs.Run.{Turn, Turns, Command, Answer, KickAnswer, Kicks, KickRun, Run, RunTold, Effect, IsDecided, effect}
 use Rattle.fuse_files.specs.Directory.{Directory, DirectoryAnswers}
 use Rattle.fs_example.specs.Reading.{read_reply, wanted}
 use Rattle.fs_example.specs.GuestGets.{laid_over, GetsFile, KickGivesFile, kick_and_look, GuestGetsTheFile}
@@ -36,7 +36,7 @@ use Rattle.fuse_fs.specs.Calls.{FileRun}
 abbrev Split : State Directory → (before behind : List (Command × Answer)) → State Directory → Type 0
 Split s before behind after = (found : State Directory) × Run DirectoryAnswers s before found × Run DirectoryAnswers found behind after
 
-split : (s after : State Directory) (before behind : List (Command × Answer)) (tolds : List Told) → RunTold DirectoryAnswers s (before ++ behind) tolds after → Split s before behind after
+split : (s after : State Directory) (before behind : List (Command × Answer)) (tolds : List Turns) → RunTold DirectoryAnswers s (before ++ behind) tolds after → Split s before behind after
 unfolding RunTold
 split s after [] behind tolds t = (s, ([], refl), (tolds, t))
 split s after (e ∷ es) behind [] t = absurd t
@@ -50,7 +50,7 @@ split s after (e ∷ es) behind (told ∷ tolds) (mid, performs, rest) =
 abbrev OneExchange : State Directory → (i : ℕ) → State Directory → Type 0
 OneExchange s i after = (t : Turn) × (mid : State Directory) × Step DirectoryAnswers s i t.calls (Exchanged t.exchange t.notice) mid × (after.memory ≡ mid.memory)
 
-one_turn : (s after : State Directory) (i most : ℕ) (q : Queue) (told : Told) (k : Kicked) → Kicks DirectoryAnswers s i most (Some q) told k after → length k.exchanges ≡ 1 → OneExchange s i after
+one_turn : (s after : State Directory) (i most : ℕ) (q : Queue) (told : Turns) (k : KickAnswer) → Kicks DirectoryAnswers s i most (Some q) told k after → length k.exchanges ≡ 1 → OneExchange s i after
 unfolding KickRun
 one_turn s after i most q [] k (ran, shows) one = absurd (omega (arith, one, ap length shows))
 one_turn s after i zero q (t ∷ told) k (ran, shows) one = absurd ran
@@ -119,7 +119,7 @@ gets_file m room k a n unique file got is = (is, λ fits behind within. is ∙ f
 
 -- ---- a kick, and then a look
 
-kick_gives : (s mid after : State Directory) (i most a n : ℕ) (kicked : Kicked) (got : List ℕ) (told : Told) → HoldsItsBlocks s.memory →
+kick_gives : (s mid after : State Directory) (i most a n : ℕ) (kicked : KickAnswer) (got : List ℕ) (told : Turns) → HoldsItsBlocks s.memory →
     Kicks DirectoryAnswers s i most (slice_get s.queues i) told kicked mid → IsDecided (effect mid (run.GuestRead a n)) (run.Bytes got) after → KickGivesFile s i kicked a n got
 kick_gives s mid after i most a n kicked got told held kicks look q head request room unique node size offset k f one there offered reads file apart looks =
     let reply = read_reply (length room) unique (wanted f size offset) in
@@ -136,7 +136,7 @@ kick_gives s mid after i most a n kicked got told held kicks look q head request
     ∙ room_seen s.memory room reply (addresses (element_at q) 8) (to_le_bytes w32 head ++ to_le_bytes w32 (length reply)) (addresses (index_at q) 2) (to_le_bytes w16 (next_position q)) a n k
     held places apart looks)
 
-both_give : (s after : State Directory) (i most a n : ℕ) (kicked : Kicked) (got : List ℕ) (later : List (Command × Answer)) (tolds : List Told) →
+both_give : (s after : State Directory) (i most a n : ℕ) (kicked : KickAnswer) (got : List ℕ) (later : List (Command × Answer)) (tolds : List Turns) →
     RunTold DirectoryAnswers s (kick_and_look i most kicked a n got ++ later) tolds after → HoldsItsBlocks s.memory → KickGivesFile s i kicked a n got
 unfolding RunTold
 both_give s after i most a n kicked got later [] t held = absurd t
@@ -146,8 +146,8 @@ both_give s after i most a n kicked got later (told ∷ (t ∷ ts) ∷ tolds) (m
 
 -- ---- runs
 
-pub run_gives : (s after : State Directory) (events : List (Command × Answer)) (tolds : List Told) → RunTold DirectoryAnswers s events tolds after → HoldsItsBlocks s.memory →
-    ((end : State Directory) (part : List (Command × Answer)) (told : List Told) → RunTold DirectoryAnswers s part told end → FileRun DirectoryAnswers s.files (calls_told told) end.files) →
+pub run_gives : (s after : State Directory) (events : List (Command × Answer)) (tolds : List Turns) → RunTold DirectoryAnswers s events tolds after → HoldsItsBlocks s.memory →
+    ((end : State Directory) (part : List (Command × Answer)) (told : List Turns) → RunTold DirectoryAnswers s part told end → FileRun DirectoryAnswers s.files (calls_told told) end.files) →
     GuestGetsTheFile s events after
 run_gives s after events tolds ran held calls before later i most a n kicked got is =
     let behind = kick_and_look i most kicked a n got ++ later in

@@ -21,7 +21,7 @@ use Rattle.fs_device.specs.declared.error.DeviceError.{DeviceError}
 use Rattle.fs_device.specs.declared.refusal.Refusal.TheVariants as why
 use Rattle.fs_device.specs.Step.{State, Exchange, Calls, Exchanged, Exchanges, StepOf}
 use Rattle.fs_device.specs.Run as run
-use Rattle.fs_device.specs.Run.{Told, Command, Answer, Effect, KickRun, Kicks, Kicked, Affects, ChangesTable, HasEffect, Does, Performs, RunTold}
+use Rattle.fs_device.specs.Run.{Turns, Command, Answer, Effect, KickRun, Kicks, KickAnswer, Affects, ChangesTable, HasEffect, Does, Performs, RunTold}
 use Rattle.fs_device.specs.Run.{effect, IsDecided, insert, insert_block, is_known, has_len, some_overlap, reset}
 use Rattle.fs_device.proofs.TellingLemmas.{end_keeps}
 use Rattle.fs_device.proofs.LayoutLemmas.{held_grown, held_with, held_without, block_there}
@@ -71,7 +71,7 @@ step_holds may s i (Some q) calls x notice after t held = exchange_holds may s i
 
 -- ---- kicks
 
-kick_holds : {F : Type 0} (may : May F) (s : State F) (i most : ℕ) (told : Told) (refused : Option DeviceError) (after : State F) → KickRun may s i most told refused after → HoldsItsBlocks s.memory →
+kick_holds : {F : Type 0} (may : May F) (s : State F) (i most : ℕ) (told : Turns) (refused : Option DeviceError) (after : State F) → KickRun may s i most told refused after → HoldsItsBlocks s.memory →
     HoldsItsBlocks after.memory
 unfolding KickRun
 kick_holds may s i most [] refused after t held = held_same s.memory after.memory (end_keeps may s i most refused after t) held
@@ -79,7 +79,7 @@ kick_holds may s i zero (x ∷ told) refused after t held = absurd t
 kick_holds may s i (suc most) (x ∷ told) refused after (mid, step, rest) held =
     kick_holds may mid i most told refused after rest (step_holds may s i (slice_get s.queues i) x.calls x.exchange x.notice mid step held)
 
-kicks_hold : {F : Type 0} (may : May F) (s : State F) (i most : ℕ) (o : Option Queue) (told : Told) (k : Kicked) (after : State F) → Kicks may s i most o told k after → HoldsItsBlocks s.memory →
+kicks_hold : {F : Type 0} (may : May F) (s : State F) (i most : ℕ) (o : Option Queue) (told : Turns) (k : KickAnswer) (after : State F) → Kicks may s i most o told k after → HoldsItsBlocks s.memory →
     HoldsItsBlocks after.memory
 kicks_hold may s i most None told k after t held = held_same s.memory after.memory (ap (λ s. s.memory) t.0) held
 kicks_hold may s i most (Some q) told k after t held = kick_holds may s i most told k.refused after t.0 held
@@ -188,13 +188,13 @@ affect_holds s (run.ResetQueue queue size desc avail used) answer after t held =
 affect_holds s run.Image answer after t held = by_effect s run.Image answer after t held
 affect_holds s run.Harvest answer after t held = by_effect s run.Harvest answer after t held
 
-told_holds : {F : Type 0} (s : State F) (command : Command) (told : Told) (answer : Answer) (after : State F) → HasEffect s command told answer after → HoldsItsBlocks s.memory → HoldsItsBlocks after.memory
+told_holds : {F : Type 0} (s : State F) (command : Command) (told : Turns) (answer : Answer) (after : State F) → HasEffect s command told answer after → HoldsItsBlocks s.memory → HoldsItsBlocks after.memory
 told_holds s command [] answer after t held = affect_holds s command answer after t held
 told_holds s command (x ∷ told) answer after t held = absurd t
 
 -- ---- runs
 
-does_hold : {F : Type 0} (may : May F) (s : State F) (command : Command) (told : Told) (answer : Answer) (after : State F) → Does may s command told answer after → HoldsItsBlocks s.memory → HoldsItsBlocks after.memory
+does_hold : {F : Type 0} (may : May F) (s : State F) (command : Command) (told : Turns) (answer : Answer) (after : State F) → Does may s command told answer after → HoldsItsBlocks s.memory → HoldsItsBlocks after.memory
 does_hold may s (run.Kick i most) told (run.Served k) after t held = kicks_hold may s i most (slice_get s.queues i) told k after t held
 does_hold may s (run.Kick i most) told run.Done after t held = absurd t
 does_hold may s (run.Kick i most) told (run.Bytes bytes) after t held = absurd t
@@ -216,7 +216,7 @@ does_hold may s (run.ResetQueue queue size desc avail used) told answer after t 
 does_hold may s run.Image told answer after t held = told_holds s run.Image told answer after t held
 does_hold may s run.Harvest told answer after t held = told_holds s run.Harvest told answer after t held
 
-performs_hold : {F : Type 0} (may : May F) (s : State F) (command : Command) (told : Told) (answer : Answer) (after : State F) → Performs may s command told answer after → HoldsItsBlocks s.memory →
+performs_hold : {F : Type 0} (may : May F) (s : State F) (command : Command) (told : Turns) (answer : Answer) (after : State F) → Performs may s command told answer after → HoldsItsBlocks s.memory →
     HoldsItsBlocks after.memory
 performs_hold may s command [] (run.IsRefused why.OutOfMemory) after t held = held_same s.memory after.memory (ap (λ s. s.memory) t.1) held
 performs_hold may s command (x ∷ told) (run.IsRefused why.OutOfMemory) after t held = absurd t
@@ -236,7 +236,7 @@ performs_hold may s command told (run.Copied host) after t held = does_hold may 
 performs_hold may s command told (run.Pages pages) after t held = does_hold may s command told _ after t held
 
 -- a run keeps it so
-pub run_holds : {F : Type 0} (may : May F) (s : State F) (events : List (Command × Answer)) (tolds : List Told) (after : State F) → RunTold may s events tolds after → HoldsItsBlocks s.memory → HoldsItsBlocks after.memory
+pub run_holds : {F : Type 0} (may : May F) (s : State F) (events : List (Command × Answer)) (tolds : List Turns) (after : State F) → RunTold may s events tolds after → HoldsItsBlocks s.memory → HoldsItsBlocks after.memory
 unfolding RunTold
 run_holds may s [] [] after t held = held_same s.memory after.memory (ap (λ s. s.memory) t) held
 run_holds may s [] (told ∷ tolds) after t held = absurd t

@@ -14,21 +14,21 @@ use Rattle.server_replies.specs.Entries.{EIO}
 use Rattle.server_replies.proofs.ReplyLemmas.{length_reply, length_error}
 use Rattle.fuse_files.specs.Files.{ByOwn, is_own, default_answer}
 use Rattle.virtiofsd_fuse.specs.Grammar.{Meaning, Asks, One, IsFault, meaning, reply_bytes, error_bytes}
-use Rattle.virtiofsd_fuse.specs.Serving.{Setting, Served, served, setting, no_reply, replied, answer_bytes}
+use Rattle.virtiofsd_fuse.specs.Serving.{Setting, ServedMessage, served, setting, no_reply, replied, answer_bytes}
 use Rattle.fs_device.specs.declared.exchange.Fault.{Fault}
 use Rattle.fs_device.specs.Step as step
-use Rattle.fs_device.specs.Step.{State, Calls, Exchange, Outcome, Idle, Refused, Exchanged, Step, StepOf, Exchanges, served_fault, calls_alone, answers_alone}
-use Rattle.fs_device.specs.Run.{Turn, Told, Command, Answer, RunTold}
+use Rattle.fs_device.specs.Step.{State, Calls, Exchange, StepEnd, Idle, Refused, Exchanged, Step, StepOf, Exchanges, served_fault, calls_alone, answers_alone}
+use Rattle.fs_device.specs.Run.{Turn, Turns, Command, Answer, RunTold}
 use Rattle.fs_device.specs.Telling.{calls_of, calls_told, IsMeant, IsServedBy, IsServed}
 use Rattle.fuse_files.specs.declared.owned_table.OwnedFile.{OwnedFile}
 use Rattle.fuse_files.specs.OwnedTable.{files_of}
 use Rattle.fuse_files.specs.declared.owned_table.OwnedTable.{OwnedTable}
-use Rattle.fuse_files.specs.Directory.{Answers, Directory, MayAnswer, DirectoryAnswers, file_at, bytes_at, bytes_in}
+use Rattle.fuse_files.specs.Directory.{AnswersCall, Directory, MayAnswer, DirectoryAnswers, file_at, bytes_at, bytes_in}
 use Rattle.fs_example.specs.Reading.{read_in_room, wanted, read_reply, GivesBytes, ReadsTrue, ReadsIntoRoom, ReadingRun}
 
 -- each call has one of its answers, its own and the others
 abbrev AnsweredOne : List OwnedFile → FileCall → FileAnswer → Type 0
-AnsweredOne fs call answer = ByOwn (is_own false call) (Answers fs call answer) (answer ≡ default_answer call)
+AnsweredOne fs call answer = ByOwn (is_own false call) (AnswersCall fs call answer) (answer ≡ default_answer call)
 
 abbrev Answered : List OwnedFile → Calls → Type 0
 Answered fs calls = AllByRecursion (λ step. AnsweredOne fs step.0 step.1) calls
@@ -39,7 +39,7 @@ same_files before after same = ap (λ (t : OwnedTable). record { 0 = t; 1 = befo
 
 by_own : (own : Bool) (before after : Directory) (call : FileCall) (answer : FileAnswer) →
     ByOwn own (MayAnswer before.0 call answer after.0) ((answer ≡ default_answer call) × (after.0 ≡ before.0)) →
-    ByOwn own (Answers (files_of before.0) call answer) (answer ≡ default_answer call) × (after ≡ before)
+    ByOwn own (AnswersCall (files_of before.0) call answer) (answer ≡ default_answer call) × (after ≡ before)
 by_own true before after call answer made = (made.0, same_files before after made.1)
 by_own false before after call answer made = (made.0, same_files before after made.1)
 
@@ -160,15 +160,15 @@ step_into_room s after i calls x notice made q head request room unique node siz
     let known = setting s.page_size s.options (length room) in
     let m = meaning s.options request (length room) in
     let each = serves_each s.files calls after.files done.serves.run in
-    let asks : (served known m (answers_alone calls)).calls ≡ calls_alone calls = ap (λ (g : Served). g.calls) (sym done.serves.gives) ∙ done.serves.asks in
+    let asks : (served known m (answers_alone calls)).calls ≡ calls_alone calls = ap (λ (g : ServedMessage). g.calls) (sym done.serves.gives) ∙ done.serves.asks in
     let reply : done.given.reply ≡ read_reply (length room) unique (wanted f size offset) =
-    ap (λ (g : Served). g.reply) done.serves.gives
+    ap (λ (g : ServedMessage). g.reply) done.serves.gives
     ∙ read_served (files_of s.files.0) f known who unique node handle size offset flags owner file calls m (means s.options (length room)) each.0 asks in (
       ap (λ (y : Exchange). y.reply) done.returns.exchange ∙ reply,
       ap (λ (t : State Directory). t.memory) done.returns.state ∙ ap (returned s.memory q head room) reply,
     )
 
-pub step_reads : (s after : State Directory) (i : ℕ) (calls : Calls) (outcome : Outcome) → Step DirectoryAnswers s i calls outcome after → ReadsIntoRoom s i outcome after
+pub step_reads : (s after : State Directory) (i : ℕ) (calls : Calls) (outcome : StepEnd) → Step DirectoryAnswers s i calls outcome after → ReadsIntoRoom s i outcome after
 step_reads s after i calls Idle made = tt
 step_reads s after i calls (Refused e) made = tt
 step_reads s after i calls (Exchanged x notice) made = step_into_room s after i calls x notice made
@@ -193,16 +193,16 @@ turn_true fs t serves all unique node size offset f (who, handle, flags, owner, 
 
 -- ---- runs
 
-kick_true : (fs : List OwnedFile) (told : Told) → AllByRecursion IsServed told → Answered fs (calls_of told) → AllByRecursion (ReadsTrue fs) told
+kick_true : (fs : List OwnedFile) (told : Turns) → AllByRecursion IsServed told → Answered fs (calls_of told) → AllByRecursion (ReadsTrue fs) told
 kick_true fs [] serves all = tt
 kick_true fs (t ∷ told) (own, serves) all = (turn_true fs t own (front_of fs t.calls (calls_of told) all), kick_true fs told serves (back_of fs t.calls (calls_of told) all))
 
-all_true : (fs : List OwnedFile) (tolds : List Told) → AllByRecursion (AllByRecursion IsServed) tolds → Answered fs (calls_told tolds) → AllByRecursion (AllByRecursion (ReadsTrue fs)) tolds
+all_true : (fs : List OwnedFile) (tolds : List Turns) → AllByRecursion (AllByRecursion IsServed) tolds → Answered fs (calls_told tolds) → AllByRecursion (AllByRecursion (ReadsTrue fs)) tolds
 all_true fs [] serves all = tt
 all_true fs (told ∷ tolds) (own, serves) all =
     (kick_true fs told own (front_of fs (calls_of told) (calls_told tolds) all), all_true fs tolds serves (back_of fs (calls_of told) (calls_told tolds) all))
 
-pub run_reads : (s after : State Directory) (events : List (Command × Answer)) (tolds : List Told) → RunTold DirectoryAnswers s events tolds after →
+pub run_reads : (s after : State Directory) (events : List (Command × Answer)) (tolds : List Turns) → RunTold DirectoryAnswers s events tolds after →
     FileRun DirectoryAnswers s.files (calls_told tolds) after.files × AllByRecursion (AllByRecursion IsServed) tolds → ReadingRun s events after
 run_reads s after events tolds ran tells =
     let each = serves_each s.files (calls_told tolds) after.files tells.0 in

@@ -10,7 +10,7 @@ use Rattle.fs_queue.specs.Taking as taking
 use Rattle.fs_queue.specs.Taking.{Offers, offer}
 use Rattle.fs_device.specs.Step.{State}
 use Rattle.fs_device.specs.Run as run
-use Rattle.fs_device.specs.Run.{Command, Answer, Kicked, Kick, Served, GuestRead, Run}
+use Rattle.fs_device.specs.Run.{Command, Answer, KickAnswer, Kick, Served, GuestRead, Run}
 use Rattle.fuse_files.specs.declared.owned_table.OwnedFile.{OwnedFile}
 use Rattle.fuse_files.specs.OwnedTable.{files_of}
 use Rattle.fuse_files.specs.Directory.{Directory, DirectoryAnswers, file_at}
@@ -56,7 +56,7 @@ GetsFile m room k a n unique file got =
     × (16 + length file ≤ room → 16 ≤ k → k + n ≤ 16 + length file → got ≡ take n (drop (k - 16) file))
 
 -- a kick that found this state and took one chain, a READ of a file, gives it to the guest that then looks at the room
-abbrev pub KickGivesFile : State Directory → (i : ℕ) → Kicked → (a n : ℕ) → (got : List ℕ) → Type 0
+abbrev pub KickGivesFile : State Directory → (i : ℕ) → KickAnswer → (a n : ℕ) → (got : List ℕ) → Type 0
 KickGivesFile s i kicked a n got =
     (q : Queue) (head : ℕ) (request room : List ℕ) (unique node size offset k : ℕ) (f : OwnedFile) →
     length kicked.exchanges ≡ 1 → slice_get s.queues i ≡ Some q → offer s.memory s.limit q ≡ Offers head (taking.IsRequest request room) →
@@ -65,13 +65,13 @@ KickGivesFile s i kicked a n got =
     GetsFile s.memory (length room) k a n unique (wanted f size offset) got
 
 -- the answers to a kick and to the guest's look at its memory right behind it
-abbrev pub kick_and_look : (i most : ℕ) → Kicked → (a n : ℕ) → (got : List ℕ) → List (Command × Answer)
+abbrev pub kick_and_look : (i most : ℕ) → KickAnswer → (a n : ℕ) → (got : List ℕ) → List (Command × Answer)
 kick_and_look i most kicked a n got = (Kick i most, Served kicked) ∷ (GuestRead a n, run.Bytes got) ∷ []
 
 -- wherever in a run the guest looks at its memory right behind a kick: the run came to the state that the kick found, with the
 -- directory as it was, went on from there, and by this state the guest gets the file
 abbrev pub GuestGetsTheFile : State Directory → List (Command × Answer) → State Directory → Type 0
 GuestGetsTheFile s events after =
-    (before later : List (Command × Answer)) (i most a n : ℕ) (kicked : Kicked) (got : List ℕ) → events ≡ before ++ (kick_and_look i most kicked a n got ++ later) →
+    (before later : List (Command × Answer)) (i most a n : ℕ) (kicked : KickAnswer) (got : List ℕ) → events ≡ before ++ (kick_and_look i most kicked a n got ++ later) →
     (found : State Directory) × (found.files ≡ s.files) × Run DirectoryAnswers s before found × Run DirectoryAnswers found (kick_and_look i most kicked a n got ++ later) after
     × KickGivesFile found i kicked a n got

@@ -10,8 +10,8 @@ use Rattle.fuse_fs.specs.Calls.{FileCall, Read}
 use Rattle.server_segments.specs.declared.error.Error.TheVariants.{EncodeMessage}
 use Rattle.server_replies.specs.Entries.{EIO}
 use Rattle.virtiofsd_fuse.specs.Grammar.{Meaning, IsFault, Asks, One, meaning, reply_bytes, error_bytes}
-use Rattle.fs_device.specs.Step.{State, Outcome, Idle, Refused, Exchanged, Calls, Step}
-use Rattle.fs_device.specs.Run.{Turn, Told, Command, Answer, RunTold}
+use Rattle.fs_device.specs.Step.{State, StepEnd, Idle, Refused, Exchanged, Calls, Step}
+use Rattle.fs_device.specs.Run.{Turn, Turns, Command, Answer, RunTold}
 use Rattle.fuse_files.specs.declared.owned_table.OwnedFile.{OwnedFile}
 use Rattle.fuse_files.specs.OwnedTable.{files_of}
 use Rattle.fuse_files.specs.Directory.{Directory, file_at, DirectoryAnswers}
@@ -37,7 +37,7 @@ read_reply room unique bytes =
     else []
 
 -- if a step took a READ of a file from queue i, the reply was written over its chain's room, then what follows it
-abbrev pub ReadsIntoRoom : State Directory → (i : ℕ) → Outcome → State Directory → Type 0
+abbrev pub ReadsIntoRoom : State Directory → (i : ℕ) → StepEnd → State Directory → Type 0
 ReadsIntoRoom s i (Exchanged x notice) after =
     (q : Queue) (head : ℕ) (request room : List ℕ) (unique node size offset : ℕ) (f : OwnedFile) →
     slice_get s.queues i ≡ Some q → offer s.memory s.limit q ≡ Offers head (taking.IsRequest request room) →
@@ -48,7 +48,7 @@ ReadsIntoRoom s i Idle after = Unit {0}
 ReadsIntoRoom s i (Refused e) after = Unit {0}
 
 -- a step of a device over the directory
-abbrev pub ReadingStep : State Directory → (i : ℕ) → Outcome → State Directory → Type 0
+abbrev pub ReadingStep : State Directory → (i : ℕ) → StepEnd → State Directory → Type 0
 ReadingStep s i outcome after = (calls : Calls) × Step DirectoryAnswers s i calls outcome after × ReadsIntoRoom s i outcome after
 
 -- the good reply with the bytes of the file from there on, at most so many; or EIO
@@ -64,5 +64,5 @@ ReadsTrue fs t =
 -- a run in which each exchange reads so; the directory is as it was
 abbrev pub ReadingRun : State Directory → List (Command × Answer) → State Directory → Type 0
 ReadingRun s events after =
-    (tolds : List Told) × RunTold DirectoryAnswers s events tolds after
+    (tolds : List Turns) × RunTold DirectoryAnswers s events tolds after
     × AllByRecursion (AllByRecursion (ReadsTrue (files_of s.files.0))) tolds × (after.files ≡ s.files)

@@ -13,7 +13,7 @@ use vm_memory::GuestMemoryMmap;
 use vm_memory_core::{GuestAddress, HostMemory, PageBitmap};
 
 // What a monitor lends to its guest, and to the device.
-pub type Host = HostMemory<PageBitmap>;
+pub type LentHost = HostMemory<PageBitmap>;
 
 // The size of a guest's page.
 const PAGE_SIZE: u32 = 4096;
@@ -21,7 +21,7 @@ const PAGE_SIZE: u32 = 4096;
 // What runs the guest: a monitor's vCPUs.
 pub trait Vcpu {
     // Runs the guest until it notifies a queue, and answers which; nothing once it has ended.
-    fn run(&mut self, host: &mut Host, mem: &GuestMemoryMmap) -> anyhow::Result<Option<usize>>
+    fn run(&mut self, host: &mut LentHost, mem: &GuestMemoryMmap) -> anyhow::Result<Option<usize>>
         requires { HostHolds host.old mem.now }
         ensures { shape host.new ≡ shape host.old };
 
@@ -39,7 +39,7 @@ pub fn serve_guest<F: FileSystem + Drop, V: Vcpu>(
     files: F,
     vcpu: &mut V,
 ) -> anyhow::Result<()> {
-    let mut host = Host::new(alloc);
+    let mut host = LentHost::new(alloc);
     let mem = GuestMemoryMmap::from_ranges(alloc, &mut host, &[(GuestAddress(0), 0x10000)])?;
     let layout = QueueLayout::new(QUEUE_SIZE, DESC, AVAIL, USED)?;
     let queues = Vec::from_array(alloc, [Queue::new(layout)])?;

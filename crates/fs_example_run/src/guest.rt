@@ -4,7 +4,7 @@ ghost use Rattle.std.specs.Prelude.{◌≡◌, ◌≤◌, length};
 ghost use Rattle.vm_memory_core.specs.Host.{shape};
 ghost use Rattle.vm_memory.specs.Layout.{HostHolds};
 
-use crate::embedding::{Host, Vcpu};
+use crate::embedding::{LentHost, Vcpu};
 use anyhow::{Context, bail};
 use fs_example::driver::{QUEUE_SIZE, ROOM_LEN, offer, reply};
 use fuse_wire::{EntryOut, InitInCompat};
@@ -25,7 +25,7 @@ const VERSION: InitInCompat = InitInCompat {
 // A guest, by how many requests it offered, how often it was interrupted and how often told that a queue stopped; and what
 // it read, in the end.
 #[derive(Drop)]
-pub struct Reader<'a> {
+pub struct ReadingGuest<'a> {
     alloc: Global,
     name: &'a [u8],
     offered: u16,
@@ -36,12 +36,12 @@ pub struct Reader<'a> {
     ghost short: { length name.now ≤ 255 },
 }
 
-impl<'a> Reader<'a> {
+impl<'a> ReadingGuest<'a> {
     // A guest that is going to read the file of this name.
-    pub fn new(alloc: Global, name: &'a [u8]) -> Reader<'a>
+    pub fn new(alloc: Global, name: &'a [u8]) -> ReadingGuest<'a>
         requires { length name.now ≤ 255 }
     {
-        Reader {
+        ReadingGuest {
             alloc,
             name,
             offered: 0,
@@ -52,7 +52,7 @@ impl<'a> Reader<'a> {
     }
 
     // What the guest has in its memory behind the header of the last reply, if that is a good one.
-    fn received(&self, host: &Host, mem: &GuestMemoryMmap) -> anyhow::Result<Vec<u8>>
+    fn received(&self, host: &LentHost, mem: &GuestMemoryMmap) -> anyhow::Result<Vec<u8>>
         requires { HostHolds host.now mem.now }
     {
         let reply = reply(self.alloc, host, mem, self.offered)?.context("no reply")?;
@@ -64,8 +64,8 @@ impl<'a> Reader<'a> {
     }
 }
 
-impl<'a> Vcpu for Reader<'a> {
-    fn run(&mut self, host: &mut Host, mem: &GuestMemoryMmap) -> anyhow::Result<Option<usize>> {
+impl<'a> Vcpu for ReadingGuest<'a> {
+    fn run(&mut self, host: &mut LentHost, mem: &GuestMemoryMmap) -> anyhow::Result<Option<usize>> {
         let alloc = self.alloc;
         let request = match self.offered {
             0 => init(alloc, 1, &VERSION)?,

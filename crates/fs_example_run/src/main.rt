@@ -6,7 +6,7 @@ mod embedding;
 mod guest;
 
 use crate::embedding::serve_guest;
-use crate::guest::Reader;
+use crate::guest::ReadingGuest;
 use fuse_files::{Files, OwnedFile, OwnedTable, ReadOnly};
 use std::alloc::{AllocError, Global};
 
@@ -18,7 +18,7 @@ fn files(alloc: Global) -> Result<OwnedTable, AllocError> {
 }
 
 fn main(rt: HostRuntime) -> anyhow::Result<()> {
-    let mut guest = Reader::new(rt.alloc(), b"hello.txt");
+    let mut guest = ReadingGuest::new(rt.alloc(), b"hello.txt");
     let files = Files(files(rt.alloc())?, ReadOnly);
     serve_guest(rt.alloc(), files, &mut guest)?;
     println!(rt;

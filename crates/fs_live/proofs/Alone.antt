@@ -13,8 +13,8 @@ use Rattle.fs_queue.specs.Returning.{Store, advanced, tells}
 use Rattle.fs_queue.specs.Taking.{Offer, Offers, CannotFetch, IsRequest, addresses_of, all_reach, readable, total_len, writable}
 use Rattle.fs_queue.specs.declared.fault.ChainFault.{ChainFault}
 use Rattle.fs_queue.proofs.ConfinedLemmas.{only_places_count}
-use Rattle.fs_regions.specs.declared.step.Step as comes
-use Rattle.fs_regions.specs.declared.step.Step.TheVariants as step
+use Rattle.fs_regions.specs.declared.step.CourseStep as comes
+use Rattle.fs_regions.specs.declared.step.CourseStep.TheVariants as step
 use Rattle.fs_regions.specs.Walks.{Loaded, FetchesBy, OffersBy, RingIsAsked, IsLost}
 use Rattle.fuse_fs.specs.Calls.{FileRun}
 use Rattle.virtiofsd_fuse.specs.Serving.{May}
@@ -23,7 +23,7 @@ use Rattle.fs_device.specs.StepBy.{StepOfBy, ExchangesBy, Effects, AnswersBy, Re
 use Rattle.fs_live.specs.Several.{LiveQueue}
 use Rattle.fs_live.specs.Live.{Phase, Faulty, Fetched, Asked, Own, Lost, OutChain, LiveState, LiveEvent, Walks, Declines, Asks, Answers, Returns}
 use Rattle.fs_live.specs.Live.{Sleeps, Begins, Fills, Drops, Abandons, Replies, Maps, Moves, Happens, IsUnreplied, LiveRun, WalksIn, GoesBackWith, lost_chain, new_chain, fault_of, own_exchange, room_in, room_of, calls_in, serving}
-use Rattle.fs_live.specs.Runs.{OwnIsReturned, ReturnedIsStepBy, IsAskedIn, IsServed, after_alone, chain_loads, options_left}
+use Rattle.fs_live.specs.Runs.{OwnIsReturned, ReturnedIsStepBy, IsAskedIn, IsServedPhase, after_alone, chain_loads, options_left}
 
 -- ---- lists of chains
 
@@ -67,7 +67,7 @@ pub new_walked : {F : Type 0} (s : LiveState F) (i : ℕ) (w : LiveQueue) (loade
 new_walked s i w loaded ds head None h = (h, tt)
 new_walked s i w loaded ds head (Some why) h = (h, tt)
 
-walk_keeps : {F : Type 0} (s after : LiveState F) (i : ℕ) (w : LiveQueue) (loaded : Loaded) (ds : List Descriptor) (came : comes.Step) → WalksIn s i w loaded ds came after
+walk_keeps : {F : Type 0} (s after : LiveState F) (i : ℕ) (w : LiveQueue) (loaded : Loaded) (ds : List Descriptor) (came : comes.CourseStep) → WalksIn s i w loaded ds came after
     → AllWalked s → AllWalked after
 walk_keeps s after i w loaded ds (step.Load walk) h all = absurd h
 walk_keeps {F} s after i w loaded ds step.Idle h all = subst (λ (k : LiveState F). AllWalked k) (sym h.1) all
@@ -211,7 +211,7 @@ pub record Exchanging {G : Type 0} (other : May G) (m : State G) (files : G) (c 
   pub exchanges : ExchangesBy other m c.queue c.taken offer (calls_in c.phase) x (tells seen) (effects_of c x last seen) (after_alone m c files)
 
 pub exchange_of : {G : Type 0} (other : May G) (m : State G) (files : G) (places : Memory) (i : ℕ) (q : Queue) (loaded : Loaded) (ds : List Descriptor) (head : ℕ) (p : Phase) (x : Exchange) (last : ℕ) (seen : List ℕ)
-    → location m.memory ≡ location places → IsServed p → Walked m.limit (record { places = places; queue = i; taken = q; loaded = loaded; descriptors = ds; head = head; phase = p })
+    → location m.memory ≡ location places → IsServedPhase p → Walked m.limit (record { places = places; queue = i; taken = q; loaded = loaded; descriptors = ds; head = head; phase = p })
     → IsAskedIn p m.options
     → GoesBackWith m.page_size (record { places = places; queue = i; taken = q; loaded = loaded; descriptors = ds; head = head; phase = p }) p x
     → length seen ≡ 2 → FileRun other m.files (calls_in p) files

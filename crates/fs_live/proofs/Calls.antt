@@ -1,8 +1,8 @@
 -- The calls of a run.
 use Rattle.std.proofs.Common.{◌≡◌, ℕ, List, [], ◌∷◌, subst, sym, ap}
 use Rattle.fs_queue.specs.Chain.{Descriptor}
-use Rattle.fs_regions.specs.declared.step.Step as comes
-use Rattle.fs_regions.specs.declared.step.Step.TheVariants as step
+use Rattle.fs_regions.specs.declared.step.CourseStep as comes
+use Rattle.fs_regions.specs.declared.step.CourseStep.TheVariants as step
 use Rattle.fs_regions.specs.Walks.{Loaded}
 use Rattle.fuse_fs.specs.Calls.{FileRun}
 use Rattle.virtiofsd_fuse.specs.Serving.{May}
@@ -10,7 +10,7 @@ use Rattle.fs_live.specs.Several.{LiveQueue}
 use Rattle.fs_live.specs.Live.{LiveState, LiveEvent, Walks, Declines, Asks, Answers, Returns, Sleeps, Begins, Fills, Drops, Abandons, Replies, Maps, Moves, Happens, WalksIn, calls_among}
 use Rattle.fs_live.specs.Runs.{CallsAreARun}
 
-walk_files : {F : Type 0} (s after : LiveState F) (i : ℕ) (w : LiveQueue) (loaded : Loaded) (ds : List Descriptor) (came : comes.Step) → WalksIn s i w loaded ds came after → after.files ≡ s.files
+walk_files : {F : Type 0} (s after : LiveState F) (i : ℕ) (w : LiveQueue) (loaded : Loaded) (ds : List Descriptor) (came : comes.CourseStep) → WalksIn s i w loaded ds came after → after.files ≡ s.files
 walk_files s after i w loaded ds (step.Load walk) h = absurd h
 walk_files {F} s after i w loaded ds step.Idle h = ap (λ (k : LiveState F). k.files) h.1
 walk_files {F} s after i w loaded ds (step.Refused e) h = ap (λ (k : LiveState F). k.files) h.1

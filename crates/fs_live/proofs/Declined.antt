@@ -7,7 +7,7 @@ use Rattle.vm_memory.specs.Memory.{Memory, reach}
 use Rattle.fs_queue.specs.declared.fault.QueueError.{QueueError}
 use Rattle.fs_queue.specs.declared.fault.QueueError.TheVariants as stop
 use Rattle.fs_chain.specs.Events.{event_fault}
-use Rattle.fs_chain.specs.declared.queue.KeptQueue.{KeptQueue}
+use Rattle.fs_chain.specs.declared.queue.QueueState.{QueueState}
 use Rattle.fs_live.specs.Several.{LiveQueue, avail_event_at, seen_at, used_event_at}
 use Rattle.fs_live.specs.Live.{why_declined}
 use Rattle.fs_live.specs.Handles.{live_of}
@@ -37,5 +37,5 @@ pub seen_has_a_place : (m : Memory) (w : LiveQueue) → reach m Read w.queue.ava
 seen_has_a_place m w flags event = seen_tests m w.event_index w.queue.avail (used_event_at w.queue) flags event
 
 -- a kept queue that isn't stopped, and whose event index has its places, isn't declined
-pub goes_there : (m : Memory) (q : KeptQueue) → q.stopped ≡ None → event_fault m q ≡ None → why_declined m (live_of q) ≡ None
+pub goes_there : (m : Memory) (q : QueueState) → q.stopped ≡ None → event_fault m q ≡ None → why_declined m (live_of q) ≡ None
 goes_there m q goes events = ap (λ (x : Option QueueError). if is_some x then Some stop.Stopped else event_fault m q) goes ∙ events

@@ -10,7 +10,7 @@ use Rattle.server_calls.specs.Requests.{entry_node, give_back, given_back, optio
 use Rattle.server_replies.specs.Entries.{Fit, GoesIn, IsFull, IsWrong, entry_bytes, entry_len, fit_of, is_dot, no_node}
 use Rattle.server_replies.specs.WholeReplies.{error_bytes, listing_bytes}
 use Rattle.virtiofsd_fuse.specs.Grammar.{Meaning, IsFault, Replies, IsSilent, Asks, One, Starts, Lists}
-use Rattle.virtiofsd_fuse.specs.Listings.{Listing, Next, Went, after_call, list_entries, looked_up, placed, readdir_call, undo_call, with_entry}
+use Rattle.virtiofsd_fuse.specs.Listings.{ListRequest, Next, ListingResult, after_call, list_entries, looked_up, placed, readdir_call, undo_call, with_entry}
 use Rattle.virtiofsd_fuse.specs.Serving.{Setting, answer_bytes, list_answered, replied, served, start_answered, start_options, undone}
 use Rattle.fs_device.specs.Step.{Calls, answers_alone, calls_alone}
 
@@ -26,14 +26,14 @@ take_nil (suc n) = refl
 -- ---- entries of a directory
 
 -- the calls of fewer answers are the first ones of those of more
-abbrev Leads : (n : ℕ) → (few more : Went) → Type 0
+abbrev Leads : (n : ℕ) → (few more : ListingResult) → Type 0
 Leads n few more = few.calls ≡ take n more.calls
 
-choose : (b : Bool) (n : ℕ) (x y x' y' : Went) → Leads n x x' → Leads n y y' → Leads n (if b then x else y) (if b then x' else y')
+choose : (b : Bool) (n : ℕ) (x y x' y' : ListingResult) → Leads n x x' → Leads n y y' → Leads n (if b then x else y) (if b then x' else y')
 choose true n x y x' y' one two = one
 choose false n x y x' y' one two = two
 
-placed_leads : (f : Fit) (bytes : List ℕ) (undo : List FileCall) (n : ℕ) (x y : Went) → undo ≡ take n undo → Leads n x y → Leads n (placed f bytes undo x) (placed f bytes undo y)
+placed_leads : (f : Fit) (bytes : List ℕ) (undo : List FileCall) (n : ℕ) (x y : ListingResult) → undo ≡ take n undo → Leads n x y → Leads n (placed f bytes undo x) (placed f bytes undo y)
 placed_leads GoesIn bytes undo n x y short leads = leads
 placed_leads IsFull bytes undo n x y short leads = short
 placed_leads (IsWrong errno) bytes undo n x y short leads = short
@@ -52,7 +52,7 @@ entry_leads b d e undo next left room few more short leads =
 one_undo : (who : Context) (node n : ℕ) → undo_call who node ∷ [] ≡ take (suc n) (undo_call who node ∷ [])
 one_undo who node n = ap (λ (l : List FileCall). undo_call who node ∷ l) (take_nil n)
 
-looked_leads : (l : Listing) (d : Listed) (next : Next) (left room : ℕ) (few more : List FileAnswer) → NextLeads next
+looked_leads : (l : ListRequest) (d : Listed) (next : Next) (left room : ℕ) (few more : List FileAnswer) → NextLeads next
     → Leads (length few) (looked_up l d next left room few) (looked_up l d next left room (few ++ more))
 looked_leads l d next left room [] more leads = refl
 looked_leads l d next left room (file.HasEntry e ∷ few) more leads =
@@ -70,16 +70,16 @@ looked_leads l d next left room (file.Offset n ∷ few) more leads = refl
 looked_leads l d next left room (file.Entries ds ∷ few) more leads = refl
 looked_leads l d next left room (file.Wants o ∷ few) more leads = refl
 
-list_leads : (l : Listing) (ds : List Listed) → NextLeads (list_entries l ds)
+list_leads : (l : ListRequest) (ds : List Listed) → NextLeads (list_entries l ds)
 unfolding list_entries
 list_leads l [] left room few more = refl
 list_leads l (d ∷ ds) left room few more =
     let next = list_entries l ds in
     let n = suc (length few) in
     let rest : NextLeads next = list_leads l ds in
-    let plain : List FileAnswer → Went = λ answers. with_entry false d (no_node d) [] next left room answers in
-    let dot : List FileAnswer → Went = λ answers. with_entry true d (no_node d) (undo_call l.context 0 ∷ []) next left room answers in
-    let looks : List FileAnswer → Went = λ answers. after_call (Lookup l.context l.node d.name) (looked_up l d next left room answers) in
+    let plain : List FileAnswer → ListingResult = λ answers. with_entry false d (no_node d) [] next left room answers in
+    let dot : List FileAnswer → ListingResult = λ answers. with_entry true d (no_node d) (undo_call l.context 0 ∷ []) next left room answers in
+    let looks : List FileAnswer → ListingResult = λ answers. after_call (Lookup l.context l.node d.name) (looked_up l d next left room answers) in
     let looked : Leads n (looks few) (looks (few ++ more)) = ap (λ (cs : List FileCall). Lookup l.context l.node d.name ∷ cs) (looked_leads l d next left room few more rest) in
     choose (not l.with_nodes) n (plain few) (if is_dot d.name then dot few else looks few) (plain (few ++ more)) (if is_dot d.name then dot (few ++ more) else looks (few ++ more))
     (entry_leads false d (no_node d) [] next left room few more refl rest)
@@ -104,7 +104,7 @@ same_reply room calls o bytes n short =
 same_first : (room : ℕ) (call : FileCall) (calls : List FileCall) (o : ℕ) (bytes : List ℕ) → call ∷ [] ≡ take 1 (replied room (call ∷ calls) o bytes).calls
 same_first room call calls o bytes = sym (ap (λ (cs : List FileCall). take 1 cs) (reply_calls room (call ∷ calls) o bytes))
 
-list_first : (s : Setting) (unique : ℕ) (l : Listing) (a : FileAnswer) (answers : List FileAnswer) → readdir_call l ∷ [] ≡ take 1 (list_answered s unique l a answers).calls
+list_first : (s : Setting) (unique : ℕ) (l : ListRequest) (a : FileAnswer) (answers : List FileAnswer) → readdir_call l ∷ [] ≡ take 1 (list_answered s unique l a answers).calls
 list_first s unique l (file.Failed errno) answers = same_first s.room (readdir_call l) [] s.options (error_bytes unique errno)
 list_first s unique l (file.Entries ds) answers =
     let w = list_entries l ds l.size (s.room - 16) answers in
@@ -121,10 +121,10 @@ list_first s unique l (file.Wrote n) answers = refl
 list_first s unique l (file.Offset n) answers = refl
 list_first s unique l (file.Wants o) answers = refl
 
-one_readdir : (l : Listing) (n : ℕ) → readdir_call l ∷ [] ≡ take (suc (suc n)) (readdir_call l ∷ [])
+one_readdir : (l : ListRequest) (n : ℕ) → readdir_call l ∷ [] ≡ take (suc (suc n)) (readdir_call l ∷ [])
 one_readdir l n = refl
 
-list_more : (s : Setting) (unique : ℕ) (l : Listing) (a : FileAnswer) (few more : List FileAnswer)
+list_more : (s : Setting) (unique : ℕ) (l : ListRequest) (a : FileAnswer) (few more : List FileAnswer)
     → (list_answered s unique l a few).calls ≡ take (suc (suc (length few))) (list_answered s unique l a (few ++ more)).calls
 list_more s unique l (file.Entries ds) few more =
     let n = suc (suc (length few)) in

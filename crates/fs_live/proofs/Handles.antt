@@ -11,52 +11,52 @@ use Rattle.fs_queue.specs.Taking.{Refuses, after_refusal, stops_queue}
 use Rattle.fs_queue.specs.WalkingView.{at_position}
 use Rattle.fs_queue.specs.declared.fault.QueueError.{QueueError}
 use Rattle.fs_queue.specs.declared.fault.QueueError.TheVariants as stop
-use Rattle.fs_regions.specs.declared.step.Step as comes
-use Rattle.fs_regions.specs.declared.step.Step.TheVariants as step
+use Rattle.fs_regions.specs.declared.step.CourseStep as comes
+use Rattle.fs_regions.specs.declared.step.CourseStep.TheVariants as step
 use Rattle.fs_regions.specs.Places.{Mapped, places_in}
-use Rattle.fs_regions.specs.Walks.{Loaded, ComesTo, FetchesBy, OffersBy, queue_of}
+use Rattle.fs_regions.specs.Walks.{Loaded, IsCourseStep, FetchesBy, OffersBy, queue_of}
 use Rattle.fuse_fs.specs.Calls.{FileCall, FileRun, suits}
 use Rattle.fuse_values.specs.Answers.{answer_of}
 use Rattle.fuse_values.specs.Values.{call_of}
 use Rattle.fuse_values.specs.declared.answer.FileAnswer as made_answer
 use Rattle.fuse_values.specs.declared.call.FileCall as made_call
 use Rattle.server_phases.specs.Answering.{Gives, TellsBytes, forget_call, served_by}
-use Rattle.server_phases.specs.Asking.{IsFront}
-use Rattle.server_phases.specs.Asking.{IsTold as TellsFront}
+use Rattle.server_phases.specs.Asking.{IsRequestFront}
+use Rattle.server_phases.specs.Asking.{IsDecoded as TellsFront}
 use Rattle.server_phases.specs.Waiting.{first_call}
 use Rattle.server_phases.specs.declared.answering.Sent.{Sent}
 use Rattle.server_phases.specs.declared.answering.Sent.TheVariants as sent_as
 use Rattle.server_phases.specs.declared.session.Session.{Session}
 use Rattle.virtiofsd_fuse.specs.Grammar.{FileCommand, Meaning, meaning, Asks, One, Starts, Lists}
-use Rattle.virtiofsd_fuse.specs.Serving.{Setting, May, Served, served, setting}
+use Rattle.virtiofsd_fuse.specs.Serving.{Setting, May, ServedMessage, served, setting}
 use Rattle.fs_chain.specs.Answers.{CanBeGiven, IfWaits, IsGiven, IsWaiting}
-use Rattle.fs_chain.specs.Asking.{KeepsCall, KeepsReply, TellsMeaning, asked_of}
+use Rattle.fs_chain.specs.Decoding.{KeepsCall, KeepsReply, TellsMeaning, asked_of}
 use Rattle.fs_chain.specs.Events.{event_fault}
 use Rattle.fs_chain.specs.Events as chain_events
-use Rattle.fs_chain.specs.Walks.{Begins, BeginsUnless, BeginsWhere, WalksFrom, WalksOn, RefusalHasEvents, course_of, faulty_out, no_reply, out_of, queue_after, state_after, told_of}
+use Rattle.fs_chain.specs.Walks.{BeginsPop, BeginsUnless, BeginsWhere, WalksFrom, WalksOn, RefusalHasEvents, course_of, faulty_out, no_reply, out_of, queue_after, state_after, told_of}
 use Rattle.fs_chain.specs.Loads.{GoesSo, whole}
 use Rattle.fs_chain.specs.Orders.{begin_error, front_len, load_len, walk_error}
-use Rattle.fs_chain.specs.Returns.{ReturnsBy}
-use Rattle.fs_chain.specs.Whole.{BeginsBy, ByEntries, FromReplied, FromTaken, Given, HasReply, NoAnswer, OneAnswer, WalksBy, WantsBytes, data_behind, file_calls, reply_bytes}
+use Rattle.fs_chain.specs.Pushes.{PushesBy}
+use Rattle.fs_chain.specs.Whole.{BeginsPopBy, ByEntries, FromReplied, FromTaken, ChainAnswer, HasReply, NoAnswer, OneAnswer, WalksBy, WantsBytes, data_behind, file_calls, reply_bytes}
 use Rattle.fs_chain.specs.Whole.{acts_of as acts_by}
 use Rattle.fs_chain.specs.declared.answering.Replied.{Replied}
-use Rattle.fs_chain.specs.declared.asking.Told as told
-use Rattle.fs_chain.specs.declared.asking.Told.TheVariants as asks
-use Rattle.fs_chain.specs.declared.queue.KeptQueue.{KeptQueue}
-use Rattle.fs_chain.specs.declared.returning.Stores.{Stores}
-use Rattle.fs_chain.specs.declared.state.Out.{Out}
-use Rattle.fs_chain.specs.declared.state.State as state
-use Rattle.fs_chain.specs.declared.state.State.TheVariants as at
+use Rattle.fs_chain.specs.declared.decoding.Decoded as told
+use Rattle.fs_chain.specs.declared.decoding.Decoded.TheVariants as asks
+use Rattle.fs_chain.specs.declared.queue.QueueState.{QueueState}
+use Rattle.fs_chain.specs.declared.pushing.PushStores.{PushStores}
+use Rattle.fs_chain.specs.declared.state.InFlight.{InFlight}
+use Rattle.fs_chain.specs.declared.state.ChainState as state
+use Rattle.fs_chain.specs.declared.state.ChainState.TheVariants as at
 use Rattle.fs_chain.specs.declared.error.ChainError.TheVariants as error
-use Rattle.fs_chain.specs.declared.loads.Went as went
-use Rattle.fs_chain.specs.declared.loads.Went.TheVariants as wents
-use Rattle.fs_chain.specs.declared.walking.WalkOutcome as walked
-use Rattle.fs_chain.specs.declared.walking.WalkOutcome.TheVariants as says
-use Rattle.fs_chain.specs.declared.workbench.Workbench.{Workbench}
+use Rattle.fs_chain.specs.declared.loads.LoadOutcome as went
+use Rattle.fs_chain.specs.declared.loads.LoadOutcome.TheVariants as wents
+use Rattle.fs_chain.specs.declared.popping.PopOutcome as walked
+use Rattle.fs_chain.specs.declared.popping.PopOutcome.TheVariants as says
+use Rattle.fs_chain.specs.declared.chain_handle.ChainHandle.{ChainHandle}
 use Rattle.fs_chain.proofs.WholeChains.{told_so}
 use Rattle.fs_chain.proofs.WholeOffers.{fits_limit}
 use Rattle.fs_chain.proofs.WholeWalks.{event_fault_refuses, walk_comes}
-use Rattle.fs_chain.specs.Queues.{at_return, ticket_of}
+use Rattle.fs_chain.specs.Queues.{at_return, pop_id_of}
 use Rattle.fs_device.specs.Step.{Calls, EachSuits, Exchange, State, answers_alone, calls_alone, faulty, served_exchange}
 use Rattle.fs_device.specs.StepBy as act
 use Rattle.fs_device.specs.StepBy.{Act, reply_stores, return_acts}
@@ -71,9 +71,9 @@ use Rattle.fs_live.specs.Handles.{
   HandleFaulty,
   HandleReturns,
   HandleWalks,
-  IsDone,
+  IsPopDone,
   IsHeld,
-  IsTold,
+  IsDecodedWhole,
   calls_told,
   live_of,
 }
@@ -88,84 +88,84 @@ use Rattle.fs_live.proofs.Refusals.{refusal_stops}
 -- ---- walks
 
 -- what a walk came to is an event, which leaves the queue so, and the handle has its chain
-abbrev pub WalkEvent : {F : Type 0} → LiveState F → ℕ → KeptQueue → KeptQueue → Loaded → List Descriptor → comes.Step → Type 0
+abbrev pub WalkEvent : {F : Type 0} → LiveState F → ℕ → QueueState → QueueState → Loaded → List Descriptor → comes.CourseStep → Type 0
 WalkEvent {F} s i before after loaded ds came =
     WalksIn s i (live_of before) loaded ds came (after_walk s i (live_of before) loaded ds came) × (slice_get (after_walk s i (live_of before) loaded ds came).queues i ≡ Some (live_of after))
 
-stopped_by : (q : KeptQueue) (after : KeptQueue) (e : QueueError) → stops_queue e ≡ true → after ≡ record q { stopped = Some e }
+stopped_by : (q : QueueState) (after : QueueState) (e : QueueError) → stops_queue e ≡ true → after ≡ record q { stopped = Some e }
     → Some (record (live_of q) { queue = after_refusal (live_of q).queue e }) ≡ Some (live_of after)
 stopped_by q after e stops left =
-    ap (λ (b : Bool). Some (record (live_of q) { queue = if b then with_stop (live_of q).queue else (live_of q).queue })) stops ∙ ap (λ (k : KeptQueue). Some (live_of k)) (sym left)
+    ap (λ (b : Bool). Some (record (live_of q) { queue = if b then with_stop (live_of q).queue else (live_of q).queue })) stops ∙ ap (λ (k : QueueState). Some (live_of k)) (sym left)
 
-pub event_of : {F : Type 0} (s : LiveState F) (i : ℕ) (before after : KeptQueue) (loaded : Loaded) (ds : List Descriptor) (came : comes.Step) → slice_get s.queues i ≡ Some (live_of before)
-    → after ≡ queue_after before came → IsDone (told_of ds came) → (live_of before).queue ≡ queue_of (course_of before 0)
-    → ComesTo s.places s.limit (live_of before).queue loaded ds came → WalkEvent s i before after loaded ds came
+pub event_of : {F : Type 0} (s : LiveState F) (i : ℕ) (before after : QueueState) (loaded : Loaded) (ds : List Descriptor) (came : comes.CourseStep) → slice_get s.queues i ≡ Some (live_of before)
+    → after ≡ queue_after before came → IsPopDone (told_of ds came) → (live_of before).queue ≡ queue_of (course_of before 0)
+    → IsCourseStep s.places s.limit (live_of before).queue loaded ds came → WalkEvent s i before after loaded ds came
 event_of s i before after loaded ds (step.Load walk) there left done goes comes = absurd done
-event_of s i before after loaded ds step.Idle there left done goes comes = ((comes, refl), there ∙ ap (λ (q : KeptQueue). Some (live_of q)) (sym left))
+event_of s i before after loaded ds step.Idle there left done goes comes = ((comes, refl), there ∙ ap (λ (q : QueueState). Some (live_of q)) (sym left))
 event_of s i before after loaded ds (step.Refused e) there left done goes comes =
     let w = record (live_of before) { queue = after_refusal (live_of before).queue e } in
     let stops = refusal_stops s.places s.limit (course_of before 0) loaded e (subst (λ (q : Queue). OffersBy s.places s.limit q loaded [] (Refuses e)) goes comes) in
     ((comes, refl), there_same s.queues i i (λ _. w) (live_of before) refl there ∙ stopped_by before after e stops left)
 event_of s i before after loaded ds (step.Chain head None) there left done goes comes = (
   (comes, refl),
-  there_same s.queues i i (λ _. several.took (live_of before)) (live_of before) refl there ∙ ap (λ (q : KeptQueue). Some (live_of q)) (sym left),
+  there_same s.queues i i (λ _. several.took (live_of before)) (live_of before) refl there ∙ ap (λ (q : QueueState). Some (live_of q)) (sym left),
 )
 event_of s i before after loaded ds (step.Chain head (Some fault)) there left done goes comes = (
   (comes, refl),
-  there_same s.queues i i (λ _. several.took (live_of before)) (live_of before) refl there ∙ ap (λ (q : KeptQueue). Some (live_of q)) (sym left),
+  there_same s.queues i i (λ _. several.took (live_of before)) (live_of before) refl there ∙ ap (λ (q : QueueState). Some (live_of q)) (sym left),
 )
 
-pub held_by : {F : Type 0} (s : LiveState F) (i : ℕ) (q : LiveQueue) (before : KeptQueue) (loaded : Loaded) (came : comes.Step) (w : Workbench) → s.places ≡ places_in w.regions → q.queue ≡ queue_of (course_of before s.limit)
-    → w.state ≡ state_after (course_of before s.limit) (ticket_of before) w.descriptors.items came → IsHeld s i q loaded came w
+pub held_by : {F : Type 0} (s : LiveState F) (i : ℕ) (q : LiveQueue) (before : QueueState) (loaded : Loaded) (came : comes.CourseStep) (w : ChainHandle) → s.places ≡ places_in w.regions → q.queue ≡ queue_of (course_of before s.limit)
+    → w.state ≡ state_after (course_of before s.limit) (pop_id_of before) w.descriptors.items came → IsHeld s i q loaded came w
 held_by s i q before loaded (step.Load walk) w places goes is = tt
 held_by s i q before loaded step.Idle w places goes is = tt
 held_by s i q before loaded (step.Refused e) w places goes is = tt
-held_by s i q before loaded (step.Chain head None) w places goes is = record { kept = before; ticket = ticket_of before; places = places; taken = goes; state = is }
-held_by s i q before loaded (step.Chain head (Some why)) w places goes is = record { kept = before; ticket = ticket_of before; places = places; taken = goes; state = is }
+held_by s i q before loaded (step.Chain head None) w places goes is = record { kept = before; pop_id = pop_id_of before; places = places; taken = goes; state = is }
+held_by s i q before loaded (step.Chain head (Some why)) w places goes is = record { kept = before; pop_id = pop_id_of before; places = places; taken = goes; state = is }
 
 -- a walk to its end goes through a queue whose event index has its places: else it was refused by that
-abbrev pub IsUnrefused : went.Went → Workbench → KeptQueue → Type 0
+abbrev pub IsUnrefused : went.LoadOutcome → ChainHandle → QueueState → Type 0
 IsUnrefused wents.Part w q = Unit {0}
 IsUnrefused (wents.On told) w q = RefusalHasEvents told w q
 
-pub walked_events : (given : List (List ℕ)) (old new : Workbench) (before after : KeptQueue) (told : walked.WalkOutcome) (fault : Option QueueError) → event_fault (places_in old.regions) before ≡ fault
+pub walked_events : (given : List (List ℕ)) (old new : ChainHandle) (before after : QueueState) (told : walked.PopOutcome) (fault : Option QueueError) → event_fault (places_in old.regions) before ≡ fault
     → before.stopped ≡ None → RefusalHasEvents told old before → WalksBy given old new before after (wents.On told) → event_fault (places_in old.regions) before ≡ None
 walked_events given old new before after told None is goes refusal walks = is
 walked_events given old new before after told (Some e) is goes refusal walks =
     let refused = event_fault_refuses given e old new before after (wents.On told) goes is walks in
-    subst (λ (k : went.Went). IsUnrefused k old before) refused.0 refusal
+    subst (λ (k : went.LoadOutcome). IsUnrefused k old before) refused.0 refusal
 
 -- the first call of a walk gives no bytes
-no_load : (w : Workbench) → w.state ≡ at.Free → load_len w.state ≡ 0
+no_load : (w : ChainHandle) → w.state ≡ at.Free → load_len w.state ≡ 0
 no_load w free = ap load_len free
 
-whole_of_none : (w : Workbench) → w.state ≡ at.Free → whole w [] ≡ []
+whole_of_none : (w : ChainHandle) → w.state ≡ at.Free → whole w [] ≡ []
 whole_of_none w free = rw (no_load w free) refl
 
-pub begins_whole : (old : Workbench) (before : KeptQueue) (new : Workbench) (after : KeptQueue) → old.state ≡ at.Free → GoesSo old before [] wents.Part new after → ⊥
+pub begins_whole : (old : ChainHandle) (before : QueueState) (new : ChainHandle) (after : QueueState) → old.state ≡ at.Free → GoesSo old before [] wents.Part new after → ⊥
 begins_whole old before new after free call = let none = no_load old free in let few = call.1 in omega (arith, none, few)
 
-begun : (old new : Workbench) (before after : KeptQueue) (told : walked.WalkOutcome) → BeginsBy old new before after (wents.On told) → Begins old new before after told
+begun : (old new : ChainHandle) (before after : QueueState) (told : walked.PopOutcome) → BeginsPopBy old new before after (wents.On told) → BeginsPop old new before after told
 begun old new before after told by =
     let walks : WalksOn [] old new before after told = subst (λ (bs : List ℕ). WalksOn bs old new before after told) (whole_of_none old by.0) by.1.4 in
-    subst (λ (s : state.State). WalksFrom s [] old new before after told) by.0 walks
+    subst (λ (s : state.ChainState). WalksFrom s [] old new before after told) by.0 walks
 
-begin_tests : (a c : Bool) → (if not a then Some error.BadArgument else if not c then Some error.ChainOut else None) ≡ None → c ≡ true
+begin_tests : (a c : Bool) → (if not a then Some error.BadArgument else if not c then Some error.ChainInFlight else None) ≡ None → c ≡ true
 begin_tests false c is = absurd (none_some error.BadArgument (sym is))
-begin_tests true false is = absurd (none_some error.ChainOut (sym is))
+begin_tests true false is = absurd (none_some error.ChainInFlight (sym is))
 begin_tests true true is = refl
 
 -- one more chain may be out
-pub begun_room : (old new : Workbench) (before after : KeptQueue) (told : walked.WalkOutcome) → BeginsBy old new before after (wents.On told) → IsTrue (may_take (live_of before))
+pub begun_room : (old new : ChainHandle) (before after : QueueState) (told : walked.PopOutcome) → BeginsPopBy old new before after (wents.On told) → IsTrue (may_take (live_of before))
 begun_room old new before after told by =
-    let clear : begin_error before (length (whole old [])) ≡ None = subst (λ (s : state.State). walk_error s before (length (whole old [])) ≡ None) by.0 by.1.3 in
+    let clear : begin_error before (length (whole old [])) ≡ None = subst (λ (s : state.ChainState). walk_error s before (length (whole old [])) ≡ None) by.0 by.1.3 in
     begin_tests (length (whole old []) == 0) (may_take (live_of before)) clear
 
-first_room : (old new : Workbench) (before after : KeptQueue) (told : went.Went) → BeginsBy old new before after told → IsTrue (may_take (live_of before))
+first_room : (old new : ChainHandle) (before after : QueueState) (told : went.LoadOutcome) → BeginsPopBy old new before after told → IsTrue (may_take (live_of before))
 first_room old new before after wents.Part by = absurd (begins_whole old before new after by.0 by.1)
 first_room old new before after (wents.On told) by = begun_room old new before after told by
 
-walked_room : (given : List (List ℕ)) (old new : Workbench) (before after : KeptQueue) (told : went.Went) → WalksBy given old new before after told → IsTrue (may_take (live_of before))
+walked_room : (given : List (List ℕ)) (old new : ChainHandle) (before after : QueueState) (told : went.LoadOutcome) → WalksBy given old new before after told → IsTrue (may_take (live_of before))
 walked_room [] old new before after told walks = first_room old new before after told walks
 walked_room (bs ∷ given) old new before after told walks = walked_room given old walks.0 before walks.1 walks.2 walks.3
 
@@ -177,14 +177,14 @@ handle_walks {F} may s i given old new before after told there places limit goes
     let keeps = made.2.1 in
     let ds = new.descriptors.items in
     let queue : (live_of before).queue ≡ queue_of (course_of before old.limit) =
-    ap (λ (x : Option QueueError). record (at_position before.layout before.position) { stopped = is_some x }) goes in
-    let so : ComesTo s.places s.limit (live_of before).queue loaded ds came =
-    subst (λ (k : Memory). ComesTo k s.limit (live_of before).queue loaded ds came) (sym places)
-    (subst (λ (n : ℕ). ComesTo (places_in old.regions) n (live_of before).queue loaded ds came) (sym limit)
-    (subst (λ (k : Queue). ComesTo (places_in old.regions) old.limit k loaded ds came) (sym queue) made.2.2)) in
-    let state_is : new.state ≡ state_after (course_of before s.limit) (ticket_of before) ds came =
-    keeps.1 ∙ ap (λ (n : ℕ). state_after (course_of before n) (ticket_of before) ds came) (sym limit) in
-    let event = event_of s i before after loaded ds came there keeps.2 (subst IsDone keeps.0 done) queue so in
+    ap (λ (x : Option QueueError). record (at_position before.layout before.next_avail) { stopped = is_some x }) goes in
+    let so : IsCourseStep s.places s.limit (live_of before).queue loaded ds came =
+    subst (λ (k : Memory). IsCourseStep k s.limit (live_of before).queue loaded ds came) (sym places)
+    (subst (λ (n : ℕ). IsCourseStep (places_in old.regions) n (live_of before).queue loaded ds came) (sym limit)
+    (subst (λ (k : Queue). IsCourseStep (places_in old.regions) old.limit k loaded ds came) (sym queue) made.2.2)) in
+    let state_is : new.state ≡ state_after (course_of before s.limit) (pop_id_of before) ds came =
+    keeps.1 ∙ ap (λ (n : ℕ). state_after (course_of before n) (pop_id_of before) ds came) (sym limit) in
+    let event = event_of s i before after loaded ds came there keeps.2 (subst IsPopDone keeps.0 done) queue so in
     let events = walked_events given old new before after told (event_fault (places_in old.regions) before) refl goes refusal walks in
     let room = walked_room given old new before after (wents.On told) walks in
     let clear : why_declined s.places (live_of before) ≡ None =
@@ -194,7 +194,7 @@ handle_walks {F} may s i given old new before after told there places limit goes
 -- ---- walks without a load
 
 -- it is refused by this, and the queue is as a refusal leaves it
-abbrev IsDeclined : went.Went → (e : QueueError) → (before after : KeptQueue) → Type 0
+abbrev IsDeclined : went.LoadOutcome → (e : QueueError) → (before after : QueueState) → Type 0
 IsDeclined wents.Part e before after = ⊥
 IsDeclined (wents.On told) e before after = (told ≡ says.Refused e) × (Some (record (live_of before) { queue = after_refusal (live_of before).queue e }) ≡ Some (live_of after))
 
@@ -206,19 +206,19 @@ lacks_stop true false avail e is = ap (λ (x : Option QueueError). stops_queue (
 lacks_stop true true false e is = ap (λ (x : Option QueueError). stops_queue (unwrap_or x stop.UsedUnreachable)) (sym is)
 lacks_stop true true true e is = absurd (none_some e is)
 
-declined_there : (old new : Workbench) (before after : KeptQueue) (told : walked.WalkOutcome) (e : QueueError) (fault : Option QueueError) → fault ≡ Some e → stops_queue e ≡ true
+declined_there : (old new : ChainHandle) (before after : QueueState) (told : walked.PopOutcome) (e : QueueError) (fault : Option QueueError) → fault ≡ Some e → stops_queue e ≡ true
     → BeginsWhere fault old new before after told → IsDeclined (wents.On told) e before after
 declined_there old new before after told e None is stops begins = absurd (none_some e is)
 declined_there old new before after told e (Some d) is stops begins =
     let same : d ≡ e = same_some d e is in
     (begins.0 ∙ ap (λ (k : QueueError). says.Refused k) same, stopped_by before after e stops (begins.2 ∙ ap (λ (k : QueueError). record before { stopped = Some k }) same))
 
-declined_by : (old new : Workbench) (before after : KeptQueue) (told : walked.WalkOutcome) (e : QueueError) (stopped : Option QueueError) → before.stopped ≡ stopped
+declined_by : (old new : ChainHandle) (before after : QueueState) (told : walked.PopOutcome) (e : QueueError) (stopped : Option QueueError) → before.stopped ≡ stopped
     → (if is_some stopped then Some stop.Stopped else event_fault (places_in old.regions) before) ≡ Some e → BeginsUnless stopped old new before after told → IsDeclined (wents.On told) e before after
 declined_by old new before after told e (Some why) is lacks begins =
     let same : stop.Stopped ≡ e = same_some stop.Stopped e lacks in (
       begins.0 ∙ ap (λ (k : QueueError). says.Refused k) same,
-      ap (λ (k : QueueError). Some (record (live_of before) { queue = after_refusal (live_of before).queue k })) (sym same) ∙ ap (λ (q : KeptQueue). Some (live_of q)) (sym begins.2),
+      ap (λ (k : QueueError). Some (record (live_of before) { queue = after_refusal (live_of before).queue k })) (sym same) ∙ ap (λ (q : QueueState). Some (live_of q)) (sym begins.2),
     )
 declined_by old new before after told e None is lacks begins =
     let m = places_in old.regions in
@@ -226,22 +226,22 @@ declined_by old new before after told e None is lacks begins =
     declined_there old new before after told e (event_fault m before) lacks stops begins
 
 -- and one more chain may be out
-abbrev IsDeclinedThere : went.Went → (e : QueueError) → (before after : KeptQueue) → Type 0
+abbrev IsDeclinedThere : went.LoadOutcome → (e : QueueError) → (before after : QueueState) → Type 0
 IsDeclinedThere wents.Part e before after = ⊥
 IsDeclinedThere (wents.On told) e before after = IsDeclined (wents.On told) e before after × IsTrue (may_take (live_of before))
 
-declined_first : (old new : Workbench) (before after : KeptQueue) (told : went.Went) (e : QueueError) → why_declined (places_in old.regions) (live_of before) ≡ Some e
-    → BeginsBy old new before after told → IsDeclinedThere told e before after
+declined_first : (old new : ChainHandle) (before after : QueueState) (told : went.LoadOutcome) (e : QueueError) → why_declined (places_in old.regions) (live_of before) ≡ Some e
+    → BeginsPopBy old new before after told → IsDeclinedThere told e before after
 declined_first old new before after wents.Part e why by = begins_whole old before new after by.0 by.1
 declined_first old new before after (wents.On told) e why by =
     (declined_by old new before after told e before.stopped refl why (begun old new before after told by), begun_room old new before after told by)
 
-wants_none : (told : went.Went) (e : QueueError) (before after : KeptQueue) → IsDeclinedThere told e before after → WantsBytes told → ⊥
+wants_none : (told : went.LoadOutcome) (e : QueueError) (before after : QueueState) → IsDeclinedThere told e before after → WantsBytes told → ⊥
 wants_none wents.Part e before after declined wants = declined
-wants_none (wents.On told) e before after declined wants = subst (λ (k : walked.WalkOutcome). WantsBytes (wents.On k)) declined.0.0 wants
+wants_none (wents.On told) e before after declined wants = subst (λ (k : walked.PopOutcome). WantsBytes (wents.On k)) declined.0.0 wants
 
 -- so no call is behind the first one
-declined_walk : (given : List (List ℕ)) (old new : Workbench) (before after : KeptQueue) (told : went.Went) (e : QueueError) → why_declined (places_in old.regions) (live_of before) ≡ Some e
+declined_walk : (given : List (List ℕ)) (old new : ChainHandle) (before after : QueueState) (told : went.LoadOutcome) (e : QueueError) → why_declined (places_in old.regions) (live_of before) ≡ Some e
     → WalksBy given old new before after told → (given ≡ []) × IsDeclinedThere told e before after
 declined_walk [] old new before after told e why walks = (refl, declined_first old new before after told e why walks)
 declined_walk (bs ∷ given) old new before after told e why walks =
@@ -271,33 +271,33 @@ call_waits : (s : Setting) (m : Meaning) (command : FileCommand) (c : FileCall) 
 call_waits s m command c is made =
     ap (λ (k : FileCall). k ∷ []) made ∙ sym (ap (λ (k : Meaning). (served s k []).calls) is ∙ first_waits s command)
 
-by_call : (s : Setting) (m : Meaning) (behind : List ℕ) (made : made_call.FileCall) (out : Out) (st : state.State) → KeepsCall s m behind made out st → call_of behind made ∷ [] ≡ (served s m []).calls
+by_call : (s : Setting) (m : Meaning) (behind : List ℕ) (made : made_call.FileCall) (out : InFlight) (st : state.ChainState) → KeepsCall s m behind made out st → call_of behind made ∷ [] ≡ (served s m []).calls
 by_call s m behind made out (at.Waits kept w) keeps = call_waits s m keeps.1.0 (call_of behind made) keeps.1.1 keeps.1.2
 by_call s m behind made out (at.Lists kept l) keeps = call_waits s m keeps.1.0 (call_of behind made) keeps.1.1 keeps.1.2
 by_call s m behind made out at.Free keeps = absurd keeps
-by_call s m behind made out (at.Walking course ticket walk) keeps = absurd keeps
+by_call s m behind made out (at.Walking course pop_id walk) keeps = absurd keeps
 by_call s m behind made out (at.Taken o) keeps = absurd keeps
 by_call s m behind made out (at.HasReply o reply) keeps = absurd keeps
-by_call s m behind made out (at.Returning o) keeps = absurd keeps
+by_call s m behind made out (at.Pushing o) keeps = absurd keeps
 
 by_front : (s : Setting) (m : Meaning) (behind : List ℕ) (f : Option (List ℕ)) → TellsFront s m behind (asked_of f) → [] ≡ (served s m []).calls
-by_front s m behind None h = sym (ap (λ (k : Served). k.calls) h)
-by_front s m behind (Some front) h = sym (ap (λ (k : Served). k.calls) h.0)
+by_front s m behind None h = sym (ap (λ (k : ServedMessage). k.calls) h)
+by_front s m behind (Some front) h = sym (ap (λ (k : ServedMessage). k.calls) h.0)
 
-by_reply : (s : Setting) (m : Meaning) (behind : List ℕ) (out : Out) (st : state.State) → KeepsReply s m behind out st → [] ≡ (served s m []).calls
+by_reply : (s : Setting) (m : Meaning) (behind : List ℕ) (out : InFlight) (st : state.ChainState) → KeepsReply s m behind out st → [] ≡ (served s m []).calls
 by_reply s m behind out (at.HasReply kept reply) keeps = by_front s m behind reply.front keeps.2
 by_reply s m behind out at.Free keeps = absurd keeps
-by_reply s m behind out (at.Walking course ticket walk) keeps = absurd keeps
+by_reply s m behind out (at.Walking course pop_id walk) keeps = absurd keeps
 by_reply s m behind out (at.Taken o) keeps = absurd keeps
 by_reply s m behind out (at.Waits o w) keeps = absurd keeps
 by_reply s m behind out (at.Lists o l) keeps = absurd keeps
-by_reply s m behind out (at.Returning o) keeps = absurd keeps
+by_reply s m behind out (at.Pushing o) keeps = absurd keeps
 
-told_calls : (s : Setting) (m : Meaning) (behind : List ℕ) (out : Out) (made : told.Told) (st : state.State) → IsTold made → TellsMeaning s m behind out made st → calls_told behind made ≡ (served s m []).calls
+told_calls : (s : Setting) (m : Meaning) (behind : List ℕ) (out : InFlight) (made : told.Decoded) (st : state.ChainState) → IsDecodedWhole made → TellsMeaning s m behind out made st → calls_told behind made ≡ (served s m []).calls
 told_calls s m behind out (asks.Call made) st is tells = by_call s m behind made out st tells
 told_calls s m behind out (asks.More n) st is tells = absurd is
 told_calls s m behind out asks.Nothing st is tells = by_reply s m behind out st tells
-told_calls s m behind out (asks.Fault e) st is tells = sym (ap (λ (k : Served). k.calls) tells.1)
+told_calls s m behind out (asks.Fault e) st is tells = sym (ap (λ (k : ServedMessage). k.calls) tells.1)
 
 pub handle_asks : {F : Type 0} (may : May F) → HandleAsks may
 handle_asks {F} may s c before behind w w' session request front made reached small out fresh kept session_is asked is =
@@ -306,8 +306,8 @@ handle_asks {F} may s c before behind w w' session request front made reached sm
     let fetches : FetchesBy c.places s.limit c.taken c.loaded ds c.head None =
     subst (λ (p : Phase). FetchesBy c.places s.limit c.taken c.loaded ds c.head (fault_of p)) fresh walked.0 in
     let fits = fits_limit c.places s.limit c.taken c.loaded ds c.head small fetches.1 in
-    let o = out_of (course_of kept.kept s.limit) kept.ticket c.head ds in
-    let by = subst (λ (st : state.State). FromTaken st (λ o. (o.request_len ≡ length request) × IsFront front request
+    let o = out_of (course_of kept.kept s.limit) kept.pop_id c.head ds in
+    let by = subst (λ (st : state.ChainState). FromTaken st (λ o. (o.request_len ≡ length request) × IsRequestFront front request
     × TellsMeaning (setting session.page_size session.options.0 o.room_len) (meaning session.options.0 request o.room_len) (drop 80 request) o made w'.state
     × (w'.descriptors ≡ w.descriptors) × (w'.session ≡ session))) kept.state asked in
     let tells : TellsMeaning (setting s.page_size s.options o.room_len) (meaning s.options request o.room_len) (drop 80 request) o made w'.state =
@@ -343,7 +343,7 @@ Answered page_size options n request bytes made a left =
     × IsTrue (suits (call_of (drop 80 request) made) (answer_of bytes a))
     × ((served (setting page_size options n) (meaning options request n) (answer_of bytes a ∷ [])).options ≡ left)
 
-answered_by : (page_size options n left : ℕ) (request bytes : List ℕ) (made : made_call.FileCall) (a : made_answer.FileAnswer) (told : Replied) (out : Out) (st after : state.State)
+answered_by : (page_size options n left : ℕ) (request bytes : List ℕ) (made : made_call.FileCall) (a : made_answer.FileAnswer) (told : Replied) (out : InFlight) (st after : state.ChainState)
     → KeepsCall (setting page_size options n) (meaning options request n) (drop 80 request) made out st → IsWaiting st → TellsBytes bytes a
     → IfWaits st (λ kept w. IsGiven (setting page_size options w.room) w a kept left told after) → IfWaits st (λ kept w. CanBeGiven w a)
     → Answered page_size options n request bytes made a left
@@ -355,15 +355,15 @@ answered_by page_size options n left request bytes made a told out (at.Waits kep
     subst (λ (r : ℕ). Gives (setting page_size options r) command bytes a given.0 left) calls.5 (given.3 command bytes calls.4 data_told) in (
       sym (call_waits (setting page_size options n) m command (call_of (drop 80 request) made) calls.1 calls.2),
       subst (λ (k : FileCall). IsTrue (suits k (answer_of bytes a))) (sym calls.2) (can command bytes calls.4 data_told).0,
-      ap (λ (k : Meaning). (served (setting page_size options n) k (answer_of bytes a ∷ [])).options) calls.1 ∙ ap (λ (k : Served). k.options) gives
+      ap (λ (k : Meaning). (served (setting page_size options n) k (answer_of bytes a ∷ [])).options) calls.1 ∙ ap (λ (k : ServedMessage). k.options) gives
           ∙ left_by (first_call command ∷ forget_call given.0.forget) left given.0.sent bytes,
     )
 answered_by page_size options n left request bytes made a told out (at.Lists kept l) after keeps waits data_told given can = absurd waits
 answered_by page_size options n left request bytes made a told out at.Free after keeps waits data_told given can = absurd waits
-answered_by page_size options n left request bytes made a told out (at.Walking course ticket walk) after keeps waits data_told given can = absurd waits
+answered_by page_size options n left request bytes made a told out (at.Walking course pop_id walk) after keeps waits data_told given can = absurd waits
 answered_by page_size options n left request bytes made a told out (at.Taken o) after keeps waits data_told given can = absurd waits
 answered_by page_size options n left request bytes made a told out (at.HasReply o reply) after keeps waits data_told given can = absurd waits
-answered_by page_size options n left request bytes made a told out (at.Returning o) after keeps waits data_told given can = absurd waits
+answered_by page_size options n left request bytes made a told out (at.Pushing o) after keeps waits data_told given can = absurd waits
 
 pub handle_answers : {F : Type 0} (may : May F) → HandleAnswers may
 handle_answers {F} may s c before behind w w' request options made a bytes told files is_out asked kept answered can so =
@@ -393,7 +393,7 @@ handle_answers {F} may s c before behind w w' request options made a bytes told 
     )
 
 -- what is served of a request by the calls of a chain that has its reply
-all_served : (page_size options n : ℕ) (m : Meaning) (behind : List ℕ) (made : told.Told) (given : Given) (out : Out) (w w' : Workbench)
+all_served : (page_size options n : ℕ) (m : Meaning) (behind : List ℕ) (made : told.Decoded) (given : ChainAnswer) (out : InFlight) (w w' : ChainHandle)
     → (w.session.page_size ≡ page_size) × (w.session.options.0 ≡ options) → TellsMeaning (setting page_size options n) m behind out made w.state → HasReply made w given w'
     → AreServed (setting page_size options n) m (file_calls behind made given)
 all_served page_size options n m behind (asks.Call made) (OneAnswer a bytes replied) out w w' session tells has =
@@ -461,20 +461,20 @@ flags_of [] flags = refl
 flags_of (store ∷ stores) flags = flags_of stores flags
 
 -- those of a return
-flags_back : (kept : KeptQueue) (st : state.State) (used : Stores) (room behind flags : List ℕ) (acts : List Act) (last : ℕ)
+flags_back : (kept : QueueState) (st : state.ChainState) (used : PushStores) (room behind flags : List ℕ) (acts : List Act) (last : ℕ)
     → FromReplied kept st (λ reply s. (last ≡ front_len reply) × (acts ≡ acts_by room reply behind s flags)) used → flags_in acts ≡ flags
 flags_back kept (at.HasReply out reply) used room behind flags acts last back =
     ap flags_in back.1.1 ∙ flags_of (reply_stores room (reply_bytes reply behind) (front_len reply) ++ stores_of used.used) flags
 flags_back kept at.Free used room behind flags acts last back = absurd back
-flags_back kept (at.Walking course ticket walk) used room behind flags acts last back = absurd back
+flags_back kept (at.Walking course pop_id walk) used room behind flags acts last back = absurd back
 flags_back kept (at.Taken out) used room behind flags acts last back = absurd back
 flags_back kept (at.Waits out w) used room behind flags acts last back = absurd back
 flags_back kept (at.Lists out l) used room behind flags acts last back = absurd back
-flags_back kept (at.Returning out) used room behind flags acts last back = absurd back
+flags_back kept (at.Pushing out) used room behind flags acts last back = absurd back
 
 -- where they stand, of a queue
 abbrev pub seen_of : (event_index : Bool) → Queue → ℕ
-seen_of event_index q = seen_at (record { queue = q; returned = 0; most_out = 0; event_index = event_index })
+seen_of event_index q = seen_at (record { queue = q; next_used = 0; max_in_flight = 0; event_index = event_index })
 
 pub handle_returns : {F : Type 0} (may : May F) → HandleReturns may
 handle_returns {F} may s c before behind w w' kept request options made given acts last notice out there taken phase each keeps has back =
@@ -492,16 +492,16 @@ handle_returns {F} may s c before behind w w' kept request options made given ac
     let answer = so.3 in
     let used = stores_after_reply (returning (live_of kept)) c.head (length x.reply) in
     let asked : (served (setting s.page_size options (length room)) (meaning options request (length room)) (answers_alone calls)).calls ≡ calls_alone calls =
-    ap (λ (k : Served). k.calls) (sym answer.serves.gives) ∙ answer.serves.asks in
+    ap (λ (k : ServedMessage). k.calls) (sym answer.serves.gives) ∙ answer.serves.asks in
     let exchange : x ≡ served_exchange c.head request (served (setting s.page_size options (length room)) (meaning options request (length room)) (answers_alone calls)) =
-    answer.returns.exchange ∙ ap (λ (h : ℕ). served_exchange h request answer.given) keeps.head ∙ ap (λ (k : Served). served_exchange c.head request k) answer.serves.gives in
+    answer.returns.exchange ∙ ap (λ (h : ℕ). served_exchange h request answer.given) keeps.head ∙ ap (λ (k : ServedMessage). served_exchange c.head request k) answer.serves.gives in
     let goes : GoesBackWith s.page_size c c.phase x = subst (λ (p : Phase). GoesBackWith s.page_size c p x) (sym phase) (asked, exchange) in
     let reply : answer.given.reply ≡ x.reply = sym (ap (λ (k : Exchange). k.reply) answer.returns.exchange) in
     let laid : queue_of o.course ≡ at_position kept.layout c.taken.position = sym keeps.taken ∙ taken in
     let stores : stores_after_reply (at_return kept o) o.head (length answer.given.reply) ≡ used =
-    ap (λ (q : Queue). stores_after_reply (record q { position = kept.returned }) o.head (length answer.given.reply)) laid
-    ∙ ap (λ (h : ℕ). stores_after_reply (at_position kept.layout kept.returned) h (length answer.given.reply)) keeps.head
-    ∙ ap (λ (l : List ℕ). stores_after_reply (at_position kept.layout kept.returned) c.head (length l)) reply in
+    ap (λ (q : Queue). stores_after_reply (record q { position = kept.next_used }) o.head (length answer.given.reply)) laid
+    ∙ ap (λ (h : ℕ). stores_after_reply (at_position kept.layout kept.next_used) h (length answer.given.reply)) keeps.head
+    ∙ ap (λ (l : List ℕ). stores_after_reply (at_position kept.layout kept.next_used) c.head (length l)) reply in
     let made_stores = reply_stores room answer.given.reply last ++ stores_after_reply (at_return kept o) o.head (length answer.given.reply) in
     let found : answer.returns.flags ≡ flags =
     sym (ap flags_in answer.returns.acts ∙ flags_of made_stores answer.returns.flags) ∙ flags_back kept w'.state back.stores room (data_behind given) flags acts last back.returns in
@@ -541,13 +541,13 @@ handle_faulty {F} may s c before behind w kept why acts last notice out there ta
     let course = course_of held.kept s.limit in
     let flags = back.flags in
     let x = faulty c.head why in
-    let by : ReturnsBy kept (faulty_out course held.ticket c.head) no_reply back.stores × ((last ≡ front_len no_reply) × (acts ≡ acts_by [] no_reply [] back.stores flags)) =
-    subst (λ (st : state.State). FromReplied kept st (λ reply s₁. (last ≡ front_len reply) × (acts ≡ acts_by [] reply [] s₁ flags)) back.stores) held.state back.returns in
+    let by : PushesBy kept (faulty_out course held.pop_id c.head) no_reply back.stores × ((last ≡ front_len no_reply) × (acts ≡ acts_by [] no_reply [] back.stores flags)) =
+    subst (λ (st : state.ChainState). FromReplied kept st (λ reply s₁. (last ≡ front_len reply) × (acts ≡ acts_by [] reply [] s₁ flags)) back.stores) held.state back.returns in
     let q = returning (live_of kept) in
     let used = stores_after_reply q c.head 0 in
     let laid : queue_of course ≡ at_position kept.layout c.taken.position = sym held.taken ∙ taken in
     let stored : stores_of back.stores.used ≡ used =
-    by.0.1 ∙ ap (λ (k : Queue). stores_after_reply (record k { position = kept.returned }) c.head 0) laid in
+    by.0.1 ∙ ap (λ (k : Queue). stores_after_reply (record k { position = kept.next_used }) c.head 0) laid in
     let done : acts ≡ return_acts (reply_stores [] [] last ++ used) flags =
     by.1.1 ∙ ap (λ (u : List Store). return_acts u flags) stored ∙ sym (ap (λ (n : ℕ). return_acts (reply_stores [] [] n ++ used) flags) by.1.0) in
     let acts_are : acts ≡ return_acts (reply_stores (room_of c) [] last ++ used) flags =

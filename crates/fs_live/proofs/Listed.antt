@@ -7,7 +7,7 @@ use Rattle.fuse_values.specs.declared.call.FileCall as made_call
 use Rattle.virtiofsd_fuse.specs.Grammar.{Asks, FileCommand, Lists, Meaning, One, Starts}
 use Rattle.virtiofsd_fuse.specs.Listings as asked
 use Rattle.virtiofsd_fuse.specs.Listings.{readdir_call}
-use Rattle.virtiofsd_fuse.specs.Serving.{Served, Setting, served, setting}
+use Rattle.virtiofsd_fuse.specs.Serving.{ServedMessage, Setting, served, setting}
 use Rattle.server_phases.specs.Answering.{Gives, TellsBytes}
 use Rattle.server_phases.specs.declared.listing.Listing.{Listing}
 use Rattle.server_phases.specs.declared.listing.ListingReply.{ListingReply}
@@ -16,18 +16,18 @@ use Rattle.server_phases.specs.declared.listing.NotAdded.TheVariants as not_adde
 use Rattle.server_phases.specs.Gathering.{Brought, Holds, IsListingFor, StaysBut, error_of}
 use Rattle.server_phases.specs.Waiting.{first_call}
 use Rattle.fs_chain.specs.Answers.{IfWaits, IsGiven, IsWaiting, replied_of}
-use Rattle.fs_chain.specs.Asking.{AsksListing, KeepsCall}
+use Rattle.fs_chain.specs.Decoding.{AsksListing, KeepsCall}
 use Rattle.fs_chain.specs.Listings.{IsFailedReply, IsListReply, RepliesBy}
 use Rattle.fs_chain.specs.Whole.{ByEntries, OneAnswer, file_calls}
 use Rattle.fs_chain.specs.WholeListings.{Ending, EndsBy, EndsThere, FailsAt, FromLists, FullAt, IsListedBy, NotFound, Unreadable, failed_by, listing_calls}
 use Rattle.fs_chain.specs.declared.answering.Replied.{Replied}
-use Rattle.fs_chain.specs.declared.asking.Told.TheVariants as asks
+use Rattle.fs_chain.specs.declared.decoding.Decoded.TheVariants as asks
 use Rattle.fs_chain.specs.declared.listing.Added.{Added}
 use Rattle.fs_chain.specs.declared.listing.Added.TheVariants as added
-use Rattle.fs_chain.specs.declared.state.Out.{Out}
-use Rattle.fs_chain.specs.declared.state.State as state
-use Rattle.fs_chain.specs.declared.state.State.TheVariants as at
-use Rattle.fs_chain.specs.declared.workbench.Workbench.{Workbench}
+use Rattle.fs_chain.specs.declared.state.InFlight.{InFlight}
+use Rattle.fs_chain.specs.declared.state.ChainState as state
+use Rattle.fs_chain.specs.declared.state.ChainState.TheVariants as at
+use Rattle.fs_chain.specs.declared.chain_handle.ChainHandle.{ChainHandle}
 use Rattle.fs_chain.proofs.WholeEntries.{ServedBy, brought, ends_there, fails_at, full_at, gathered, not_found, outcome_of, stays_so, unreadable}
 use Rattle.fs_chain.proofs.WholeSteps.{by_calls, serves_call}
 use Rattle.fs_device.specs.Step.{Calls, answers_alone, calls_alone}
@@ -44,7 +44,7 @@ by_replied : (s : Setting) (m : Meaning) (behind bytes : List ℕ) (made : made_
 by_replied s m behind bytes made a told other is served_so =
     subst (λ (t : Replied). AreServed s m (file_calls behind (asks.Call made) (OneAnswer a bytes t))) (sym is) served_so
 
-pub one_served : (page_size options n left : ℕ) (m : Meaning) (behind bytes : List ℕ) (made : made_call.FileCall) (a : made_answer.FileAnswer) (told : Replied) (out : Out) (st after : state.State)
+pub one_served : (page_size options n left : ℕ) (m : Meaning) (behind bytes : List ℕ) (made : made_call.FileCall) (a : made_answer.FileAnswer) (told : Replied) (out : InFlight) (st after : state.ChainState)
     → KeepsCall (setting page_size options n) m behind made out st → IsWaiting st → TellsBytes bytes a
     → IfWaits st (λ kept u. IsGiven (setting page_size options u.room) u a kept left told after)
     → AreServed (setting page_size options n) m (file_calls behind (asks.Call made) (OneAnswer a bytes told))
@@ -56,26 +56,26 @@ one_served page_size options n left m behind bytes made a told out (at.Waits kep
     subst (λ (r : ℕ). Gives (setting page_size options r) command bytes a given.0 left) calls.5 (given.3 command bytes calls.4 data_told) in
     let mine : Calls = file_calls behind (asks.Call made) (OneAnswer a bytes (replied_of given.0)) in
     by_replied s m behind bytes made a told (replied_of given.0) given.1
-    (ap (λ (x : Served). x.calls) (serves_call s m command made bytes behind a given.0 left calls.1 calls.2 (keeps.2 command calls.4) gives)
+    (ap (λ (x : ServedMessage). x.calls) (serves_call s m command made bytes behind a given.0 left calls.1 calls.2 (keeps.2 command calls.4) gives)
     ∙ by_calls (calls_alone mine) left given.0.sent bytes)
 one_served page_size options n left m behind bytes made a told out (at.Lists kept l) after keeps waits data_told given = absurd waits
 one_served page_size options n left m behind bytes made a told out at.Free after keeps waits data_told given = absurd waits
-one_served page_size options n left m behind bytes made a told out (at.Walking course ticket walk) after keeps waits data_told given = absurd waits
+one_served page_size options n left m behind bytes made a told out (at.Walking course pop_id walk) after keeps waits data_told given = absurd waits
 one_served page_size options n left m behind bytes made a told out (at.Taken o) after keeps waits data_told given = absurd waits
 one_served page_size options n left m behind bytes made a told out (at.HasReply o reply) after keeps waits data_told given = absurd waits
-one_served page_size options n left m behind bytes made a told out (at.Returning o) after keeps waits data_told given = absurd waits
+one_served page_size options n left m behind bytes made a told out (at.Pushing o) after keeps waits data_told given = absurd waits
 
 -- ---- a listing
 
 served_calls : (s : Setting) (command : FileCommand) (steps : Calls) (reply : List ℕ) → ServedBy s command steps reply → AreServed s (Asks command) steps
-served_calls s command steps reply is = ap (λ (x : Served). x.calls) is
+served_calls s command steps reply is = ap (λ (x : ServedMessage). x.calls) is
 
 -- a listing that gathers has its reply
-abbrev IsReplied : (Listing → ListingReply → Type 0) → Out → Listing → (len : ℕ) → (new : state.State) → Type 0
+abbrev IsReplied : (Listing → ListingReply → Type 0) → InFlight → Listing → (len : ℕ) → (new : state.ChainState) → Type 0
 IsReplied P out l len new = RepliesBy P (at.Lists out l) new (Ok len)
 
-replied_at : (P : Listing → ListingReply → Type 0) (st new : state.State) (out : Out) (l : Listing) (len : ℕ) → st ≡ at.Lists out l → RepliesBy P st new (Ok len) → IsReplied P out l len new
-replied_at P st new out l len is replies = subst (λ (s : state.State). RepliesBy P s new (Ok len)) is replies
+replied_at : (P : Listing → ListingReply → Type 0) (st new : state.ChainState) (out : InFlight) (l : Listing) (len : ℕ) → st ≡ at.Lists out l → RepliesBy P st new (Ok len) → IsReplied P out l len new
+replied_at P st new out l len is replies = subst (λ (s : state.ChainState). RepliesBy P s new (Ok len)) is replies
 
 -- why an entry fails a listing
 failing : (why : Added) (errno : ℕ) → failed_by why ≡ Some errno → (n : reason.NotAdded) × (outcome_of why ≡ Err n) × (error_of n ≡ Some errno)
@@ -85,10 +85,10 @@ failing added.NoRoom errno is = (not_added.NoRoom, refl, is)
 failing added.TooLong errno is = (not_added.TooLong, refl, is)
 
 -- a command is served by the calls of a listing that ended so
-abbrev IsListServed : Setting → (unique : ℕ) → asked.Listing → List Brought → Ending → Type 0
+abbrev IsListServed : Setting → (unique : ℕ) → asked.ListRequest → List Brought → Ending → Type 0
 IsListServed s unique a es ending = (reply : List ℕ) × ServedBy s (Lists unique a) (listing_calls (readdir_call a) a.with_nodes es ending) reply
 
-list_served : (s : Setting) (l : Listing) (unique : ℕ) (a : asked.Listing) (list : List ℕ) (es : List Brought) (ending : Ending) (w after : Workbench) (out : Out) (len : ℕ)
+list_served : (s : Setting) (l : Listing) (unique : ℕ) (a : asked.ListRequest) (list : List ℕ) (es : List Brought) (ending : Ending) (w after : ChainHandle) (out : InFlight) (len : ℕ)
     → IsListingFor l s.room (Lists unique a) → Holds l list es → w.state ≡ at.Lists out l → EndsBy ending w list len after → IsListServed s unique a es ending
 list_served s l unique a list es EndsThere w after out len is holds st ends =
     let r = replied_at IsListReply w.state after.state out l len st ends.0 in
@@ -106,40 +106,40 @@ list_served s l unique a list es (FailsAt e behind errno) w after out len is hol
     let r = replied_at (λ l reply. IsFailedReply l errno reply) ends.0.state after.state out l len there ends.5.0 in
     (r.0.front ++ take r.0.len list, fails_at s l unique a list es is holds e behind errno r.0 r.3 (one.2.fails f.0 errno f.1 f.2))
 list_served s l unique a list es (NotFound d behind errno) w after out len is holds st ends =
-    let nodes : l.with_nodes ≡ true = subst (λ (x : state.State). FromLists x (λ l. l.with_nodes ≡ true)) st ends.0 in
+    let nodes : l.with_nodes ≡ true = subst (λ (x : state.ChainState). FromLists x (λ l. l.with_nodes ≡ true)) st ends.0 in
     let r = replied_at (λ l reply. IsFailedReply l errno reply) w.state after.state out l len st ends.2.0 in
     (r.0.front ++ take r.0.len list, not_found s l unique a list es is holds d behind errno r.0 r.3 nodes ends.1)
 list_served s l unique a list es (Unreadable errno) w after out len is holds st ends =
     let r = replied_at (λ l reply. IsFailedReply l errno reply) w.state after.state out l len st ends.0 in
     (r.0.front ++ take r.0.len list, unreadable s l unique a list es a.with_nodes errno r.0 is holds r.3 refl)
 
-pub from_lists : (st : state.State) (P : Listing → Type 0) → FromLists st P → (out : Out) × (l : Listing) × (st ≡ at.Lists out l) × P l
+pub from_lists : (st : state.ChainState) (P : Listing → Type 0) → FromLists st P → (out : InFlight) × (l : Listing) × (st ≡ at.Lists out l) × P l
 from_lists (at.Lists out l) P p = (out, l, refl, p)
 from_lists at.Free P p = absurd p
-from_lists (at.Walking course ticket walk) P p = absurd p
+from_lists (at.Walking course pop_id walk) P p = absurd p
 from_lists (at.Taken out) P p = absurd p
 from_lists (at.Waits out w) P p = absurd p
 from_lists (at.HasReply out reply) P p = absurd p
-from_lists (at.Returning out) P p = absurd p
+from_lists (at.Pushing out) P p = absurd p
 
-pub list_command : (l : Listing) (room : ℕ) (command : FileCommand) → IsListingFor l room command → (unique : ℕ) × (a : asked.Listing) × (command ≡ Lists unique a) × IsListingFor l room (Lists unique a)
+pub list_command : (l : Listing) (room : ℕ) (command : FileCommand) → IsListingFor l room command → (unique : ℕ) × (a : asked.ListRequest) × (command ≡ Lists unique a) × IsListingFor l room (Lists unique a)
 list_command l room (One unique call) is = absurd is
 list_command l room (Starts unique capable readahead) is = absurd is
 list_command l room (Lists unique a) is = (unique, a, refl, is)
 
 -- the listing goes on, whatever it has gathered
-still_for : (l now : Listing) (room unique : ℕ) (a : asked.Listing) → StaysBut l now → IsListingFor l room (Lists unique a) → IsListingFor now room (Lists unique a)
+still_for : (l now : Listing) (room unique : ℕ) (a : asked.ListRequest) → StaysBut l now → IsListingFor l room (Lists unique a) → IsListingFor now room (Lists unique a)
 still_for l now room unique a stays is = (stays.0 ∙ is.0, stays.1 ∙ is.1, stays.2 ∙ is.2, stays.3 ∙ is.3, is.4)
 
 none_yet : (l : Listing) (list : List ℕ) → l.len ≡ 0 → Holds l list []
 none_yet l list empty = record { long = empty; stands = ap (λ (n : ℕ). take n list) empty }
 
-pub list_all_served : (s : Setting) (m : Meaning) (behind bytes : List ℕ) (made : made_call.FileCall) (b : Bool) (es : List Brought) (ending : Ending) (out : Out) (w after : Workbench)
+pub list_all_served : (s : Setting) (m : Meaning) (behind bytes : List ℕ) (made : made_call.FileCall) (b : Bool) (es : List Brought) (ending : Ending) (out : InFlight) (w after : ChainHandle)
     → KeepsCall s m behind made out w.state → IsListedBy w b es ending bytes after → AreServed s m (file_calls behind (asks.Call made) (ByEntries b es ending bytes))
 list_all_served s m behind bytes made b es ending out w after keeps is =
     let lists = from_lists w.state (λ l. l.with_nodes ≡ b) is.kind in
     let l = lists.1 in
-    let kept : KeepsCall s m behind made out (at.Lists lists.0 l) = subst (λ (x : state.State). KeepsCall s m behind made out x) lists.2 keeps in
+    let kept : KeepsCall s m behind made out (at.Lists lists.0 l) = subst (λ (x : state.ChainState). KeepsCall s m behind made out x) lists.2 keeps in
     let asking : AsksListing s m behind made l = kept.1 in
     let c = list_command l s.room asking.0 asking.4 in
     let unique = c.0 in

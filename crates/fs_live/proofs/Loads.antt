@@ -21,26 +21,26 @@ use Rattle.fs_queue.proofs.AnyLoadLemmas.{few_loads}
 use Rattle.fs_queue.proofs.LoadLemmas.{memory_with, reach_none}
 use Rattle.fs_queue.proofs.StillLemmas.{mapped}
 use Rattle.fs_regions.specs.Places.{Mapped, places_in}
-use Rattle.fs_regions.specs.Walks.{AddsBytes, Brings, ComesBy, ComesTo, FetchesBy, IsLongestStretch, Loaded, OffersBy, StandsAt, nothing, queue_of}
-use Rattle.fs_regions.specs.declared.step.Step as comes
-use Rattle.fs_regions.specs.declared.step.Step.TheVariants as step
+use Rattle.fs_regions.specs.Walks.{AddsBytes, Brings, ComesBy, IsCourseStep, FetchesBy, IsLongestStretch, Loaded, OffersBy, IsWalkAt, nothing, queue_of}
+use Rattle.fs_regions.specs.declared.step.CourseStep as comes
+use Rattle.fs_regions.specs.declared.step.CourseStep.TheVariants as step
 use Rattle.fs_regions.specs.declared.walk.QueueWalk.{QueueWalk}
 use Rattle.fs_regions.specs.declared.walk.QueueWalk.TheVariants as asks
 use Rattle.fs_regions.proofs.Steps.{loses, lost_walked}
 use Rattle.fs_chain.specs.Events.{event_fault}
 use Rattle.fs_chain.specs.Loads.{GoesSo, whole}
 use Rattle.fs_chain.specs.Orders.{load_len}
-use Rattle.fs_chain.specs.Queues.{ticket_of}
-use Rattle.fs_chain.specs.Walks.{Begins, BeginsUnless, BeginsWhere, GoesOn, GoesOnUnless, WalksFrom, WalksOn, course_of, queue_after, state_after, told_of}
-use Rattle.fs_chain.specs.Whole.{BeginsBy, WalksBy, WantsBytes}
-use Rattle.fs_chain.specs.declared.loads.Went as went
-use Rattle.fs_chain.specs.declared.loads.Went.TheVariants as wents
-use Rattle.fs_chain.specs.declared.queue.KeptQueue.{KeptQueue}
-use Rattle.fs_chain.specs.declared.state.State as state
-use Rattle.fs_chain.specs.declared.state.State.TheVariants as at
-use Rattle.fs_chain.specs.declared.walking.WalkOutcome as walked
-use Rattle.fs_chain.specs.declared.walking.WalkOutcome.TheVariants as says
-use Rattle.fs_chain.specs.declared.workbench.Workbench.{Workbench}
+use Rattle.fs_chain.specs.Queues.{pop_id_of}
+use Rattle.fs_chain.specs.Walks.{BeginsPop, BeginsUnless, BeginsWhere, GoesOn, GoesOnUnless, WalksFrom, WalksOn, course_of, queue_after, state_after, told_of}
+use Rattle.fs_chain.specs.Whole.{BeginsPopBy, WalksBy, WantsBytes}
+use Rattle.fs_chain.specs.declared.loads.LoadOutcome as went
+use Rattle.fs_chain.specs.declared.loads.LoadOutcome.TheVariants as wents
+use Rattle.fs_chain.specs.declared.queue.QueueState.{QueueState}
+use Rattle.fs_chain.specs.declared.state.ChainState as state
+use Rattle.fs_chain.specs.declared.state.ChainState.TheVariants as at
+use Rattle.fs_chain.specs.declared.popping.PopOutcome as walked
+use Rattle.fs_chain.specs.declared.popping.PopOutcome.TheVariants as says
+use Rattle.fs_chain.specs.declared.chain_handle.ChainHandle.{ChainHandle}
 use Rattle.fs_live.specs.Handles.{HandleLoads, counted, load_count}
 use Rattle.fs_live.proofs.Queues.{none_some}
 
@@ -145,7 +145,7 @@ inside_of m q ds (asks.Index w) longest = tt
 inside_of m q ds (asks.RingEntry w) longest = tt
 inside_of m q ds (asks.Entries w) longest = let fits = longest.0.1 in let some = w.some in omega (arith, fits, some)
 
-few_standing : (m : Memory) (q : Queue) (loaded : Loaded) (ds : List Descriptor) (walk : QueueWalk) → IsInside walk → StandsAt m q loaded ds walk → length loaded.entries ≤ q.size + 2
+few_standing : (m : Memory) (q : Queue) (loaded : Loaded) (ds : List Descriptor) (walk : QueueWalk) → IsInside walk → IsWalkAt m q loaded ds walk → length loaded.entries ≤ q.size + 2
 few_standing m q loaded ds (asks.Index w) inside stands = let none : length loaded.entries ≡ 0 = ap (λ (l : Loaded). length l.entries) stands.1 in omega (arith, none)
 few_standing m q loaded ds (asks.RingEntry w) inside stands = let none : length loaded.entries ≡ 0 = ap (λ (ls : List Load). length ls) stands.4 in omega (arith, none)
 few_standing m q loaded ds (asks.Entries w) inside stands =
@@ -176,7 +176,7 @@ at_most_one (Some bs) = omega arith
 few_made : (k n : ℕ) (l : Loaded) → k ≤ made l → length l.entries ≤ n + 2 → k ≤ n + 4
 few_made k n l come few = let a = at_most_one l.index in let b = at_most_one l.entry in omega (arith, come, few, a, b)
 
-pub room_for_one : (m : Memory) (q : Queue) (loaded : Loaded) (ds : List Descriptor) (walk : QueueWalk) → IsInside walk → StandsAt m q loaded ds walk → suc (made loaded) ≤ q.size + 4
+pub room_for_one : (m : Memory) (q : Queue) (loaded : Loaded) (ds : List Descriptor) (walk : QueueWalk) → IsInside walk → IsWalkAt m q loaded ds walk → suc (made loaded) ≤ q.size + 4
 room_for_one m q loaded ds (asks.Index w) inside stands = let none : made loaded ≡ 0 = ap (λ (l : Loaded). made l) stands.1 in omega (arith, none)
 room_for_one m q loaded ds (asks.RingEntry w) inside stands =
     let index = at_most_one loaded.index in
@@ -191,7 +191,7 @@ room_for_one m q loaded ds (asks.Entries w) inside stands =
     let entry = at_most_one loaded.entry in
     omega (arith, few, index, entry)
 
-pub made_more : (m : Memory) (q : Queue) (loaded after : Loaded) (ds : List Descriptor) (walk : QueueWalk) (bs : List ℕ) (came : comes.Step) → StandsAt m q loaded ds walk →
+pub made_more : (m : Memory) (q : Queue) (loaded after : Loaded) (ds : List Descriptor) (walk : QueueWalk) (bs : List ℕ) (came : comes.CourseStep) → IsWalkAt m q loaded ds walk →
     AddsBytes walk bs came loaded after → suc (made loaded) ≤ made after
 made_more m q loaded after ds (asks.Index w) bs came stands adds =
     let none : made loaded ≡ 0 = ap (λ (l : Loaded). made l) stands.1 in
@@ -210,25 +210,25 @@ made_more m q loaded after ds (asks.Entries w) bs came stands adds =
 -- ---- calls
 
 -- a walk asks for a load after k were made
-record Stands (k : ℕ) (old w : Workbench) (before q : KeptQueue) : Type 0 where
+record Stands (k : ℕ) (old w : ChainHandle) (before q : QueueState) : Type 0 where
   pub walk : QueueWalk
   pub loaded : Loaded
-  pub state : w.state ≡ at.Walking (course_of before old.limit) (ticket_of before) walk
+  pub state : w.state ≡ at.Walking (course_of before old.limit) (pop_id_of before) walk
   pub queue : q ≡ before
   pub regions : w.regions ≡ old.regions
   pub inside : IsInside walk
-  pub stands : StandsAt (places_in old.regions) (queue_of (course_of before old.limit)) loaded w.descriptors.items walk
+  pub stands : IsWalkAt (places_in old.regions) (queue_of (course_of before old.limit)) loaded w.descriptors.items walk
   pub come : k ≤ made loaded
 
 -- what a call told after k loads
-abbrev After : ℕ → (old new : Workbench) → (before after : KeptQueue) → went.Went → Type 0
+abbrev After : ℕ → (old new : ChainHandle) → (before after : QueueState) → went.LoadOutcome → Type 0
 After k old new before after wents.Part = Stands k old new before after
 After k old new before after (wents.On (says.Load n)) = Stands k old new before after
 After k old new before after (wents.On _) = k ≤ before.layout.size + 4
 
-by_came : (k : ℕ) (old new : Workbench) (before after : KeptQueue) (loaded : Loaded) (came : comes.Step) → k ≤ made loaded
-    → new.state ≡ state_after (course_of before old.limit) (ticket_of before) new.descriptors.items came → after ≡ queue_after before came → new.regions ≡ old.regions
-    → ComesTo (places_in old.regions) old.limit (queue_of (course_of before old.limit)) loaded new.descriptors.items came
+by_came : (k : ℕ) (old new : ChainHandle) (before after : QueueState) (loaded : Loaded) (came : comes.CourseStep) → k ≤ made loaded
+    → new.state ≡ state_after (course_of before old.limit) (pop_id_of before) new.descriptors.items came → after ≡ queue_after before came → new.regions ≡ old.regions
+    → IsCourseStep (places_in old.regions) old.limit (queue_of (course_of before old.limit)) loaded new.descriptors.items came
     → After k old new before after (wents.On (told_of new.descriptors.items came))
 by_came k old new before after loaded (step.Load walk) come state_is queue_is regions_are comes = record {
   walk = walk;
@@ -250,30 +250,30 @@ by_came k old new before after loaded (step.Chain head (Some fault)) come state_
     few_made k before.layout.size loaded come (few_fetched (places_in old.regions) old.limit (queue_of (course_of before old.limit)) loaded new.descriptors.items head (Some fault) comes)
 
 -- the first call
-begins_whole : (old : Workbench) (before : KeptQueue) (new : Workbench) (after : KeptQueue) → old.state ≡ at.Free → GoesSo old before [] wents.Part new after → ⊥
+begins_whole : (old : ChainHandle) (before : QueueState) (new : ChainHandle) (after : QueueState) → old.state ≡ at.Free → GoesSo old before [] wents.Part new after → ⊥
 begins_whole old before new after free call = let none : load_len old.state ≡ 0 = ap load_len free in let few = call.1 in omega (arith, none, few)
 
-by_fault : (old new : Workbench) (before after : KeptQueue) (told : walked.WalkOutcome) (fault : Option QueueError) → BeginsWhere fault old new before after told → After 0 old new before after (wents.On told)
-by_fault old new before after told (Some e) h = subst (λ (t : walked.WalkOutcome). After 0 old new before after (wents.On t)) (sym h.0) (omega arith)
+by_fault : (old new : ChainHandle) (before after : QueueState) (told : walked.PopOutcome) (fault : Option QueueError) → BeginsWhere fault old new before after told → After 0 old new before after (wents.On told)
+by_fault old new before after told (Some e) h = subst (λ (t : walked.PopOutcome). After 0 old new before after (wents.On t)) (sym h.0) (omega arith)
 by_fault old new before after told None h =
-    subst (λ (t : walked.WalkOutcome). After 0 old new before after (wents.On t)) (sym h.1.0) (by_came 0 old new before after nothing h.0 (omega arith) h.1.1 h.1.2 h.1.4.0 h.2)
+    subst (λ (t : walked.PopOutcome). After 0 old new before after (wents.On t)) (sym h.1.0) (by_came 0 old new before after nothing h.0 (omega arith) h.1.1 h.1.2 h.1.4.0 h.2)
 
-whole_of_none : (w : Workbench) → w.state ≡ at.Free → whole w [] ≡ []
+whole_of_none : (w : ChainHandle) → w.state ≡ at.Free → whole w [] ≡ []
 whole_of_none w free = let none : load_len w.state ≡ 0 = ap load_len free in rw none refl
 
-begun : (old new : Workbench) (before after : KeptQueue) (told : went.Went) → before.stopped ≡ None → BeginsBy old new before after told → After 0 old new before after told
+begun : (old new : ChainHandle) (before after : QueueState) (told : went.LoadOutcome) → before.stopped ≡ None → BeginsPopBy old new before after told → After 0 old new before after told
 begun old new before after wents.Part goes by = absurd (begins_whole old before new after by.0 by.1)
 begun old new before after (wents.On told) goes by =
     let walks : WalksOn [] old new before after told = subst (λ (bs : List ℕ). WalksOn bs old new before after told) (whole_of_none old by.0) by.1.4 in
-    let begins : Begins old new before after told = subst (λ (s : state.State). WalksFrom s [] old new before after told) by.0 walks in
+    let begins : BeginsPop old new before after told = subst (λ (s : state.ChainState). WalksFrom s [] old new before after told) by.0 walks in
     let unless : BeginsUnless None old new before after told = subst (λ (s : Option QueueError). BeginsUnless s old new before after told) goes begins in
     by_fault old new before after told (event_fault (places_in old.regions) before) unless
 
-kept_items : (w new : Workbench) → new.descriptors ≡ w.descriptors → w.descriptors.items ≡ new.descriptors.items
+kept_items : (w new : ChainHandle) → new.descriptors ≡ w.descriptors → w.descriptors.items ≡ new.descriptors.items
 kept_items w new same = cc
 
 -- one more
-on_call : (k : ℕ) (bs : List ℕ) (old w new : Workbench) (before q after : KeptQueue) (told : went.Went) → before.stopped ≡ None → Stands k old w before q → GoesSo w q bs told new after
+on_call : (k : ℕ) (bs : List ℕ) (old w new : ChainHandle) (before q after : QueueState) (told : went.LoadOutcome) → before.stopped ≡ None → Stands k old w before q → GoesSo w q bs told new after
     → After (counted told k) old new before after told
 on_call k bs old w new before q after wents.Part goes from call = record {
   walk = from.walk;
@@ -282,29 +282,29 @@ on_call k bs old w new before q after wents.Part goes from call = record {
   queue = call.5 ∙ from.queue;
   regions = call.3.0.0 ∙ from.regions;
   inside = from.inside;
-  stands = subst (λ (ds : List Descriptor). StandsAt (places_in old.regions) (queue_of (course_of before old.limit)) from.loaded ds from.walk) (kept_items w new call.3.2) from.stands;
+  stands = subst (λ (ds : List Descriptor). IsWalkAt (places_in old.regions) (queue_of (course_of before old.limit)) from.loaded ds from.walk) (kept_items w new call.3.2) from.stands;
   come = from.come;
 }
 on_call k bs old w new before q after (wents.On told) goes from call =
     let course = course_of before old.limit in
-    let ticket = ticket_of before in
+    let pop_id = pop_id_of before in
     let walk = from.walk in
     let l = from.loaded in
     let all = whole w bs in
-    let unless : GoesOnUnless q.stopped course ticket walk all w new q after told = subst (λ (s : state.State). WalksFrom s all w new q after told) from.state call.4 in
-    let on : GoesOn course ticket walk all w new q after told =
-    subst (λ (s : Option QueueError). GoesOnUnless s course ticket walk all w new q after told) (ap (λ (k : KeptQueue). k.stopped) from.queue ∙ goes) unless in
-    let there : StandsAt (places_in w.regions) (queue_of course) l w.descriptors.items walk =
-    subst (λ (r : Mapped). StandsAt (places_in r) (queue_of course) l w.descriptors.items walk) (sym from.regions) from.stands in
+    let unless : GoesOnUnless q.stopped course pop_id walk all w new q after told = subst (λ (s : state.ChainState). WalksFrom s all w new q after told) from.state call.4 in
+    let on : GoesOn course pop_id walk all w new q after told =
+    subst (λ (s : Option QueueError). GoesOnUnless s course pop_id walk all w new q after told) (ap (λ (k : QueueState). k.stopped) from.queue ∙ goes) unless in
+    let there : IsWalkAt (places_in w.regions) (queue_of course) l w.descriptors.items walk =
+    subst (λ (r : Mapped). IsWalkAt (places_in r) (queue_of course) l w.descriptors.items walk) (sym from.regions) from.stands in
     let by : ComesBy (places_in w.regions) course.limit (queue_of course) l walk all new.descriptors.items on.0 = on.2 l there in
-    let came : ComesTo (places_in old.regions) old.limit (queue_of course) by.after new.descriptors.items on.0 =
-    subst (λ (r : Mapped). ComesTo (places_in r) old.limit (queue_of course) by.after new.descriptors.items on.0) from.regions by.comes in
+    let came : IsCourseStep (places_in old.regions) old.limit (queue_of course) by.after new.descriptors.items on.0 =
+    subst (λ (r : Mapped). IsCourseStep (places_in r) old.limit (queue_of course) by.after new.descriptors.items on.0) from.regions by.comes in
     let one_more = made_more (places_in old.regions) (queue_of course) l by.after w.descriptors.items walk all on.0 from.stands by.adds in
     let few = from.come in
-    subst (λ (t : walked.WalkOutcome). After (suc k) old new before after (wents.On t)) (sym on.1.0)
-    (by_came (suc k) old new before after by.after on.0 (omega (arith, one_more, few)) on.1.1 (on.1.2 ∙ ap (λ (k : KeptQueue). queue_after k on.0) from.queue) (on.1.4.0 ∙ from.regions) came)
+    subst (λ (t : walked.PopOutcome). After (suc k) old new before after (wents.On t)) (sym on.1.0)
+    (by_came (suc k) old new before after by.after on.0 (omega (arith, one_more, few)) on.1.1 (on.1.2 ∙ ap (λ (k : QueueState). queue_after k on.0) from.queue) (on.1.4.0 ∙ from.regions) came)
 
-standing : (k : ℕ) (old w : Workbench) (before q : KeptQueue) (earlier : went.Went) → WantsBytes earlier → After k old w before q earlier → Stands k old w before q
+standing : (k : ℕ) (old w : ChainHandle) (before q : QueueState) (earlier : went.LoadOutcome) → WantsBytes earlier → After k old w before q earlier → Stands k old w before q
 standing k old w before q wents.Part wants h = h
 standing k old w before q (wents.On (says.Load n)) wants h = h
 standing k old w before q (wents.On says.Idle) wants h = absurd wants
@@ -312,7 +312,7 @@ standing k old w before q (wents.On (says.Refused e)) wants h = absurd wants
 standing k old w before q (wents.On (says.Chain head n r)) wants h = absurd wants
 standing k old w before q (wents.On (says.Faulty head fault)) wants h = absurd wants
 
-after_all : (given : List (List ℕ)) (old new : Workbench) (before after : KeptQueue) (told : went.Went) → before.stopped ≡ None → (walks : WalksBy given old new before after told)
+after_all : (given : List (List ℕ)) (old new : ChainHandle) (before after : QueueState) (told : went.LoadOutcome) → before.stopped ≡ None → (walks : WalksBy given old new before after told)
     → After (load_count given old new before after told walks) old new before after told
 after_all [] old new before after told goes walks = begun old new before after told goes walks
 after_all (bs ∷ given) old new before after told goes walks =
@@ -320,12 +320,12 @@ after_all (bs ∷ given) old new before after told goes walks =
     let k = load_count given old walks.0 before walks.1 walks.2 walks.3 in
     on_call k bs old walks.0 new before walks.1 after told goes (standing k old walks.0 before walks.1 walks.2 walks.4 earlier) walks.5
 
-few_standing_at : (k : ℕ) (old w : Workbench) (before q : KeptQueue) → Stands k old w before q → k ≤ before.layout.size + 4
+few_standing_at : (k : ℕ) (old w : ChainHandle) (before q : QueueState) → Stands k old w before q → k ≤ before.layout.size + 4
 few_standing_at k old w before q from =
     few_made k before.layout.size from.loaded from.come
     (few_standing (places_in old.regions) (queue_of (course_of before old.limit)) from.loaded w.descriptors.items from.walk from.inside from.stands)
 
-few_after : (k : ℕ) (old new : Workbench) (before after : KeptQueue) (told : went.Went) → After k old new before after told → k ≤ before.layout.size + 4
+few_after : (k : ℕ) (old new : ChainHandle) (before after : QueueState) (told : went.LoadOutcome) → After k old new before after told → k ≤ before.layout.size + 4
 few_after k old new before after wents.Part h = few_standing_at k old new before after h
 few_after k old new before after (wents.On (says.Load n)) h = few_standing_at k old new before after h
 few_after k old new before after (wents.On says.Idle) h = h

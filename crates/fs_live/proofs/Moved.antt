@@ -6,7 +6,7 @@ use Rattle.vm_memory_core.specs.Host.{changed_at}
 use Rattle.vm_memory.specs.Memory.{Memory}
 use Rattle.fs_queue.specs.Queue.{Queue}
 use Rattle.virtiofsd_fuse.specs.Serving.{May}
-use Rattle.fs_live.specs.Several.{LiveQueue, Ticket}
+use Rattle.fs_live.specs.Several.{LiveQueue, InFlightId}
 use Rattle.fs_live.specs.Live.{BeginsSo, Happens, KeepsQueue, LiveEvent, LiveRun, LiveState, Maps, MovesSo, OutChain}
 use Rattle.fs_live.specs.Runs.{IsEven, MovedGoesOn, StandsEven, tickets_on, untold}
 use Rattle.fs_live.proofs.Placed.{Ahead, kept_not, run_kept, started}
@@ -52,7 +52,7 @@ module _ (i : ℕ) where
       → slice_get now.queues i ≡ Some w → tickets_on i now.outs ≡ [] → IsEven w
   none_out_even may s now es w none even run there out =
       let kept = run_kept i may s now es run (started i s none even) in
-      subst (λ (ts : List Ticket). Ahead now.places w (length ts)) out (kept w there)
+      subst (λ (ts : List InFlightId). Ahead now.places w (length ts)) out (kept w there)
 
 pub stands_even : {F : Type 0} (may : May F) → StandsEven may
 stands_even {F} may s now es i w none even run there out = (
@@ -71,11 +71,11 @@ all_even [] each = tt
 all_even (w ∷ ws) each = (each 0 w refl, all_even ws (λ i v there. each (suc i) v there))
 
 -- a queue is told by its parts
-same_queue : (w v : LiveQueue) → w.queue ≡ v.queue → w.returned ≡ v.returned → untold w ≡ untold v → w ≡ v
-same_queue w v queue returned rest =
-    ap (λ (q : Queue). record { queue = q; returned = w.returned; most_out = w.most_out; event_index = w.event_index }) queue
-    ∙ ap (λ (r : ℕ). record { queue = v.queue; returned = r; most_out = w.most_out; event_index = w.event_index }) returned
-    ∙ ap (λ (u : ℕ × Bool). record { queue = v.queue; returned = v.returned; most_out = u.0; event_index = u.1 }) rest
+same_queue : (w v : LiveQueue) → w.queue ≡ v.queue → w.next_used ≡ v.next_used → untold w ≡ untold v → w ≡ v
+same_queue w v queue next_used rest =
+    ap (λ (q : Queue). record { queue = q; next_used = w.next_used; max_in_flight = w.max_in_flight; event_index = w.event_index }) queue
+    ∙ ap (λ (r : ℕ). record { queue = v.queue; next_used = r; max_in_flight = w.max_in_flight; event_index = w.event_index }) next_used
+    ∙ ap (λ (u : ℕ × Bool). record { queue = v.queue; next_used = v.next_used; max_in_flight = u.0; event_index = u.1 }) rest
 
 same_queues : (ws vs : List LiveQueue) → AllByRecursion IsEven ws → AllByRecursion IsEven vs → map (λ w. w.queue) ws ≡ map (λ w. w.queue) vs → map untold ws ≡ map untold vs → ws ≡ vs
 same_queues [] [] even stand queues rest_is = refl

@@ -6,7 +6,7 @@ use Rattle.fuse_fs.specs.Calls.{FileCall, FileAnswer}
 use Rattle.fuse_fs.specs.Calls as file
 use Rattle.server_calls.specs.Requests.{options_after}
 use Rattle.virtiofsd_fuse.specs.Grammar.{Meaning, IsFault, Replies, IsSilent, Asks, One, Starts, Lists}
-use Rattle.virtiofsd_fuse.specs.Listings.{Listing}
+use Rattle.virtiofsd_fuse.specs.Listings.{ListRequest}
 use Rattle.virtiofsd_fuse.specs.Serving.{Setting, agreed, served, setting, replied, start_options, list_answered}
 use Rattle.fs_live.specs.Handles.{OptionsStay, agrees, changes_options, is_destroy}
 
@@ -23,7 +23,7 @@ by_room room calls o bytes false is = rw is refl
 reply_leaves : (room : ℕ) (calls : List FileCall) (o : ℕ) (bytes : List ℕ) → (replied room calls o bytes).options ≡ o
 reply_leaves room calls o bytes = by_room room calls o bytes (nat_lt room (length bytes)) refl
 
-list_leaves : (s : Setting) (unique : ℕ) (l : Listing) (answer : FileAnswer) (answers : List FileAnswer) → (list_answered s unique l answer answers).options ≡ s.options
+list_leaves : (s : Setting) (unique : ℕ) (l : ListRequest) (answer : FileAnswer) (answers : List FileAnswer) → (list_answered s unique l answer answers).options ≡ s.options
 list_leaves s unique l (file.Failed a) answers = reply_leaves _ _ _ _
 list_leaves s unique l file.Done answers = refl
 list_leaves s unique l (file.HasEntry a) answers = refl
@@ -38,7 +38,7 @@ list_leaves s unique l (file.Offset a) answers = refl
 list_leaves s unique l (file.Entries a) answers = reply_leaves _ _ _ _
 list_leaves s unique l (file.Wants a) answers = refl
 
-pub lists_leave : (s : Setting) (unique : ℕ) (l : Listing) (answers : List FileAnswer) → (served s (Asks (Lists unique l)) answers).options ≡ s.options
+pub lists_leave : (s : Setting) (unique : ℕ) (l : ListRequest) (answers : List FileAnswer) → (served s (Asks (Lists unique l)) answers).options ≡ s.options
 lists_leave s unique l [] = refl
 lists_leave s unique l (a ∷ answers) = list_leaves s unique l a answers
 

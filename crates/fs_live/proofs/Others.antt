@@ -14,18 +14,18 @@ use Rattle.fs_regions.specs.Walks.{FetchesBy, queue_of}
 use Rattle.fuse_values.specs.declared.call.FileCall as made_call
 use Rattle.virtiofsd_fuse.specs.Grammar.{Meaning, meaning}
 use Rattle.virtiofsd_fuse.specs.Serving.{May, Setting, setting}
-use Rattle.fs_chain.specs.Asking.{KeepsCall}
+use Rattle.fs_chain.specs.Decoding.{KeepsCall}
 use Rattle.fs_chain.specs.Orders.{give_up_error, reply_len}
 use Rattle.fs_chain.specs.OwnReplies.{own_chain_error, own_error, own_len_error, own_reply}
 use Rattle.fs_chain.specs.Queues.{is_last, is_out_of}
-use Rattle.fs_chain.specs.Returns.{ReturnsBy}
+use Rattle.fs_chain.specs.Pushes.{PushesBy}
 use Rattle.fs_chain.specs.Walks.{course_of, out_of}
 use Rattle.fs_chain.specs.Whole.{FromReplied, FromTaken}
 use Rattle.fs_chain.specs.declared.error.ChainError.TheVariants as error
-use Rattle.fs_chain.specs.declared.queue.KeptQueue.{KeptQueue}
-use Rattle.fs_chain.specs.declared.state.Out.{Out}
-use Rattle.fs_chain.specs.declared.state.State as state
-use Rattle.fs_chain.specs.declared.state.State.TheVariants as at
+use Rattle.fs_chain.specs.declared.queue.QueueState.{QueueState}
+use Rattle.fs_chain.specs.declared.state.InFlight.{InFlight}
+use Rattle.fs_chain.specs.declared.state.ChainState as state
+use Rattle.fs_chain.specs.declared.state.ChainState.TheVariants as at
 use Rattle.fs_chain.proofs.WholeOffers.{fits_limit}
 use Rattle.fs_device.specs.Step.{Exchange}
 use Rattle.fs_device.specs.StepBy.{reply_stores, return_acts}
@@ -51,13 +51,13 @@ first_true false b is = is
 
 pub handle_drops : {F : Type 0} (may : May F) → HandleDrops may
 handle_drops {F} may s c before behind w kept out there fresh held none =
-    let o = out_of (course_of held.kept s.limit) held.ticket c.head c.descriptors in
-    let clear : give_up_error (at.Taken o) kept ≡ None = subst (λ (st : state.State). give_up_error st kept ≡ None) held.state none in
+    let o = out_of (course_of held.kept s.limit) held.pop_id c.head c.descriptors in
+    let clear : give_up_error (at.Taken o) kept ≡ None = subst (λ (st : state.ChainState). give_up_error st kept ≡ None) held.state none in
     let youngest : is_last kept o ≡ true = last_tests (is_out_of kept o) (is_last kept o) clear in
-    let tested : (kept.position == (held.kept.position + 1) % 2 ^ 16) ≡ true =
-    first_true (kept.position == (held.kept.position + 1) % 2 ^ 16) (nat_lt ((kept.taken + (2 ^ 32 - held.ticket.taken)) % 2 ^ 32) (2 ^ 16)) youngest in
-    let same : kept.position ≡ (held.kept.position + 1) % 2 ^ 16 = eqb-true kept.position ((held.kept.position + 1) % 2 ^ 16) tested in
-    let taken : c.taken.position ≡ held.kept.position = ap (λ (q : Queue). q.position) held.taken in (
+    let tested : (kept.next_avail == (held.kept.next_avail + 1) % 2 ^ 16) ≡ true =
+    first_true (kept.next_avail == (held.kept.next_avail + 1) % 2 ^ 16) (nat_lt ((kept.pop_count + (2 ^ 32 - held.pop_id.pop_count)) % 2 ^ 32) (2 ^ 16)) youngest in
+    let same : kept.next_avail ≡ (held.kept.next_avail + 1) % 2 ^ 16 = eqb-true kept.next_avail ((held.kept.next_avail + 1) % 2 ^ 16) tested in
+    let taken : c.taken.position ≡ held.kept.next_avail = ap (λ (q : Queue). q.position) held.taken in (
       record {
         before = before;
         behind = behind;
@@ -105,9 +105,9 @@ handle_replies {F} may s c before behind w serial options request reply reached 
     let fetches : FetchesBy c.places s.limit c.taken c.loaded ds c.head None =
     subst (λ (p : Phase). FetchesBy c.places s.limit c.taken c.loaded ds c.head (fault_of p)) fresh walked.0 in
     let fits = fits_limit c.places s.limit c.taken c.loaded ds c.head small fetches.1 in
-    let o = out_of (course_of held.kept s.limit) held.ticket c.head ds in
-    let told : o.request_len ≡ length request = subst (λ (st : state.State). FromTaken st (λ out. out.request_len ≡ length request)) held.state len in
-    let clear : own_error (at.Taken o) w.serial serial (length reply) ≡ None = subst (λ (st : state.State). own_error st w.serial serial (length reply) ≡ None) held.state none in
+    let o = out_of (course_of held.kept s.limit) held.pop_id c.head ds in
+    let told : o.request_len ≡ length request = subst (λ (st : state.ChainState). FromTaken st (λ out. out.request_len ≡ length request)) held.state len in
+    let clear : own_error (at.Taken o) w.serial serial (length reply) ≡ None = subst (λ (st : state.ChainState). own_error st w.serial serial (length reply) ≡ None) held.state none in
     let few : Fits o.room_len (length reply) = chain_fits w.serial serial o.room_len (length reply) clear in
     let room : length (room_of c) ≡ o.room_len = ap (λ (p : Phase). length (room_in p ds)) fresh ∙ fits.1 in (
       record {
@@ -119,32 +119,32 @@ handle_replies {F} may s c before behind w serial options request reply reached 
         counts = few.1;
         state = refl;
       },
-      subst (λ (st : state.State). IfOut st (λ out. IsOwn (record c { phase = Own request reply }) reply (at.HasReply out (own_reply (length reply))))) (sym held.state)
+      subst (λ (st : state.ChainState). IfOut st (λ out. IsOwn (record c { phase = Own request reply }) reply (at.HasReply out (own_reply (length reply))))) (sym held.state)
           (record { out = o; head = refl; taken = held.taken; fits = few.0; counts = few.1; state = refl }),
     )
 
 -- of a chain that a handle has: the reply has room
-held_so : (out : Out) (st : state.State) (mine serial len : ℕ) (P : Out → Type 0) → IfOut st (λ o. o ≡ out) → own_error st mine serial len ≡ None → (Fits out.room_len len → P out)
+held_so : (out : InFlight) (st : state.ChainState) (mine serial len : ℕ) (P : InFlight → Type 0) → IfOut st (λ o. o ≡ out) → own_error st mine serial len ≡ None → (Fits out.room_len len → P out)
     → Fits out.room_len len × IfOut st P
 held_so out (at.Taken kept) mine serial len P is none more =
-    let few : Fits out.room_len len = subst (λ (o : Out). Fits o.room_len len) is (chain_fits mine serial kept.room_len len none) in (few, subst P (sym is) (more few))
+    let few : Fits out.room_len len = subst (λ (o : InFlight). Fits o.room_len len) is (chain_fits mine serial kept.room_len len none) in (few, subst P (sym is) (more few))
 held_so out (at.Waits kept w) mine serial len P is none more =
-    let few : Fits out.room_len len = subst (λ (o : Out). Fits o.room_len len) is (chain_fits mine serial kept.room_len len none) in (few, subst P (sym is) (more few))
+    let few : Fits out.room_len len = subst (λ (o : InFlight). Fits o.room_len len) is (chain_fits mine serial kept.room_len len none) in (few, subst P (sym is) (more few))
 held_so out (at.Lists kept l) mine serial len P is none more =
-    let few : Fits out.room_len len = subst (λ (o : Out). Fits o.room_len len) is (chain_fits mine serial kept.room_len len none) in (few, subst P (sym is) (more few))
+    let few : Fits out.room_len len = subst (λ (o : InFlight). Fits o.room_len len) is (chain_fits mine serial kept.room_len len none) in (few, subst P (sym is) (more few))
 held_so out at.Free mine serial len P is none more = absurd is
-held_so out (at.Walking course ticket walk) mine serial len P is none more = absurd is
+held_so out (at.Walking course pop_id walk) mine serial len P is none more = absurd is
 held_so out (at.HasReply o reply) mine serial len P is none more = absurd is
-held_so out (at.Returning o) mine serial len P is none more = absurd is
+held_so out (at.Pushing o) mine serial len P is none more = absurd is
 
-keeps_out : (s : Setting) (m : Meaning) (behind : List ℕ) (made : made_call.FileCall) (out : Out) (st : state.State) → KeepsCall s m behind made out st → IfOut st (λ o. o ≡ out)
+keeps_out : (s : Setting) (m : Meaning) (behind : List ℕ) (made : made_call.FileCall) (out : InFlight) (st : state.ChainState) → KeepsCall s m behind made out st → IfOut st (λ o. o ≡ out)
 keeps_out s m behind made out (at.Waits kept w) keeps = keeps.0
 keeps_out s m behind made out (at.Lists kept l) keeps = keeps.0
 keeps_out s m behind made out at.Free keeps = absurd keeps
-keeps_out s m behind made out (at.Walking course ticket walk) keeps = absurd keeps
+keeps_out s m behind made out (at.Walking course pop_id walk) keeps = absurd keeps
 keeps_out s m behind made out (at.Taken o) keeps = absurd keeps
 keeps_out s m behind made out (at.HasReply o reply) keeps = absurd keeps
-keeps_out s m behind made out (at.Returning o) keeps = absurd keeps
+keeps_out s m behind made out (at.Pushing o) keeps = absurd keeps
 
 pub asked_is_held : AskedIsHeld
 asked_is_held page_size options request c made w kept =
@@ -160,7 +160,7 @@ asked_is_held page_size options request c made w kept =
 pub handle_replies_instead : {F : Type 0} (may : May F) → HandleRepliesInstead may
 handle_replies_instead {F} may s c before behind w serial asked options request reply calls out phase held none =
     let o = held.out in
-    let P : Out → Type 0 = λ out. IsOwn (record c { phase = Own request reply }) reply (at.HasReply out (own_reply (length reply))) in
+    let P : InFlight → Type 0 = λ out. IsOwn (record c { phase = Own request reply }) reply (at.HasReply out (own_reply (length reply))) in
     let so = held_so o w.state w.serial serial (length reply) P held.is none
     (λ few. record { out = o; head = held.head; taken = held.taken; fits = few.0; counts = few.1; state = refl }) in (
       record {
@@ -182,7 +182,7 @@ low_again n few = omega (arith, few)
 none_before : (n : ℕ) → 0 + n ≡ n
 none_before n = omega arith
 
-told_len : (o : Out) (n : ℕ) → Fits o.room_len n → reply_len o (own_reply n) ≡ n
+told_len : (o : InFlight) (n : ℕ) → Fits o.room_len n → reply_len o (own_reply n) ≡ n
 told_len o n few = ap (λ (k : ℕ). min (min k o.room_len) (2 ^ 32 - 1)) (none_before n) ∙ ap (λ (k : ℕ). min k (2 ^ 32 - 1)) (min-eq_left few.0) ∙ min-eq_left (low_again n few.1)
 
 pub handle_returns_own : {F : Type 0} (may : May F) → HandleReturnsOwn may
@@ -192,16 +192,16 @@ handle_returns_own {F} may s c before behind st kept request reply acts last not
     let flags = back.flags in
     let room = room_of c in
     let x : Exchange = own_exchange c.head request reply in
-    let by : ReturnsBy kept o (own_reply n) back.stores × (acts ≡ return_acts (reply_stores room reply last ++ stores_of back.stores.used) flags) =
-    subst (λ (k : state.State). FromReplied kept k (λ r s₁. acts ≡ return_acts (reply_stores room reply last ++ stores_of s₁.used) flags) back.stores) own.state back.returns in
+    let by : PushesBy kept o (own_reply n) back.stores × (acts ≡ return_acts (reply_stores room reply last ++ stores_of back.stores.used) flags) =
+    subst (λ (k : state.ChainState). FromReplied kept k (λ r s₁. acts ≡ return_acts (reply_stores room reply last ++ stores_of s₁.used) flags) back.stores) own.state back.returns in
     let q = returning (live_of kept) in
     let used = stores_after_reply q c.head n in
     let laid : queue_of o.course ≡ at_position kept.layout c.taken.position = sym own.taken ∙ taken in
     let stored : stores_of back.stores.used ≡ used =
     by.0.1
-    ∙ ap (λ (k : Queue). stores_after_reply (record k { position = kept.returned }) o.head (reply_len o (own_reply n))) laid
-    ∙ ap (λ (h : ℕ). stores_after_reply (at_position kept.layout kept.returned) h (reply_len o (own_reply n))) own.head
-    ∙ ap (λ (k : ℕ). stores_after_reply (at_position kept.layout kept.returned) c.head k) (told_len o n (own.fits, own.counts)) in
+    ∙ ap (λ (k : Queue). stores_after_reply (record k { position = kept.next_used }) o.head (reply_len o (own_reply n))) laid
+    ∙ ap (λ (h : ℕ). stores_after_reply (at_position kept.layout kept.next_used) h (reply_len o (own_reply n))) own.head
+    ∙ ap (λ (k : ℕ). stores_after_reply (at_position kept.layout kept.next_used) c.head k) (told_len o n (own.fits, own.counts)) in
     let acts_are : acts ≡ return_acts (reply_stores room reply last ++ used) flags = by.1 ∙ ap (λ (u : List Store). return_acts (reply_stores room reply last ++ u) flags) stored in
     let goes : GoesBackWith s.page_size c c.phase x = subst (λ (p : Phase). GoesBackWith s.page_size c p x) (sym phase) refl in
     let seen : back.stores.seen_at ≡ seen_at (live_of kept) = by.0.2 ∙ ap (λ (k : Queue). seen_of kept.event_index k) laid in (
@@ -235,7 +235,7 @@ handle_maps {F} may s w keeps =
       | inr kept ↦ kept
     ] in record { keeps = all; state = refl }
 
-all_recorded : (ks : List KeptQueue) → map (λ w. w.queue) (map live_of ks) ≡ map recorded ks
+all_recorded : (ks : List QueueState) → map (λ w. w.queue) (map live_of ks) ≡ map recorded ks
 all_recorded [] = refl
 all_recorded (k ∷ ks) = ap (λ (l : List Queue). recorded k ∷ l) (all_recorded ks)
 

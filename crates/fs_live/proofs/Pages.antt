@@ -138,11 +138,11 @@ TellsTwo (Some store) = firsts (flat_map writes_of (store ∷ [])) ≡ addresses
 two_told : (a v : ℕ) → firsts (flat_map writes_of (record { address = a; bytes = to_le_bytes w16 v } ∷ [])) ≡ addresses a 2
 two_told a v = ap firsts (append-nil (zip (addresses a 2) (to_le_bytes w16 v))) ∙ whole_firsts a 2 (to_le_bytes w16 v) refl
 
-sleep_told : (q : Queue) (returned most_out : ℕ) (event wanted : Bool) → TellsTwo (sleep_store (record { queue = q; returned = returned; most_out = most_out; event_index = event }) wanted)
-sleep_told q returned most_out true true = two_told (avail_event_at q) q.position
-sleep_told q returned most_out true false = tt
-sleep_told q returned most_out false true = two_told q.used 0
-sleep_told q returned most_out false false = two_told q.used 1
+sleep_told : (q : Queue) (next_used max_in_flight : ℕ) (event wanted : Bool) → TellsTwo (sleep_store (record { queue = q; next_used = next_used; max_in_flight = max_in_flight; event_index = event }) wanted)
+sleep_told q next_used max_in_flight true true = two_told (avail_event_at q) q.position
+sleep_told q next_used max_in_flight true false = tt
+sleep_told q next_used max_in_flight false true = two_told q.used 0
+sleep_told q next_used max_in_flight false false = two_told q.used 1
 
 -- stores in a room
 fills_told : (stores : List Store) → firsts (flat_map writes_of stores) ≡ flat_map (λ store. addresses store.address (length store.bytes)) stores
@@ -164,7 +164,7 @@ one_event may s mid (Returns c x notice last used seen) h p =
     ∙ ap (list_any p) (sym (returns_told s mid c x notice last used seen so))
 one_event may s mid (Sleeps i store) h p =
     let so : SleepsSo s i store mid = h in
-    ap (list_any p) (subst TellsTwo so.stores (sleep_told so.w.queue so.w.returned so.w.most_out so.w.event_index so.wanted))
+    ap (list_any p) (subst TellsTwo so.stores (sleep_told so.w.queue so.w.next_used so.w.max_in_flight so.w.event_index so.wanted))
 one_event may s mid (Begins i w) h p = refl
 one_event may s mid (Fills c stores) h p = ap (list_any p) (ap (λ (l : List Store). firsts (flat_map writes_of l)) (among_stores stores) ∙ fills_told stores)
 one_event may s mid (Drops c) h p = refl

@@ -8,11 +8,11 @@ use Rattle.vm_memory.specs.Memory.{Memory}
 use Rattle.fs_queue.specs.Chain.{Descriptor}
 use Rattle.fs_queue.specs.Queue.{with_stop}
 use Rattle.fs_queue.specs.Taking.{return_fault, stops_queue}
-use Rattle.fs_regions.specs.declared.step.Step as comes
-use Rattle.fs_regions.specs.declared.step.Step.TheVariants as step
+use Rattle.fs_regions.specs.declared.step.CourseStep as comes
+use Rattle.fs_regions.specs.declared.step.CourseStep.TheVariants as step
 use Rattle.fs_regions.specs.Walks.{Loaded}
 use Rattle.virtiofsd_fuse.specs.Serving.{May}
-use Rattle.fs_live.specs.Several.{LiveQueue, Ticket, took, untook, gave, returning}
+use Rattle.fs_live.specs.Several.{LiveQueue, InFlightId, took, untook, gave, returning}
 use Rattle.fs_live.specs.Live.{Phase, Faulty, Fetched, Asked, Own, Lost, OutChain, LiveState, LiveEvent, Walks, Declines, Asks, Answers, Returns, Sleeps, Begins, Fills, Drops, Abandons, Replies, Maps, Moves, Happens, LiveRun}
 use Rattle.fs_live.specs.Live.{IfKeepsReturns, KeepsQueue, KeepsReturns, WalksIn, after_answer, after_asking, after_beginning, after_drop, after_giving, after_loss, after_own, asked_chain, fault_of, lost_chain, new_chain}
 use Rattle.fs_live.specs.Live.{room_in, why_declined}
@@ -26,7 +26,7 @@ use Rattle.fs_live.proofs.Queues.{apart_of, dropped, goes_on, none_some, one_tic
 
 -- the next return has places
 abbrev pub Next : Memory → LiveQueue → Type 0
-Next m w = (return_fault m (returning w) ≡ None) × HasUsedEvent m w × (w.returned < 2 ^ 16)
+Next m w = (return_fault m (returning w) ≡ None) × HasUsedEvent m w × (w.next_used < 2 ^ 16)
 
 -- so have n returns from the next one on, and behind them is the position where the next chain is taken
 abbrev pub Ahead : Memory → LiveQueue → ℕ → Type 0
@@ -66,7 +66,7 @@ small_back : (p : ℕ) → (p + (2 ^ 16 - 1)) % 2 ^ 16 < 2 ^ 16
 small_back p = omega arith
 
 ahead_dropped : (m : Memory) (w : LiveQueue) (n : ℕ) → Ahead m w (suc n) → Ahead m (untook w) n
-ahead_dropped m w zero ahead = let even : IsEven (gave w) = ahead.1 in (back_one w.returned w.queue.position ahead.0.2 even.0, small_back w.queue.position)
+ahead_dropped m w zero ahead = let even : IsEven (gave w) = ahead.1 in (back_one w.next_used w.queue.position ahead.0.2 even.0, small_back w.queue.position)
 ahead_dropped m w (suc n) ahead = (ahead.0, ahead_dropped m (gave w) n ahead.1)
 
 -- by a memory that keeps a queue's returns there are as many ahead
@@ -74,7 +74,7 @@ kept_gave : (m m' : Memory) (w : LiveQueue) → KeepsReturns m m' w → KeepsRet
 kept_gave m m' w keeps = record { returns = keeps.returns; event = keeps.event }
 
 next_mapped : (m m' : Memory) (w : LiveQueue) → KeepsReturns m m' w → Next m w → Next m' w
-next_mapped m m' w keeps next = (keeps.returns w.returned ∙ next.0, λ event. keeps.event ∙ next.1 event, next.2)
+next_mapped m m' w keeps next = (keeps.returns w.next_used ∙ next.0, λ event. keeps.event ∙ next.1 event, next.2)
 
 ahead_mapped : (m m' : Memory) (w : LiveQueue) (n : ℕ) → KeepsReturns m m' w → Ahead m w n → Ahead m' w n
 ahead_mapped m m' w zero keeps even = even
@@ -114,27 +114,27 @@ module _ (i : ℕ) where
   -- one more is out
   one_more : (cs : List OutChain) (c : OutChain) → (c.queue == i) ≡ true → out_on (cs ++ c ∷ []) ≡ suc (out_on cs)
   one_more cs c is =
-      ap (λ (l : List Ticket). length l) (tickets-append i cs (c ∷ []) ∙ ap (λ (l : List Ticket). tickets_on i cs ++ l) (one_ticket i c [] true is))
+      ap (λ (l : List InFlightId). length l) (tickets-append i cs (c ∷ []) ∙ ap (λ (l : List InFlightId). tickets_on i cs ++ l) (one_ticket i c [] true is))
       ∙ length-append (tickets_on i cs) ((c.taken.position, c.head) ∷ []) ∙ omega arith
 
   -- a chain of another queue is none
   none_more : (cs : List OutChain) (c : OutChain) → (c.queue == i) ≡ false → out_on (cs ++ c ∷ []) ≡ out_on cs
   none_more cs c is =
-      ap (λ (l : List Ticket). length l)
-      (tickets-append i cs (c ∷ []) ∙ ap (λ (l : List Ticket). tickets_on i cs ++ l) (one_ticket i c [] false is) ∙ append-nil (tickets_on i cs))
+      ap (λ (l : List InFlightId). length l)
+      (tickets-append i cs (c ∷ []) ∙ ap (λ (l : List InFlightId). tickets_on i cs ++ l) (one_ticket i c [] false is) ∙ append-nil (tickets_on i cs))
 
   -- one goes back
   one_less : (before behind : List OutChain) (c : OutChain) → (c.queue == i) ≡ true → out_on (before ++ c ∷ behind) ≡ suc (out_on (before ++ behind))
   one_less before behind c is =
-      ap (λ (l : List Ticket). length l) (tickets-append i before (c ∷ behind) ∙ ap (λ (l : List Ticket). tickets_on i before ++ l) (one_ticket i c behind true is))
+      ap (λ (l : List InFlightId). length l) (tickets-append i before (c ∷ behind) ∙ ap (λ (l : List InFlightId). tickets_on i before ++ l) (one_ticket i c behind true is))
       ∙ length-append (tickets_on i before) ((c.taken.position, c.head) ∷ tickets_on i behind)
       ∙ sum_suc (out_on before) (out_on behind)
-      ∙ ap suc (sym (ap (λ (l : List Ticket). length l) (tickets-append i before behind) ∙ length-append (tickets_on i before) (tickets_on i behind)))
+      ∙ ap suc (sym (ap (λ (l : List InFlightId). length l) (tickets-append i before behind) ∙ length-append (tickets_on i before) (tickets_on i behind)))
 
   none_less : (before behind : List OutChain) (c : OutChain) → (c.queue == i) ≡ false → out_on (before ++ behind) ≡ out_on (before ++ c ∷ behind)
   none_less before behind c is =
-      ap (λ (l : List Ticket). length l)
-      (tickets-append i before behind ∙ sym (tickets-append i before (c ∷ behind) ∙ ap (λ (l : List Ticket). tickets_on i before ++ l) (one_ticket i c behind false is)))
+      ap (λ (l : List InFlightId). length l)
+      (tickets-append i before behind ∙ sym (tickets-append i before (c ∷ behind) ∙ ap (λ (l : List InFlightId). tickets_on i before ++ l) (one_ticket i c behind false is)))
 
 module _ (i : ℕ) where
   -- the chains of queue i that are out have places ahead
@@ -161,7 +161,7 @@ module _ (i : ℕ) where
   stays s mid places queues outs kept =
       λ w there.
       subst (λ (k : Memory). Ahead k w (out_on i mid.outs)) (sym places)
-      (subst (λ (n : ℕ). Ahead s.places w n) (sym (ap (λ (l : List Ticket). length l) outs)) (kept w (sym (ap (λ (l : List LiveQueue). slice_get l i) queues) ∙ there)))
+      (subst (λ (n : ℕ). Ahead s.places w n) (sym (ap (λ (l : List InFlightId). length l) outs)) (kept w (sym (ap (λ (l : List LiveQueue). slice_get l i) queues) ∙ there)))
 
   refuses : {F : Type 0} (s : LiveState F) (j : ℕ) (v : LiveQueue) (stops : Bool) → slice_get s.queues j ≡ Some v → Kept s
       → Kept (record s { queues = changed_at s.queues j (λ _. record v { queue = if stops then with_stop v.queue else v.queue }) })
@@ -176,7 +176,7 @@ module _ (i : ℕ) where
       (λ is ahead. subst (λ (n : ℕ). Ahead s.places (took v) n) (sym (one_more i s.outs c (ap (λ (n : ℕ). n == i) of_queue ∙ is))) (ahead_took s.places v (out_on i s.outs) goes event ahead))
       (λ is. none_more i s.outs c (ap (λ (n : ℕ). n == i) of_queue ∙ is)) kept
 
-  walks : {F : Type 0} (s mid : LiveState F) (j : ℕ) (v : LiveQueue) (loaded : Loaded) (ds : List Descriptor) (came : comes.Step) → slice_get s.queues j ≡ Some v
+  walks : {F : Type 0} (s mid : LiveState F) (j : ℕ) (v : LiveQueue) (loaded : Loaded) (ds : List Descriptor) (came : comes.CourseStep) → slice_get s.queues j ≡ Some v
       → why_declined s.places v ≡ None → WalksIn s j v loaded ds came mid → Kept s → Kept mid
   walks s mid j v loaded ds (step.Load walk) at clear h kept = absurd h
   walks {F} s mid j v loaded ds step.Idle at clear h kept = subst (λ (k : LiveState F). Kept k) (sym h.1) kept
@@ -195,7 +195,7 @@ module _ (i : ℕ) where
       → (Ahead s.places w (out_on i cs) → Ahead m' w (out_on i cs)) → Ahead s.places w (out_on i (c ∷ cs)) → Ahead m' w (out_on i (c ∷ cs))
   mapped_by s m' w c true there is keeps cs rest ahead = ahead_mapped s.places m' w (out_on i (c ∷ cs)) (of_one s m' w c there is keeps) ahead
   mapped_by s m' w c false there is keeps cs rest ahead =
-      let none : out_on i (c ∷ cs) ≡ out_on i cs = ap (λ (l : List Ticket). length l) (one_ticket i c cs false is) in
+      let none : out_on i (c ∷ cs) ≡ out_on i cs = ap (λ (l : List InFlightId). length l) (one_ticket i c cs false is) in
       subst (λ (n : ℕ). Ahead m' w n) (sym none) (rest (subst (λ (n : ℕ). Ahead s.places w n) none ahead))
 
   mapped_all : {F : Type 0} (s : LiveState F) (m' : Memory) (w : LiveQueue) (cs : List OutChain) → slice_get s.queues i ≡ Some w → AllByRecursion (KeepsQueue s m') cs
@@ -225,8 +225,8 @@ module _ (i : ℕ) where
   keeps {F} may s mid (Begins j v) h kept =
       subst (λ (k : LiveState F). Kept k) (sym h.state)
       (changes s (after_beginning s j v) j h.old v (j == i) refl refl refl h.there
-      (λ is ahead. subst (λ (l : List Ticket). Ahead s.places v (length l)) (sym (none_left i j s.outs is)) h.both)
-      (λ is. ap (λ (l : List Ticket). length l) (dropped i j s.outs (apart_of j i is))) kept)
+      (λ is ahead. subst (λ (l : List InFlightId). Ahead s.places v (length l)) (sym (none_left i j s.outs is)) h.both)
+      (λ is. ap (λ (l : List InFlightId). length l) (dropped i j s.outs (apart_of j i is))) kept)
   keeps {F} may s mid (Fills c stores) h kept = subst (λ (k : LiveState F). Kept k) (sym h.state) kept
   keeps {F} may s mid (Drops c) h kept =
       let out : out_on i s.outs ≡ out_on i (h.before ++ c ∷ h.behind) = ap (λ (cs : List OutChain). out_on i cs) h.out in
@@ -336,7 +336,7 @@ refusal_tied : {F : Type 0} (s : LiveState F) (j : ℕ) (v : LiveQueue) (stops :
     → AllTied (record s { queues = changed_at s.queues j (λ _. record v { queue = if stops then with_stop v.queue else v.queue }) })
 refusal_tied s j v stops at all = all_tied s.places s.queues j v (record v { queue = if stops then with_stop v.queue else v.queue }) s.outs at (refusal_moves v stops) all
 
-walk_tied : {F : Type 0} (s mid : LiveState F) (j : ℕ) (v : LiveQueue) (loaded : Loaded) (ds : List Descriptor) (came : comes.Step) → slice_get s.queues j ≡ Some v → WalksIn s j v loaded ds came mid
+walk_tied : {F : Type 0} (s mid : LiveState F) (j : ℕ) (v : LiveQueue) (loaded : Loaded) (ds : List Descriptor) (came : comes.CourseStep) → slice_get s.queues j ≡ Some v → WalksIn s j v loaded ds came mid
     → AllTied s → AllTied mid
 walk_tied s mid j v loaded ds (step.Load walk) at h all = absurd h
 walk_tied {F} s mid j v loaded ds step.Idle at h all = subst (λ (k : LiveState F). AllTied k) (sym h.1) all
@@ -394,7 +394,7 @@ room_fits m ds (Lost fault) fits = refl
 
 -- its return has places by those of its walk, as it has by those of now
 back_there : (now m : Memory) (w : LiveQueue) → KeepsReturns m now w → Next now w → Next m w
-back_there now m w keeps next = (sym (keeps.returns w.returned) ∙ next.0, λ event. sym keeps.event ∙ next.1 event, next.2)
+back_there now m w keeps next = (sym (keeps.returns w.next_used) ∙ next.0, λ event. sym keeps.event ∙ next.1 event, next.2)
 
 pub returns_have_places : {F : Type 0} (may : May F) → ReturnsHavePlaces may
 returns_have_places {F} may s now after es c x notice last used seen none even run h =

@@ -8,11 +8,11 @@ use Rattle.fs_queue.specs.Chain.{Descriptor}
 use Rattle.fs_queue.specs.Queue.{with_stop}
 use Rattle.fs_queue.specs.Returning.{Store, stores_after_reply}
 use Rattle.fs_queue.specs.Taking.{stops_queue}
-use Rattle.fs_regions.specs.declared.step.Step as comes
-use Rattle.fs_regions.specs.declared.step.Step.TheVariants as step
+use Rattle.fs_regions.specs.declared.step.CourseStep as comes
+use Rattle.fs_regions.specs.declared.step.CourseStep.TheVariants as step
 use Rattle.fs_regions.specs.Walks.{Loaded}
 use Rattle.virtiofsd_fuse.specs.Serving.{May}
-use Rattle.fs_live.specs.Several.{LiveQueue, Ticket, Event, RunsOver, may_take, took, untook, gave, returning}
+use Rattle.fs_live.specs.Several.{LiveQueue, InFlightId, QueueEvent, RunsOver, may_take, took, untook, gave, returning}
 use Rattle.fs_live.specs.Several as several
 use Rattle.fs_live.proofs.SeveralRuns.{once, used_in_order}
 use Rattle.fs_live.specs.Live.{OutChain, LiveState, LiveEvent, Walks, Declines, Asks, Answers, Returns, Sleeps, Begins, Fills, Drops, Abandons, Replies, Maps, Moves, Happens, LiveRun, WalksIn}
@@ -59,7 +59,7 @@ pub apart_of : (j i : ℕ) → (j == i) ≡ false → j ≡ i → ⊥
 apart_of j i other same = not_both (i == i) (self i) (subst (λ (k : ℕ). (k == i) ≡ false) same other)
 
 module _ (i : ℕ) where
-  abbrev ticket_of : OutChain → Ticket
+  abbrev ticket_of : OutChain → InFlightId
   ticket_of c = (c.taken.position, c.head)
 
   pub one_ticket : (c : OutChain) (cs : List OutChain) (b : Bool) → (c.queue == i) ≡ b → tickets_on i (c ∷ cs) ≡ (if b then ticket_of c ∷ tickets_on i cs else tickets_on i cs)
@@ -69,8 +69,8 @@ module _ (i : ℕ) where
   ticket_and : (c : OutChain) (xs ys : List OutChain) (b : Bool) → (c.queue == i) ≡ b → tickets_on i (xs ++ ys) ≡ tickets_on i xs ++ tickets_on i ys
       → tickets_on i (c ∷ (xs ++ ys)) ≡ tickets_on i (c ∷ xs) ++ tickets_on i ys
   ticket_and c xs ys true is more =
-      one_ticket c (xs ++ ys) true is ∙ ap (λ (l : List Ticket). ticket_of c ∷ l) more ∙ sym (ap (λ (l : List Ticket). l ++ tickets_on i ys) (one_ticket c xs true is))
-  ticket_and c xs ys false is more = one_ticket c (xs ++ ys) false is ∙ more ∙ sym (ap (λ (l : List Ticket). l ++ tickets_on i ys) (one_ticket c xs false is))
+      one_ticket c (xs ++ ys) true is ∙ ap (λ (l : List InFlightId). ticket_of c ∷ l) more ∙ sym (ap (λ (l : List InFlightId). l ++ tickets_on i ys) (one_ticket c xs true is))
+  ticket_and c xs ys false is more = one_ticket c (xs ++ ys) false is ∙ more ∙ sym (ap (λ (l : List InFlightId). l ++ tickets_on i ys) (one_ticket c xs false is))
 
   pub tickets-append : (xs ys : List OutChain) → tickets_on i (xs ++ ys) ≡ tickets_on i xs ++ tickets_on i ys
   tickets-append [] ys = refl
@@ -82,12 +82,12 @@ module _ (i : ℕ) where
   goes_on before behind c d true is same ticket =
       let is_d : (d.queue == i) ≡ true = ap (λ (n : ℕ). n == i) same ∙ is in
       tickets-append before (d ∷ behind)
-      ∙ ap (λ (l : List Ticket). tickets_on i before ++ l) (one_ticket d behind true is_d ∙ ap (λ (t : Ticket). t ∷ tickets_on i behind) ticket ∙ sym (one_ticket c behind true is))
+      ∙ ap (λ (l : List InFlightId). tickets_on i before ++ l) (one_ticket d behind true is_d ∙ ap (λ (t : InFlightId). t ∷ tickets_on i behind) ticket ∙ sym (one_ticket c behind true is))
       ∙ sym (tickets-append before (c ∷ behind))
   goes_on before behind c d false is same ticket =
       let is_d : (d.queue == i) ≡ false = ap (λ (n : ℕ). n == i) same ∙ is in
       tickets-append before (d ∷ behind)
-      ∙ ap (λ (l : List Ticket). tickets_on i before ++ l) (one_ticket d behind false is_d ∙ sym (one_ticket c behind false is))
+      ∙ ap (λ (l : List InFlightId). tickets_on i before ++ l) (one_ticket d behind false is_d ∙ sym (one_ticket c behind false is))
       ∙ sym (tickets-append before (c ∷ behind))
 
   -- chains of another queue are out no more
@@ -100,7 +100,7 @@ module _ (i : ℕ) where
   one_dropped j c cs true true apart is other more = absurd (apart (sym (eqb-true c.queue j other) ∙ eqb-true c.queue i is))
   one_dropped j c cs true false apart is other more =
       ap (λ (l : List OutChain). tickets_on i l) (kept_not (λ c. not (c.queue == j)) c cs true (ap not other))
-      ∙ one_ticket c (filter (λ c. not (c.queue == j)) cs) true is ∙ ap (λ (l : List Ticket). ticket_of c ∷ l) more ∙ sym (one_ticket c cs true is)
+      ∙ one_ticket c (filter (λ c. not (c.queue == j)) cs) true is ∙ ap (λ (l : List InFlightId). ticket_of c ∷ l) more ∙ sym (one_ticket c cs true is)
   one_dropped j c cs false true apart is other more =
       ap (λ (l : List OutChain). tickets_on i l) (kept_not (λ c. not (c.queue == j)) c cs false (ap not other)) ∙ more ∙ sym (one_ticket c cs false is)
   one_dropped j c cs false false apart is other more =
@@ -113,17 +113,17 @@ module _ (i : ℕ) where
 
   -- ---- an event
 
-  abbrev Carries : {F : Type 0} → (s mid : LiveState F) → LiveQueue → List Event → Type 0
+  abbrev Carries : {F : Type 0} → (s mid : LiveState F) → LiveQueue → List QueueEvent → Type 0
   Carries s mid w now =
       (w₁ : LiveQueue) × (slice_get mid.queues i ≡ Some w₁)
-      × ((es : List Event) (v : LiveQueue) (outs : List Ticket) → RunsOver (going w₁) (tickets_on i mid.outs) es v outs → RunsOver (going w) (tickets_on i s.outs) (now ++ es) v outs)
+      × ((es : List QueueEvent) (v : LiveQueue) (outs : List InFlightId) → RunsOver (going w₁) (tickets_on i mid.outs) es v outs → RunsOver (going w) (tickets_on i s.outs) (now ++ es) v outs)
 
   stays : {F : Type 0} (s mid : LiveState F) (w w₁ : LiveQueue) → slice_get mid.queues i ≡ Some w₁ → going w₁ ≡ going w → tickets_on i mid.outs ≡ tickets_on i s.outs → Carries s mid w []
   stays s mid w w₁ there same outs_are = (
     w₁,
     there,
     λ es v outs run.
-        subst (λ (k : LiveQueue). RunsOver k (tickets_on i s.outs) es v outs) same (subst (λ (l : List Ticket). RunsOver (going w₁) l es v outs) outs_are run),
+        subst (λ (k : LiveQueue). RunsOver k (tickets_on i s.outs) es v outs) same (subst (λ (l : List InFlightId). RunsOver (going w₁) l es v outs) outs_are run),
   )
 
   refused_going : (w : LiveQueue) (b : Bool) → going (record w { queue = if b then with_stop w.queue else w.queue }) ≡ going w
@@ -151,19 +151,19 @@ module _ (i : ℕ) where
       let mid : LiveState F = record s { queues = changed_at s.queues j (λ _. took v); outs = s.outs ++ c ∷ [] } in
       let outs_are : tickets_on i (s.outs ++ c ∷ []) ≡ tickets_on i s.outs ++ (v.queue.position, c.head) ∷ [] =
       tickets-append s.outs (c ∷ [])
-      ∙ ap (λ (l : List Ticket). tickets_on i s.outs ++ l) (one_ticket c [] true (ap (λ (n : ℕ). n == i) of_queue ∙ is) ∙ ap (λ k. (k.position, c.head) ∷ []) taken) in
+      ∙ ap (λ (l : List InFlightId). tickets_on i s.outs ++ l) (one_ticket c [] true (ap (λ (n : ℕ). n == i) of_queue ∙ is) ∙ ap (λ k. (k.position, c.head) ∷ []) taken) in
       subst (λ (k : LiveQueue). Carries s mid k (several.Takes c.head ∷ [])) one (
         took v,
         there_same s.queues j i (λ _. took v) w same there,
-        λ es u outs run. (may, subst (λ (l : List Ticket). RunsOver (going (took v)) l es u outs) outs_are run),
+        λ es u outs run. (may, subst (λ (l : List InFlightId). RunsOver (going (took v)) l es u outs) outs_are run),
       )
   takes {F} s j w v false c is there at of_queue taken may =
       let mid : LiveState F = record s { queues = changed_at s.queues j (λ _. took v); outs = s.outs ++ c ∷ [] } in
       stays s mid w w (there_other s.queues j i (λ _. took v) (apart_of j i is) ∙ there) refl
-      (tickets-append s.outs (c ∷ []) ∙ ap (λ (l : List Ticket). tickets_on i s.outs ++ l) (one_ticket c [] false (ap (λ (n : ℕ). n == i) of_queue ∙ is)) ∙ append-nil (tickets_on i s.outs))
+      (tickets-append s.outs (c ∷ []) ∙ ap (λ (l : List InFlightId). tickets_on i s.outs ++ l) (one_ticket c [] false (ap (λ (n : ℕ). n == i) of_queue ∙ is)) ∙ append-nil (tickets_on i s.outs))
 
   -- walks
-  walks : {F : Type 0} (s mid : LiveState F) (j : ℕ) (w v : LiveQueue) (loaded : Loaded) (ds : List Descriptor) (came : comes.Step) → slice_get s.queues i ≡ Some w → slice_get s.queues j ≡ Some v
+  walks : {F : Type 0} (s mid : LiveState F) (j : ℕ) (w v : LiveQueue) (loaded : Loaded) (ds : List Descriptor) (came : comes.CourseStep) → slice_get s.queues i ≡ Some w → slice_get s.queues j ≡ Some v
       → IsTrue (may_take v) → WalksIn s j v loaded ds came mid → Carries s mid w (event_on i (Walks j loaded ds came))
   walks s mid j w v loaded ds (step.Load walk) there at room h = absurd h
   walks {F} s mid j w v loaded ds step.Idle there at room h = subst (λ (k : LiveState F). Carries s k w []) (sym h.1) (stays s s w w there refl refl)
@@ -183,7 +183,7 @@ module _ (i : ℕ) where
       let one : v ≡ w = same_some v w (sym at ∙ ap (λ (n : ℕ). slice_get s.queues n) same ∙ there) in
       let mid : LiveState F = record s { queues = changed_at s.queues c.queue (λ _. gave v); outs = before ++ behind } in
       let split : tickets_on i s.outs ≡ tickets_on i before ++ ticket_of c ∷ tickets_on i behind =
-      ap (λ (l : List OutChain). tickets_on i l) out ∙ tickets-append before (c ∷ behind) ∙ ap (λ (l : List Ticket). tickets_on i before ++ l) (one_ticket c behind true is) in
+      ap (λ (l : List OutChain). tickets_on i l) out ∙ tickets-append before (c ∷ behind) ∙ ap (λ (l : List InFlightId). tickets_on i before ++ l) (one_ticket c behind true is) in
       subst (λ (k : LiveQueue). Carries s mid k (several.Returns (c.taken.position, c.head) len used ∷ [])) one (
         gave v,
         there_same s.queues c.queue i (λ _. gave v) w same there,
@@ -192,14 +192,14 @@ module _ (i : ℕ) where
           tickets_on i behind,
           split,
           used_is,
-          subst (λ (l : List Ticket). RunsOver (going (gave v)) l es u outs) (tickets-append before behind) run,
+          subst (λ (l : List InFlightId). RunsOver (going (gave v)) l es u outs) (tickets-append before behind) run,
         ),
       )
   returns {F} s before behind c w v false len used is there at out used_is =
       let mid : LiveState F = record s { queues = changed_at s.queues c.queue (λ _. gave v); outs = before ++ behind } in
       stays s mid w w (there_other s.queues c.queue i (λ _. gave v) (apart_of c.queue i is) ∙ there) refl
       (tickets-append before behind
-      ∙ sym (ap (λ (l : List OutChain). tickets_on i l) out ∙ tickets-append before (c ∷ behind) ∙ ap (λ (l : List Ticket). tickets_on i before ++ l) (one_ticket c behind false is)))
+      ∙ sym (ap (λ (l : List OutChain). tickets_on i l) out ∙ tickets-append before (c ∷ behind) ∙ ap (λ (l : List InFlightId). tickets_on i before ++ l) (one_ticket c behind false is)))
 
   -- a chain is given up
   drops : {F : Type 0} (s : LiveState F) (before behind : List OutChain) (c : OutChain) (w v : LiveQueue) (b : Bool) → (c.queue == i) ≡ b
@@ -209,7 +209,7 @@ module _ (i : ℕ) where
       let same : c.queue ≡ i = eqb-true c.queue i is in
       let one : v ≡ w = same_some v w (sym at ∙ ap (λ (n : ℕ). slice_get s.queues n) same ∙ there) in
       let split : tickets_on i s.outs ≡ tickets_on i before ++ ticket_of c ∷ tickets_on i behind =
-      ap (λ (l : List OutChain). tickets_on i l) out ∙ tickets-append before (c ∷ behind) ∙ ap (λ (l : List Ticket). tickets_on i before ++ l) (one_ticket c behind true is) in
+      ap (λ (l : List OutChain). tickets_on i l) out ∙ tickets-append before (c ∷ behind) ∙ ap (λ (l : List InFlightId). tickets_on i before ++ l) (one_ticket c behind true is) in
       subst (λ (k : LiveQueue). Carries s (after_drop s before behind c v) k (several.Drops (c.taken.position, c.head) ∷ [])) one (
         untook v,
         there_same s.queues c.queue i (λ _. untook v) w same there,
@@ -218,13 +218,13 @@ module _ (i : ℕ) where
           tickets_on i behind,
           split,
           youngest,
-          subst (λ (l : List Ticket). RunsOver (going (untook v)) l es u outs) (tickets-append before behind) run,
+          subst (λ (l : List InFlightId). RunsOver (going (untook v)) l es u outs) (tickets-append before behind) run,
         ),
       )
   drops {F} s before behind c w v false is there at out youngest =
       stays s (after_drop s before behind c v) w w (there_other s.queues c.queue i (λ _. untook v) (apart_of c.queue i is) ∙ there) refl
       (tickets-append before behind
-      ∙ sym (ap (λ (l : List OutChain). tickets_on i l) out ∙ tickets-append before (c ∷ behind) ∙ ap (λ (l : List Ticket). tickets_on i before ++ l) (one_ticket c behind false is)))
+      ∙ sym (ap (λ (l : List OutChain). tickets_on i l) out ∙ tickets-append before (c ∷ behind) ∙ ap (λ (l : List InFlightId). tickets_on i before ++ l) (one_ticket c behind false is)))
 
   not_true : (b : Bool) → (b ≡ true → ⊥) → b ≡ false
   not_true true never = absurd (never refl)
@@ -281,7 +281,7 @@ pub once_per_live_chain : {F : Type 0} (may : May F) → OncePerLiveChain may
 once_per_live_chain may s after es i w there none anew run =
     let mine = runs_on i may s after es w there anew run in
     once (going w) (going mine.0) [] (tickets_on i after.outs) (events_on i es)
-    (subst (λ (l : List Ticket). RunsOver (going w) l (events_on i es) (going mine.0) (tickets_on i after.outs)) none mine.2)
+    (subst (λ (l : List InFlightId). RunsOver (going w) l (events_on i es) (going mine.0) (tickets_on i after.outs)) none mine.2)
 
 pub live_used_in_order : {F : Type 0} (may : May F) → LiveUsedInOrder may
 live_used_in_order may s after es i w there anew run =

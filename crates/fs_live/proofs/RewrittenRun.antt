@@ -8,7 +8,7 @@ use Rattle.vm_memory.specs.Memory.{addresses, stored_all}
 use Rattle.fs_queue.specs.declared.fault.QueueError.TheVariants.{HeadOutOfTable}
 use Rattle.fs_queue.specs.Loads.{found_exactly}
 use Rattle.fs_queue.specs.Taking.{Offers, IsRequest, Refuses}
-use Rattle.fs_regions.specs.declared.step.Step.TheVariants as step
+use Rattle.fs_regions.specs.declared.step.CourseStep.TheVariants as step
 use Rattle.fs_regions.specs.Walks.{FetchesBy, OffersBy, IsLost}
 use Rattle.fuse_fs.specs.Calls.{Done}
 use Rattle.server_replies.specs.WholeReplies.{error_bytes, reply_bytes}

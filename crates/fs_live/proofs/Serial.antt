@@ -15,7 +15,7 @@ use Rattle.fs_queue.specs.Returning.{Store, stores_after_reply, tells, advanced}
 use Rattle.fs_queue.specs.Taking.{Offer, Offers, IsRequest, CannotFetch, Idle, Refuses, readable, writable, total_len}
 use Rattle.fs_queue.proofs.ConfinedLemmas.{only_places_count}
 use Rattle.fs_regions.specs.Laws.{HasLoaded}
-use Rattle.fs_regions.specs.declared.step.Step.TheVariants as step
+use Rattle.fs_regions.specs.declared.step.CourseStep.TheVariants as step
 use Rattle.fs_regions.specs.Walks.{Loaded, IsLost, FetchesBy}
 use Rattle.fuse_fs.specs.Calls.{FileCall, FileAnswer, FileRun, suits}
 use Rattle.virtiofsd_fuse.specs.Grammar.{meaning}
@@ -26,7 +26,7 @@ use Rattle.fs_device.specs.StepBy.{Act, Effects, StepBy, StepOfBy, ExchangesBy, 
 use Rattle.fs_device.proofs.StepByLemmas.{step_by_is_step}
 use Rattle.fs_live.specs.Live.{Phase, Faulty, Fetched, Asked, OutChain, LiveState, LiveEvent, Walks, Declines, Asks, Answers, Returns, Sleeps, Begins, Fills, Drops, Abandons, Replies, Maps, Moves, Happens, LiveRun}
 use Rattle.fs_live.specs.Live.{WalksSo, AsksSo, AnswersSo, ReturnsSo, calls_in, fault_of, new_chain, after_take, room_of, serving, acts_of, GoesBackWith}
-use Rattle.fs_live.specs.Runs.{IsAskedIn, IsServed, options_left, after_alone, chain_loads, request_in}
+use Rattle.fs_live.specs.Runs.{IsAskedIn, IsServedPhase, options_left, after_alone, chain_loads, request_in}
 use Rattle.fs_live.specs.Several.{LiveQueue, took, gave, returning, wants}
 use Rattle.fs_live.specs.Serial.{IsAtRest, SingleIsStep, SerialIsKick, return_in, IsOfChain, plain}
 use Rattle.fs_live.proofs.Alone.{all_reach_same, reach_same, Walked, IsWhole, Exchanging, asked_walked, new_walked, exchange_of, room_offered, effects_of}
@@ -82,7 +82,7 @@ pub record Alone {F : Type 0} (may : May F) (s : LiveState F) (queues : List Liv
   pub options : k.options ≡ options_left s.page_size s.options (in_phase c phase) phase
   pub run : FileRun may s.files (calls_in phase) k.files
   pub walked : Walked s.limit (in_phase c phase)
-  pub served : IsServed phase
+  pub served : IsServedPhase phase
 
 asks_alone : {F : Type 0} (may : May F) (s : LiveState F) (queues : List LiveQueue) (c₀ : OutChain) (k mid : LiveState F) (c : OutChain) (request : List ℕ) (told : List FileCall)
     → Alone may s queues c₀ k → AsksSo k c request told mid → Alone may s queues c₀ mid

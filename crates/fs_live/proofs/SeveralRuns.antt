@@ -6,19 +6,19 @@ use Rattle.std.specs.Int.{w16, from_le_bytes}
 use Rattle.std.specs.Prelude.{◌==◌, nat_lt}
 use Rattle.std.proofs.lemmas.Bool.Decides.{nat_tests}
 use Rattle.fs_queue.specs.Returning.{Store, stores_after_reply}
-use Rattle.fs_live.specs.Several.{ByEvent, LiveQueue, Ticket, Event, Takes, Drops, Returns, RunsOver, UsedFrom, returns_among, took, gave, untook}
+use Rattle.fs_live.specs.Several.{ByEvent, LiveQueue, InFlightId, QueueEvent, Takes, Drops, Returns, RunsOver, UsedFrom, returns_among, took, gave, untook}
 use Rattle.fs_live.specs.Several.{wants, IsSerial, StoresAsTaken, heads_taken, heads_ended, IsOldestFirst, AtTheirPlaces}
 
 -- a take moves no return
-past_take : (w : LiveQueue) (rs : List (Ticket × ℕ × List Store)) → UsedFrom (took w) rs → UsedFrom w rs
+past_take : (w : LiveQueue) (rs : List (InFlightId × ℕ × List Store)) → UsedFrom (took w) rs → UsedFrom w rs
 past_take w [] h = tt
 past_take w (r ∷ rs) h = (h.0, past_take (gave w) rs h.1)
 
-past_drop : (w : LiveQueue) (rs : List (Ticket × ℕ × List Store)) → UsedFrom (untook w) rs → UsedFrom w rs
+past_drop : (w : LiveQueue) (rs : List (InFlightId × ℕ × List Store)) → UsedFrom (untook w) rs → UsedFrom w rs
 past_drop w [] h = tt
 past_drop w (r ∷ rs) h = (h.0, past_drop (gave w) rs h.1)
 
-pub used_in_order : (w w' : LiveQueue) (outs outs' : List Ticket) (es : List Event) → RunsOver w outs es w' outs' → UsedFrom w (returns_among es)
+pub used_in_order : (w w' : LiveQueue) (outs outs' : List InFlightId) (es : List QueueEvent) → RunsOver w outs es w' outs' → UsedFrom w (returns_among es)
 used_in_order w w' outs outs' [] run = tt
 used_in_order w w' outs outs' (Takes head ∷ es) run =
     past_take w (returns_among es) (used_in_order (took w) w' (outs ++ (w.queue.position, head) ∷ []) outs' es run.1)
@@ -26,7 +26,7 @@ used_in_order w w' outs outs' (Drops t ∷ es) run = past_drop w (returns_among 
 used_in_order w w' outs outs' (Returns t len stores ∷ es) run = (run.3, used_in_order (gave w) w' (run.0 ++ run.1) outs' es run.4)
 
 -- in a serial run the two positions are one
-pub one_at_a_time : (w w' : LiveQueue) (outs outs' : List Ticket) (es : List Event) → w.returned ≡ w.queue.position → IsSerial es → RunsOver w outs es w' outs' → StoresAsTaken (w.queue) es
+pub one_at_a_time : (w w' : LiveQueue) (outs outs' : List InFlightId) (es : List QueueEvent) → w.next_used ≡ w.queue.position → IsSerial es → RunsOver w outs es w' outs' → StoresAsTaken (w.queue) es
 one_at_a_time w w' outs outs' [] same serial run = tt
 one_at_a_time w w' outs outs' (Takes head ∷ []) same serial run = absurd serial
 one_at_a_time w w' outs outs' (Takes head ∷ Takes other ∷ es) same serial run = absurd serial
@@ -41,29 +41,29 @@ one_at_a_time w w' outs outs' (Returns t len stores ∷ es) same serial run = ab
 
 -- ---- each chain once
 
-abbrev heads : List Ticket → List ℕ
+abbrev heads : List InFlightId → List ℕ
 heads ts = map (λ t. t.1) ts
 
 -- one more has ended, of these that were out
-one_ended : (ended taken left : List ℕ) (t : Ticket) (before behind outs : List Ticket) → outs ≡ before ++ t ∷ behind → IsPermutation (ended ++ left) (heads (before ++ behind) ++ taken)
+one_ended : (ended taken left : List ℕ) (t : InFlightId) (before behind outs : List InFlightId) → outs ≡ before ++ t ∷ behind → IsPermutation (ended ++ left) (heads (before ++ behind) ++ taken)
     → IsPermutation (t.1 ∷ (ended ++ left)) (heads outs ++ taken)
 one_ended ended taken left t before behind outs is run =
     let inner : IsPermutation (ended ++ left) ((heads before ++ heads behind) ++ taken) =
-    subst (λ (xs : List ℕ). IsPermutation (ended ++ left) (xs ++ taken)) (map-append (λ (u : Ticket). u.1) before behind) run in
+    subst (λ (xs : List ℕ). IsPermutation (ended ++ left) (xs ++ taken)) (map-append (λ (u : InFlightId). u.1) before behind) run in
     let more : IsPermutation (t.1 ∷ (ended ++ left)) (t.1 ∷ (heads before ++ (heads behind ++ taken))) =
     IsPermutation-cons t.1 _ _ (subst (IsPermutation (ended ++ left)) (append_assoc (heads before) (heads behind) taken) inner) in
     let there : IsPermutation (t.1 ∷ (ended ++ left)) (heads before ++ (t.1 ∷ (heads behind ++ taken))) =
     IsPermutation-trans _ _ _ more (IsPermutation-sym _ _ (IsPermutation-middle (heads before) t.1 (heads behind ++ taken))) in
     subst (IsPermutation (t.1 ∷ (ended ++ left)))
-    (sym (append_assoc (heads before) (t.1 ∷ heads behind) taken) ∙ ap (λ (xs : List ℕ). xs ++ taken) (sym (ap heads is ∙ map-append (λ (u : Ticket). u.1) before (t ∷ behind))))
+    (sym (append_assoc (heads before) (t.1 ∷ heads behind) taken) ∙ ap (λ (xs : List ℕ). xs ++ taken) (sym (ap heads is ∙ map-append (λ (u : InFlightId). u.1) before (t ∷ behind))))
     there
 
-pub once : (w w' : LiveQueue) (outs outs' : List Ticket) (es : List Event) → RunsOver w outs es w' outs' → IsPermutation (heads_ended es ++ heads outs') (heads outs ++ heads_taken es)
+pub once : (w w' : LiveQueue) (outs outs' : List InFlightId) (es : List QueueEvent) → RunsOver w outs es w' outs' → IsPermutation (heads_ended es ++ heads outs') (heads outs ++ heads_taken es)
 once w w' outs outs' [] run =
     subst (λ (xs : List ℕ). IsPermutation (heads outs') xs) (ap heads run.1 ∙ sym (append-nil (heads outs))) (IsPermutation-refl (heads outs'))
 once w w' outs outs' (Takes head ∷ es) run =
     subst (λ (xs : List ℕ). IsPermutation (heads_ended es ++ heads outs') xs)
-    (ap (λ (xs : List ℕ). xs ++ heads_taken es) (map-append (λ (t : Ticket). t.1) outs ((w.queue.position, head) ∷ [])) ∙ append_assoc (heads outs) (head ∷ []) (heads_taken es))
+    (ap (λ (xs : List ℕ). xs ++ heads_taken es) (map-append (λ (t : InFlightId). t.1) outs ((w.queue.position, head) ∷ [])) ∙ append_assoc (heads outs) (head ∷ []) (heads_taken es))
     (once (took w) w' (outs ++ (w.queue.position, head) ∷ []) outs' es run.1)
 once w w' outs outs' (Drops t ∷ es) run =
     one_ended (heads_ended es) (heads_taken es) (heads outs') t run.0 run.1 outs run.2 (once (untook w) w' (run.0 ++ run.1) outs' es run.4)
@@ -73,11 +73,11 @@ once w w' outs outs' (Returns t len stores ∷ es) run =
 -- ---- the oldest first
 
 -- tickets are of one position after another
-Follow : (from : ℕ) → List Ticket → (to : ℕ) → Type 0
+Follow : (from : ℕ) → List InFlightId → (to : ℕ) → Type 0
 Follow from [] to = to ≡ from
 Follow from (t ∷ ts) to = (t.0 ≡ from) × Follow ((from + 1) % 2 ^ 16) ts to
 
-follow_more : (from to head : ℕ) (ts : List Ticket) → Follow from ts to → Follow from (ts ++ (to, head) ∷ []) ((to + 1) % 2 ^ 16)
+follow_more : (from to head : ℕ) (ts : List InFlightId) → Follow from ts to → Follow from (ts ++ (to, head) ∷ []) ((to + 1) % 2 ^ 16)
 unfolding Follow
 follow_more from to head [] h = (h, ap (λ (p : ℕ). (p + 1) % 2 ^ 16) h)
 follow_more from to head (t ∷ ts) h = (h.0, follow_more ((from + 1) % 2 ^ 16) to head ts h.1)
@@ -89,33 +89,33 @@ less from to small is = omega (arith, small, is)
 small_next : (p : ℕ) → (p + 1) % 2 ^ 16 < 2 ^ 16
 small_next p = omega arith
 
-follow_less : (from to : ℕ) (t : Ticket) (ts : List Ticket) → from < 2 ^ 16 → Follow from (ts ++ t ∷ []) to → Follow from ts ((to + (2 ^ 16 - 1)) % 2 ^ 16)
+follow_less : (from to : ℕ) (t : InFlightId) (ts : List InFlightId) → from < 2 ^ 16 → Follow from (ts ++ t ∷ []) to → Follow from ts ((to + (2 ^ 16 - 1)) % 2 ^ 16)
 unfolding Follow
 follow_less from to t [] small h = less from to small h.1
 follow_less from to t (u ∷ ts) small h = (h.0, follow_less ((from + 1) % 2 ^ 16) to t ts (small_next from) h.1)
 
-places_dropped : (w : LiveQueue) (rs : List (Ticket × ℕ × List Store)) → AtTheirPlaces (untook w) rs → AtTheirPlaces w rs
+places_dropped : (w : LiveQueue) (rs : List (InFlightId × ℕ × List Store)) → AtTheirPlaces (untook w) rs → AtTheirPlaces w rs
 places_dropped w [] h = tt
 places_dropped w (r ∷ rs) h = (h.0, places_dropped (gave w) rs h.1)
 
-places_past : (w : LiveQueue) (rs : List (Ticket × ℕ × List Store)) → AtTheirPlaces (took w) rs → AtTheirPlaces w rs
+places_past : (w : LiveQueue) (rs : List (InFlightId × ℕ × List Store)) → AtTheirPlaces (took w) rs → AtTheirPlaces w rs
 places_past w [] h = tt
 places_past w (r ∷ rs) h = (h.0, places_past (gave w) rs h.1)
 
-in_order : (w : LiveQueue) (outs : List Ticket) (es : List Event) → w.returned < 2 ^ 16 → Follow w.returned outs w.queue.position → IsOldestFirst w outs es → AtTheirPlaces w (returns_among es)
+in_order : (w : LiveQueue) (outs : List InFlightId) (es : List QueueEvent) → w.next_used < 2 ^ 16 → Follow w.next_used outs w.queue.position → IsOldestFirst w outs es → AtTheirPlaces w (returns_among es)
 unfolding Follow
 in_order w outs [] small follow oldest = tt
 in_order w outs (Takes head ∷ es) small follow oldest =
-    places_past w (returns_among es) (in_order (took w) (outs ++ (w.queue.position, head) ∷ []) es small (follow_more w.returned w.queue.position head outs follow) oldest)
+    places_past w (returns_among es) (in_order (took w) (outs ++ (w.queue.position, head) ∷ []) es small (follow_more w.next_used w.queue.position head outs follow) oldest)
 in_order w outs (Drops t ∷ es) small follow oldest =
     places_dropped w (returns_among es)
     (in_order (untook w) oldest.0 es small
-    (follow_less w.returned w.queue.position t oldest.0 small (subst (λ (ts : List Ticket). Follow w.returned ts w.queue.position) oldest.1 follow)) oldest.2)
+    (follow_less w.next_used w.queue.position t oldest.0 small (subst (λ (ts : List InFlightId). Follow w.next_used ts w.queue.position) oldest.1 follow)) oldest.2)
 in_order w [] (Returns t len stores ∷ es) small follow oldest = absurd oldest
 in_order w (first ∷ outs) (Returns t len stores ∷ es) small follow oldest =
-    (ap (λ (u : Ticket). u.0) oldest.0 ∙ follow.0, in_order (gave w) outs es (small_next w.returned) follow.1 oldest.1)
+    (ap (λ (u : InFlightId). u.0) oldest.0 ∙ follow.0, in_order (gave w) outs es (small_next w.next_used) follow.1 oldest.1)
 
-pub keeps_order : (w : LiveQueue) (es : List Event) → w.returned ≡ w.queue.position → w.queue.position < 2 ^ 16 → IsOldestFirst w [] es → AtTheirPlaces w (returns_among es)
+pub keeps_order : (w : LiveQueue) (es : List QueueEvent) → w.next_used ≡ w.queue.position → w.queue.position < 2 ^ 16 → IsOldestFirst w [] es → AtTheirPlaces w (returns_among es)
 unfolding Follow
 keeps_order w es same small oldest = in_order w [] es (subst (λ (p : ℕ). p < 2 ^ 16) (sym same) small) (sym same) oldest
 
@@ -126,8 +126,8 @@ passed : (event old : ℕ) → old < 2 ^ 16 → event < 2 ^ 16
     → nat_lt (((old + 1) % 2 ^ 16 + (2 ^ 16 - 1 - event)) % 2 ^ 16) (((old + 1) % 2 ^ 16 + (2 ^ 16 - old)) % 2 ^ 16) ≡ (event == old)
 passed event old low small = grind (arith, nat_tests)
 
-by_flag : (w : LiveQueue) (seen : List ℕ) → w.event_index ≡ true → wants w seen ≡ (from_le_bytes w16 seen == w.returned)
+by_flag : (w : LiveQueue) (seen : List ℕ) → w.event_index ≡ true → wants w seen ≡ (from_le_bytes w16 seen == w.next_used)
 by_flag w seen is = rw is refl
 
 pub by_event : ByEvent
-by_event w seen is low small = by_flag w seen is ∙ sym (passed (from_le_bytes w16 seen) w.returned low small)
+by_event w seen is low small = by_flag w seen is ∙ sym (passed (from_le_bytes w16 seen) w.next_used low small)

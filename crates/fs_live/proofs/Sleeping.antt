@@ -6,7 +6,7 @@ use Rattle.std.proofs.lemmas.Bool.{true≢false}
 use Rattle.fs_queue.specs.Returning.{Store}
 use Rattle.virtiofsd_fuse.specs.Serving.{May}
 use Rattle.fs_chain.specs.Events as chain_events
-use Rattle.fs_chain.specs.declared.queue.KeptQueue.{KeptQueue}
+use Rattle.fs_chain.specs.declared.queue.QueueState.{QueueState}
 use Rattle.fs_live.specs.Live.{HasPlace, MayBeOut}
 use Rattle.fs_live.specs.Handles.{HandleBegins, HandleSleeps, live_of}
 use Rattle.fs_live.proofs.Declined.{has_events}
@@ -25,7 +25,7 @@ stored_event false wanted one other store is event = absurd (true≢false (sym e
 
 pub handle_sleeps : {F : Type 0} (may : May F) → HandleSleeps may
 handle_sleeps may s i kept wanted (Some store) there is =
-    let event : Store = record { address = chain_events.avail_event_at kept.layout; bytes = to_le_bytes w16 kept.position } in
+    let event : Store = record { address = chain_events.avail_event_at kept.layout; bytes = to_le_bytes w16 kept.next_avail } in
     let flags : Store = record { address = kept.layout.used; bytes = to_le_bytes w16 (if wanted then 0 else 1) } in (
       λ place. record { w = live_of kept; there = there; wanted = wanted; stores = sym is; place = place; state = refl },
       λ has goes.
@@ -33,17 +33,17 @@ handle_sleeps may s i kept wanted (Some store) there is =
           subst (λ (a : ℕ). HasPlace s.places a) (sym (ap (λ (k : Store). k.address) same)) (has_events s.places (live_of kept) goes has).1,
     )
 handle_sleeps may s i kept wanted None there is =
-    let event : Store = record { address = chain_events.avail_event_at kept.layout; bytes = to_le_bytes w16 kept.position } in
+    let event : Store = record { address = chain_events.avail_event_at kept.layout; bytes = to_le_bytes w16 kept.next_avail } in
     let flags : Store = record { address = kept.layout.used; bytes = to_le_bytes w16 (if wanted then 0 else 1) } in
     not_stored kept.event_index wanted event flags (sym is)
 
 pub handle_begins : {F : Type 0} (may : May F) → HandleBegins may
-handle_begins {F} may s i kept after layout position most_out event_index stopped there is some few small none = (
+handle_begins {F} may s i kept after layout position max_in_flight event_index stopped there is some few small none = (
   record {
     old = live_of kept;
     there = there;
-    both = (ap (λ (q : KeptQueue). q.returned) is ∙ sym (ap (λ (q : KeptQueue). q.position) is), subst (λ (q : KeptQueue). q.position < 2 ^ 16) (sym is) small);
-    few = subst (λ (q : KeptQueue). MayBeOut (live_of q)) (sym is) (some, few);
+    both = (ap (λ (q : QueueState). q.next_used) is ∙ sym (ap (λ (q : QueueState). q.next_avail) is), subst (λ (q : QueueState). q.next_avail < 2 ^ 16) (sym is) small);
+    few = subst (λ (q : QueueState). MayBeOut (live_of q)) (sym is) (some, few);
     none_waits = none;
     state = refl;
   },

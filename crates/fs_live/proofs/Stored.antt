@@ -77,12 +77,12 @@ abbrev LandsThere : LiveQueue → Option Store → Type 0
 LandsThere w (Some store) = AllThere (sleep_addresses (Some w)) (flat_map writes_of (store ∷ []))
 LandsThere w None = Unit {0}
 
-sleep_there : (q : Queue) (returned most_out : ℕ) (event wanted : Bool) → let w : LiveQueue = record { queue = q; returned = returned; most_out = most_out; event_index = event } in
+sleep_there : (q : Queue) (next_used max_in_flight : ℕ) (event wanted : Bool) → let w : LiveQueue = record { queue = q; next_used = next_used; max_in_flight = max_in_flight; event_index = event } in
     LandsThere w (sleep_store w wanted)
-sleep_there q returned most_out true true = two_there (avail_event_at q) q.position
-sleep_there q returned most_out true false = tt
-sleep_there q returned most_out false true = two_there q.used 0
-sleep_there q returned most_out false false = two_there q.used 1
+sleep_there q next_used max_in_flight true true = two_there (avail_event_at q) q.position
+sleep_there q next_used max_in_flight true false = tt
+sleep_there q next_used max_in_flight false true = two_there q.used 0
+sleep_there q next_used max_in_flight false false = two_there q.used 1
 
 -- stores in a room
 pub among_stores : (stores : List Store) → stores_among (map Stores stores) ≡ stores
@@ -114,7 +114,7 @@ one_event may s mid (Sleeps i store) h =
     let so : SleepsSo s i store mid = h in (
       tt,
       subst (λ (k : Option LiveQueue). AllThere (sleep_addresses k) (flat_map writes_of (store ∷ []))) (sym so.there)
-          (subst (λ (k : Option Store). LandsThere so.w k) so.stores (sleep_there so.w.queue so.w.returned so.w.most_out so.w.event_index so.wanted)),
+          (subst (λ (k : Option Store). LandsThere so.w k) so.stores (sleep_there so.w.queue so.w.next_used so.w.max_in_flight so.w.event_index so.wanted)),
     )
 one_event may s mid (Begins i w) h = (tt, tt)
 one_event may s mid (Fills c stores) h =

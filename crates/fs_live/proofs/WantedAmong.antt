@@ -9,7 +9,7 @@ use Rattle.fs_regions.specs.Places.{Mapped, places_in}
 use Rattle.fs_regions.specs.Walks.{asked_by, asked_len}
 use Rattle.fs_chain.specs.Loads.{came}
 use Rattle.fs_chain.specs.Orders.{IfWalking}
-use Rattle.fs_chain.specs.declared.state.State as state
+use Rattle.fs_chain.specs.declared.state.ChainState as state
 use Rattle.fs_live.specs.Among.{WantedAmongHasAPlace}
 use Rattle.fs_live.proofs.Among.{all_among, standing, wants_unrefused}
 
@@ -31,7 +31,7 @@ wanted_among_has_a_place given old new before now after told goes walks wants la
     let from = s.2 in
     let walk = from.walk in
     let none : came new < asked_len walk → location (places_in new.regions) Read (asked_by walk + came new) ≡ None =
-    subst (λ (st : state.State). IfWalking st (λ walk. came new < asked_len walk → location (places_in new.regions) Read (asked_by walk + came new) ≡ None)) from.state lacks in
+    subst (λ (st : state.ChainState). IfWalking st (λ walk. came new < asked_len walk → location (places_in new.regions) Read (asked_by walk + came new) ≡ None)) from.state lacks in
     let there = (and_parts (nat_lt (asked_by walk + asked_len walk) (2 ^ 64)) (list_all (λ x. is_some (location (places_in old.regions) Read x)) (addresses (asked_by walk) (asked_len walk))) from.there).1 in
     let some = has_place old.regions (asked_len walk) (asked_by walk) (came new) there from.few in
     let lost : is_some (location (places_in old.regions) Read (asked_by walk + came new)) ≡ false =

@@ -11,12 +11,12 @@ use Rattle.fs_queue.specs.Chain.{Descriptor}
 use Rattle.fs_queue.specs.Queue.{Queue}
 use Rattle.fs_queue.specs.Taking.{Idle, Refuses, addresses_of, readable, return_fault, writable, total_len, after_refusal}
 use Rattle.fs_queue.specs.Returning.{Store, stores_after_reply}
-use Rattle.fs_regions.specs.declared.step.Step as comes
-use Rattle.fs_regions.specs.declared.step.Step.TheVariants as step
+use Rattle.fs_regions.specs.declared.step.CourseStep as comes
+use Rattle.fs_regions.specs.declared.step.CourseStep.TheVariants as step
 use Rattle.fs_regions.specs.Walks.{Loaded, FetchesBy, OffersBy}
 use Rattle.fuse_fs.specs.Calls.{FileCall, FileAnswer, suits}
 use Rattle.virtiofsd_fuse.specs.Grammar.{meaning}
-use Rattle.virtiofsd_fuse.specs.Serving.{May, Served, served, setting}
+use Rattle.virtiofsd_fuse.specs.Serving.{May, ServedMessage, served, setting}
 use Rattle.fs_device.specs.Step.{Exchange, Calls, answers_alone, calls_alone, faulty, served_exchange}
 use Rattle.fs_device.specs.StepBy.{Act, Stores, reply_stores, return_acts}
 use Rattle.fs_live.specs.Several.{LiveQueue, avail_event_at, gave, may_take, returning, sleep_store, took, untook, used_event_at, wants}
@@ -83,7 +83,7 @@ pub record LiveState (F : Type 0) : Type 0 where
 -- what happens
 pub data LiveEvent : Type 0 where
   -- a walk through what waits in queue i came to this by these loads, with these descriptors
-  Walks : (i : ℕ) → Loaded → List Descriptor → comes.Step → LiveEvent
+  Walks : (i : ℕ) → Loaded → List Descriptor → comes.CourseStep → LiveEvent
   -- queue i was refused to a walk by this, before anything was loaded, or since it was stopped meanwhile
   Declines : (i : ℕ) → QueueError → LiveEvent
   -- a chain that is out was asked by this request: the call that is told first, or none
@@ -110,7 +110,7 @@ pub data LiveEvent : Type 0 where
   Moves : Memory → List LiveQueue → LiveEvent
 
 -- what the server does for a chain by its answers so far, in the options at its asking; `now`: those that stand by the answer
-abbrev pub serving : (page_size options now : ℕ) → (request : List ℕ) → (room : List ℕ) → Calls → Served
+abbrev pub serving : (page_size options now : ℕ) → (request : List ℕ) → (room : List ℕ) → Calls → ServedMessage
 serving page_size options now request room calls = served (setting page_size now (length room)) (meaning options request (length room)) (answers_alone calls)
 
 -- another queue in the place of queue i
@@ -134,7 +134,7 @@ abbrev pub after_take : {F : Type 0} → LiveState F → ℕ → LiveQueue → O
 after_take s i w c = record s { queues = changed_at s.queues i (λ _. took w); outs = s.outs ++ c ∷ [] }
 
 -- what a walk comes to in a queue
-abbrev pub WalksIn : {F : Type 0} → LiveState F → ℕ → LiveQueue → Loaded → List Descriptor → comes.Step → LiveState F → Type 0
+abbrev pub WalksIn : {F : Type 0} → LiveState F → ℕ → LiveQueue → Loaded → List Descriptor → comes.CourseStep → LiveState F → Type 0
 WalksIn s i w loaded ds (step.Load walk) after = ⊥
 WalksIn s i w loaded ds step.Idle after = OffersBy s.places s.limit w.queue loaded [] Idle × (after ≡ s)
 WalksIn s i w loaded ds (step.Refused e) after =
@@ -143,7 +143,7 @@ WalksIn s i w loaded ds (step.Chain head fault) after =
     FetchesBy s.places s.limit w.queue loaded ds head fault × (after ≡ after_take s i w (new_chain s i w loaded ds head fault))
 
 -- the state after a walk
-abbrev pub after_walk : {F : Type 0} → LiveState F → ℕ → LiveQueue → Loaded → List Descriptor → comes.Step → LiveState F
+abbrev pub after_walk : {F : Type 0} → LiveState F → ℕ → LiveQueue → Loaded → List Descriptor → comes.CourseStep → LiveState F
 after_walk s i w loaded ds (step.Refused e) = with_live s i (record w { queue = after_refusal w.queue e })
 after_walk s i w loaded ds (step.Chain head fault) = after_take s i w (new_chain s i w loaded ds head fault)
 after_walk s i w loaded ds _ = s
@@ -158,7 +158,7 @@ why_declined m w =
     else None
 
 -- a queue that there is and that isn't declined is walked, if one more of its chains may be out: it isn't stopped, and with the event index used_event and avail_event have places
-pub record WalksSo {F : Type 0} (s : LiveState F) (i : ℕ) (loaded : Loaded) (ds : List Descriptor) (came : comes.Step) (after : LiveState F) : Type 0 where
+pub record WalksSo {F : Type 0} (s : LiveState F) (i : ℕ) (loaded : Loaded) (ds : List Descriptor) (came : comes.CourseStep) (after : LiveState F) : Type 0 where
   pub w : LiveQueue
   pub there : slice_get s.queues i ≡ Some w
   pub room : IsTrue (may_take w)
@@ -264,11 +264,11 @@ after_beginning s i w = record s { queues = changed_at s.queues i (λ _. w); out
 
 -- where the next chain is taken the next one goes back, at a position of 16 bits
 abbrev pub IsEven : LiveQueue → Type 0
-IsEven w = (w.returned ≡ w.queue.position) × (w.queue.position < 2 ^ 16)
+IsEven w = (w.next_used ≡ w.queue.position) × (w.queue.position < 2 ^ 16)
 
 -- from one chain to as many as a queue has descriptors may be out of it
 abbrev pub MayBeOut : LiveQueue → Type 0
-MayBeOut w = (1 ≤ w.most_out) × (w.most_out ≤ w.queue.size)
+MayBeOut w = (1 ≤ w.max_in_flight) × (w.max_in_flight ≤ w.queue.size)
 
 -- a queue is begun anew once each call of its chains was answered: they are out no more. It may be stopped from then on, as one is that was brought back so
 pub record BeginsSo {F : Type 0} (s : LiveState F) (i : ℕ) (w : LiveQueue) (after : LiveState F) : Type 0 where

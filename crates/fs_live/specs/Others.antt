@@ -15,13 +15,13 @@ use Rattle.fs_chain.specs.OwnReplies.{own_error, own_reply}
 use Rattle.fs_chain.specs.Queues.{untook}
 use Rattle.fs_chain.specs.Walks.{course_of}
 use Rattle.fs_chain.specs.Whole.{FromReplied, FromTaken}
-use Rattle.fs_chain.specs.declared.asking.Told.TheVariants as asks
-use Rattle.fs_chain.specs.declared.queue.KeptQueue.{KeptQueue}
-use Rattle.fs_chain.specs.declared.returning.Stores.{Stores}
-use Rattle.fs_chain.specs.declared.state.Out.{Out}
-use Rattle.fs_chain.specs.declared.state.State as state
-use Rattle.fs_chain.specs.declared.state.State.TheVariants as at
-use Rattle.fs_chain.specs.declared.workbench.Workbench.{Workbench}
+use Rattle.fs_chain.specs.declared.decoding.Decoded.TheVariants as asks
+use Rattle.fs_chain.specs.declared.queue.QueueState.{QueueState}
+use Rattle.fs_chain.specs.declared.pushing.PushStores.{PushStores}
+use Rattle.fs_chain.specs.declared.state.InFlight.{InFlight}
+use Rattle.fs_chain.specs.declared.state.ChainState as state
+use Rattle.fs_chain.specs.declared.state.ChainState.TheVariants as at
+use Rattle.fs_chain.specs.declared.chain_handle.ChainHandle.{ChainHandle}
 use Rattle.fs_device.specs.Step.{Calls}
 use Rattle.fs_device.specs.StepBy.{Act, reply_stores, return_acts}
 use Rattle.fs_live.specs.Live.{Abandons, Asked, Drops, Fetched, KeepsQueue, LiveState, Maps, MayBeOut, Moves, OutChain, Own, Replies, Happens, after_drop, after_loss, after_own, room_of}
@@ -33,7 +33,7 @@ use Rattle.fs_live.specs.Handles.{IsKept, IsOut, IsReached, IsReturn, live_of}
 -- a chain that a handle gives up is the event of its giving up; the queue is then as the call left it. Of a walk that is given up a run knows nothing: its queue isn't told
 abbrev pub HandleDrops : {F : Type 0} → May F → Type 0
 HandleDrops {F} may =
-    (s : LiveState F) (c : OutChain) (before behind : List OutChain) (w : Workbench) (kept : KeptQueue) → s.outs ≡ before ++ c ∷ behind → slice_get s.queues c.queue ≡ Some (live_of kept) →
+    (s : LiveState F) (c : OutChain) (before behind : List OutChain) (w : ChainHandle) (kept : QueueState) → s.outs ≡ before ++ c ∷ behind → slice_get s.queues c.queue ≡ Some (live_of kept) →
     c.phase ≡ Fetched → IsOut s.limit c w → give_up_error w.state kept ≡ None →
     Happens may s (Drops c) (after_drop s before behind c (live_of kept)) × (slice_get (after_drop s before behind c (live_of kept)).queues c.queue ≡ Some (live_of (untook kept)))
 
@@ -46,8 +46,8 @@ HandleAbandons {F} may =
 -- ---- replies of the caller's own bytes
 
 -- a handle has a chain that its caller replies by so many bytes
-pub record IsOwn (c : OutChain) (reply : List ℕ) (st : state.State) : Type 0 where
-  pub out : Out
+pub record IsOwn (c : OutChain) (reply : List ℕ) (st : state.ChainState) : Type 0 where
+  pub out : InFlight
   pub head : out.head ≡ c.head
   pub taken : c.taken ≡ queue_of out.course
   pub fits : length reply ≤ out.room_len
@@ -55,7 +55,7 @@ pub record IsOwn (c : OutChain) (reply : List ℕ) (st : state.State) : Type 0 w
   pub state : st ≡ at.HasReply out (own_reply (length reply))
 
 -- it is out in this state
-abbrev pub IfOut : state.State → (Out → Type 0) → Type 0
+abbrev pub IfOut : state.ChainState → (InFlight → Type 0) → Type 0
 IfOut (at.Taken out) P = P out
 IfOut (at.Waits out waiting) P = P out
 IfOut (at.Lists out listing) P = P out
@@ -64,14 +64,14 @@ IfOut _ P = ⊥
 -- a chain that a handle replies so is the event of its reply: one that wasn't asked, whatever its request was as its caller loaded it
 abbrev pub HandleReplies : {F : Type 0} → May F → Type 0
 HandleReplies {F} may =
-    (s : LiveState F) (c : OutChain) (before behind : List OutChain) (w : Workbench) (serial options : ℕ) (request reply : List ℕ) → IsReached may s → s.limit ≤ 2 ^ 31 →
+    (s : LiveState F) (c : OutChain) (before behind : List OutChain) (w : ChainHandle) (serial options : ℕ) (request reply : List ℕ) → IsReached may s → s.limit ≤ 2 ^ 31 →
     s.outs ≡ before ++ c ∷ behind → c.phase ≡ Fetched → IsOut s.limit c w → FromTaken w.state (λ out. out.request_len ≡ length request) → own_error w.state w.serial serial (length reply) ≡ None →
     Happens may s (Replies c request reply options) (after_own s before behind c request reply options)
     × IfOut w.state (λ out. IsOwn (record c { phase = Own request reply }) reply (at.HasReply out (own_reply (length reply))))
 
 -- a handle has this chain, which was asked: the call that waits, or the listing that gathers entries, is of it
-pub record IsHeldAsked (c : OutChain) (w : Workbench) : Type 0 where
-  pub out : Out
+pub record IsHeldAsked (c : OutChain) (w : ChainHandle) : Type 0 where
+  pub out : InFlight
   pub head : out.head ≡ c.head
   pub taken : c.taken ≡ queue_of out.course
   pub room : length (room_of c) ≡ out.room_len
@@ -80,19 +80,19 @@ pub record IsHeldAsked (c : OutChain) (w : Workbench) : Type 0 where
 -- one that was asked, and told a call, does
 abbrev pub AskedIsHeld : Type 0
 AskedIsHeld =
-    (page_size options : ℕ) (request : List ℕ) (c : OutChain) (made : made_call.FileCall) (w : Workbench) → IsKept page_size options request c (asks.Call made) w → IsHeldAsked c w
+    (page_size options : ℕ) (request : List ℕ) (c : OutChain) (made : made_call.FileCall) (w : ChainHandle) → IsKept page_size options request c (asks.Call made) w → IsHeldAsked c w
 
 -- or one that was asked, in place of the answer that its call waits for, whatever the file system has answered by then
 abbrev pub HandleRepliesInstead : {F : Type 0} → May F → Type 0
 HandleRepliesInstead {F} may =
-    (s : LiveState F) (c : OutChain) (before behind : List OutChain) (w : Workbench) (serial asked options : ℕ) (request reply : List ℕ) (calls : Calls) →
+    (s : LiveState F) (c : OutChain) (before behind : List OutChain) (w : ChainHandle) (serial asked options : ℕ) (request reply : List ℕ) (calls : Calls) →
     s.outs ≡ before ++ c ∷ behind → c.phase ≡ Asked request asked calls → IsHeldAsked c w → own_error w.state w.serial serial (length reply) ≡ None →
     Happens may s (Replies c request reply options) (after_own s before behind c request reply options)
     × IfOut w.state (λ out. IsOwn (record c { phase = Own request reply }) reply (at.HasReply out (own_reply (length reply))))
 
 -- a chain goes back by what its caller stores, his bytes over the room's first places in any two parts, and loads
-pub record GoesBackOwn (back : KeptQueue) (room reply : List ℕ) (from : state.State) (acts : List Act) (last : ℕ) (notice : Bool) : Type 0 where
-  pub stores : Stores
+pub record GoesBackOwn (back : QueueState) (room reply : List ℕ) (from : state.ChainState) (acts : List Act) (last : ℕ) (notice : Bool) : Type 0 where
+  pub stores : PushStores
   pub flags : List ℕ
   pub flags_len : length flags ≡ 2
   pub returns : FromReplied back from (λ kept s. acts ≡ return_acts (reply_stores room reply last ++ stores_of s.used) flags) stores
@@ -101,7 +101,7 @@ pub record GoesBackOwn (back : KeptQueue) (room reply : List ℕ) (from : state.
 -- that is the event of its return, whichever chains of its queue were taken and went back meanwhile
 abbrev pub HandleReturnsOwn : {F : Type 0} → May F → Type 0
 HandleReturnsOwn {F} may =
-    (s : LiveState F) (c : OutChain) (before behind : List OutChain) (st : state.State) (kept : KeptQueue) (request reply : List ℕ) (acts : List Act) (last : ℕ) (notice : Bool) →
+    (s : LiveState F) (c : OutChain) (before behind : List OutChain) (st : state.ChainState) (kept : QueueState) (request reply : List ℕ) (acts : List Act) (last : ℕ) (notice : Bool) →
     s.outs ≡ before ++ c ∷ behind → slice_get s.queues c.queue ≡ Some (live_of kept) → c.taken ≡ queue_of (course_of (record kept { position = c.taken.position }) 0) →
     c.phase ≡ Own request reply → IsOwn c reply st → (back : GoesBackOwn kept (room_of c) reply st acts last notice) →
     IsReturn may s before behind c kept acts last notice back.stores
@@ -112,17 +112,17 @@ HandleReturnsOwn {F} may =
 -- while none is out
 abbrev pub HandleMaps : {F : Type 0} → May F → Type 0
 HandleMaps {F} may =
-    (s : LiveState F) (w : Workbench) → (s.outs ≡ []) ⊎ AllByRecursion (KeepsQueue s (places_in w.regions)) s.outs →
+    (s : LiveState F) (w : ChainHandle) → (s.outs ≡ []) ⊎ AllByRecursion (KeepsQueue s (places_in w.regions)) s.outs →
     Happens may s (Maps (places_in w.regions)) (record s { places = places_in w.regions })
 
 -- ---- moves
 
 -- a queue as a record has it
-abbrev pub recorded : KeptQueue → Queue
+abbrev pub recorded : QueueState → Queue
 recorded q = (live_of q).queue
 
 -- kept queues are begun by those of a record: each at its position, stopped or not
-pub record AreBegunBy (queues : List Queue) (kept : List KeptQueue) : Type 0 where
+pub record AreBegunBy (queues : List Queue) (kept : List QueueState) : Type 0 where
   pub same : map recorded kept ≡ queues
   pub even : AllByRecursion IsEven (map live_of kept)
   pub few : AllByRecursion MayBeOut (map live_of kept)
@@ -131,6 +131,6 @@ pub record AreBegunBy (queues : List Queue) (kept : List KeptQueue) : Type 0 whe
 -- are the run's from then on
 abbrev pub HandleMoves : {F : Type 0} → May F → Type 0
 HandleMoves {F} may =
-    (s : LiveState F) (here there : List KeptQueue) (m : Memory) (bytes : List ℕ) (v v' : Version) (options : ℕ) (queues : List Queue) → s.outs ≡ [] → s.queues ≡ map live_of here →
+    (s : LiveState F) (here there : List QueueState) (m : Memory) (bytes : List ℕ) (v v' : Version) (options : ℕ) (queues : List Queue) → s.outs ≡ [] → s.queues ≡ map live_of here →
     IsRecord bytes v s.options (map recorded here) → IsRecord bytes v' options queues → AreBegunBy queues there →
     (options ≡ s.options) × Happens may s (Moves m (map live_of there)) (record s { places = m; queues = map live_of there })

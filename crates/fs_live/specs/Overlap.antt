@@ -3,7 +3,7 @@ use Rattle.std.specs.Prelude.{ℕ, true, false, List, [], ◌∷◌, Some, None}
 use Rattle.fs_queue.specs.Chain.{Descriptor}
 use Rattle.fs_queue.specs.Loads.{Load}
 use Rattle.fs_queue.specs.Returning.{Store}
-use Rattle.fs_regions.specs.declared.step.Step.TheVariants as step
+use Rattle.fs_regions.specs.declared.step.CourseStep.TheVariants as step
 use Rattle.fs_regions.specs.Walks.{Loaded}
 use Rattle.fuse_fs.specs.Calls.{Destroy, Done}
 use Rattle.virtiofsd_fuse.specs.Examples.{le16, le32, in_header_bytes, zeros}
@@ -42,8 +42,8 @@ abbrev pub second_table : List Descriptor
 second_table = record { addr = 0x3000; len = 40; flags = 1; next = 3 } ∷ record { addr = 0x4000; len = 16; flags = 2; next = 0 } ∷ []
 
 -- the queue with its two positions
-abbrev pub at_positions : (taken returned : ℕ) → LiveQueue
-at_positions taken returned = record { queue = record queue { position = taken }; returned = returned; most_out = 4; event_index = false }
+abbrev pub at_positions : (taken next_used : ℕ) → LiveQueue
+at_positions taken next_used = record { queue = record queue { position = taken }; next_used = next_used; max_in_flight = 4; event_index = false }
 
 -- one queue over 64 KiB from address 0 on
 abbrev pub state : {F : Type 0} → F → LiveQueue → (options : ℕ) → List OutChain → LiveState F

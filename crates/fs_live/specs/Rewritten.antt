@@ -4,7 +4,7 @@ use Rattle.fs_queue.specs.declared.fault.QueueError.TheVariants.{HeadOutOfTable}
 use Rattle.fs_queue.specs.Chain.{Descriptor}
 use Rattle.fs_queue.specs.Queue.{Queue, with_stop}
 use Rattle.fs_queue.specs.Returning.{Store}
-use Rattle.fs_regions.specs.declared.step.Step.TheVariants as step
+use Rattle.fs_regions.specs.declared.step.CourseStep.TheVariants as step
 use Rattle.fs_regions.specs.Walks.{Loaded}
 use Rattle.fuse_fs.specs.Calls.{FileCall, Forget, Done}
 use Rattle.virtiofsd_fuse.specs.Examples.{le16, le32, le64, in_header_bytes, nobody}
@@ -28,12 +28,12 @@ abbrev pub queue : Queue
 queue = record { size = 1; desc = 0; avail = 0x100; used = 0x200; position = 0; stopped = false }
 
 -- the queue with its two positions
-abbrev pub at_positions : (taken returned : ℕ) → LiveQueue
-at_positions taken returned = record { queue = record queue { position = taken }; returned = returned; most_out = 2; event_index = false }
+abbrev pub at_positions : (taken next_used : ℕ) → LiveQueue
+at_positions taken next_used = record { queue = record queue { position = taken }; next_used = next_used; max_in_flight = 2; event_index = false }
 
 -- the same once it is stopped
-abbrev pub stopped_at : (taken returned : ℕ) → LiveQueue
-stopped_at taken returned = record { queue = with_stop (record queue { position = taken }); returned = returned; most_out = 2; event_index = false }
+abbrev pub stopped_at : (taken next_used : ℕ) → LiveQueue
+stopped_at taken next_used = record { queue = with_stop (record queue { position = taken }); next_used = next_used; max_in_flight = 2; event_index = false }
 
 -- what the first walk loads: an index of 1, head 0, and the table's one entry
 abbrev pub first_loads : Loaded

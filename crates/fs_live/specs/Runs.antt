@@ -8,14 +8,14 @@ use Rattle.fs_queue.specs.Loads.{Load}
 use Rattle.fs_queue.specs.Queue.{element_at, index_at}
 use Rattle.fs_queue.specs.Returning.{Store, writes_of, tells, advanced}
 use Rattle.fs_queue.specs.Taking.{IsRequest, Offers}
-use Rattle.fs_regions.specs.declared.step.Step.TheVariants as step
+use Rattle.fs_regions.specs.declared.step.CourseStep.TheVariants as step
 use Rattle.fuse_fs.specs.Calls.{FileRun}
 use Rattle.virtiofsd_fuse.specs.Serving.{May}
 use Rattle.fs_device.specs.MarkedPages.{Marks, returned_addresses}
 use Rattle.fs_device.specs.Step.{State, Exchange, Exchanged}
 use Rattle.fs_regions.specs.Walks.{OffersBy}
 use Rattle.fs_device.specs.StepBy.{Act, StepLoads, StepBy, ReturnsBy, after_stores, return_acts, return_stores, stores_among}
-use Rattle.fs_live.specs.Several.{LiveQueue, Ticket, Event, RunsOver, UsedFrom, heads_taken, heads_ended, returns_among, returning, avail_event_at, seen_at, used_event_at}
+use Rattle.fs_live.specs.Several.{LiveQueue, InFlightId, QueueEvent, RunsOver, UsedFrom, heads_taken, heads_ended, returns_among, returning, avail_event_at, seen_at, used_event_at}
 use Rattle.fs_live.specs.Several as several
 pub use Rattle.fs_live.specs.Live.{IsEven}
 use Rattle.fs_live.specs.Live.{Phase, Asked, Own, OutChain, LiveState, LiveEvent, Walks, Returns, Sleeps, Begins, Fills, Drops, Maps, Moves, Happens, LiveRun, acts_of, calls_among, calls_in, room_of, serving}
@@ -46,9 +46,9 @@ options_left page_size options c (Asked request asked calls) = (serving page_siz
 options_left page_size options c _ = options
 
 -- a chain that the server answers, or that is faulty: the reply isn't its caller's own
-abbrev pub IsServed : Phase → Type 0
-IsServed (Own request reply) = ⊥
-IsServed _ = Unit {0}
+abbrev pub IsServedPhase : Phase → Type 0
+IsServedPhase (Own request reply) = ⊥
+IsServedPhase _ = Unit {0}
 
 -- the plain machine before a chain: a memory with the places as the chain was taken, whatever bytes are there; the queue as it was taken; the options at its asking
 pub record IsBefore {F G : Type 0} (s : LiveState F) (c : OutChain) (m : State G) : Type 0 where
@@ -79,7 +79,7 @@ pub record IsAStep {G : Type 0} (other : May G) (m : State G) (files : G) (w : L
 abbrev pub ReturnedIsStepBy : {F G : Type 0} → May F → May G → Type 0
 ReturnedIsStepBy {F} {G} may other =
     (s now after : LiveState F) (es : List LiveEvent) (c : OutChain) (x : Exchange) (notice : Bool) (last : ℕ) (used : List Store) (seen : List ℕ) (m : State G) (files : G) →
-    s.outs ≡ [] → LiveRun may s es now → Happens may now (Returns c x notice last used seen) after → IsServed c.phase → IsBefore now c m → FileRun other m.files (calls_in c.phase) files →
+    s.outs ≡ [] → LiveRun may s es now → Happens may now (Returns c x notice last used seen) after → IsServedPhase c.phase → IsBefore now c m → FileRun other m.files (calls_in c.phase) files →
     (w : LiveQueue) × (slice_get now.queues c.queue ≡ Some w) × IsAStep other m files w c x last used seen notice
 
 -- a chain that goes back with its caller's own bytes is offered by its loads, and they and the used element and index are stored as a step stores a reply: of its queue's next used position
@@ -166,18 +166,18 @@ ReturnsHavePlaces {F} may =
 -- ---- one queue of a run
 
 -- what happens on queue i: the takes, the givings up and the returns
-abbrev pub event_on : ℕ → LiveEvent → List Event
+abbrev pub event_on : ℕ → LiveEvent → List QueueEvent
 event_on i (Walks j loaded ds (step.Chain head fault)) = if j == i then several.Takes head ∷ [] else []
 event_on i (Drops c) = if c.queue == i then several.Drops (c.taken.position, c.head) ∷ [] else []
 event_on i (Returns c x notice last used seen) = if c.queue == i then several.Returns (c.taken.position, c.head) (length x.reply) used ∷ [] else []
 event_on i _ = []
 
 -- what happens on it in a run
-abbrev pub events_on : ℕ → List LiveEvent → List Event
+abbrev pub events_on : ℕ → List LiveEvent → List QueueEvent
 events_on i es = flat_map (event_on i) es
 
 -- its chains that are out, by position and head
-abbrev pub tickets_on : ℕ → List OutChain → List Ticket
+abbrev pub tickets_on : ℕ → List OutChain → List InFlightId
 tickets_on i outs = map (λ c. (c.taken.position, c.head)) (filter (λ c. c.queue == i) outs)
 
 -- a queue whether it is stopped or not: a refusal moves neither position
@@ -262,7 +262,7 @@ StandsEven {F} may =
 
 -- what no record tells of a queue
 abbrev pub untold : LiveQueue → ℕ × Bool
-untold w = (w.most_out, w.event_index)
+untold w = (w.max_in_flight, w.event_index)
 
 -- a device that moves between two chains, and is told there what no record tells, goes on as one that didn't move and whose guest's memory got these places: over the same places as if nothing had
 -- happened

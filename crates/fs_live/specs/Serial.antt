@@ -5,7 +5,7 @@ use Rattle.vm_memory.specs.Memory.{Memory, location}
 use Rattle.fs_queue.specs.declared.fault.ChainFault.{ChainFault}
 use Rattle.fs_queue.specs.Chain.{Descriptor}
 use Rattle.fs_queue.specs.Returning.{Store}
-use Rattle.fs_regions.specs.declared.step.Step.TheVariants as step
+use Rattle.fs_regions.specs.declared.step.CourseStep.TheVariants as step
 use Rattle.fs_regions.specs.Laws.{HasLoaded}
 use Rattle.fs_regions.specs.Walks.{Loaded}
 use Rattle.virtiofsd_fuse.specs.Serving.{May}
@@ -52,7 +52,7 @@ plain s m =
 
 -- a queue without the event index of which no chain is out: its two positions are one
 abbrev pub IsAtRest : LiveQueue → Type 0
-IsAtRest w = (w.event_index ≡ false) × (w.returned ≡ w.queue.position)
+IsAtRest w = (w.event_index ≡ false) × (w.next_used ≡ w.queue.position)
 
 -- one memory has what was loaded, the flags too, at the moment of each load; its places are the run's; what is stored last of the reply lies apart from the rest
 pub record FoundIn {F : Type 0} (m : Memory) (s : LiveState F) (r : Single) : Type 0 where

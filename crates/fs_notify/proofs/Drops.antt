@@ -3,13 +3,13 @@ use Rattle.std.proofs.Common.{arith, ◌≡◌, ℕ, ◌+◌, ◌-◌, ◌%◌, 
 use Rattle.std.specs.Prelude.{nat_lt, nat_le, if◌then◌else◌}
 use Rattle.std.proofs.lemmas.Bool.Decides.{nat_tests}
 use Rattle.fs_chain.specs.declared.error.ChainError.TheVariants.{ChainOut, OtherQueue, WrongOrder}
-use Rattle.fs_chain.specs.declared.queue.KeptQueue.{KeptQueue}
-use Rattle.fs_chain.specs.declared.state.Out.{Out}
-use Rattle.fs_chain.specs.declared.state.State as state
-use Rattle.fs_chain.specs.declared.state.State.TheVariants as at
+use Rattle.fs_chain.specs.declared.queue.QueueState.{QueueState}
+use Rattle.fs_chain.specs.declared.state.InFlight.{InFlight}
+use Rattle.fs_chain.specs.declared.state.ChainState as state
+use Rattle.fs_chain.specs.declared.state.ChainState.TheVariants as at
 use Rattle.fs_chain.specs.Orders.{end_error}
-use Rattle.fs_chain.specs.Queues.{gave, is_laid_out, is_last, is_out_of, out_count, untook}
-use Rattle.notify.specs.Threads.{Queue, Walker, is_free, walks, asks}
+use Rattle.fs_chain.specs.Queues.{gave, is_laid_out, is_last, is_out_of, in_flight, untook}
+use Rattle.notify.specs.Threads.{ThreadedQueue, Walker, is_free, walks, asks}
 use Rattle.fs_notify.specs.Takers.{DropIsAnAct, FullIsAnAct, ReturnIsAnAct}
 
 -- ---- how many are in flight
@@ -17,8 +17,8 @@ use Rattle.fs_notify.specs.Takers.{DropIsAnAct, FullIsAnAct, ReturnIsAnAct}
 some_out : (n : ℕ) (same laid : Bool) → (not (n == 0) && same && laid) ≡ true → 0 < n
 some_out n same laid is = grind (arith, nat_tests)
 
-out_of_queue : (q : KeptQueue) (out : Out) → is_out_of q out ≡ true → 0 < out_count q
-out_of_queue q out is = some_out (out_count q) (q.begun == out.ticket.begun) (is_laid_out q.layout out.course.layout) is
+out_of_queue : (q : QueueState) (out : InFlight) → is_out_of q out ≡ true → 0 < in_flight q
+out_of_queue q out is = some_out (in_flight q) (q.begun == out.ticket.begun) (is_laid_out q.layout out.course.layout) is
 
 -- one less by a drop, and by a return
 one_dropped : (p r : ℕ) → p < 2 ^ 16 → r < 2 ^ 16 → 0 < (p + (2 ^ 16 - r)) % 2 ^ 16
@@ -47,14 +47,14 @@ dropped_of false last none = cc
 pub drops : DropIsAnAct
 drops q out s counted ok is walker =
     let some = out_of_queue q out (dropped_of (is_out_of q out) (is_last q out) ok) in
-    let same : s.out - 1 ≡ out_count (untook q) = ap (λ (n : ℕ). n - 1) is.1 ∙ one_dropped q.position q.returned counted.0 counted.1 some in (
+    let same : s.out - 1 ≡ in_flight (untook q) = ap (λ (n : ℕ). n - 1) is.1 ∙ one_dropped q.position q.returned counted.0 counted.1 some in (
       both (walks s.holder) (nat_lt 0 s.out) (ap walks walker) (lt_of s.out (subst (λ (n : ℕ). 0 < n) (sym is.1) some)),
       (ap (λ (n : ℕ). (n + (2 ^ 16 - 1)) % 2 ^ 16) is.0, same),
     )
 
 -- ---- a return
 
-ended_of : (q : KeptQueue) (from : state.State) → end_error from q ≡ None → 0 < out_count q
+ended_of : (q : QueueState) (from : state.ChainState) → end_error from q ≡ None → 0 < in_flight q
 ended_of q (at.Returning out) ok = out_of_queue q out (ended (is_out_of q out) q.returning ok)
   where
     ended : (out_of returning : Bool) → (if out_of && returning then None else Some OtherQueue) ≡ None → out_of ≡ true
@@ -67,13 +67,13 @@ ended_of q (at.Waits out waiting) ok = cc
 ended_of q (at.Lists out listing) ok = cc
 ended_of q (at.HasReply out reply) ok = cc
 
-holds_lock : (s : Queue) (rest : Bool) → s.holder ≡ Walker → (not (is_free s.holder) || rest) ≡ true
+holds_lock : (s : ThreadedQueue) (rest : Bool) → s.holder ≡ Walker → (not (is_free s.holder) || rest) ≡ true
 holds_lock s rest walker = rw walker refl
 
 pub ends_return : ReturnIsAnAct
 ends_return q from s counted ok is walker =
     let some = ended_of q from ok in
-    let same : s.out - 1 ≡ out_count (gave q) = ap (λ (n : ℕ). n - 1) is.1 ∙ one_returned q.position q.returned counted.0 counted.1 some in (
+    let same : s.out - 1 ≡ in_flight (gave q) = ap (λ (n : ℕ). n - 1) is.1 ∙ one_returned q.position q.returned counted.0 counted.1 some in (
       both (not (is_free s.holder) || (nat_lt 0 s.comers || false)) (nat_le 1 s.out) (holds_lock s (nat_lt 0 s.comers || false) walker)
           (le_of s.out (subst (λ (n : ℕ). 0 < n) (sym is.1) some)),
       (is.0, same),
@@ -97,7 +97,7 @@ three a b c is so too = rw (is, so, too) refl
 
 pub full : FullIsAnAct
 full q s error is asker shown = (
-  three (asks s.holder) (not s.hidden) (s.index == s.position || nat_le q.most_out s.out) (ap asks asker) (ap not shown)
-      (or_full (s.index == s.position) (nat_le q.most_out s.out) (rw is.1 (full_of (out_count q) q.most_out error))),
+  three (asks s.holder) (not s.hidden) (s.index == s.position || nat_le q.max_in_flight s.out) (ap asks asker) (ap not shown)
+      (or_full (s.index == s.position) (nat_le q.max_in_flight s.out) (rw is.1 (full_of (in_flight q) q.max_in_flight error))),
   is,
 )

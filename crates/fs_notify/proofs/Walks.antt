@@ -21,27 +21,27 @@ use Rattle.fs_queue.specs.Taking.{Offer, RequestAndRoom, offer_of}
 use Rattle.fs_queue.proofs.RingLemmas.{IsPair, entry_tells, index_lost, index_tells, pick}
 use Rattle.fs_queue.specs.Taking.{total_len, readable, writable, addresses_of, IsRequest, CannotFetch, Offers}
 use Rattle.fs_queue.specs.Chain.{Descriptor}
-use Rattle.fs_regions.specs.declared.step.Step as comes
-use Rattle.fs_regions.specs.declared.step.Step.TheVariants as step
+use Rattle.fs_regions.specs.declared.step.CourseStep as comes
+use Rattle.fs_regions.specs.declared.step.CourseStep.TheVariants as step
 use Rattle.fs_regions.specs.Places.{places_in}
-use Rattle.fs_regions.specs.Walks.{Loaded, ComesTo, OffersBy, queue_of}
+use Rattle.fs_regions.specs.Walks.{Loaded, IsCourseStep, OffersBy, queue_of}
 use Rattle.fs_chain.specs.declared.error.ChainError.TheVariants.{BadArgument, ChainOut}
-use Rattle.fs_chain.specs.declared.loads.Went as went
-use Rattle.fs_chain.specs.declared.loads.Went.TheVariants as wents
-use Rattle.fs_chain.specs.declared.queue.KeptQueue.{KeptQueue}
-use Rattle.fs_chain.specs.declared.state.State as state
-use Rattle.fs_chain.specs.declared.walking.WalkOutcome as walked
-use Rattle.fs_chain.specs.declared.walking.WalkOutcome.TheVariants as says
-use Rattle.fs_chain.specs.declared.workbench.Workbench.{Workbench}
+use Rattle.fs_chain.specs.declared.loads.LoadOutcome as went
+use Rattle.fs_chain.specs.declared.loads.LoadOutcome.TheVariants as wents
+use Rattle.fs_chain.specs.declared.queue.QueueState.{QueueState}
+use Rattle.fs_chain.specs.declared.state.ChainState as state
+use Rattle.fs_chain.specs.declared.popping.PopOutcome as walked
+use Rattle.fs_chain.specs.declared.popping.PopOutcome.TheVariants as says
+use Rattle.fs_chain.specs.declared.chain_handle.ChainHandle.{ChainHandle}
 use Rattle.fs_chain.specs.Loads.{whole}
 use Rattle.fs_chain.specs.Orders.{begin_error, load_len, walk_error}
 use Rattle.fs_chain.specs.Queues.{may_take, took}
 use Rattle.fs_chain.specs.Walks.{course_of, queue_after, told_of}
-use Rattle.fs_chain.specs.Whole.{BeginsBy, LoadsOf, WalksBy}
+use Rattle.fs_chain.specs.Whole.{BeginsPopBy, LoadsOf, WalksBy}
 use Rattle.fs_chain.proofs.WholeChains.{came_is, faulty_is}
 use Rattle.fs_chain.proofs.WholeWalks.{walk_comes}
 use Rattle.notify.specs.Kicks.{ahead}
-use Rattle.notify.specs.Threads.{Queue, Walker, Asker, walks, asks, may_act, after_act, TakesOne, SleepsNow}
+use Rattle.notify.specs.Threads.{ThreadedQueue, Walker, Asker, walks, asks, may_act, after_act, TakesOne, SleepsNow}
 use Rattle.notify.proofs.Rings.{ahead_zero}
 use Rattle.fs_notify.specs.Takers.{FindsNoneByWalk, IsCounted, IsIndex, IsOf, SleepsInOrder, TakesByWalk, ways_of}
 
@@ -220,15 +220,15 @@ may_of false c none = cc
 may_of true false none = cc
 may_of true true none = refl
 
-first_may : (old new : Workbench) (before after : KeptQueue) (told : went.Went) → BeginsBy old new before after told → may_take before ≡ true
+first_may : (old new : ChainHandle) (before after : QueueState) (told : went.LoadOutcome) → BeginsPopBy old new before after told → may_take before ≡ true
 first_may old new before after wents.Part by =
-    let none : begin_error before (load_len old.state) ≡ None = subst (λ (s : state.State). walk_error s before (load_len old.state) ≡ None) by.0 by.1.2 in
+    let none : begin_error before (load_len old.state) ≡ None = subst (λ (s : state.ChainState). walk_error s before (load_len old.state) ≡ None) by.0 by.1.2 in
     may_of (load_len old.state == 0) (may_take before) none
 first_may old new before after (wents.On told) by =
-    let none : begin_error before (length (whole old [])) ≡ None = subst (λ (s : state.State). walk_error s before (length (whole old [])) ≡ None) by.0 by.1.3 in
+    let none : begin_error before (length (whole old [])) ≡ None = subst (λ (s : state.ChainState). walk_error s before (length (whole old [])) ≡ None) by.0 by.1.3 in
     may_of (length (whole old []) == 0) (may_take before) none
 
-walk_may : (given : List (List ℕ)) (old new : Workbench) (before after : KeptQueue) (told : went.Went) → WalksBy given old new before after told → may_take before ≡ true
+walk_may : (given : List (List ℕ)) (old new : ChainHandle) (before after : QueueState) (told : went.LoadOutcome) → WalksBy given old new before after told → may_take before ≡ true
 walk_may [] old new before after told by = first_may old new before after told by
 walk_may (bs ∷ given) old new before after told by = walk_may given old by.0 before by.1 by.2 by.3
 
@@ -245,26 +245,26 @@ lt_of : (n : ℕ) → 0 < n → nat_lt 0 n ≡ true
 lt_of n some = grind (arith, nat_tests)
 
 -- the act of taking, where so many are ahead
-takes_so : (q after : KeptQueue) (s : Queue) (index : ℕ) → IsCounted q → may_take q ≡ true → 0 < ahead index q.position → after ≡ took q → IsOf q s → s.holder ≡ Walker → s.known ≡ index
+takes_so : (q after : QueueState) (s : ThreadedQueue) (index : ℕ) → IsCounted q → may_take q ≡ true → 0 < ahead index q.position → after ≡ took q → IsOf q s → s.holder ≡ Walker → s.known ≡ index
     → IsTrue (may_act (ways_of q) s TakesOne) × IsOf after (after_act (ways_of q) s TakesOne)
 takes_so q after s index counted may some gone is walker known =
     let ahead_is : ahead s.known s.position ≡ ahead index q.position = rw (known, is.0) refl in
     let there : IsOf (took q) (after_act (ways_of q) s TakesOne) = (
       ap (λ (n : ℕ). (n + 1) % 2 ^ 16) is.0,
-      ap (λ (n : ℕ). n + 1) is.1 ∙ one_taken q.position q.returned q.most_out counted.0 counted.1 counted.2 may,
+      ap (λ (n : ℕ). n + 1) is.1 ∙ one_taken q.position q.returned q.max_in_flight counted.0 counted.1 counted.2 may,
     ) in (
-      three (walks s.holder) (nat_lt s.out q.most_out) (nat_lt 0 (ahead s.known s.position)) (ap walks walker) (rw is.1 may)
+      three (walks s.holder) (nat_lt s.out q.max_in_flight) (nat_lt 0 (ahead s.known s.position)) (ap walks walker) (rw is.1 may)
           (lt_of (ahead s.known s.position) (subst (λ (n : ℕ). 0 < n) (sym ahead_is) some)),
-      subst (λ (k : KeptQueue). IsOf k (after_act (ways_of q) s TakesOne)) (sym gone) there,
+      subst (λ (k : QueueState). IsOf k (after_act (ways_of q) s TakesOne)) (sym gone) there,
     )
 
-abbrev TakesSo : (given : List (List ℕ)) (old new : Workbench) (before after : KeptQueue) (told : walked.WalkOutcome) (s : Queue) → WalksBy given old new before after (wents.On told) → Type 0
+abbrev TakesSo : (given : List (List ℕ)) (old new : ChainHandle) (before after : QueueState) (told : walked.PopOutcome) (s : ThreadedQueue) → WalksBy given old new before after (wents.On told) → Type 0
 TakesSo given old new before after told s walks =
     (loaded : Loaded) × LoadsOf given old new before after (wents.On told) walks loaded × (index : ℕ) × IsIndex loaded index
     × (s.known ≡ index → IsTrue (may_act (ways_of before) s TakesOne) × IsOf after (after_act (ways_of before) s TakesOne))
 
 -- by what was offered
-takes_by : (given : List (List ℕ)) (old new : Workbench) (before after : KeptQueue) (told : walked.WalkOutcome) (s : Queue) (walks : WalksBy given old new before after (wents.On told)) (loaded : Loaded)
+takes_by : (given : List (List ℕ)) (old new : ChainHandle) (before after : QueueState) (told : walked.PopOutcome) (s : ThreadedQueue) (walks : WalksBy given old new before after (wents.On told)) (loaded : Loaded)
     (head : ℕ) (fetched : RequestAndRoom) → LoadsOf given old new before after (wents.On told) walks loaded → IndexSays loaded.index before.position (Offers head fetched)
     → IsCounted before → after ≡ took before → IsOf before s → s.holder ≡ Walker → TakesSo given old new before after told s walks
 takes_by given old new before after told s walks loaded head fetched loads says counted gone is walker = (
@@ -286,7 +286,7 @@ takes given old new before after (says.Chain head request_len room_len) s counte
     let all = walk_comes given old new before after (says.Chain head request_len room_len) goes tt walks in
     let came = (came_is new.descriptors.items all.2.0 head request_len room_len all.2.1.0).0 in
     let ds = new.descriptors.items in
-    let found : ComesTo m old.limit q all.0 ds (step.Chain head None) = subst (λ (c : comes.Step). ComesTo m old.limit q all.0 ds c) came all.2.2 in
+    let found : IsCourseStep m old.limit q all.0 ds (step.Chain head None) = subst (λ (c : comes.CourseStep). IsCourseStep m old.limit q all.0 ds c) came all.2.2 in
     let n = total_len (readable ds) in
     let by = found.1 (replicate n 0) (length-replicate n 0) in
     let gone : after ≡ took before = all.2.1.2 ∙ ap (queue_after before) came in
@@ -298,18 +298,18 @@ takes given old new before after (says.Faulty head fault) s counted goes taken w
     let all = walk_comes given old new before after (says.Faulty head fault) goes tt walks in
     let came = faulty_is new.descriptors.items all.2.0 head fault all.2.1.0 in
     let ds = new.descriptors.items in
-    let found : ComesTo m old.limit q all.0 ds (step.Chain head (Some fault)) = subst (λ (c : comes.Step). ComesTo m old.limit q all.0 ds c) came all.2.2 in
+    let found : IsCourseStep m old.limit q all.0 ds (step.Chain head (Some fault)) = subst (λ (c : comes.CourseStep). IsCourseStep m old.limit q all.0 ds c) came all.2.2 in
     let gone : after ≡ took before = all.2.1.2 ∙ ap (queue_after before) came in
     takes_by given old new before after (says.Faulty head fault) s walks all.0 head (CannotFetch fault) all.1
     (offer_says m old.limit before.layout before.position all.0 [] (Offers head (CannotFetch fault)) found tt) counted gone is walker
 
 -- ---- none is found
 
-abbrev IsIdle : walked.WalkOutcome → Type 0
+abbrev IsIdle : walked.PopOutcome → Type 0
 IsIdle says.Idle = Unit {0}
 IsIdle _ = ⊥
 
-idle_is : (ds : List Descriptor) (came : comes.Step) → says.Idle ≡ told_of ds came → came ≡ step.Idle
+idle_is : (ds : List Descriptor) (came : comes.CourseStep) → says.Idle ≡ told_of ds came → came ≡ step.Idle
 idle_is ds (step.Load walk) e = absurd (subst IsIdle e tt)
 idle_is ds step.Idle e = refl
 idle_is ds (step.Refused error) e = absurd (subst IsIdle e tt)
@@ -322,10 +322,10 @@ same_index i p is = grind (arith, nat_tests, is)
 or_left : (a b : Bool) → a ≡ true → (a || b) ≡ true
 or_left a b is = rw is refl
 
-sleeps_so : (q : KeptQueue) (s : Queue) → s.index ≡ s.position → IsOf q s → s.holder ≡ Asker → s.hidden ≡ false → IsTrue (may_act (ways_of q) s SleepsNow)
+sleeps_so : (q : QueueState) (s : ThreadedQueue) → s.index ≡ s.position → IsOf q s → s.holder ≡ Asker → s.hidden ≡ false → IsTrue (may_act (ways_of q) s SleepsNow)
 sleeps_so q s none is asker shown =
-    three (asks s.holder) (not s.hidden) (s.index == s.position || nat_le q.most_out s.out) (ap asks asker) (ap not shown)
-    (or_left (s.index == s.position) (nat_le q.most_out s.out) (same_index s.index s.position none))
+    three (asks s.holder) (not s.hidden) (s.index == s.position || nat_le q.max_in_flight s.out) (ap asks asker) (ap not shown)
+    (or_left (s.index == s.position) (nat_le q.max_in_flight s.out) (same_index s.index s.position none))
 
 pub finds_none : FindsNoneByWalk
 finds_none given old new before after s counted fits goes walks is asker shown =
@@ -334,7 +334,7 @@ finds_none given old new before after s counted fits goes walks is asker shown =
     let all = walk_comes given old new before after says.Idle goes tt walks in
     let came = idle_is new.descriptors.items all.2.0 all.2.1.0 in
     let ds = new.descriptors.items in
-    let found : ComesTo m old.limit q all.0 ds step.Idle = subst (λ (c : comes.Step). ComesTo m old.limit q all.0 ds c) came all.2.2 in
+    let found : IsCourseStep m old.limit q all.0 ds step.Idle = subst (λ (c : comes.CourseStep). IsCourseStep m old.limit q all.0 ds c) came all.2.2 in
     let gone : after ≡ before = all.2.1.2 ∙ ap (queue_after before) came in
     let says = offer_says m old.limit before.layout before.position all.0 [] taking.Idle found tt in
     let index = from_le_bytes w16 says.0 in (
@@ -344,12 +344,12 @@ finds_none given old new before after s counted fits goes walks is asker shown =
       (says.0, says.1, refl),
       λ same.
           let none : s.index ≡ before.position = ahead_zero s.index before.position fits counted.0 (ap (λ (i : ℕ). ahead i before.position) same ∙ says.2) in
-          (sleeps_so before s (none ∙ sym is.0) is asker shown, subst (λ (k : KeptQueue). IsOf k (after_act (ways_of before) s SleepsNow)) (sym gone) is),
+          (sleeps_so before s (none ∙ sym is.0) is asker shown, subst (λ (k : QueueState). IsOf k (after_act (ways_of before) s SleepsNow)) (sym gone) is),
     )
 
 pub sleeps : SleepsInOrder
 sleeps q s is walker none = (
-  (ap walks walker, (refl, (or_left (s.index == s.position) (nat_le q.most_out s.out) (same_index s.index s.position (none ∙ sym is.0)), refl))),
+  (ap walks walker, (refl, (or_left (s.index == s.position) (nat_le q.max_in_flight s.out) (same_index s.index s.position (none ∙ sym is.0)), refl))),
   is,
   refl,
 )

@@ -3,24 +3,24 @@ use Rattle.std.proofs.Common.{◌≡◌, Bool, true, false, ◌||◌, Some, IsTr
 use Rattle.std.specs.Int.{w16, to_le_bytes}
 use Rattle.std.proofs.lemmas.Nat.{from_le_bytes-to_le_bytes_2}
 use Rattle.fs_queue.specs.Returning.{Store}
-use Rattle.fs_chain.specs.declared.queue.KeptQueue.{KeptQueue}
-use Rattle.fs_chain.specs.Events.{avail_event_at, kick_store}
-use Rattle.notify.specs.Threads.{Queue, Walker, walks, may_act, after_act, Wishes, WishIsThere}
+use Rattle.fs_chain.specs.declared.queue.QueueState.{QueueState}
+use Rattle.fs_chain.specs.Events.{avail_event_at, notification_store}
+use Rattle.notify.specs.Threads.{ThreadedQueue, Walker, walks, may_act, after_act, Wishes, WishIsThere}
 use Rattle.fs_notify.specs.Takers.{AsksByStore, IsCounted, IsOf, MutesBy, MutesByStore, SaysWish, ways_of, wish_at}
 
-abbrev AsksSo : KeptQueue → Queue → Type 0
+abbrev AsksSo : QueueState → ThreadedQueue → Type 0
 AsksSo q s =
     let asking = after_act (ways_of q) s Wishes in
     let asked = after_act (ways_of q) asking WishIsThere in
     (store : Store)
-    × (kick_store q true ≡ Some store)
+    × (notification_store q true ≡ Some store)
     × (store.address ≡ wish_at q)
     × IsTrue (may_act (ways_of q) s Wishes)
     × IsTrue (may_act (ways_of q) asking WishIsThere)
     × SaysWish q.event_index store.bytes asked.event asked.muted
     × IsOf q asked
 
-asks_so : (q : KeptQueue) (s : Queue) (b : Bool) → q.event_index ≡ b → IsCounted q → IsOf q s → s.holder ≡ Walker → AsksSo q s
+asks_so : (q : QueueState) (s : ThreadedQueue) (b : Bool) → q.event_index ≡ b → IsCounted q → IsOf q s → s.holder ≡ Walker → AsksSo q s
 asks_so q s true e counted is walker = (
   record { address = avail_event_at q.layout; bytes = to_le_bytes w16 q.position },
   rw e refl,
@@ -43,7 +43,7 @@ asks_so q s false e counted is walker = (
 pub asks : AsksByStore
 asks q s counted is walker = asks_so q s q.event_index refl counted is walker
 
-mutes_so : (q : KeptQueue) (s : Queue) (b : Bool) → q.event_index ≡ b → IsOf q s → MutesBy b q s (kick_store q false)
+mutes_so : (q : QueueState) (s : ThreadedQueue) (b : Bool) → q.event_index ≡ b → IsOf q s → MutesBy b q s (notification_store q false)
 mutes_so q s true e is = rw e refl
 mutes_so q s false e is = rw e (refl, refl, is)
 

@@ -9,26 +9,26 @@ use Rattle.vm_memory.specs.Memory.{Memory, number}
 use Rattle.fs_queue.specs.Queue.{Queue, has_bit, index_at}
 use Rattle.fs_queue.specs.Returning.{Store, next_position, wants_notice}
 use Rattle.fs_queue.specs.ReturningView.{stores_of}
-use Rattle.fs_chain.specs.declared.queue.KeptQueue.{KeptQueue}
-use Rattle.fs_chain.specs.declared.returning.Stores.{Stores}
-use Rattle.fs_chain.specs.declared.state.Out.{Out}
-use Rattle.fs_chain.specs.declared.state.Reply.{Reply}
+use Rattle.fs_chain.specs.declared.queue.QueueState.{QueueState}
+use Rattle.fs_chain.specs.declared.pushing.PushStores.{PushStores}
+use Rattle.fs_chain.specs.declared.state.InFlight.{InFlight}
+use Rattle.fs_chain.specs.declared.state.ChainReply.{ChainReply}
 use Rattle.fs_chain.specs.Events.{tells_of}
 use Rattle.fs_chain.specs.Queues.{at_return, gave}
-use Rattle.fs_chain.specs.Returns.{ReturnsBy}
-use Rattle.notify.specs.Kicks.{Rules, right, State, Publishes, IndexArrives, Checks, Runs, ahead, moved}
+use Rattle.fs_chain.specs.Pushes.{PushesBy}
+use Rattle.notify.specs.Kicks.{Rules, right, NotifyState, Publishes, IndexArrives, Checks, Runs, ahead, moved}
 use Rattle.notify.specs.Kicks.{must, after}
 use Rattle.fs_notify.specs.Takers.{SaysWish}
 
 -- the rules that a device keeps as the giver of this queue's used chains
-abbrev pub rules_of : KeptQueue → Rules
+abbrev pub rules_of : QueueState → Rules
 rules_of q = right q.layout.size q.event_index
 
 -- the last store of a return is the used index that the model's giver publishes
 abbrev pub PublishesByStore : Type 0
 PublishesByStore =
-    (q : KeptQueue) (out : Out) (reply : Reply) (s : Stores) (u : State)
-    → ReturnsBy q out reply s
+    (q : QueueState) (out : InFlight) (reply : ChainReply) (s : PushStores) (u : NotifyState)
+    → PushesBy q out reply s
     → u.published ≡ q.returned
     → let published = (after (rules_of q) u (Publishes 1)).published in
     (first : List Store)
@@ -40,7 +40,7 @@ PublishesByStore =
 -- must notify of the one chain that it published
 abbrev pub ChecksBySeen : Type 0
 ChecksBySeen =
-    (q : KeptQueue) (seen : List ℕ) (u : State)
+    (q : QueueState) (seen : List ℕ) (u : NotifyState)
     → q.returned < 2 ^ 16
     → from_le_bytes w16 seen < 2 ^ 16
     → u.published ≡ (gave q).returned
@@ -52,7 +52,7 @@ ChecksBySeen =
 -- driver has made no more chains available than the queue has descriptors
 abbrev pub ReturnsInOrder : Type 0
 ReturnsInOrder =
-    (q : KeptQueue) (u : State)
+    (q : QueueState) (u : NotifyState)
     → q.returned < 2 ^ 16
     → u.published ≡ q.returned
     → u.index ≡ u.published

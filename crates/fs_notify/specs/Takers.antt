@@ -10,37 +10,37 @@ use Rattle.fs_queue.specs.Queue.{has_bit}
 use Rattle.fs_queue.specs.Returning.{Store}
 use Rattle.fs_regions.specs.Walks.{Loaded}
 use Rattle.fs_chain.specs.declared.error.ChainError.TheVariants.{ChainOut}
-use Rattle.fs_chain.specs.declared.loads.Went.TheVariants as wents
-use Rattle.fs_chain.specs.declared.queue.KeptQueue.{KeptQueue}
-use Rattle.fs_chain.specs.declared.state.State as state
-use Rattle.fs_chain.specs.declared.state.Out.{Out}
-use Rattle.fs_chain.specs.declared.state.State.TheVariants as at
-use Rattle.fs_chain.specs.declared.walking.WalkOutcome as walked
-use Rattle.fs_chain.specs.declared.walking.WalkOutcome.TheVariants as says
-use Rattle.fs_chain.specs.declared.workbench.Workbench.{Workbench}
-use Rattle.fs_chain.specs.Events.{avail_event_at, kick_store}
+use Rattle.fs_chain.specs.declared.loads.LoadOutcome.TheVariants as wents
+use Rattle.fs_chain.specs.declared.queue.QueueState.{QueueState}
+use Rattle.fs_chain.specs.declared.state.ChainState as state
+use Rattle.fs_chain.specs.declared.state.InFlight.{InFlight}
+use Rattle.fs_chain.specs.declared.state.ChainState.TheVariants as at
+use Rattle.fs_chain.specs.declared.popping.PopOutcome as walked
+use Rattle.fs_chain.specs.declared.popping.PopOutcome.TheVariants as says
+use Rattle.fs_chain.specs.declared.chain_handle.ChainHandle.{ChainHandle}
+use Rattle.fs_chain.specs.Events.{avail_event_at, notification_store}
 use Rattle.fs_chain.specs.Orders.{begin_error, end_error, give_up_error}
-use Rattle.fs_chain.specs.Queues.{gave, out_count, untook}
+use Rattle.fs_chain.specs.Queues.{gave, in_flight, untook}
 use Rattle.fs_chain.specs.Whole.{LoadsOf, WalksBy}
-use Rattle.notify.specs.Threads.{Ways, right_ways, Queue, Walker, Asker, Nobody, may_act, after_act, ActsOver}
+use Rattle.notify.specs.Threads.{Ways, right_ways, ThreadedQueue, Walker, Asker, Nobody, may_act, after_act, ActsOver}
 use Rattle.notify.specs.Threads.{Wishes, WishIsThere, Silences, TakesOne, DropsOne, SleepsNow, Returns}
 
 -- the ways that a queue's threads keep
-abbrev pub ways_of : KeptQueue → Ways
-ways_of q = right_ways q.layout.size q.most_out q.event_index
+abbrev pub ways_of : QueueState → Ways
+ways_of q = right_ways q.layout.size q.max_in_flight q.event_index
 
 -- the numbers of a queue are u16
-abbrev pub IsCounted : KeptQueue → Type 0
-IsCounted q = (q.position < 2 ^ 16) × (q.returned < 2 ^ 16) × (q.most_out < 2 ^ 16)
+abbrev pub IsCounted : QueueState → Type 0
+IsCounted q = (q.position < 2 ^ 16) × (q.returned < 2 ^ 16) × (q.max_in_flight < 2 ^ 16)
 
 -- the model's queue takes where this one does, and has as many chains in flight
-abbrev pub IsOf : KeptQueue → Queue → Type 0
-IsOf q s = (s.position ≡ q.position) × (s.out ≡ out_count q)
+abbrev pub IsOf : QueueState → ThreadedQueue → Type 0
+IsOf q s = (s.position ≡ q.position) × (s.out ≡ in_flight q)
 
 -- ---- the wish
 
 -- where the device stores its wish
-abbrev pub wish_at : KeptQueue → ℕ
+abbrev pub wish_at : QueueState → ℕ
 wish_at q = if q.event_index then avail_event_at q.layout else q.layout.used
 
 -- these two bytes there are the wish that the model's memory has
@@ -51,14 +51,14 @@ SaysWish false bytes event muted = has_bit (from_le_bytes w16 bytes) 0 ≡ muted
 -- the store that asks for a notification is the wish for the next chain, once it has reached memory
 abbrev pub AsksByStore : Type 0
 AsksByStore =
-    (q : KeptQueue) (s : Queue)
+    (q : QueueState) (s : ThreadedQueue)
     → IsCounted q
     → IsOf q s
     → s.holder ≡ Walker
     → let asking = after_act (ways_of q) s Wishes in
     let asked = after_act (ways_of q) asking WishIsThere in
     (store : Store)
-    × (kick_store q true ≡ Some store)
+    × (notification_store q true ≡ Some store)
     × (store.address ≡ wish_at q)
     × IsTrue (may_act (ways_of q) s Wishes)
     × IsTrue (may_act (ways_of q) asking WishIsThere)
@@ -66,7 +66,7 @@ AsksByStore =
     × IsOf q asked
 
 -- the store that asks for none says so; with the event index there is none
-abbrev pub MutesBy : (event_index : Bool) → KeptQueue → Queue → Option Store → Type 0
+abbrev pub MutesBy : (event_index : Bool) → QueueState → ThreadedQueue → Option Store → Type 0
 MutesBy true q s store = store ≡ None
 MutesBy false q s None = ⊥
 MutesBy false q s (Some store) =
@@ -75,15 +75,15 @@ MutesBy false q s (Some store) =
 
 abbrev pub MutesByStore : Type 0
 MutesByStore =
-    (q : KeptQueue) (s : Queue)
+    (q : QueueState) (s : ThreadedQueue)
     → IsOf q s
     → s.holder ≡ Walker
-    → MutesBy q.event_index q s (kick_store q false) × IsTrue (may_act (ways_of q) s (Silences s.event))
+    → MutesBy q.event_index q s (notification_store q false) × IsTrue (may_act (ways_of q) s (Silences s.event))
 
 -- ---- the walk
 
 -- a walk took a chain
-abbrev pub HasTaken : walked.WalkOutcome → Type 0
+abbrev pub HasTaken : walked.PopOutcome → Type 0
 HasTaken (says.Chain head request_len room_len) = Unit {0}
 HasTaken (says.Faulty head fault) = Unit {0}
 HasTaken _ = ⊥
@@ -96,8 +96,8 @@ IsIndex loaded index = (bytes : List ℕ) × (loaded.index ≡ Some bytes) × (f
 -- queue is then the model's
 abbrev pub TakesByWalk : Type 0
 TakesByWalk =
-    (given : List (List ℕ)) (old new : Workbench) (before after : KeptQueue)
-    (told : walked.WalkOutcome) (s : Queue)
+    (given : List (List ℕ)) (old new : ChainHandle) (before after : QueueState)
+    (told : walked.PopOutcome) (s : ThreadedQueue)
     → IsCounted before
     → before.stopped ≡ None
     → HasTaken told
@@ -115,7 +115,7 @@ TakesByWalk =
 -- wish, the barrier was made, and that is the index in memory: a load of now, and not an earlier one
 abbrev pub FindsNoneByWalk : Type 0
 FindsNoneByWalk =
-    (given : List (List ℕ)) (old new : Workbench) (before after : KeptQueue) (s : Queue)
+    (given : List (List ℕ)) (old new : ChainHandle) (before after : QueueState) (s : ThreadedQueue)
     → IsCounted before
     → s.index < 2 ^ 16
     → before.stopped ≡ None
@@ -133,7 +133,7 @@ FindsNoneByWalk =
 -- so may one whose walk is refused since as many chains are in flight as may be
 abbrev pub FullIsAnAct : Type 0
 FullIsAnAct =
-    (q : KeptQueue) (s : Queue)
+    (q : QueueState) (s : ThreadedQueue)
     → begin_error q 0 ≡ Some ChainOut
     → IsOf q s
     → s.holder ≡ Asker
@@ -143,7 +143,7 @@ FullIsAnAct =
 -- a wish, its barrier and a walk that finds no chain, in this order, are a run of the model
 abbrev pub SleepsInOrder : Type 0
 SleepsInOrder =
-    (q : KeptQueue) (s : Queue)
+    (q : QueueState) (s : ThreadedQueue)
     → IsOf q s
     → s.holder ≡ Walker
     → s.index ≡ q.position
@@ -156,7 +156,7 @@ SleepsInOrder =
 -- a chain that is given up is dropped
 abbrev pub DropIsAnAct : Type 0
 DropIsAnAct =
-    (q : KeptQueue) (out : Out) (s : Queue)
+    (q : QueueState) (out : InFlight) (s : ThreadedQueue)
     → IsCounted q
     → give_up_error (at.Taken out) q ≡ None
     → IsOf q s
@@ -166,7 +166,7 @@ DropIsAnAct =
 -- a chain whose return ends is returned
 abbrev pub ReturnIsAnAct : Type 0
 ReturnIsAnAct =
-    (q : KeptQueue) (from : state.State) (s : Queue)
+    (q : QueueState) (from : state.ChainState) (s : ThreadedQueue)
     → IsCounted q
     → end_error from q ≡ None
     → IsOf q s

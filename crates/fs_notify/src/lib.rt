@@ -6,8 +6,8 @@
 //!
 //! | Call | Step |
 //! |---|---|
-//! | `kick_store(true)`, its store, the barrier | `Wishes`, `WishIsThere` |
-//! | `kick_store(false)`, its store | `Silences` |
+//! | `notification_store(true)`, its store, the barrier | `Wishes`, `WishIsThere` |
+//! | `notification_store(false)`, its store | `Silences` |
 //! | `walk`: the load of the available index; a chain | `Loads`, `TakesOne` |
 //! | `walk` behind the barrier: no chain, or as many in flight as may be | `SleepsNow` |
 //! | `give_up` | `DropsOne` |

@@ -8,7 +8,7 @@ use Rattle.fs_queue.specs.Chain.{after_walk_step, with_front, Found, IsChain, Ha
 use Rattle.fs_queue.specs.Chain.{entry_address}
 use Rattle.fs_queue.specs.Loads.{Load, Ahead, Reads, Ends, holding, reads_entry, step_by, ahead_at, ahead_after, ahead_of_next, found_by, is_whole, found_exactly}
 use Rattle.fs_queue.specs.Loads.{ahead_by, AreEntriesOf, CutOffIsStill}
-use Rattle.fs_queue.specs.AnyLoads.{load_at, loads_by, FewLoads, LoadsEnd, steps_by, joined, joined_by, LastStep, ReadIn, PastTable, IsReadIn, EndsAreRead, visits_by, OneForEach, Once, EntriesApart}
+use Rattle.fs_queue.specs.AnyLoads.{load_at, loads_by, FewLoads, LoadsEnd, steps_by, joined, joined_by, LastStep, WasReadBy, PastTable, IsReadIn, EndsAreRead, visits_by, OneForEach, Once, EntriesApart}
 use Rattle.fs_queue.proofs.WalkLemmas.{tables_left}
 use Rattle.fs_queue.proofs.BoundLemmas.{steps_left, Falls, falls, allowed}
 use Rattle.fs_queue.proofs.StillLemmas.{mapped, outside, ended, IsSound, sound_at, sound_next, finds_from, still_exactly}
@@ -95,7 +95,7 @@ more_steps size v l ls o inside next =
 abbrev last_behind : (size : ℕ) (v u : Visit) (l : Load) (ls : List Load) → steps_by size (l ∷ ls) v ≡ v ∷ steps_by size ls u → LastStep size ls u → LastStep size (l ∷ ls) v
 last_behind size v u l ls on s = record { front = v ∷ s.front; last = s.last; steps = on ∙ ap (λ (x : List Visit). v ∷ x) s.steps }
 
-read_behind : (size : ℕ) (v u : Visit) (l : Load) (ls : List Load) (w : WalkStep) → steps_by size (l ∷ ls) v ≡ v ∷ steps_by size ls u → ReadIn size ls u w → ReadIn size (l ∷ ls) v w
+read_behind : (size : ℕ) (v u : Visit) (l : Load) (ls : List Load) (w : WalkStep) → steps_by size (l ∷ ls) v ≡ v ∷ steps_by size ls u → WasReadBy size ls u w → WasReadBy size (l ∷ ls) v w
 read_behind size v u l ls w on r = record {
   step = last_behind size v u l ls on r.step;
   before = l ∷ r.before;
@@ -125,7 +125,7 @@ found_in_front size v u l ls d (HasFault fault) on one (inl r) = inl (read_behin
 found_in_front size v u l ls d (HasFault fault) on one (inr (e, r)) = inr (e, record { step = last_behind size v u l ls on r.step; past = r.past })
 found_in_front size v u l ls d StopsQueue on one r = read_behind size v u l ls Stops on r
 
-here : (size : ℕ) (v : Visit) (l : Load) (ls : List Load) (w : WalkStep) → steps_by size (l ∷ ls) v ≡ v ∷ [] → l.address ≡ entry_address v → step_by size v l ≡ w → ReadIn size (l ∷ ls) v w
+here : (size : ℕ) (v : Visit) (l : Load) (ls : List Load) (w : WalkStep) → steps_by size (l ∷ ls) v ≡ v ∷ [] → l.address ≡ entry_address v → step_by size v l ≡ w → WasReadBy size (l ∷ ls) v w
 here size v l ls w alone at is =
     record { step = record { front = []; last = v; steps = alone }; before = []; load = l; rest = ls; loads = refl; place = refl; entry = at; tells = is }
 

@@ -8,8 +8,8 @@ use Rattle.std.proofs.lemmas.Bool.{eq-eqb}
 use Rattle.vm_iotlb.specs.declared.permissions.Permissions.TheVariants.{Read}
 use Rattle.vm_memory.specs.Memory.{Memory, bytes, reach}
 use Rattle.fs_queue.specs.declared.chain_walk.ChainWalk.{ChainWalk}
-use Rattle.fs_queue.specs.declared.chain_walk.Walked as walked
-use Rattle.fs_queue.specs.declared.chain_walk.Walked.TheVariants as comes_to
+use Rattle.fs_queue.specs.declared.chain_walk.WalkEnd as walked
+use Rattle.fs_queue.specs.declared.chain_walk.WalkEnd.TheVariants as comes_to
 use Rattle.fs_queue.specs.declared.chain_walk.Progress as code
 use Rattle.fs_queue.specs.declared.chain_walk.Progress.TheVariants as says
 use Rattle.fs_queue.specs.Queue.{Queue}
@@ -78,16 +78,16 @@ came_on m size start ds v l joins a at is joins-is a-is c = record {
   so_far = λ more. ap (λ (ls : List Load). found_by size ls start) (append_assoc c.loads (l ∷ []) more) ∙ c.so_far (l ∷ more) ∙ sym (given size v l more ds joins a at joins-is a-is);
 }
 
-prepended : (w : walked.Walked) (ds : List Descriptor) → prepend ds (found_of w []) ≡ found_of w ds
+prepended : (w : walked.WalkEnd) (ds : List Descriptor) → prepend ds (found_of w []) ≡ found_of w ds
 prepended comes_to.Chain ds = prepend-chain ds [] ∙ ap IsChain (append-nil ds)
 prepended (comes_to.Faulty fault) ds = prepend-fault ds fault
 prepended comes_to.Stopped ds = prepend-stop ds
 
-ended_by : (size : ℕ) (ls : List Load) (w : walked.Walked) (ds : List Descriptor) → Some (found_of w ds) ≡ option_map (prepend ds) (found_by size ls (Ends (found_of w [])))
+ended_by : (size : ℕ) (ls : List Load) (w : walked.WalkEnd) (ds : List Descriptor) → Some (found_of w ds) ≡ option_map (prepend ds) (found_by size ls (Ends (found_of w [])))
 ended_by size ls w ds = ap Some (sym (prepended w ds)) ∙ sym (ap (option_map (prepend ds)) (ended size ls (found_of w [])))
 
 -- a walk that ended found what the memory has
-pub came_end : (m : Memory) (q : Queue) (head : ℕ) (ds : List Descriptor) (w : walked.Walked) → Came m q.size (ahead_at q.size (first_visit q head)) ds
+pub came_end : (m : Memory) (q : Queue) (head : ℕ) (ds : List Descriptor) (w : walked.WalkEnd) → Came m q.size (ahead_at q.size (first_visit q head)) ds
     (Ends (found_of w [])) → found_of w ds ≡ chain m q head
 came_end m q head ds w c =
     still m q head c.loads (found_of w ds) c.are
@@ -158,27 +158,27 @@ came_kept m size start room kept kept' items items' w at came joins a own at-is 
 )
 
 -- what a walk came to, by the descriptors that joined it
-pub kept_found : (room : ℕ) (kept : Bool) (items joined : List Descriptor) (w : walked.Walked) → (w ≡ comes_to.Chain → kept ≡ true) → KeptOf room kept items joined →
+pub kept_found : (room : ℕ) (kept : Bool) (items joined : List Descriptor) (w : walked.WalkEnd) → (w ≡ comes_to.Chain → kept ≡ true) → KeptOf room kept items joined →
     found_of w items ≡ found_of w joined
 kept_found room kept items joined comes_to.Chain k c = ap IsChain (sym (c.same (k refl)))
 kept_found room kept items joined (comes_to.Faulty fault) k c = refl
 kept_found room kept items joined comes_to.Stopped k c = refl
 
-pub lost_found : (room : ℕ) (kept : Bool) (items joined : List Descriptor) (w : walked.Walked) → w ≡ comes_to.Chain → kept ≡ false → KeptOf room kept items joined →
+pub lost_found : (room : ℕ) (kept : Bool) (items joined : List Descriptor) (w : walked.WalkEnd) → w ≡ comes_to.Chain → kept ≡ false → KeptOf room kept items joined →
     IsLongChain room (found_of w joined)
 lost_found room kept items joined comes_to.Chain is lost c = (joined, refl, c.long lost)
 lost_found room kept items joined (comes_to.Faulty fault) is lost c = absurd (cc)
 lost_found room kept items joined comes_to.Stopped is lost c = absurd (cc)
 
 -- what a walk answers that ended so
-pub answered_end : (m : Memory) (q : Queue) (head room : ℕ) (kept : Bool) (items : List Descriptor) (w : walked.Walked) (r : Result walked.Walked AllocError) →
+pub answered_end : (m : Memory) (q : Queue) (head room : ℕ) (kept : Bool) (items : List Descriptor) (w : walked.WalkEnd) (r : Result walked.WalkEnd AllocError) →
     IfOk r (λ x. (x ≡ w) × (w ≡ comes_to.Chain → kept ≡ true)) → CameKept m q.size (ahead_at q.size (first_visit q head)) room kept items (Ends (found_of w [])) →
     IfOk r (λ x. found_of x items ≡ chain m q head)
 answered_end m q head room kept items w (Ok x) told c =
-    ap (λ (y : walked.Walked). found_of y items) told.0 ∙ kept_found room kept items c.0 w told.1 c.1 ∙ came_end m q head c.0 w c.2
+    ap (λ (y : walked.WalkEnd). found_of y items) told.0 ∙ kept_found room kept items c.0 w told.1 c.1 ∙ came_end m q head c.0 w c.2
 answered_end m q head room kept items w (Err e) told c = tt
 
-pub failed_end : (m : Memory) (q : Queue) (head room : ℕ) (kept : Bool) (items : List Descriptor) (w : walked.Walked) (r : Result walked.Walked AllocError) →
+pub failed_end : (m : Memory) (q : Queue) (head room : ℕ) (kept : Bool) (items : List Descriptor) (w : walked.WalkEnd) (r : Result walked.WalkEnd AllocError) →
     OnErr r ((w ≡ comes_to.Chain) × (kept ≡ false)) →
     CameKept m q.size (ahead_at q.size (first_visit q head)) room kept items (Ends (found_of w [])) → OnErr r (IsLongChain room (chain m q head))
 failed_end m q head room kept items w (Ok x) lost c = tt

@@ -19,7 +19,7 @@ use Rattle.fs_queue.specs.NextAvail.{next_avail}
 use Rattle.fs_queue.specs.NextAvail as avail
 use Rattle.fs_queue.specs.Taking.{Offer, Offers, Refuses, RequestAndRoom, CannotFetch, request_and_room, offer_of, on_head, on_next_avail, offer, may_lack_memory, stops_queue}
 use Rattle.fs_queue.specs.Windows.{ReturnPlaces, Lacks, Takes, HoldsChain, HoldsFound, HoldsReturnWindows, RefusesFound}
-use Rattle.fs_queue.specs.Windows.{RefusesHeld, WantsMemory, Stays, missing_of, return_places_found, return_places_at, used_addresses}
+use Rattle.fs_queue.specs.Windows.{RefusesHeld, WantsMemory, DoesNotStop, missing_of, return_places_found, return_places_at, used_addresses}
 use Rattle.fs_queue.specs.Windows as held
 use Rattle.fs_queue.proofs.TakeLemmas.{reach-each, reach-range, list_all-append}
 use Rattle.vm_memory.proofs.RangeLemmas.{all_located}
@@ -67,7 +67,7 @@ pub offer_head : (m : Memory) (limit : ℕ) (l : QueueLayout) (position at : ℕ
 offer_head m limit l position at e =
     offer_next_avail m limit (at_position l position) refl ∙ sym (ap (on_next_avail m limit (at_position l position)) e) ∙ on_head-return_places m limit l position at
 
-stays_offered : (m : Memory) (limit h : ℕ) (f : Found) → Stays f → may_lack_memory (offer_of m limit h f) ≡ true
+stays_offered : (m : Memory) (limit h : ℕ) (f : Found) → DoesNotStop f → may_lack_memory (offer_of m limit h f) ≡ true
 stays_offered m limit h (IsChain ds) stays = refl
 stays_offered m limit h (HasFault fault) stays = refl
 stays_offered m limit h StopsQueue stays = absurd stays
@@ -78,7 +78,7 @@ nothing_missing (Lacks e) rest none = absurd (cc)
 
 -- if the return can be written and the walk doesn't stop the queue, a chain is offered
 pub lacks_memory : (m : Memory) (limit : ℕ) (l : QueueLayout) (position at : ℕ) → avail.Head at ≡ next_avail m (at_position l position) →
-    missing_of (return_places_at m (at_position l position)) ≡ None → Stays (chain m (at_position l position) at) → IsTrue (may_lack_memory (offer m limit (at_position l position)))
+    missing_of (return_places_at m (at_position l position)) ≡ None → DoesNotStop (chain m (at_position l position) at) → IsTrue (may_lack_memory (offer m limit (at_position l position)))
 lacks_memory m limit l position at e none stays =
     ap may_lack_memory (offer_head m limit l position at e ∙ nothing_missing _ _ none) ∙ stays_offered m limit at (chain m (at_position l position) at) stays
 
@@ -147,7 +147,7 @@ refused_walk m limit l position at stop.HeadOutOfTable head none r = absurd r
 refused_walk m limit l position at stop.UsedUnreachable head none r = absurd r
 refused_walk m limit l position at stop.AvailFlagsUnreachable head none r = absurd r
 
-chain_wants : (limit room : ℕ) (f : Found) → WantsMemory limit room f → Stays f
+chain_wants : (limit room : ℕ) (f : Found) → WantsMemory limit room f → DoesNotStop f
 chain_wants limit room (IsChain ds) wants = tt
 chain_wants limit room (HasFault fault) wants = tt
 chain_wants limit room StopsQueue wants = absurd wants

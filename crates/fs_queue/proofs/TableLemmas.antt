@@ -7,7 +7,7 @@ use Rattle.vm_iotlb.specs.declared.permissions.Permissions.TheVariants.{Read}
 use Rattle.vm_memory.specs.Memory.{Memory, addresses, circular, located, location, reach, bytes}
 use Rattle.vm_memory_core.specs.Host.{Place}
 use Rattle.vm_memory_core.specs.Window.{Window, byte_in, places_of}
-use Rattle.vm_memory.specs.Slices.{Slices, Gives}
+use Rattle.vm_memory.specs.Slices.{Slices, GivesSlice}
 use Rattle.vm_memory.specs.declared.error.GuestMemoryError.{GuestMemoryError}
 use Rattle.vm_memory.proofs.Places.{addresses-append, bytes-located, circular-is, length-circular}
 use Rattle.fs_queue.proofs.ReadLemmas.{front_bytes, back_bytes, length-bytes}
@@ -70,8 +70,8 @@ whole_window m a n len ps bs fits same at is =
     )
 
 -- a first window has the places of the first addresses
-pub first_window : (s from t : Slices) (r : Option (Result Window GuestMemoryError)) (w : Window) → s ≡ from → r ≡ Some (Ok w) → Gives s r t →
+pub first_window : (s from t : Slices) (r : Option (Result Window GuestMemoryError)) (w : Window) → s ≡ from → r ≡ Some (Ok w) → GivesSlice s r t →
     located from.where_is (take w.len from.left) ≡ Some (places_of w)
 first_window s from t r w e f h =
-    let k : Gives from (Some (Ok w)) t = rw (e, f) at h in
+    let k : GivesSlice from (Some (Ok w)) t = rw (e, f) at h in
     k.2

@@ -55,7 +55,7 @@ pub record LastStep (size : ℕ) (ls : List Load) (first : Visit) : Type 0 where
   pub steps : steps_by size ls first ≡ front ++ last ∷ []
 
 -- it came to this by the load that stands at the step's place, which is of the step's entry
-pub record ReadIn (size : ℕ) (ls : List Load) (first : Visit) (w : WalkStep) : Type 0 where
+pub record WasReadBy (size : ℕ) (ls : List Load) (first : Visit) (w : WalkStep) : Type 0 where
   pub step : LastStep size ls first
   pub before : List Load
   pub load : Load
@@ -73,8 +73,8 @@ pub record PastTable (size : ℕ) (ls : List Load) (first : Visit) : Type 0 wher
 -- a chain is told by the bytes of the loads for its steps; a fault by those of the load for the walk's last step, unless that is past its table's end; a stop by a load for it that found no place
 abbrev pub IsReadIn : (size : ℕ) → List Load → (first : Visit) → Found → Type 0
 IsReadIn size ls first (IsChain ds) = ds ≡ joined_by size (steps_by size ls first) ls
-IsReadIn size ls first (HasFault fault) = ReadIn size ls first (Faulty fault) ⊎ ((fault ≡ NextOutOfTable) × PastTable size ls first)
-IsReadIn size ls first StopsQueue = ReadIn size ls first Stops
+IsReadIn size ls first (HasFault fault) = WasReadBy size ls first (Faulty fault) ⊎ ((fault ≡ NextOutOfTable) × PastTable size ls first)
+IsReadIn size ls first StopsQueue = WasReadBy size ls first Stops
 
 -- so is what a walk by any loads finds
 abbrev pub EndsAreRead : Type 0

@@ -4,8 +4,8 @@ use Rattle.vm_iotlb.specs.declared.permissions.Permissions.TheVariants.{Read}
 use Rattle.vm_memory.specs.Memory.{Memory, bytes, reach}
 use Rattle.fs_queue.specs.declared.walk_step.WalkStep as code_step
 use Rattle.fs_queue.specs.declared.walk_step.WalkStep.TheVariants as says
-use Rattle.fs_queue.specs.declared.chain_walk.Walked as walked
-use Rattle.fs_queue.specs.declared.chain_walk.Walked.TheVariants as comes_to
+use Rattle.fs_queue.specs.declared.chain_walk.WalkEnd as walked
+use Rattle.fs_queue.specs.declared.chain_walk.WalkEnd.TheVariants as comes_to
 use Rattle.fs_queue.specs.declared.layout.QueueLayout.{QueueLayout}
 use Rattle.fs_queue.specs.Queue.{Queue, resumed}
 use Rattle.fs_queue.specs.Chain.{Descriptor, DescriptorTable, Visit, WalkStep, Ordinary, Table, Faulty, Stops, Found, IsChain, HasFault, StopsQueue}
@@ -42,7 +42,7 @@ abbrev pub AreTheRing : Memory → QueueLayout → List ℕ → Type 0
 AreTheRing m l bs = AreTheBytes m l.avail (4 + 2 * l.size) bs
 
 -- what a walk found, and the descriptors that it collected
-abbrev pub found_of : walked.Walked → List Descriptor → Found
+abbrev pub found_of : walked.WalkEnd → List Descriptor → Found
 found_of comes_to.Chain ds = IsChain ds
 found_of (comes_to.Faulty fault) ds = HasFault fault
 found_of comes_to.Stopped ds = StopsQueue

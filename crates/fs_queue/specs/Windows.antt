@@ -69,14 +69,14 @@ abbrev pub IsLongChain : (room : ℕ) → Found → Type 0
 IsLongChain room found = (ds : List Descriptor) × (found ≡ IsChain ds) × (room < length ds)
 
 -- a walk ended with a chain or a fault, so it didn't stop the queue
-abbrev pub Stays : Found → Type 0
-Stays (IsChain ds) = Unit {0}
-Stays (HasFault fault) = Unit {0}
-Stays StopsQueue = ⊥
+abbrev pub DoesNotStop : Found → Type 0
+DoesNotStop (IsChain ds) = Unit {0}
+DoesNotStop (HasFault fault) = Unit {0}
+DoesNotStop StopsQueue = ⊥
 
 -- what a walk found is refused so, if memory is wanting for the windows of its return: it stopped the queue, or it didn't and the want is answered
 abbrev pub RefusesFound : Found → QueueError → Type 0
-RefusesFound found stop.OutOfMemory = Stays found
+RefusesFound found stop.OutOfMemory = DoesNotStop found
 RefusesFound found stop.DescriptorUnreachable = found ≡ StopsQueue
 RefusesFound found _ = ⊥
 

@@ -13,7 +13,7 @@ ghost use Rattle.fs_queue.specs.Windows.{IsLongChain};
 ghost use Rattle.fs_queue.specs.WalkingView.{at_position, found_of, AllEndIn64Bits, AreTheRing, AreTheTable, EndsIn64Bits};
 
 use crate::access::{read, whole_bytes};
-use crate::chain_walk::{Progress, Walked};
+use crate::chain_walk::{Progress, WalkEnd};
 use crate::descriptor::Descriptors;
 use crate::layout::QueueLayout;
 use crate::walk::{IndexWalk, Walk, entry_offset};
@@ -130,7 +130,7 @@ pub(crate) fn walk_chain<M: GuestMemory, H: HostBlocks>(
     head: u16,
     first: Progress,
     descriptors: &mut Descriptors,
-) -> Result<Walked, AllocError>
+) -> Result<WalkEnd, AllocError>
     requires held { M.IsHeld mem.now (H.host host.now) }
     requires at { ahead_of first ≡ ahead_at layout.size (first_visit (at_position layout 0) head) }
     requires size { IfWants first (λ w. w.size ≡ layout.size) }

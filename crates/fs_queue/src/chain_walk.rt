@@ -23,7 +23,7 @@ pub struct ChainWalk {
 
 /// What a walk through a chain came to.
 #[derive(Clone, Copy, Debug, PartialEq, Eq)]
-pub enum Walked {
+pub enum WalkEnd {
     /// A chain: the descriptors that joined it, in their order.
     Chain,
     /// A faulty chain, which goes back unserved.
@@ -32,16 +32,16 @@ pub enum Walked {
     Stopped,
 }
 
-impl Walked {
-    ghost use Rattle.fs_queue.specs.declared.chain_walk.Walked.TheVariants as ended;
+impl WalkEnd {
+    ghost use Rattle.fs_queue.specs.declared.chain_walk.WalkEnd.TheVariants as ended;
 
     // What a walk answers that ended so: a chain only if its descriptors were kept.
-    pub(crate) fn if_kept(self, kept: bool) -> Result<Walked, AllocError>
+    pub(crate) fn if_kept(self, kept: bool) -> Result<WalkEnd, AllocError>
         ensures same { IfOk result (λ w. (w ≡ self) × (self ≡ ended.Chain → kept ≡ true)) }
         ensures lost { OnErr result ((self ≡ ended.Chain) × (kept ≡ false)) }
     {
         match self {
-            Walked::Chain if !kept => Err(AllocError),
+            WalkEnd::Chain if !kept => Err(AllocError),
             _ => Ok(self),
         }
     }
@@ -53,12 +53,12 @@ pub enum Progress {
     /// It asks for an entry of a table.
     Wants(ChainWalk),
     /// It has ended.
-    Ends(Walked),
+    Ends(WalkEnd),
 }
 
 /// What came of a load.
 #[derive(Debug, Drop)]
-pub struct Given {
+pub struct WalkAdvance {
     /// An ordinary descriptor, which joins the chain, or none.
     pub joins: Option<Descriptor>,
     /// How far the walk has come.
@@ -89,7 +89,7 @@ impl ChainWalk {
                 earlier,
             })
         } else {
-            Progress::Ends(Walked::Faulty(ChainFault::NextOutOfTable))
+            Progress::Ends(WalkEnd::Faulty(ChainFault::NextOutOfTable))
         }
     }
 
@@ -145,7 +145,7 @@ impl ChainWalk {
     /// Takes the entry's bytes, or none if one of their addresses can't be reached, and answers the next state of the walk.
     /// Each time fewer steps are left.
     #[inline(always)]
-    pub fn give(self, came: Option<[u8; 16]>) -> Given
+    pub fn give(self, came: Option<[u8; 16]>) -> WalkAdvance
         ensures joins { result.joins ≡ joining (step_by self.size (visit_of self) (load_of self came)) }
         ensures then { ahead_of result.then ≡ ahead_after self.size (visit_of self) (step_by self.size (visit_of self) (load_of self came)) }
         ensures size { IfWants result.then (λ w. w.size ≡ self.size) }
@@ -154,24 +154,24 @@ impl ChainWalk {
     {
         let (size, table, earlier) = (self.size, self.table, self.earlier);
         match self.step(came) {
-            WalkStep::Stops => Given {
+            WalkStep::Stops => WalkAdvance {
                 joins: None,
-                then: Progress::Ends(Walked::Stopped),
+                then: Progress::Ends(WalkEnd::Stopped),
             },
-            WalkStep::Faulty(fault) => Given {
+            WalkStep::Faulty(fault) => WalkAdvance {
                 joins: None,
-                then: Progress::Ends(Walked::Faulty(fault)),
+                then: Progress::Ends(WalkEnd::Faulty(fault)),
             },
-            WalkStep::Table(indirect) => Given {
+            WalkStep::Table(indirect) => WalkAdvance {
                 joins: None,
                 then: Self::at(size, indirect, 0, earlier),
             },
-            WalkStep::Ordinary(descriptor) => Given {
+            WalkStep::Ordinary(descriptor) => WalkAdvance {
                 joins: Some(descriptor),
                 then: if descriptor.has_next() {
                     Self::at(size, table, descriptor.next, earlier + 1)
                 } else {
-                    Progress::Ends(Walked::Chain)
+                    Progress::Ends(WalkEnd::Chain)
                 },
             },
         }

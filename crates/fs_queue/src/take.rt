@@ -21,11 +21,11 @@ ghost use Rattle.fs_queue.specs.SteppingView.{ahead_of, IfWants};
 use crate::access::add_windows;
 use crate::by_loads::{walk_chain, walk_ring};
 use crate::chain::{Chain, ReturnWindows, Taken};
-use crate::chain_walk::{Progress, Walked};
+use crate::chain_walk::{Progress, WalkEnd};
 use crate::descriptor::{Descriptor, Descriptors};
 use crate::fault::{ChainFault, QueueError};
 use crate::layout::QueueLayout;
-use crate::places::{HostPlaces, access_of, chain_fault, count_bytes, return_fault};
+use crate::address_map::{HostAddressMap, access_of, chain_fault, count_bytes, return_fault};
 use crate::walk::Walk;
 use std::alloc::{AllocError, Global};
 use vm_memory::GuestMemory;
@@ -105,7 +105,7 @@ fn missing_in_return<M: GuestMemory, H: HostBlocks>(
     ensures missing { result ≡ missing_of (return_places_at (M.memory mem.now (H.host host.now)) (at_position layout position)) }
     ensures stops { IfSome result (λ e. IsTrue (stops_queue e)) }
 {
-    return_fault(&HostPlaces { alloc, host, mem }, layout, position)
+    return_fault(&HostAddressMap { alloc, host, mem }, layout, position)
 }
 
 /// Adds to empty lists the windows that a return at this position writes and reads besides the room, or answers which of
@@ -336,7 +336,7 @@ pub fn hold_chain<M: GuestMemory, H: HostBlocks>(
     if fill_chain(alloc, host, mem, head, descriptors, limit, chain)? {
         return Ok(None);
     }
-    Ok(chain_fault(&HostPlaces { alloc, host, mem }, limit, descriptors))
+    Ok(chain_fault(&HostAddressMap { alloc, host, mem }, limit, descriptors))
 }
 
 // Walks the chain of a head, and puts its request and its room in a place, or answers its fault. `DescriptorUnreachable` and
@@ -366,9 +366,9 @@ fn walk_and_hold<M: GuestMemory, H: HostBlocks>(
     ensures short { IfOk result (λ fault. room_places (unless_faulty fault kept.new) ≤ limit) }
 {
     match walk_chain(alloc, layout, host, mem, head, first, descriptors) {
-        Ok(Walked::Chain) => {}
-        Ok(Walked::Faulty(fault)) => return Ok(Some(fault)),
-        Ok(Walked::Stopped) => return Err(QueueError::DescriptorUnreachable),
+        Ok(WalkEnd::Chain) => {}
+        Ok(WalkEnd::Faulty(fault)) => return Ok(Some(fault)),
+        Ok(WalkEnd::Stopped) => return Err(QueueError::DescriptorUnreachable),
         Err(_) => return Err(QueueError::OutOfMemory),
     }
     match hold_chain(alloc, host, mem, head, descriptors, limit, kept) {
@@ -394,8 +394,8 @@ fn refusal_without_return<M: GuestMemory, H: HostBlocks>(
     ensures { RefusesFound (chain (M.memory mem.now (H.host host.now)) (at_position layout 0) head) result }
 {
     match walk_chain(alloc, layout, host, mem, head, first, descriptors) {
-        Ok(Walked::Stopped) => QueueError::DescriptorUnreachable,
-        Ok(Walked::Chain | Walked::Faulty(_)) | Err(_) => QueueError::OutOfMemory,
+        Ok(WalkEnd::Stopped) => QueueError::DescriptorUnreachable,
+        Ok(WalkEnd::Chain | WalkEnd::Faulty(_)) | Err(_) => QueueError::OutOfMemory,
     }
 }
 

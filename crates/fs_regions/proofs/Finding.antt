@@ -2,8 +2,8 @@
 use Rattle.std.proofs.Common.{◌≡◌, ℕ, Bool, true, List, [], ◌∷◌, ◌++◌, Option, Some, None, refl, ap, sym, ◌∙◌, append_assoc, append-nil}
 use Rattle.std.specs.Prelude.{if◌then◌else◌, option_map, ◌&&◌}
 use Rattle.std.proofs.lemmas.Bool.{eq-eqb}
-use Rattle.fs_queue.specs.declared.chain_walk.Walked as walked
-use Rattle.fs_queue.specs.declared.chain_walk.Walked.TheVariants as comes_to
+use Rattle.fs_queue.specs.declared.chain_walk.WalkEnd as walked
+use Rattle.fs_queue.specs.declared.chain_walk.WalkEnd.TheVariants as comes_to
 use Rattle.fs_queue.specs.declared.fault.ChainFault.{ChainFault}
 use Rattle.fs_queue.specs.Chain.{Descriptor, Visit, WalkStep, Ordinary, Table, Faulty, Stops, after_walk_step, with_front, Found, IsChain, HasFault, StopsQueue, entry_address}
 use Rattle.fs_queue.specs.WalkingView.{found_of}
@@ -83,13 +83,13 @@ pub brings_on : (size : ℕ) (ls : List Load) (from : Ahead) (ds : List Descript
 brings_on size ls from ds v l joins a at whole joins-is a-is so_far =
     λ more. ap (λ (x : List Load). found_exactly size x from) (append_assoc ls (l ∷ []) more) ∙ so_far (l ∷ more) ∙ given size v l more ds joins a at whole joins-is a-is
 
-pub before : (w : walked.Walked) (ds : List Descriptor) → standing_before ds (found_of w []) ≡ found_of w ds
+pub before : (w : walked.WalkEnd) (ds : List Descriptor) → standing_before ds (found_of w []) ≡ found_of w ds
 before comes_to.Chain ds = before-chain ds [] ∙ ap IsChain (append-nil ds)
 before (comes_to.Faulty fault) ds = before-fault ds fault
 before comes_to.Stopped ds = before-stop ds
 
 -- a walk that has ended found this
-pub brings_end : (size : ℕ) (ls : List Load) (from : Ahead) (ds : List Descriptor) (w : walked.Walked) → Brings size ls from ds (Ends (found_of w [])) →
+pub brings_end : (size : ℕ) (ls : List Load) (from : Ahead) (ds : List Descriptor) (w : walked.WalkEnd) → Brings size ls from ds (Ends (found_of w [])) →
     found_exactly size (ls ++ []) from ≡ Some (found_of w ds)
 unfolding found_exactly
 brings_end size ls from ds w so_far = so_far [] ∙ ap Some (before w ds)

@@ -6,8 +6,8 @@ use Rattle.std.proofs.lemmas.List.Elements.{All-nil, All-cons}
 use Rattle.vm_iotlb.specs.declared.permissions.Permissions.TheVariants.{Read}
 use Rattle.vm_memory.specs.Memory.{Memory, reach}
 use Rattle.fs_queue.specs.declared.chain_walk.Progress.{Progress}
-use Rattle.fs_queue.specs.declared.chain_walk.Walked as walked
-use Rattle.fs_queue.specs.declared.chain_walk.Walked.TheVariants as comes_to
+use Rattle.fs_queue.specs.declared.chain_walk.WalkEnd as walked
+use Rattle.fs_queue.specs.declared.chain_walk.WalkEnd.TheVariants as comes_to
 use Rattle.fs_queue.specs.declared.fault.ChainFault.TheVariants.{TableUnreachable}
 use Rattle.fs_queue.specs.declared.fault.QueueError.TheVariants.{AvailIndexUnreachable}
 use Rattle.fs_queue.specs.declared.layout.QueueLayout.{QueueLayout}
@@ -32,7 +32,7 @@ abbrev lost_at : Visit → Load
 lost_at v = record { address = entry_address v; came = None }
 
 -- what a walk comes to by it
-abbrev pub lost_walked : Bool → walked.Walked
+abbrev pub lost_walked : Bool → walked.WalkEnd
 lost_walked true = comes_to.Faulty TableUnreachable
 lost_walked false = comes_to.Stopped
 
@@ -49,16 +49,16 @@ lost_found size v inside =
     ap (λ (w : WalkStep). option_map (after_walk_step w) (found_exactly size [] (ahead_after size v w))) (step_lost size v inside)
     ∙ by_step size v v.table.indirect refl)
 
-pub loses : (m : Memory) (q : Queue) (loaded : Loaded) (head : ℕ) (ds : List Descriptor) (v : Visit) (w : walked.Walked) → v.index < v.table.entries → reach m Read (entry_address v) 16 ≡ false →
+pub loses : (m : Memory) (q : Queue) (loaded : Loaded) (head : ℕ) (ds : List Descriptor) (v : Visit) (w : walked.WalkEnd) → v.index < v.table.entries → reach m Read (entry_address v) 16 ≡ false →
     w ≡ lost_walked v.table.indirect → Brings q.size loaded.entries (ahead_at q.size (first_visit q head)) ds (Reads v) → FindsBy m q loaded head (found_of w ds)
 loses m q loaded head ds v w inside away is brings = (
   lost_at v ∷ [],
   All-cons (IsLost m) (lost_at v) [] (refl, away) (All-nil (IsLost m)),
-  brings (lost_at v ∷ []) ∙ ap (option_map (standing_before ds)) (lost_found q.size v inside ∙ ap (λ (x : walked.Walked). Some (found_of x [])) (sym is)) ∙ ap Some (before w ds),
+  brings (lost_at v ∷ []) ∙ ap (option_map (standing_before ds)) (lost_found q.size v inside ∙ ap (λ (x : walked.WalkEnd). Some (found_of x [])) (sym is)) ∙ ap Some (before w ds),
 )
 
 -- a walk that has ended
-pub ends : (m : Memory) (q : Queue) (loaded : Loaded) (head : ℕ) (ds : List Descriptor) (w : walked.Walked) →
+pub ends : (m : Memory) (q : Queue) (loaded : Loaded) (head : ℕ) (ds : List Descriptor) (w : walked.WalkEnd) →
     Brings q.size loaded.entries (ahead_at q.size (first_visit q head)) ds (Ends (found_of w [])) →
     FindsBy m q loaded head (found_of w ds)
 ends m q loaded head ds w brings = ([], All-nil (IsLost m), brings_end q.size loaded.entries (ahead_at q.size (first_visit q head)) ds w brings)

@@ -16,19 +16,19 @@ use Rattle.vm_memory.proofs.RangeLemmas.{all_located}
 use Rattle.fs_queue.specs.declared.chain_walk.ChainWalk.{ChainWalk}
 use Rattle.fs_queue.specs.declared.chain_walk.Progress as code
 use Rattle.fs_queue.specs.declared.chain_walk.Progress.TheVariants as says
-use Rattle.fs_queue.specs.declared.chain_walk.Walked as walked
+use Rattle.fs_queue.specs.declared.chain_walk.WalkEnd as walked
 use Rattle.fs_queue.specs.Chain.{Descriptor, entry_address, first_visit}
 use Rattle.fs_queue.specs.Loads.{Load, Ahead, Reads, ahead_at, ahead_after, step_by}
 use Rattle.fs_queue.specs.Queue.{Queue}
 use Rattle.fs_queue.specs.SteppingView.{ahead_of, joining, load_of, visit_of, IfWants}
 use Rattle.fs_queue.proofs.TakeLemmas.{list_all-append, reach-each}
-use Rattle.fs_regions.specs.declared.step.Step as comes
-use Rattle.fs_regions.specs.declared.step.Step.TheVariants as step
+use Rattle.fs_regions.specs.declared.step.CourseStep as comes
+use Rattle.fs_regions.specs.declared.step.CourseStep.TheVariants as step
 use Rattle.fs_regions.specs.declared.entries.EntriesWalk.{EntriesWalk}
 use Rattle.fs_regions.specs.declared.walk.QueueWalk.TheVariants as at
 use Rattle.fs_regions.specs.Places.{Mapped, places_in}
 use Rattle.fs_regions.specs.Stretches.{AsksFor, ReadsStretch}
-use Rattle.fs_regions.specs.Walks.{is_in, Brings, ComesBy, ComesTo, IsReadOut, Loaded, ReadOutOf, StandsAt, UsesUp, Waits}
+use Rattle.fs_regions.specs.Walks.{is_in, Brings, ComesBy, IsCourseStep, IsReadOut, Loaded, ReadOutOf, IsWalkAt, UsesUp, Waits}
 use Rattle.fs_regions.proofs.Finding.{brings_on, with_joining}
 use Rattle.fs_regions.proofs.Steps.{waits_on}
 
@@ -178,7 +178,7 @@ read_out walk bs old now left after r = record {
 }
 
 -- a walk that has ended
-pub reading_ends : (walk : ChainWalk) (bs : List ℕ) (old now : List Descriptor) (left : ℕ) (walked : walked.Walked) → Reading walk bs old now left (says.Ends walked) → ReadsStretch walk bs old now (says.Ends walked)
+pub reading_ends : (walk : ChainWalk) (bs : List ℕ) (old now : List Descriptor) (left : ℕ) (walked : walked.WalkEnd) → Reading walk bs old now left (says.Ends walked) → ReadsStretch walk bs old now (says.Ends walked)
 reading_ends walk bs old now left walked r = record {
   reads = r.reads;
   read_out = read_out walk bs old now left (says.Ends walked) r;
@@ -204,7 +204,7 @@ reading_stops walk next bs old now left stops r = record {
 
 -- ---- what the walk comes to by a stretch
 
-uses_up : (walk : ChainWalk) (bs : List ℕ) (old new : List Descriptor) (after : code.Progress) (r : ReadsStretch walk bs old new after) (came : comes.Step) → AsksFor after came →
+uses_up : (walk : ChainWalk) (bs : List ℕ) (old new : List Descriptor) (after : code.Progress) (r : ReadsStretch walk bs old new after) (came : comes.CourseStep) → AsksFor after came →
     UsesUp (entry_address (visit_of walk)) bs r.reads came
 uses_up walk bs old new (says.Wants w) r (step.Load next) asks = subst (λ a. (is_in (entry_address (visit_of walk)) (length bs) a ≡ false) ⊎ (16 * length r.reads ≡ length bs)) (sym asks) r.uses_up
 uses_up walk bs old new (says.Ends walked) r (step.Load next) asks = absurd asks
@@ -217,10 +217,10 @@ same_size (says.Wants w) a b h e = h ∙ e
 same_size (says.Ends walked) a b h e = tt
 
 -- by where the walk stood, and by what it comes to where its last entry leads
-pub comes_by : (m : Memory) (limit : ℕ) (q : Queue) (loaded : Loaded) (stretch : EntriesWalk) (bs : List ℕ) (old new : List Descriptor) (after : code.Progress) (came : comes.Step) →
+pub comes_by : (m : Memory) (limit : ℕ) (q : Queue) (loaded : Loaded) (stretch : EntriesWalk) (bs : List ℕ) (old new : List Descriptor) (after : code.Progress) (came : comes.CourseStep) →
     ReadsStretch stretch.walk bs old new after → AsksFor after came →
-    ((l : Loaded) → Waits m q l stretch.head → IfWants after (λ w. w.size ≡ q.size) → Brings q.size l.entries (ahead_at q.size (first_visit q stretch.head)) new (ahead_of after) → ComesTo m limit q l new came) →
-    StandsAt m q loaded old (at.Entries stretch) → ComesBy m limit q loaded (at.Entries stretch) bs new came
+    ((l : Loaded) → Waits m q l stretch.head → IfWants after (λ w. w.size ≡ q.size) → Brings q.size l.entries (ahead_at q.size (first_visit q stretch.head)) new (ahead_of after) → IsCourseStep m limit q l new came) →
+    IsWalkAt m q loaded old (at.Entries stretch) → ComesBy m limit q loaded (at.Entries stretch) bs new came
 comes_by m limit q loaded stretch bs old new after came r asks comes stands =
     let start = ahead_at q.size (first_visit q stretch.head) in
     let P : ℕ → Type 0 = λ n. Brings n loaded.entries start old (Reads (visit_of stretch.walk)) → Brings n (loaded.entries ++ r.reads) start new (ahead_of after) in
@@ -231,7 +231,7 @@ comes_by m limit q loaded stretch bs old new after came r asks comes stands =
     }
 
 -- a walk that has ended asks for nothing
-pub asks_none : (w : ChainWalk) (walked : walked.Walked) (came : comes.Step) → AsksFor (says.Ends walked) came → AsksFor (says.Wants w) came
+pub asks_none : (w : ChainWalk) (walked : walked.WalkEnd) (came : comes.CourseStep) → AsksFor (says.Ends walked) came → AsksFor (says.Wants w) came
 asks_none w walked (step.Load next) asks = absurd asks
 asks_none w walked step.Idle asks = tt
 asks_none w walked (step.Refused e) asks = tt

@@ -6,8 +6,8 @@ use Rattle.fs_queue.specs.declared.chain_walk.Progress.TheVariants as says
 use Rattle.fs_queue.specs.Chain.{Descriptor, entry_address}
 use Rattle.fs_queue.specs.Loads.{Load, Ahead, Reads}
 use Rattle.fs_queue.specs.SteppingView.{ahead_of, visit_of, IfWants}
-use Rattle.fs_regions.specs.declared.step.Step as comes
-use Rattle.fs_regions.specs.declared.step.Step.TheVariants as step
+use Rattle.fs_regions.specs.declared.step.CourseStep as comes
+use Rattle.fs_regions.specs.declared.step.CourseStep.TheVariants as step
 use Rattle.fs_regions.specs.Walks.{asked_by, is_in, Brings, ReadOutOf}
 
 -- a walk goes through a stretch: some entries are read out of it, with these descriptors then, and it wants another only if that doesn't stand there or as many were read out
@@ -19,7 +19,7 @@ pub record ReadsStretch (walk : ChainWalk) (bs : List ℕ) (old new : List Descr
   pub uses_up : IfWants after (λ w. (is_in (entry_address (visit_of walk)) (length bs) (entry_address (visit_of w)) ≡ false) ⊎ (16 * length reads ≡ length bs))
 
 -- a load is asked for only of a walk that wants an entry, and from that entry on
-abbrev pub AsksFor : code.Progress → comes.Step → Type 0
+abbrev pub AsksFor : code.Progress → comes.CourseStep → Type 0
 AsksFor (says.Wants w) (step.Load next) = asked_by next ≡ entry_address (visit_of w)
 AsksFor (says.Ends walked) (step.Load next) = ⊥
 AsksFor _ _ = Unit {0}

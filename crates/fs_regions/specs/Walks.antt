@@ -19,8 +19,8 @@ use Rattle.fs_regions.specs.Places.{left_in}
 use Rattle.fs_regions.specs.declared.walk.QueueWalk.{QueueWalk}
 use Rattle.fs_regions.specs.declared.walk.QueueWalk.TheVariants as at
 use Rattle.fs_regions.specs.declared.course.Course.{Course}
-use Rattle.fs_regions.specs.declared.step.Step as comes
-use Rattle.fs_regions.specs.declared.step.Step.TheVariants as step
+use Rattle.fs_regions.specs.declared.step.CourseStep as comes
+use Rattle.fs_regions.specs.declared.step.CourseStep.TheVariants as step
 
 -- the loads of a walk so far: the available index, the available ring's entry, and the tables' entries; None where an address has no place, or nothing was loaded yet
 pub record Loaded : Type 0 where
@@ -109,12 +109,12 @@ asked_len (at.Entries w) = 16 * w.entries
 asked_len _ = 2
 
 -- a walk stands where these loads bring it, with these descriptors
-abbrev pub StandsAt : Memory → Queue → Loaded → List Descriptor → QueueWalk → Type 0
-StandsAt m q loaded ds (at.Index w) = (at_position w.layout w.position ≡ q) × (loaded ≡ nothing) × (ds ≡ [])
-StandsAt m q loaded ds (at.RingEntry w) =
+abbrev pub IsWalkAt : Memory → Queue → Loaded → List Descriptor → QueueWalk → Type 0
+IsWalkAt m q loaded ds (at.Index w) = (at_position w.layout w.position ≡ q) × (loaded ≡ nothing) × (ds ≡ [])
+IsWalkAt m q loaded ds (at.RingEntry w) =
     (at_position w.layout w.position ≡ q) × (option_map length loaded.index ≡ Some 2) × (asks_entry (by_index q loaded.index) ≡ true) × (loaded.entry ≡ None)
     × (loaded.entries ≡ []) × (ds ≡ [])
-StandsAt m q loaded ds (at.Entries w) =
+IsWalkAt m q loaded ds (at.Entries w) =
     Waits m q loaded w.head × (w.walk.size ≡ q.size) × Brings q.size loaded.entries (ahead_at q.size (first_visit q w.head)) ds (Reads (visit_of w.walk))
 
 -- what is asked for has a place
@@ -151,19 +151,19 @@ pub record ReadOutOf (from : ℕ) (bs : List ℕ) (ls : List Load) : Type 0 wher
   pub few : 16 * length ls ≤ length bs
 
 -- an entry is asked for again only if it doesn't stand in the stretch, or once as many were read out as the stretch has
-abbrev pub UsesUp : (from : ℕ) → List ℕ → List Load → comes.Step → Type 0
+abbrev pub UsesUp : (from : ℕ) → List ℕ → List Load → comes.CourseStep → Type 0
 UsesUp from bs ls (step.Load w) = (is_in from (length bs) (asked_by w) ≡ false) ⊎ (16 * length ls ≡ length bs)
 UsesUp from bs ls _ = Unit {0}
 
 -- the loads with what bytes of a stretch add to them, where the walk comes to this
-pub record AddsEntries (from : ℕ) (bs : List ℕ) (came : comes.Step) (old new : Loaded) : Type 0 where
+pub record AddsEntries (from : ℕ) (bs : List ℕ) (came : comes.CourseStep) (old new : Loaded) : Type 0 where
   pub reads : List Load
   pub read_out : ReadOutOf from bs reads
   pub uses_up : UsesUp from bs reads came
   pub added : new ≡ record old { entries = old.entries ++ reads }
 
 -- the same of each load: these bytes came of what was asked for
-abbrev pub AddsBytes : QueueWalk → List ℕ → comes.Step → (old new : Loaded) → Type 0
+abbrev pub AddsBytes : QueueWalk → List ℕ → comes.CourseStep → (old new : Loaded) → Type 0
 AddsBytes (at.Index w) bs came old new = new ≡ record old { index = Some bs }
 AddsBytes (at.RingEntry w) bs came old new = new ≡ record old { entry = Some bs }
 AddsBytes (at.Entries w) bs came old new = AddsEntries (entry_address (visit_of w.walk)) bs came old new
@@ -189,14 +189,14 @@ FetchesBy m limit q loaded ds head None =
     × ((request : List ℕ) → length request ≡ total_len (readable ds) → OffersBy m limit q loaded request (Offers head (IsRequest request (addresses_of (writable ds)))))
 
 -- what a walk comes to by the loads so far
-abbrev pub ComesTo : Memory → (limit : ℕ) → Queue → Loaded → List Descriptor → comes.Step → Type 0
-ComesTo m limit q loaded ds (step.Load w) = StandsAt m q loaded ds w × IsThere m w × IsLongestStretch m q ds w
-ComesTo m limit q loaded ds step.Idle = OffersBy m limit q loaded [] Idle
-ComesTo m limit q loaded ds (step.Refused e) = OffersBy m limit q loaded [] (Refuses e)
-ComesTo m limit q loaded ds (step.Chain head fault) = FetchesBy m limit q loaded ds head fault
+abbrev pub IsCourseStep : Memory → (limit : ℕ) → Queue → Loaded → List Descriptor → comes.CourseStep → Type 0
+IsCourseStep m limit q loaded ds (step.Load w) = IsWalkAt m q loaded ds w × IsThere m w × IsLongestStretch m q ds w
+IsCourseStep m limit q loaded ds step.Idle = OffersBy m limit q loaded [] Idle
+IsCourseStep m limit q loaded ds (step.Refused e) = OffersBy m limit q loaded [] (Refuses e)
+IsCourseStep m limit q loaded ds (step.Chain head fault) = FetchesBy m limit q loaded ds head fault
 
 -- what a walk comes to by the bytes that it asked for, after the loads so far
-pub record ComesBy (m : Memory) (limit : ℕ) (q : Queue) (loaded : Loaded) (walk : QueueWalk) (bs : List ℕ) (ds : List Descriptor) (came : comes.Step) : Type 0 where
+pub record ComesBy (m : Memory) (limit : ℕ) (q : Queue) (loaded : Loaded) (walk : QueueWalk) (bs : List ℕ) (ds : List Descriptor) (came : comes.CourseStep) : Type 0 where
   pub after : Loaded
   pub adds : AddsBytes walk bs came loaded after
-  pub comes : ComesTo m limit q after ds came
+  pub comes : IsCourseStep m limit q after ds came

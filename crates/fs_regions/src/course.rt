@@ -10,16 +10,16 @@ ghost use Rattle.fs_queue.specs.SteppingView.{ahead_of, visit_of, IfWants};
 ghost use Rattle.fs_queue.specs.WalkingView.{found_of};
 ghost use Rattle.fs_regions.specs.Places.{places_in};
 ghost use Rattle.fs_regions.specs.Stretches.{AsksFor};
-ghost use Rattle.fs_regions.specs.Walks.{Loaded, nothing, asked_len, asked_entries, queue_of, IsCourseOf, TellsBy, StandsAfterIndex, HeadWaits, StandsAt, ComesBy, ComesTo, Waits, Brings, FindsBy};
+ghost use Rattle.fs_regions.specs.Walks.{Loaded, nothing, asked_len, asked_entries, queue_of, IsCourseOf, TellsBy, StandsAfterIndex, HeadWaits, IsWalkAt, ComesBy, IsCourseStep, Waits, Brings, FindsBy};
 
 use crate::entries::{ENTRY_LEN, EntriesWalk};
 use crate::map::GuestMap;
-use crate::step::Step;
+use crate::step::CourseStep;
 use crate::stretch::{read_stretch, stretch_len};
 use crate::walk::QueueWalk;
 use fs_queue::{
     ChainFault, ChainWalk, Descriptor, Descriptors, Progress, Queue, QueueError, QueueLayout, Walk,
-    Walked, chain_fault, return_fault,
+    WalkEnd, chain_fault, return_fault,
 };
 use vm_memory_core::Permissions;
 
@@ -66,15 +66,15 @@ impl Course {
 
     /// The walk from its beginning: no load was made. The list of descriptors is emptied.
     #[inline(always)]
-    pub fn begin(&self, regions: &GuestMap, descriptors: &mut Descriptors) -> Step
+    pub fn begin(&self, regions: &GuestMap, descriptors: &mut Descriptors) -> CourseStep
         ensures empty { descriptors.new.items ≡ [] }
-        ensures comes { ComesTo (places_in regions.now) self.now.limit (queue_of self.now) nothing descriptors.new.items result }
+        ensures comes { IsCourseStep (places_in regions.now) self.now.limit (queue_of self.now) nothing descriptors.new.items result }
     {
         descriptors.clear();
         match Walk::begin(self.layout, self.position) {
             Walk::Index(walk) => {
                 if regions.reaches(walk.address(), 2, Permissions::Read) {
-                    Step::Load(QueueWalk::Index(walk))
+                    CourseStep::Load(QueueWalk::Index(walk))
                 } else {
                     self.at_index(regions, walk.give(None), descriptors)
                 }
@@ -92,10 +92,10 @@ impl Course {
         walk: QueueWalk,
         bytes: &[u8],
         descriptors: &mut Descriptors,
-    ) -> Step
+    ) -> CourseStep
         requires bytes { length bytes.now ≡ asked_len walk }
         requires room { HasRoomFor descriptors.old (asked_entries walk) }
-        ensures { (loaded : Loaded) → StandsAt (places_in regions.now) (queue_of self.now) loaded descriptors.old.items walk
+        ensures { (loaded : Loaded) → IsWalkAt (places_in regions.now) (queue_of self.now) loaded descriptors.old.items walk
             → ComesBy (places_in regions.now) self.now.limit (queue_of self.now) loaded walk bytes.now descriptors.new.items result }
     {
         match walk {
@@ -117,10 +117,10 @@ impl Course {
         stretch: EntriesWalk,
         bytes: &[u8],
         descriptors: &mut Descriptors,
-    ) -> Step
+    ) -> CourseStep
         requires bytes { length bytes.now ≡ 16 * stretch.entries }
         requires room { HasRoomFor descriptors.old stretch.entries }
-        ensures { (loaded : Loaded) → StandsAt (places_in regions.now) (queue_of self.now) loaded descriptors.old.items (QueueWalk.Entries stretch)
+        ensures { (loaded : Loaded) → IsWalkAt (places_in regions.now) (queue_of self.now) loaded descriptors.old.items (QueueWalk.Entries stretch)
             → ComesBy (places_in regions.now) self.now.limit (queue_of self.now) loaded (QueueWalk.Entries stretch) bytes.now descriptors.new.items result }
     {
         let (head, entries) = (stretch.head, stretch.entries);
@@ -130,14 +130,14 @@ impl Course {
 
     // What a walk comes to once the available index was loaded, or has no place.
     #[inline(always)]
-    fn at_index(&self, regions: &GuestMap, walk: Walk, descriptors: &[Descriptor]) -> Step
+    fn at_index(&self, regions: &GuestMap, walk: Walk, descriptors: &[Descriptor]) -> CourseStep
         ensures { (index : Option (List ℕ)) → StandsAfterIndex (places_in regions.now) (queue_of self.now) index walk → descriptors.now ≡ []
-            → ComesTo (places_in regions.now) self.now.limit (queue_of self.now) (record nothing { index = index }) descriptors.now result }
+            → IsCourseStep (places_in regions.now) self.now.limit (queue_of self.now) (record nothing { index = index }) descriptors.now result }
     {
         match walk {
             Walk::RingEntry(walk) => {
                 if regions.reaches(walk.address(), 2, Permissions::Read) {
-                    Step::Load(QueueWalk::RingEntry(walk))
+                    CourseStep::Load(QueueWalk::RingEntry(walk))
                 } else {
                     self.told(regions, walk.give(None), descriptors)
                 }
@@ -148,15 +148,15 @@ impl Course {
 
     // What a walk comes to where the ring told what waits.
     #[inline(always)]
-    fn told(&self, regions: &GuestMap, walk: Walk, descriptors: &[Descriptor]) -> Step
+    fn told(&self, regions: &GuestMap, walk: Walk, descriptors: &[Descriptor]) -> CourseStep
         ensures { (loaded : Loaded) → TellsBy (places_in regions.now) (queue_of self.now) loaded walk → descriptors.now ≡ []
-            → ComesTo (places_in regions.now) self.now.limit (queue_of self.now) loaded descriptors.now result }
+            → IsCourseStep (places_in regions.now) self.now.limit (queue_of self.now) loaded descriptors.now result }
     {
         match walk {
-            Walk::Refused(error) => Step::Refused(error),
+            Walk::Refused(error) => CourseStep::Refused(error),
             Walk::Chain(head, progress) => self.at_head(regions, head, progress, descriptors),
             // The ring told what waits: it isn't asked any more.
-            Walk::Idle | Walk::Index(_) | Walk::RingEntry(_) => Step::Idle,
+            Walk::Idle | Walk::Index(_) | Walk::RingEntry(_) => CourseStep::Idle,
         }
     }
 
@@ -168,12 +168,12 @@ impl Course {
         head: u16,
         progress: Progress,
         descriptors: &[Descriptor],
-    ) -> Step
+    ) -> CourseStep
         ensures { (loaded : Loaded) → HeadWaits (places_in regions.now) (queue_of self.now) loaded head progress → descriptors.now ≡ []
-            → ComesTo (places_in regions.now) self.now.limit (queue_of self.now) loaded descriptors.now result }
+            → IsCourseStep (places_in regions.now) self.now.limit (queue_of self.now) loaded descriptors.now result }
     {
         match return_fault(regions, self.layout, self.position) {
-            Some(error) => Step::Refused(error),
+            Some(error) => CourseStep::Refused(error),
             None => self.at_progress(regions, head, progress, descriptors),
         }
     }
@@ -186,10 +186,10 @@ impl Course {
         head: u16,
         progress: Progress,
         descriptors: &[Descriptor],
-    ) -> Step
+    ) -> CourseStep
         ensures comes { (loaded : Loaded) → Waits (places_in regions.now) (queue_of self.now) loaded head → IfWants progress (λ w. w.size ≡ self.now.layout.size)
             → Brings self.now.layout.size loaded.entries (ahead_at self.now.layout.size (first_visit (queue_of self.now) head)) descriptors.now (ahead_of progress)
-            → ComesTo (places_in regions.now) self.now.limit (queue_of self.now) loaded descriptors.now result }
+            → IsCourseStep (places_in regions.now) self.now.limit (queue_of self.now) loaded descriptors.now result }
         ensures asks { AsksFor progress result }
     {
         match progress {
@@ -213,24 +213,24 @@ impl Course {
         head: u16,
         walk: ChainWalk,
         descriptors: &[Descriptor],
-    ) -> Step
+    ) -> CourseStep
         ensures comes { (loaded : Loaded) → Waits (places_in regions.now) (queue_of self.now) loaded head → walk.size ≡ self.now.layout.size
             → Brings self.now.layout.size loaded.entries (ahead_at self.now.layout.size (first_visit (queue_of self.now) head)) descriptors.now (Reads (visit_of walk))
-            → ComesTo (places_in regions.now) self.now.limit (queue_of self.now) loaded descriptors.now result }
+            → IsCourseStep (places_in regions.now) self.now.limit (queue_of self.now) loaded descriptors.now result }
         ensures asks { AsksFor (Progress.Wants walk) result }
     {
         if regions.reaches(walk.address(), ENTRY_LEN, Permissions::Read) {
             let entries = stretch_len(regions, &walk, self.may_join(descriptors));
-            return Step::Load(QueueWalk::Entries(EntriesWalk {
+            return CourseStep::Load(QueueWalk::Entries(EntriesWalk {
                 head,
                 walk,
                 entries,
             }));
         }
         let walked = if is_indirect(&walk) {
-            Walked::Faulty(ChainFault::TableUnreachable)
+            WalkEnd::Faulty(ChainFault::TableUnreachable)
         } else {
-            Walked::Stopped
+            WalkEnd::Stopped
         };
         self.ended(regions, head, walked, descriptors)
     }
@@ -241,18 +241,18 @@ impl Course {
         &self,
         regions: &GuestMap,
         head: u16,
-        walked: Walked,
+        walked: WalkEnd,
         descriptors: &[Descriptor],
-    ) -> Step
+    ) -> CourseStep
         ensures comes { (loaded : Loaded) → Waits (places_in regions.now) (queue_of self.now) loaded head
             → FindsBy (places_in regions.now) (queue_of self.now) loaded head (found_of walked descriptors.now)
-            → ComesTo (places_in regions.now) self.now.limit (queue_of self.now) loaded descriptors.now result }
+            → IsCourseStep (places_in regions.now) self.now.limit (queue_of self.now) loaded descriptors.now result }
         ensures asks { AsksFor (Progress.Ends walked) result }
     {
         match walked {
-            Walked::Stopped => Step::Refused(QueueError::DescriptorUnreachable),
-            Walked::Faulty(fault) => Step::Chain(head, Some(fault)),
-            Walked::Chain => Step::Chain(head, chain_fault(regions, self.limit, descriptors)),
+            WalkEnd::Stopped => CourseStep::Refused(QueueError::DescriptorUnreachable),
+            WalkEnd::Faulty(fault) => CourseStep::Chain(head, Some(fault)),
+            WalkEnd::Chain => CourseStep::Chain(head, chain_fault(regions, self.limit, descriptors)),
         }
     }
 }

@@ -19,6 +19,6 @@ pub use entries::EntriesWalk;
 pub use map::GuestMap;
 pub use region::MemoryRegion;
 pub use regions::{GuestRegions, RegionsError};
-pub use step::Step;
+pub use step::CourseStep;
 pub use using::uses;
 pub use walk::QueueWalk;

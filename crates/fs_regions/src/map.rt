@@ -14,7 +14,7 @@ ghost use Rattle.vm_memory.specs.Translated.{translated, translated_left};
 ghost use Rattle.fs_regions.specs.Places.{left_in, places_in, untranslated};
 
 use crate::regions::GuestRegions;
-use fs_queue::Places;
+use fs_queue::AddressMap;
 use std::alloc::Global;
 use std::marker::Model;
 use vm_memory_core::{GuestAddress, Iotlb, IovaRange, Permissions, VolatileSlice};
@@ -171,7 +171,7 @@ impl GuestMap {
     }
 }
 
-impl Places for GuestMap {
+impl AddressMap for GuestMap {
     ghost places = { λ m. places_in m };
 
     fn has_places(&self, addr: u64, len: usize, access: Permissions) -> bool {

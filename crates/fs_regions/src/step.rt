@@ -5,7 +5,7 @@ use fs_queue::{ChainFault, QueueError};
 
 /// What a walk comes to.
 #[derive(Debug, Drop)]
-pub enum Step {
+pub enum CourseStep {
     /// It asks for a load.
     Load(QueueWalk),
     /// Nothing waits.

@@ -1,14 +1,14 @@
 //! Which addresses of a table a chain uses.
 
 ghost use Rattle.std.specs.Prelude.{◌≡◌, true, false, All};
-ghost use Rattle.fs_regions.specs.Using.{IsApart, Touches};
+ghost use Rattle.fs_regions.specs.Using.{IsUntouched, Touches};
 
 use fs_queue::Descriptor;
 
 // Whether a descriptor's buffer has one of `len` addresses from one on.
 fn touches(descriptor: &Descriptor, iova: u64, len: u64) -> bool
     ensures yes { result ≡ true → Touches iova len descriptor.now }
-    ensures no { result ≡ false → IsApart iova len descriptor.now }
+    ensures no { result ≡ false → IsUntouched iova len descriptor.now }
 {
     if iova < descriptor.addr {
         descriptor.addr - iova < len && 0 < descriptor.len
@@ -20,8 +20,8 @@ fn touches(descriptor: &Descriptor, iova: u64, len: u64) -> bool
 /// Whether a chain with these descriptors uses one of `len` addresses from one on. If it uses none, a VMM may change or
 /// remove their mappings while the chain is in flight: the chain's own addresses stay as they were (`law_others_stay`).
 pub fn uses(descriptors: &[Descriptor], iova: u64, len: u64) -> bool
-    ensures used { result ≡ true → All (IsApart iova len) descriptors.now → ⊥ }
-    ensures unused { result ≡ false → All (IsApart iova len) descriptors.now }
+    ensures used { result ≡ true → All (IsUntouched iova len) descriptors.now → ⊥ }
+    ensures unused { result ≡ false → All (IsUntouched iova len) descriptors.now }
 {
     for descriptor in descriptors {
         if touches(descriptor, iova, len) {

@@ -16,7 +16,7 @@ use Rattle.fs_device.specs.Step.{State}
 use Rattle.vm_bitmaps.specs.Words.{page_bit}
 use Rattle.fs_shared.specs.declared.entry.JournalEntry.{JournalEntry}
 use Rattle.fs_shared.specs.declared.entry.Receipt.{Receipt}
-use Rattle.fs_shared.specs.Audit.{AreAllReceipts, IsTold, Tells, times}
+use Rattle.fs_shared.specs.Audit.{AreAllReceipts, MatchesJournal, IsReceiptOf, times}
 use Rattle.fs_shared.specs.Held.{journal_of}
 use Rattle.fs_shared.specs.JournalPages.{DiffersWithin, joined_pages}
 use Rattle.fs_shared.specs.Marks.{AccountsFor, AccountsSince, Harvest, LeavesMarked}
@@ -61,8 +61,8 @@ receipt_tells : (page : ℕ) (journal : List JournalEntry) (receipts : List Rece
 receipt_tells page journal receipts all here =
     let e = entry_has page journal here in
     let r = receipt_has e.0 receipts (all.once e.0 e.1) in
-    let told = subst (λ (n : ℕ). IsSomeAnd (slice_get journal n) (λ (x : JournalEntry). Tells x r.0)) r.2 (All-contains (IsTold journal) receipts r.0 all.told r.1) in
-    let both = both_of_some (λ (x : JournalEntry). Tells x r.0) (λ (x : JournalEntry). Contains x.pages.items page) (slice_get journal e.0) told e.2 in
+    let told = subst (λ (n : ℕ). IsSomeAnd (slice_get journal n) (λ (x : JournalEntry). IsReceiptOf x r.0)) r.2 (All-contains (MatchesJournal journal) receipts r.0 all.told r.1) in
+    let both = both_of_some (λ (x : JournalEntry). IsReceiptOf x r.0) (λ (x : JournalEntry). Contains x.pages.items page) (slice_get journal e.0) told e.2 in
     (r.0, r.1, subst (λ (pages : List ℕ). Contains pages page) (sym both.1.pages) both.2)
 
 -- the words of the last gather, by all passes, account for each page in which the hosts differ
@@ -93,8 +93,8 @@ receipt_since : (page first : ℕ) (journal : List JournalEntry) (receipts : Lis
 receipt_since page first journal receipts all here =
     let e = entry_since page first journal here in
     let r = receipt_has e.0 receipts (all.once e.0 e.2) in
-    let told = subst (λ (n : ℕ). IsSomeAnd (slice_get journal n) (λ (x : JournalEntry). Tells x r.0)) r.2 (All-contains (IsTold journal) receipts r.0 all.told r.1) in
-    let both = both_of_some (λ (x : JournalEntry). Tells x r.0) (λ (x : JournalEntry). Contains x.pages.items page) (slice_get journal e.0) told e.3 in
+    let told = subst (λ (n : ℕ). IsSomeAnd (slice_get journal n) (λ (x : JournalEntry). IsReceiptOf x r.0)) r.2 (All-contains (MatchesJournal journal) receipts r.0 all.told r.1) in
+    let both = both_of_some (λ (x : JournalEntry). IsReceiptOf x r.0) (λ (x : JournalEntry). Contains x.pages.items page) (slice_get journal e.0) told e.3 in
     let late = e.1 in let number = r.2 in (r.0, r.1, omega arith, subst (λ (pages : List ℕ). Contains pages page) (sym both.1.pages) both.2)
 
 -- the words of the last gather, by all passes, have each page that was marked since the harvest took it

@@ -15,7 +15,7 @@ use Rattle.fs_device.proofs.LayoutLemmas.{all_apart, all_fit, all_known, not_kno
 use Rattle.fs_device.specs.CommandView.{command_of}
 use Rattle.fs_shared.specs.declared.kept.Kept.{Kept}
 use Rattle.fs_shared.specs.Held.{WouldDo, came_of}
-use Rattle.fs_shared.specs.Keeping.{Keeps}
+use Rattle.fs_shared.specs.Keeping.{KeepsEvent}
 use Rattle.fs_shared.specs.Replay as replay
 use Rattle.fs_shared.specs.Replay.{WritesPages}
 
@@ -65,7 +65,7 @@ write_would s a bytes reaches = (record s { memory = guest_written s.memory a by
 pub write_keeps : {F : Type 0} (may : May F) (s after : State F) (a : ℕ) (bytes pages : List ℕ) (kept : Kept) → Affects s (GuestWrite a bytes) Done after →
     WritesPages (physical s.memory) (addresses a (length bytes)) pages →
     (command_of kept.entry.command ≡ GuestWrite a bytes) × (came_of kept.entry.outcome ≡ replay.Done) × (kept.entry.pages.items ≡ pages) →
-    (command_of kept.receipt.command ≡ GuestWrite a bytes) × (came_of kept.receipt.outcome ≡ replay.Done) × (kept.receipt.pages.items ≡ pages) → Keeps may s (GuestWrite a bytes) kept after
+    (command_of kept.receipt.command ≡ GuestWrite a bytes) × (came_of kept.receipt.outcome ≡ replay.Done) × (kept.receipt.pages.items ≡ pages) → KeepsEvent may s (GuestWrite a bytes) kept after
 write_keeps may s after a bytes pages kept done are entry receipt = record {
   plays = (entry.1, done, rw entry.2 are);
   entry = entry.0;
@@ -118,7 +118,7 @@ layout_performed may s after layout (Pages ps) would is = layout_does s after la
 -- what is kept of it is an event
 pub layout_keeps : {F : Type 0} (may : May F) (s after : State F) (layout : List Region) (kept : Kept) → Affects s (SetLayout layout) Done after →
     (command_of kept.entry.command ≡ SetLayout layout) × (came_of kept.entry.outcome ≡ replay.Done) × (kept.entry.pages.items ≡ []) →
-    (command_of kept.receipt.command ≡ SetLayout layout) × (came_of kept.receipt.outcome ≡ replay.Done) × (kept.receipt.pages.items ≡ []) → Keeps may s (SetLayout layout) kept after
+    (command_of kept.receipt.command ≡ SetLayout layout) × (came_of kept.receipt.outcome ≡ replay.Done) × (kept.receipt.pages.items ≡ []) → KeepsEvent may s (SetLayout layout) kept after
 layout_keeps may s after layout kept done entry receipt = record {
   plays = (entry.1, done, entry.2);
   entry = entry.0;

@@ -21,12 +21,12 @@ use Rattle.fs_device.specs.Run as run
 use Rattle.fs_device.specs.Run.{Command, Answer, Effect, GuestWrite, SetLayout, Kick, IsDecided, is_known, some_overlap, with_layout, guest_written, no, effect}
 use Rattle.fs_device.specs.CommandView.{command_of}
 use Rattle.fs_shared.specs.declared.entry.JournalEntry.{JournalEntry}
-use Rattle.fs_shared.specs.Replay.{Anything, Entry, forget, Served, Stopped, Done, Kicked, Plays, Replays}
+use Rattle.fs_shared.specs.Replay.{Anything, ReplayEntry, forget, Served, Stopped, Done, ReplaysKick, Plays, Replays}
 use Rattle.fs_shared.specs.Replay as replay
 use Rattle.fs_shared.specs.Held.{Fixed, came_of, entry_of, fixed_of, journal_of}
 use Rattle.fs_shared.proofs.Forgetting.{plays_forgets}
 
-pub replays_push : (s mid after : State (Unit {0})) (es : List Entry) (e : Entry) → Replays s es mid → Plays Anything mid e.command e.outcome e.pages after → e.options ≡ after.options → Replays s (es ++ e ∷ []) after
+pub replays_push : (s mid after : State (Unit {0})) (es : List ReplayEntry) (e : ReplayEntry) → Replays s es mid → Plays Anything mid e.command e.outcome e.pages after → e.options ≡ after.options → Replays s (es ++ e ∷ []) after
 unfolding Replays
 replays_push s mid after [] e same plays options = (after, subst (λ (m : State (Unit {0})). Plays Anything m e.command e.outcome e.pages after) same plays, options, refl)
 replays_push s mid after (x ∷ es) e r plays options = (r.0, r.1, r.2, replays_push r.0 mid after es e r.3 plays options)
@@ -41,7 +41,7 @@ pub grows : {F : Type 0} (may : May F) (start : State (Unit {0})) (s after : Sta
     Replays start (journal_of now) (forget after)
 grows may start s after items room now x same is r plays options =
     let all : journal_of now ≡ journal_of items ++ entry_of x ∷ [] = ap journal_of (is ∙ ap (λ (es : List JournalEntry). es ++ x ∷ []) same) ∙ map-append entry_of items (x ∷ []) in
-    subst (λ (es : List Entry). Replays start es (forget after)) (sym all)
+    subst (λ (es : List ReplayEntry). Replays start es (forget after)) (sym all)
     (replays_push start (forget s) (forget after) (journal_of items) (entry_of x) r (plays_forgets may s after (command_of x.command) (came_of x.outcome) x.pages.items plays) options)
 
 -- ---- what no call changes
@@ -74,7 +74,7 @@ exchanges_keep may s after i q (Refuses why) calls x notice e = absurd e
 refused_keeps : {F : Type 0} (s after : State F) (i : ℕ) (q : Queue) → after ≡ with_queue s i q → fixed_of s ≡ fixed_of after
 refused_keeps {F} s after i q is = sym (ap (λ (m : State F). fixed_of m) is)
 
-acts_keep : {F : Type 0} (may : May F) (s after : State F) (i : ℕ) (q : Queue) (offered : Offer) (calls : Calls) (o : step.Outcome) → Acts may s i q offered calls o after → fixed_of s ≡ fixed_of after
+acts_keep : {F : Type 0} (may : May F) (s after : State F) (i : ℕ) (q : Queue) (offered : Offer) (calls : Calls) (o : step.StepEnd) → Acts may s i q offered calls o after → fixed_of s ≡ fixed_of after
 acts_keep {F} may s after i q offered calls Idle t = sym (ap (λ (m : State F). fixed_of m) t.1.same)
 acts_keep {F} may s after i q offered calls (Refused (device.Queue stop.OutOfMemory)) t = sym (ap (λ (m : State F). fixed_of m) t.1.same)
 acts_keep may s after i q offered calls (Refused (device.Queue stop.Stopped)) t = refused_keeps s after i _ t.2
@@ -88,15 +88,15 @@ acts_keep may s after i q offered calls (Refused (device.Queue stop.DescriptorUn
 acts_keep may s after i q offered calls (Refused device.NoSuchQueue) t = absurd t
 acts_keep may s after i q offered calls (Exchanged x notice) t = exchanges_keep may s after i q offered calls x notice t
 
-of_queue_keeps : {F : Type 0} (may : May F) (s after : State F) (i : ℕ) (o : Option Queue) (calls : Calls) (outcome : step.Outcome) → StepOf may s i o calls outcome after → fixed_of s ≡ fixed_of after
+of_queue_keeps : {F : Type 0} (may : May F) (s after : State F) (i : ℕ) (o : Option Queue) (calls : Calls) (outcome : step.StepEnd) → StepOf may s i o calls outcome after → fixed_of s ≡ fixed_of after
 of_queue_keeps {F} may s after i None calls outcome t = sym (ap (λ (m : State F). fixed_of m) t.1.same)
 of_queue_keeps may s after i (Some q) calls outcome t = acts_keep may s after i q (offer s.memory s.limit q) calls outcome t
 
 -- a step keeps them
-pub step_keeps : {F : Type 0} (may : May F) (s after : State F) (i : ℕ) (calls : Calls) (outcome : step.Outcome) → Step may s i calls outcome after → fixed_of s ≡ fixed_of after
+pub step_keeps : {F : Type 0} (may : May F) (s after : State F) (i : ℕ) (calls : Calls) (outcome : step.StepEnd) → Step may s i calls outcome after → fixed_of s ≡ fixed_of after
 step_keeps may s after i calls outcome t = of_queue_keeps may s after i (slice_get s.queues i) calls outcome t
 
-kicked_keeps : {F : Type 0} (may : May F) (s after : State F) (i : ℕ) (outcome : replay.Outcome) (pages : List ℕ) → Kicked may s i outcome pages after → fixed_of s ≡ fixed_of after
+kicked_keeps : {F : Type 0} (may : May F) (s after : State F) (i : ℕ) (outcome : replay.Outcome) (pages : List ℕ) → ReplaysKick may s i outcome pages after → fixed_of s ≡ fixed_of after
 kicked_keeps may s after i Done pages t = absurd t
 kicked_keeps may s after i (Served x notice) pages t = step_keeps may s after i t.0 (Exchanged x notice) t.1
 kicked_keeps may s after i (Stopped e) pages t = step_keeps may s after i [] (Refused e) t.1

@@ -11,9 +11,9 @@ use Rattle.fs_device.specs.Run.{Command, Kick}
 use Rattle.fs_shared.specs.declared.entry.Kicked as kicked
 use Rattle.fs_shared.specs.declared.entry.Receipt.{Receipt}
 use Rattle.fs_shared.specs.declared.entry.Start.{Start}
-use Rattle.fs_shared.specs.Calls.{ActsBy, KicksBy}
+use Rattle.fs_shared.specs.Calls.{JournalsOrRefuses, KicksBy}
 use Rattle.fs_shared.specs.Held.{Held, Fixed, came_of, fixed_of, start_of}
-use Rattle.fs_shared.specs.Replay.{Entry, Replays, forget}
+use Rattle.fs_shared.specs.Replay.{ReplayEntry, Replays, forget}
 use Rattle.fs_shared.proofs.Appending.{plays_keeps}
 use Rattle.fs_shared.proofs.Replaying.{acts_replay, kicks_replay}
 
@@ -36,7 +36,7 @@ kicks_keep may before after i (Err (device.Queue stop.AvailFlagsUnreachable)) do
 kicks_keep may before after i (Err (device.Queue stop.DescriptorUnreachable)) does = absurd does
 
 -- so does a write or another layout
-pub acts_keep : {F : Type 0} (may : May F) (before after : Held F) (command : Command) (result : Result Receipt Refusal) → ActsBy may before command result after → fixed_of before.machine ≡ fixed_of after.machine
+pub acts_keep : {F : Type 0} (may : May F) (before after : Held F) (command : Command) (result : Result Receipt Refusal) → JournalsOrRefuses may before command result after → fixed_of before.machine ≡ fixed_of after.machine
 acts_keep may before after command (Ok r) does = plays_keeps may before.machine after.machine command (came_of r.outcome) r.pages.items does.plays
 acts_keep may before after command (Err why.OutOfMemory) does = same_fixed before after does.1
 acts_keep may before after command (Err why.NoPlace) does = same_fixed before after does.1
@@ -49,7 +49,7 @@ acts_keep may before after command (Err why.BadMapping) does = same_fixed before
 acts_keep may before after command (Err why.NoSuchQueue) does = same_fixed before after does.1
 
 -- from the start the journal replays to the machine after a kick that is told so
-pub kick_replays : {F : Type 0} (may : May F) (start : Start) (s after : State F) (before now : List Entry) (i : ℕ) (result : Result (kicked.Kicked) DeviceError) →
+pub kick_replays : {F : Type 0} (may : May F) (start : Start) (s after : State F) (before now : List ReplayEntry) (i : ℕ) (result : Result (kicked.Kicked) DeviceError) →
     Replays (start_of start (fixed_of s)) before (forget s) →
     ((t : State (Unit {0})) → KicksBy may (record { machine = s; start = t; journal = before }) i result (record { machine = after; start = t; journal = now })) →
     Replays (start_of start (fixed_of after)) now (forget after)
@@ -60,7 +60,7 @@ kick_replays {F} may start s after before now i result held does =
     subst (λ (f : Fixed). Replays (start_of start f) now (forget after)) (kicks_keep may old new i result (does t)) (kicks_replay may old new i result held (does t))
 
 -- that start is the one of before
-pub kick_starts : {F : Type 0} (may : May F) (start : Start) (s after : State F) (before now : List Entry) (i : ℕ) (result : Result (kicked.Kicked) DeviceError) →
+pub kick_starts : {F : Type 0} (may : May F) (start : Start) (s after : State F) (before now : List ReplayEntry) (i : ℕ) (result : Result (kicked.Kicked) DeviceError) →
     ((t : State (Unit {0})) → KicksBy may (record { machine = s; start = t; journal = before }) i result (record { machine = after; start = t; journal = now })) →
     KicksBy may (record { machine = s; start = start_of start (fixed_of s); journal = before }) i result (record { machine = after; start = start_of start (fixed_of after); journal = now })
 kick_starts {F} may start s after before now i result does =
@@ -70,8 +70,8 @@ kick_starts {F} may start s after before now i result does =
     subst (λ (f : Fixed). KicksBy may old i result (record { machine = after; start = start_of start f; journal = now })) (kicks_keep may old new i result (does t)) (does t)
 
 -- so it is after a write or another layout
-pub act_replays : {F : Type 0} (may : May F) (start : Start) (s after : State F) (before now : List Entry) (command : Command) (result : Result Receipt Refusal) → Replays (start_of start (fixed_of s)) before (forget s) →
-    ((t : State (Unit {0})) → ActsBy may (record { machine = s; start = t; journal = before }) command result (record { machine = after; start = t; journal = now })) →
+pub act_replays : {F : Type 0} (may : May F) (start : Start) (s after : State F) (before now : List ReplayEntry) (command : Command) (result : Result Receipt Refusal) → Replays (start_of start (fixed_of s)) before (forget s) →
+    ((t : State (Unit {0})) → JournalsOrRefuses may (record { machine = s; start = t; journal = before }) command result (record { machine = after; start = t; journal = now })) →
     Replays (start_of start (fixed_of after)) now (forget after)
 act_replays {F} may start s after before now command result held does =
     let t = start_of start (fixed_of s) in
@@ -79,11 +79,11 @@ act_replays {F} may start s after before now command result held does =
     let new : Held F = record { machine = after; start = t; journal = now } in
     subst (λ (f : Fixed). Replays (start_of start f) now (forget after)) (acts_keep may old new command result (does t)) (acts_replay may old new command result held (does t))
 
-pub act_starts : {F : Type 0} (may : May F) (start : Start) (s after : State F) (before now : List Entry) (command : Command) (result : Result Receipt Refusal) →
-    ((t : State (Unit {0})) → ActsBy may (record { machine = s; start = t; journal = before }) command result (record { machine = after; start = t; journal = now })) →
-    ActsBy may (record { machine = s; start = start_of start (fixed_of s); journal = before }) command result (record { machine = after; start = start_of start (fixed_of after); journal = now })
+pub act_starts : {F : Type 0} (may : May F) (start : Start) (s after : State F) (before now : List ReplayEntry) (command : Command) (result : Result Receipt Refusal) →
+    ((t : State (Unit {0})) → JournalsOrRefuses may (record { machine = s; start = t; journal = before }) command result (record { machine = after; start = t; journal = now })) →
+    JournalsOrRefuses may (record { machine = s; start = start_of start (fixed_of s); journal = before }) command result (record { machine = after; start = start_of start (fixed_of after); journal = now })
 act_starts {F} may start s after before now command result does =
     let t = start_of start (fixed_of s) in
     let old : Held F = record { machine = s; start = t; journal = before } in
     let new : Held F = record { machine = after; start = t; journal = now } in
-    subst (λ (f : Fixed). ActsBy may old command result (record { machine = after; start = start_of start f; journal = now })) (acts_keep may old new command result (does t)) (does t)
+    subst (λ (f : Fixed). JournalsOrRefuses may old command result (record { machine = after; start = start_of start f; journal = now })) (acts_keep may old new command result (does t)) (does t)

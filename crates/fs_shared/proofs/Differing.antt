@@ -23,7 +23,7 @@ use Rattle.fs_device.specs.Run.{Command, Effect, GuestWrite, SetLayout, Kick, Is
 use Rattle.fs_device.specs.UsedLength.{IsOffered}
 use Rattle.fs_device.proofs.UsedLemmas.{exchange_returns, step_offers}
 use Rattle.fs_shared.specs.JournalPages.{JournalsTellPages, joined_pages}
-use Rattle.fs_shared.specs.Replay.{Anything, Done, Entry, ExchangesPages, Kicked, Plays, Replays, Served, Stopped, WritesPages}
+use Rattle.fs_shared.specs.Replay.{Anything, Done, ReplayEntry, ExchangesPages, ReplaysKick, Plays, Replays, Served, Stopped, WritesPages}
 use Rattle.fs_shared.specs.Replay as replay
 use Rattle.fs_shared.proofs.Returning.{all_firsts}
 use Rattle.fs_shared.proofs.Written.{places_stored, stores_lengths, stores_or}
@@ -113,7 +113,7 @@ exchange_keeps may s after i calls x notice pages p t told =
     subst (λ (m : Memory). KeepsOr pages p s.memory.host m.host) (sym (exchange_returns may s i o.queue x.head o.fetched calls x notice after found.1))
     (stores_keep s.memory ws pages p (subst (λ (ws : List (ℕ × ℕ)). WritesPages s.memory (map (λ (w : ℕ × ℕ). w.0) ws) pages) same told.1))
 
-kick_keeps : {F : Type 0} (may : May F) (s after : State F) (i : ℕ) (outcome : replay.Outcome) (pages : List ℕ) (p : Place) → Kicked may s i outcome pages after → KeepsOr pages p s.memory.host after.memory.host
+kick_keeps : {F : Type 0} (may : May F) (s after : State F) (i : ℕ) (outcome : replay.Outcome) (pages : List ℕ) (p : Place) → ReplaysKick may s i outcome pages after → KeepsOr pages p s.memory.host after.memory.host
 kick_keeps may s after i Done pages p t = absurd t
 kick_keeps may s after i (Served x notice) pages p t = exchange_keeps may s after i t.0 x notice pages p t.1 t.2
 kick_keeps may s after i (Stopped e) pages p t = same_keeps pages p s.memory.host after.memory.host (ap (λ (m : Memory). m.host) (step_refused may s after i (slice_get s.queues i) [] e t.1))
@@ -155,7 +155,7 @@ both_keep first rest p before mid after here later =
           later.byte;
     }
 
-replays_keep : (p : Place) (journal : List Entry) (start after : State (Unit {0})) → Replays start journal after → KeepsOr (joined_pages journal) p start.memory.host after.memory.host
+replays_keep : (p : Place) (journal : List ReplayEntry) (start after : State (Unit {0})) → Replays start journal after → KeepsOr (joined_pages journal) p start.memory.host after.memory.host
 unfolding Replays
 replays_keep p [] start after same = same_keeps [] p start.memory.host after.memory.host (ap (λ (s : State (Unit {0})). s.memory.host) same)
 replays_keep p (e ∷ es) start after (mid, plays, options, rest) =

@@ -13,10 +13,10 @@ use Rattle.fuse_fs.specs.Calls.{FileRun}
 use Rattle.virtiofsd_fuse.specs.Serving.{May}
 use Rattle.fs_device.specs.declared.error.DeviceError.TheVariants as device
 use Rattle.fs_device.specs.declared.refusal.Refusal.TheVariants as why
-use Rattle.fs_device.specs.Step.{State, Exchange, Calls, Outcome, Idle, Refused, Exchanged, Unchanged, Returns, Exchanges, Acts, StepOf, Step}
+use Rattle.fs_device.specs.Step.{State, Exchange, Calls, StepEnd, Idle, Refused, Exchanged, Unchanged, Returns, Exchanges, Acts, StepOf, Step}
 use Rattle.fs_device.specs.Run as run
 use Rattle.fs_device.specs.Run.{Command, Answer, Effect, GuestWrite, SetLayout, Kick, IsDecided, is_known, some_overlap, set_layout, guest_write, with_layout, guest_written, no, effect}
-use Rattle.fs_shared.specs.Replay.{Anything, forget, Served, Stopped, Done, Kicked, Plays, ExchangesPages}
+use Rattle.fs_shared.specs.Replay.{Anything, forget, Served, Stopped, Done, ReplaysKick, Plays, ExchangesPages}
 use Rattle.fs_shared.specs.Replay as replay
 
 files_forget : {F : Type 0} (may : May F) (before after : F) (calls : Calls) → FileRun may before calls after → FileRun Anything tt calls tt
@@ -48,7 +48,7 @@ exchanges_forget may s after i q (Refuses why) calls x notice e = absurd e
 refused_forgets : {F : Type 0} (s after next : State F) (A B : Type 0) → A × B × (after ≡ next) → A × B × (forget after ≡ forget next)
 refused_forgets {F} s after next A B t = (t.0, t.1, ap (λ (m : State F). forget m) t.2)
 
-acts_forget : {F : Type 0} (may : May F) (s after : State F) (i : ℕ) (q : Queue) (offered : Offer) (calls : Calls) (o : Outcome) →
+acts_forget : {F : Type 0} (may : May F) (s after : State F) (i : ℕ) (q : Queue) (offered : Offer) (calls : Calls) (o : StepEnd) →
     Acts may s i q offered calls o after → Acts Anything (forget s) i q offered calls o (forget after)
 acts_forget may s after i q offered calls Idle t = (t.0, same_forgets s after calls t.1)
 acts_forget may s after i q offered calls (Refused (device.Queue stop.OutOfMemory)) t = (t.0, same_forgets s after calls t.1)
@@ -63,13 +63,13 @@ acts_forget may s after i q offered calls (Refused (device.Queue stop.Descriptor
 acts_forget may s after i q offered calls (Refused device.NoSuchQueue) t = absurd t
 acts_forget may s after i q offered calls (Exchanged x notice) t = exchanges_forget may s after i q offered calls x notice t
 
-of_queue : {F : Type 0} (may : May F) (s after : State F) (i : ℕ) (o : Option Queue) (calls : Calls) (outcome : Outcome) →
+of_queue : {F : Type 0} (may : May F) (s after : State F) (i : ℕ) (o : Option Queue) (calls : Calls) (outcome : StepEnd) →
     StepOf may s i o calls outcome after → StepOf Anything (forget s) i o calls outcome (forget after)
 of_queue may s after i None calls outcome t = (t.0, same_forgets s after calls t.1)
 of_queue may s after i (Some q) calls outcome t = acts_forget may s after i q (offer s.memory s.limit q) calls outcome t
 
 -- a step of a device is one of what is left
-pub step_forgets : {F : Type 0} (may : May F) (s after : State F) (i : ℕ) (calls : Calls) (outcome : Outcome) → Step may s i calls outcome after → Step Anything (forget s) i calls outcome (forget after)
+pub step_forgets : {F : Type 0} (may : May F) (s after : State F) (i : ℕ) (calls : Calls) (outcome : StepEnd) → Step may s i calls outcome after → Step Anything (forget s) i calls outcome (forget after)
 step_forgets may s after i calls outcome t = of_queue may s after i (slice_get s.queues i) calls outcome t
 
 -- ---- events
@@ -86,7 +86,7 @@ moves f false x y = refl
 pages_forget : {F : Type 0} (s : State F) (i : ℕ) (x : Exchange) (pages : List ℕ) → ExchangesPages s i x pages → ExchangesPages (forget s) i x pages
 pages_forget s i x pages t = (record { queue = t.0.queue; fetched = t.0.fetched; there = t.0.there; offered = t.0.offered }, t.1)
 
-kicked_forgets : {F : Type 0} (may : May F) (s after : State F) (i : ℕ) (outcome : replay.Outcome) (pages : List ℕ) → Kicked may s i outcome pages after → Kicked Anything (forget s) i outcome pages (forget after)
+kicked_forgets : {F : Type 0} (may : May F) (s after : State F) (i : ℕ) (outcome : replay.Outcome) (pages : List ℕ) → ReplaysKick may s i outcome pages after → ReplaysKick Anything (forget s) i outcome pages (forget after)
 kicked_forgets may s after i Done pages t = absurd t
 kicked_forgets may s after i (Served x notice) pages t = (t.0, step_forgets may s after i t.0 (Exchanged x notice) t.1, pages_forget s i x pages t.2)
 kicked_forgets may s after i (Stopped e) pages t = (t.0, step_forgets may s after i [] (Refused e) t.1, t.2)

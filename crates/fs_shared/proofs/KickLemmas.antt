@@ -24,8 +24,8 @@ use Rattle.fs_device.proofs.UsedLemmas.{step_offers}
 use Rattle.fs_shared.specs.declared.kept.Kept.{Kept}
 use Rattle.fs_shared.specs.declared.kicking.ReplyRoom.{ReplyRoom}
 use Rattle.fs_shared.specs.Held.{HasOpenQueue, HasWaiting, came_of}
-use Rattle.fs_shared.specs.Keeping.{IsRoomFor, Keeps, KickKeeps, Leaves}
-use Rattle.fs_shared.specs.Replay.{ExchangesPages, Kicked, Outcome, Served, Stopped, is_journaled}
+use Rattle.fs_shared.specs.Keeping.{IsRoomFor, KeepsEvent, KickKeeps, StepChangesNothing}
+use Rattle.fs_shared.specs.Replay.{ExchangesPages, ReplaysKick, Outcome, Served, Stopped, is_journaled}
 use Rattle.fs_shared.specs.ReturnRuns.{AreReturnPages}
 
 -- ---- a chain that was taken
@@ -62,11 +62,11 @@ module _ {F : Type 0} (may : May F) (s after : State F) (i : ℕ) (calls : Calls
 
   pub exchange_keeps : (kept : Kept) → command_of kept.entry.command ≡ Kick i 1 → came_of kept.entry.outcome ≡ Served x notice → AreReturnPages room.runs (length x.reply) kept.entry.pages.items →
       command_of kept.receipt.command ≡ Kick i 1 → came_of kept.receipt.outcome ≡ Served (record x { request = room.request.items }) notice → kept.receipt.pages.items ≡ kept.entry.pages.items →
-      Keeps may s (Kick i 1) kept after
+      KeepsEvent may s (Kick i 1) kept after
   exchange_keeps kept entry outcome pages receipt receipt_outcome receipt_pages = record {
     plays = (
       refl,
-      subst (λ (o : Outcome). Kicked may s i o kept.entry.pages.items after) (sym outcome) (calls, step, exchange_pages (length x.reply) kept.entry.pages.items refl pages),
+      subst (λ (o : Outcome). ReplaysKick may s i o kept.entry.pages.items after) (sym outcome) (calls, step, exchange_pages (length x.reply) kept.entry.pages.items refl pages),
     );
     entry = entry;
     receipt = receipt;
@@ -150,11 +150,11 @@ idle_stays : {F : Type 0} (may : May F) (s after : State F) (i : ℕ) (o : Optio
 idle_stays may s after i None t = t.1.same
 idle_stays may s after i (Some q) t = t.1.same
 
-leaves : {F : Type 0} (may : May F) (s after : State F) (i : ℕ) (e : DeviceError) → Step may s i [] (Refused e) after → after ≡ s → Leaves may s i (Refused e) after
+leaves : {F : Type 0} (may : May F) (s after : State F) (i : ℕ) (e : DeviceError) → Step may s i [] (Refused e) after → after ≡ s → StepChangesNothing may s i (Refused e) after
 leaves {F} may s after i e step same = (subst (λ (t : State F). Step may s i [] (Refused e) t) same step, same)
 
 -- if nothing waits, nothing changes
-pub idle_leaves : {F : Type 0} (may : May F) (s after : State F) (i : ℕ) → Step may s i [] Idle after → Leaves may s i Idle after
+pub idle_leaves : {F : Type 0} (may : May F) (s after : State F) (i : ℕ) → Step may s i [] Idle after → StepChangesNothing may s i Idle after
 idle_leaves {F} may s after i step =
     let same = idle_stays may s after i (slice_get s.queues i) step in (subst (λ (t : State F). Step may s i [] Idle t) same step, same)
 

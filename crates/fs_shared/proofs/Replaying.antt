@@ -9,7 +9,7 @@ use Rattle.fs_device.specs.declared.refusal.Refusal.TheVariants as why
 use Rattle.fs_device.specs.Run.{Command, Kick}
 use Rattle.fs_shared.specs.declared.entry.Kicked as kicked
 use Rattle.fs_shared.specs.declared.entry.Receipt.{Receipt}
-use Rattle.fs_shared.specs.Calls.{ActsBy, Journals, KicksBy}
+use Rattle.fs_shared.specs.Calls.{JournalsOrRefuses, Journals, KicksBy}
 use Rattle.fs_shared.specs.Held.{Held, came_of}
 use Rattle.fs_shared.specs.Laws.{HoldsReplay}
 use Rattle.fs_shared.specs.Replay.{forget}
@@ -39,7 +39,7 @@ kicks_replay may before after i (Err (device.Queue stop.UsedUnreachable)) held d
 kicks_replay may before after i (Err (device.Queue stop.AvailFlagsUnreachable)) held does = absurd does
 kicks_replay may before after i (Err (device.Queue stop.DescriptorUnreachable)) held does = absurd does
 
-pub acts_replay : {F : Type 0} (may : May F) (before after : Held F) (command : Command) (result : Result Receipt Refusal) → HoldsReplay before → ActsBy may before command result after → HoldsReplay after
+pub acts_replay : {F : Type 0} (may : May F) (before after : Held F) (command : Command) (result : Result Receipt Refusal) → HoldsReplay before → JournalsOrRefuses may before command result after → HoldsReplay after
 acts_replay may before after command (Ok r) held does = journaled may before after command r held does
 acts_replay may before after command (Err why.OutOfMemory) held does = stayed before after held does.1
 acts_replay may before after command (Err why.NoPlace) held does = stayed before after held does.1

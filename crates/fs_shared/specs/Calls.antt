@@ -26,25 +26,25 @@ pub record Journals {F : Type 0} (may : May F) (before : Held F) (command : Comm
   pub receipt : command_of r.command ≡ command
 
 -- a step of queue i that changes nothing, and ends so
-abbrev pub Stays : {F : Type 0} → May F → Held F → ℕ → step.Outcome → Held F → Type 0
-Stays may before i outcome after = Step may before.machine i [] outcome before.machine × (after ≡ before)
+abbrev pub CallChangesNothing : {F : Type 0} → May F → Held F → ℕ → step.StepEnd → Held F → Type 0
+CallChangesNothing may before i outcome after = Step may before.machine i [] outcome before.machine × (after ≡ before)
 
 -- a kick for one chain: nothing waits, the queue is stopped or it is missing only if the step says so;
 -- a failed allocation changes nothing, and comes only if something waits
 abbrev pub KicksBy : {F : Type 0} → May F → Held F → ℕ → Result (kicked.Kicked) DeviceError → Held F → Type 0
 KicksBy may before i (Ok (kicked.TheVariants.Done r)) after = Journals may before (Kick i 1) r after
-KicksBy may before i (Ok kicked.TheVariants.Idle) after = Stays may before i step.Idle after
-KicksBy may before i (Err device.NoSuchQueue) after = Stays may before i (step.Refused device.NoSuchQueue) after
-KicksBy may before i (Err (device.Queue stop.Stopped)) after = Stays may before i (step.Refused (device.Queue stop.Stopped)) after
+KicksBy may before i (Ok kicked.TheVariants.Idle) after = CallChangesNothing may before i step.Idle after
+KicksBy may before i (Err device.NoSuchQueue) after = CallChangesNothing may before i (step.Refused device.NoSuchQueue) after
+KicksBy may before i (Err (device.Queue stop.Stopped)) after = CallChangesNothing may before i (step.Refused (device.Queue stop.Stopped)) after
 KicksBy may before i (Err (device.Queue stop.OutOfMemory)) after = HasWaiting before.machine i × (after ≡ before)
 KicksBy may before i (Err (device.Queue _)) after = ⊥
 
 -- a guest's write or another layout: refused only if the machine refuses it so; a failed allocation changes nothing, and comes only where the
 -- machine would make the change
-abbrev pub ActsBy : {F : Type 0} → May F → Held F → Command → Result Receipt Refusal → Held F → Type 0
-ActsBy may before command (Ok r) after = Journals may before command r after
-ActsBy may before command (Err why.OutOfMemory) after = WouldDo before.machine command × (after ≡ before)
-ActsBy may before command (Err e) after = Affects before.machine command (IsRefused e) before.machine × (after ≡ before)
+abbrev pub JournalsOrRefuses : {F : Type 0} → May F → Held F → Command → Result Receipt Refusal → Held F → Type 0
+JournalsOrRefuses may before command (Ok r) after = Journals may before command r after
+JournalsOrRefuses may before command (Err why.OutOfMemory) after = WouldDo before.machine command × (after ≡ before)
+JournalsOrRefuses may before command (Err e) after = Affects before.machine command (IsRefused e) before.machine × (after ≡ before)
 
 -- a guest's read: what the machine answers to it, and nothing changes
 abbrev pub ReadsBy : {F : Type 0} → May F → Held F → (addr len : ℕ) → Result (Vec ℕ Global) Refusal → Type 0

@@ -9,7 +9,7 @@ use Rattle.fs_device.specs.DeviceView.{exchange_of}
 use Rattle.fs_shared.specs.declared.entry.Outcome as told
 use Rattle.fs_shared.specs.declared.entry.JournalEntry.{JournalEntry}
 use Rattle.fs_shared.specs.declared.entry.Start.{Start}
-use Rattle.fs_shared.specs.Replay.{Outcome, Done, Served, Stopped, Entry}
+use Rattle.fs_shared.specs.Replay.{Outcome, Done, Served, Stopped, ReplayEntry}
 
 -- there is a queue of this number, and it isn't stopped
 abbrev pub HasOpenQueue : {F : Type 0} → State F → ℕ → Type 0
@@ -30,11 +30,11 @@ came_of (told.TheVariants.Served x notice) = Served (exchange_of x) notice
 came_of (told.TheVariants.Stopped e) = Stopped e
 
 -- an entry of the journal
-abbrev pub entry_of : JournalEntry → Entry
+abbrev pub entry_of : JournalEntry → ReplayEntry
 entry_of e = record { command = command_of e.command; outcome = came_of e.outcome; options = e.options.0; pages = e.pages.items }
 
 -- the journal
-abbrev pub journal_of : List JournalEntry → List Entry
+abbrev pub journal_of : List JournalEntry → List ReplayEntry
 journal_of entries = map entry_of entries
 
 -- what no call on a shared device changes: the numbers of the table and of the set of I/O pages, whether the table is used, the limit and the page size
@@ -64,4 +64,4 @@ start_of start fixed = record {
 pub record Held (F : Type 0) : Type 0 where
   pub machine : State F
   pub start : State (Unit {0})
-  pub journal : List Entry
+  pub journal : List ReplayEntry

@@ -16,7 +16,7 @@ use Rattle.fs_shared.specs.Replay.{Plays}
 use Rattle.fs_shared.specs.ReturnRuns.{AreReturnRuns}
 
 -- an event of a machine, and the same for the receipt
-pub record Keeps {F : Type 0} (may : May F) (before : State F) (command : Command) (kept : Kept) (after : State F) : Type 0 where
+pub record KeepsEvent {F : Type 0} (may : May F) (before : State F) (command : Command) (kept : Kept) (after : State F) : Type 0 where
   pub plays : Plays may before command (came_of kept.entry.outcome) kept.entry.pages.items after
   pub entry : command_of kept.entry.command ≡ command
   pub receipt : command_of kept.receipt.command ≡ command
@@ -24,15 +24,15 @@ pub record Keeps {F : Type 0} (may : May F) (before : State F) (command : Comman
   pub pages : kept.receipt.pages.items ≡ kept.entry.pages.items
 
 -- a step of queue i that changes nothing, and ends so
-abbrev pub Leaves : {F : Type 0} → May F → State F → ℕ → step.Outcome → State F → Type 0
-Leaves may before i outcome after = Step may before i [] outcome before × (after ≡ before)
+abbrev pub StepChangesNothing : {F : Type 0} → May F → State F → ℕ → step.StepEnd → State F → Type 0
+StepChangesNothing may before i outcome after = Step may before i [] outcome before × (after ≡ before)
 
 -- a kick of a machine for one chain, by cases on the answer, as on a shared device
 abbrev pub KickKeeps : {F : Type 0} → May F → State F → ℕ → Result (Option Kept) DeviceError → State F → Type 0
-KickKeeps may before i (Ok (Some kept)) after = Keeps may before (Kick i 1) kept after
-KickKeeps may before i (Ok None) after = Leaves may before i step.Idle after
-KickKeeps may before i (Err device.NoSuchQueue) after = Leaves may before i (step.Refused device.NoSuchQueue) after
-KickKeeps may before i (Err (device.Queue stop.Stopped)) after = Leaves may before i (step.Refused (device.Queue stop.Stopped)) after
+KickKeeps may before i (Ok (Some kept)) after = KeepsEvent may before (Kick i 1) kept after
+KickKeeps may before i (Ok None) after = StepChangesNothing may before i step.Idle after
+KickKeeps may before i (Err device.NoSuchQueue) after = StepChangesNothing may before i (step.Refused device.NoSuchQueue) after
+KickKeeps may before i (Err (device.Queue stop.Stopped)) after = StepChangesNothing may before i (step.Refused (device.Queue stop.Stopped)) after
 KickKeeps may before i (Err (device.Queue stop.OutOfMemory)) after = HasWaiting before i × (after ≡ before)
 KickKeeps may before i (Err (device.Queue _)) after = ⊥
 

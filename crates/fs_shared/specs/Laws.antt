@@ -5,13 +5,13 @@ use Rattle.vm_atomic_bitmaps.specs.declared.counts.Tally.{Tally}
 use Rattle.vm_atomic_bitmaps.specs.Counts.{both_passes, cleared_by, first_pass, in_word, joined_with, kept_half, met_with, new_half, IsWhole}
 use Rattle.fs_shared.specs.Portion.{HasSeen, MarksPages}
 use Rattle.virtiofsd_fuse.specs.Serving.{May}
-use Rattle.fs_device.specs.Step.{State, Calls, Outcome, Step}
+use Rattle.fs_device.specs.Step.{State, Calls, StepEnd, Step}
 use Rattle.fs_device.specs.Run.{Command}
 use Rattle.fs_device.specs.declared.error.DeviceError.{DeviceError}
 use Rattle.fs_device.specs.declared.refusal.Refusal.{Refusal}
 use Rattle.fs_shared.specs.declared.entry.Kicked.{Kicked}
 use Rattle.fs_shared.specs.declared.entry.Receipt.{Receipt}
-use Rattle.fs_shared.specs.Calls.{ActsBy, KicksBy}
+use Rattle.fs_shared.specs.Calls.{JournalsOrRefuses, KicksBy}
 use Rattle.fs_shared.specs.Held.{Held}
 use Rattle.fs_shared.specs.Marks.{HasMarked, HasMarkedSince}
 use Rattle.fs_shared.specs.Replay.{Anything, forget, Plays, Replays}
@@ -20,7 +20,7 @@ use Rattle.fs_shared.specs.Replay as replay
 -- a step is one of what is left, with the same calls and outcome, if a file system may do anything
 abbrev pub StepsForget : {F : Type 0} → May F → Type 0
 StepsForget {F} may =
-    (s after : State F) (i : ℕ) (calls : Calls) (outcome : Outcome) → Step may s i calls outcome after → Step Anything (forget s) i calls outcome (forget after)
+    (s after : State F) (i : ℕ) (calls : Calls) (outcome : StepEnd) → Step may s i calls outcome after → Step Anything (forget s) i calls outcome (forget after)
 
 -- so is an event, with the same pages
 abbrev pub EventsForget : {F : Type 0} → May F → Type 0
@@ -40,7 +40,7 @@ KicksReplay {F} may =
 -- and after a write or another layout
 abbrev pub ActsReplay : {F : Type 0} → May F → Type 0
 ActsReplay {F} may =
-    (before after : Held F) (command : Command) (result : Result Receipt Refusal) → HoldsReplay before → ActsBy may before command result after →
+    (before after : Held F) (command : Command) (result : Result Receipt Refusal) → HoldsReplay before → JournalsOrRefuses may before command result after →
     HoldsReplay after
 
 -- a call has marked what its receipt tells

@@ -23,7 +23,7 @@ pub data Outcome : Type 0 where
   Stopped : DeviceError → Outcome
 
 -- an event, what came of it, the options after it, and the pages of blocks that it wrote, ascending
-pub record Entry : Type 0 where
+pub record ReplayEntry : Type 0 where
   pub command : Command
   pub outcome : Outcome
   pub options : ℕ
@@ -55,20 +55,20 @@ is_journaled device.NoSuchQueue = false
 is_journaled (device.Queue e) = stops_queue e
 
 -- one step on a queue, with this outcome and these pages
-abbrev pub Kicked : {F : Type 0} → May F → State F → ℕ → Outcome → List ℕ → State F → Type 0
-Kicked may s i Done pages after = ⊥
-Kicked may s i (Served x notice) pages after = (calls : Calls) × Step may s i calls (step.Exchanged x notice) after × ExchangesPages s i x pages
-Kicked may s i (Stopped e) pages after = IsTrue (is_journaled e) × Step may s i [] (step.Refused e) after × (pages ≡ [])
+abbrev pub ReplaysKick : {F : Type 0} → May F → State F → ℕ → Outcome → List ℕ → State F → Type 0
+ReplaysKick may s i Done pages after = ⊥
+ReplaysKick may s i (Served x notice) pages after = (calls : Calls) × Step may s i calls (step.Exchanged x notice) after × ExchangesPages s i x pages
+ReplaysKick may s i (Stopped e) pages after = IsTrue (is_journaled e) × Step may s i [] (step.Refused e) after × (pages ≡ [])
 
 -- one event: a guest's write, another layout, or a kick for one chain
 abbrev pub Plays : {F : Type 0} → May F → State F → Command → Outcome → List ℕ → State F → Type 0
 Plays may s (GuestWrite a bytes) outcome pages after =
     (outcome ≡ Done) × Affects s (GuestWrite a bytes) run.Done after × WritesPages (physical s.memory) (addresses a (length bytes)) pages
 Plays may s (SetLayout layout) outcome pages after = (outcome ≡ Done) × Affects s (SetLayout layout) run.Done after × (pages ≡ [])
-Plays may s (Kick i most) outcome pages after = (most ≡ 1) × Kicked may s i outcome pages after
+Plays may s (Kick i most) outcome pages after = (most ≡ 1) × ReplaysKick may s i outcome pages after
 Plays may s command outcome pages after = ⊥
 
 -- a journal replays from one state to another
-unfoldable pub Replays : State (Unit {0}) → List Entry → State (Unit {0}) → Type 0
+unfoldable pub Replays : State (Unit {0}) → List ReplayEntry → State (Unit {0}) → Type 0
 Replays s [] after = after ≡ s
 Replays s (e ∷ es) after = (mid : State (Unit {0})) × Plays Anything s e.command e.outcome e.pages mid × (e.options ≡ mid.options) × Replays mid es after

@@ -9,7 +9,7 @@ use Rattle.fs_shared.specs.declared.entry.Kicked as kicked
 use Rattle.fs_shared.specs.declared.entry.Receipt.{Receipt}
 use Rattle.fs_shared.specs.Held.{Held}
 use Rattle.fs_shared.specs.Laws.{HoldsReplay}
-use Rattle.fs_shared.specs.Calls.{ActsBy, KicksBy, ReadsBy}
+use Rattle.fs_shared.specs.Calls.{JournalsOrRefuses, KicksBy, ReadsBy}
 
 -- a kick was answered so between two states, the latter of which has a journal that replays
 abbrev pub KicksSome : {F : Type 0} → May F → ℕ → Result (kicked.Kicked) DeviceError → Type 0
@@ -17,11 +17,11 @@ KicksSome {F} may i result = (before : Held F) × (after : Held F) × KicksBy ma
 
 -- so was a write or another layout
 abbrev pub ActsSome : {F : Type 0} → May F → Command → Result Receipt Refusal → Type 0
-ActsSome {F} may command result = (before : Held F) × (after : Held F) × ActsBy may before command result after × HoldsReplay after
+ActsSome {F} may command result = (before : Held F) × (after : Held F) × JournalsOrRefuses may before command result after × HoldsReplay after
 
 -- a read was answered so by a state that has a journal that replays
-abbrev pub ReadsSome : {F : Type 0} → May F → (addr len : ℕ) → Result (Vec ℕ Global) Refusal → Type 0
-ReadsSome {F} may addr len result = (held : Held F) × ReadsBy may held addr len result × HoldsReplay held
+abbrev pub ReadsGuest : {F : Type 0} → May F → (addr len : ℕ) → Result (Vec ℕ Global) Refusal → Type 0
+ReadsGuest {F} may addr len result = (held : Held F) × ReadsBy may held addr len result × HoldsReplay held
 
 -- what holds of the receipt of a kick that was journaled
 abbrev pub IfDone : (Receipt → Type 0) → kicked.Kicked → Type 0

@@ -7,7 +7,7 @@ ghost use Rattle.fs_device.specs.Run.{GuestWrite, SetLayout};
 ghost use Rattle.fs_device.specs.CommandView.{command_of};
 ghost use Rattle.fs_device.specs.MachineView.{machine_of};
 ghost use Rattle.fs_shared.specs.Held.{WouldDo, came_of};
-ghost use Rattle.fs_shared.specs.Keeping.{Keeps};
+ghost use Rattle.fs_shared.specs.Keeping.{KeepsEvent};
 ghost use Rattle.fs_shared.specs.Replay.{Done, WritesPages};
 
 use crate::entry::Outcome;
@@ -89,7 +89,7 @@ pub(crate) fn write_kept<F: FileSystem, I: Iommu + Drop>(
     bytes: &[u8],
 ) -> Result<Kept, AllocError>
     requires reaches { reach (physical (machine_of machine.old).memory) Write addr (length bytes.now) ≡ true }
-    ensures keeps { IfOk result (λ kept. Keeps F.may (machine_of machine.old) (GuestWrite addr bytes.now) kept (machine_of machine.new)) }
+    ensures keeps { IfOk result (λ kept. KeepsEvent F.may (machine_of machine.old) (GuestWrite addr bytes.now) kept (machine_of machine.new)) }
     ensures lacks { OnErr result (machine_of machine.new ≡ machine_of machine.old) }
 {
     let layout = machine.mem.get_backend();
@@ -121,7 +121,7 @@ pub(crate) fn layout_kept<F: FileSystem, I: Iommu + Drop>(
     layout: GuestMemoryMmap,
 ) -> Result<Kept, AllocError>
     requires { WouldDo (machine_of machine.old) (SetLayout layout) }
-    ensures keeps { IfOk result (λ kept. Keeps F.may (machine_of machine.old) (SetLayout layout) kept (machine_of machine.new)) }
+    ensures keeps { IfOk result (λ kept. KeepsEvent F.may (machine_of machine.old) (SetLayout layout) kept (machine_of machine.new)) }
     ensures lacks { OnErr result (machine_of machine.new ≡ machine_of machine.old) }
 {
     let first = layout.try_clone()?;

@@ -1,7 +1,7 @@
 //! Whether receipts say all that a journal says.
 
 ghost use Rattle.std.specs.Prelude.{◌≡◌, ◌↔◌, ◌<◌, ℕ, IsTrue, All, length};
-ghost use Rattle.fs_shared.specs.Audit.{AreAllReceipts, IsTold, Tells, times};
+ghost use Rattle.fs_shared.specs.Audit.{AreAllReceipts, MatchesJournal, IsReceiptOf, times};
 
 use crate::entry::{JournalEntry, Receipt};
 use crate::same_command::same_command;
@@ -9,7 +9,7 @@ use crate::same_outcome::same_outcome;
 
 // Whether a receipt says what an entry says.
 fn tells(entry: &JournalEntry, receipt: &Receipt) -> bool
-    ensures { IsTrue result ↔ Tells entry.now receipt.now }
+    ensures { IsTrue result ↔ IsReceiptOf entry.now receipt.now }
 {
     same_command(&entry.command, &receipt.command)
         && same_outcome(&entry.outcome, &receipt.outcome)
@@ -18,7 +18,7 @@ fn tells(entry: &JournalEntry, receipt: &Receipt) -> bool
 
 // Whether a receipt has the number of an entry, and says what that says.
 fn is_told(journal: &[JournalEntry], receipt: &Receipt) -> bool
-    ensures { IsTrue result ↔ IsTold journal.now receipt.now }
+    ensures { IsTrue result ↔ MatchesJournal journal.now receipt.now }
 {
     match journal.get(receipt.number) {
         Some(entry) => tells(entry, receipt),
@@ -41,7 +41,7 @@ fn times(receipts: &[Receipt], number: usize) -> usize
 
 // Whether each receipt says what the entry of its number says.
 fn all_told(journal: &[JournalEntry], receipts: &[Receipt]) -> bool
-    ensures { IsTrue result ↔ All (IsTold journal.now) receipts.now }
+    ensures { IsTrue result ↔ All (MatchesJournal journal.now) receipts.now }
 {
     for receipt in receipts {
         if !is_told(journal, receipt) {

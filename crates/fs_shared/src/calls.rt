@@ -5,11 +5,11 @@ ghost use Rattle.fs_shared.specs.Portion.{counted};
 ghost use Rattle.fs_device.specs.MachineView.{machine_of};
 ghost use Rattle.fs_device.specs.Run.{GuestWrite, SetLayout};
 ghost use Rattle.fs_device.specs.Step.{State};
-ghost use Rattle.fs_shared.specs.Calls.{ActsBy, KicksBy, ReadsBy, did, did_kick};
+ghost use Rattle.fs_shared.specs.Calls.{JournalsOrRefuses, KicksBy, ReadsBy, did, did_kick};
 ghost use Rattle.fs_shared.specs.Held.{HasOpenQueue, journal_of};
 ghost use Rattle.fs_shared.specs.Keeping.{KickKeeps};
 ghost use Rattle.fs_shared.specs.Laws.{HoldsReplay};
-ghost use Rattle.fs_shared.specs.Replay.{Entry};
+ghost use Rattle.fs_shared.specs.Replay.{ReplayEntry};
 
 use crate::acting::{layout_kept, write_kept};
 use crate::entry::{JournalEntry, Kicked, Receipt};
@@ -51,7 +51,7 @@ fn kick_without_room<F: FileSystem, I: Iommu + Drop>(
     queue: usize,
 ) -> Result<Kicked, DeviceError>
     requires { HasOpenQueue (machine_of machine.now) queue }
-    ensures kick { (start : State (Unit {0})) (journal : List Entry) →
+    ensures kick { (start : State (Unit {0})) (journal : List ReplayEntry) →
         KicksBy F.may (record { machine = machine_of machine.now; start = start; journal = journal }) queue result
         (record { machine = machine_of machine.now; start = start; journal = journal }) }
     ensures none { did_kick result ≡ false }
@@ -110,7 +110,7 @@ fn write_into<L: Ledger, F: FileSystem, I: Iommu + Drop>(
     bytes: &[u8],
 ) -> Result<Receipt, Refusal>
     ensures write { (start : State (Unit {0})) →
-        ActsBy F.may (record { machine = machine_of machine.old; start = start; journal = journal_of journal.old.items }) (GuestWrite addr bytes.now) result
+        JournalsOrRefuses F.may (record { machine = machine_of machine.old; start = start; journal = journal_of journal.old.items }) (GuestWrite addr bytes.now) result
         (record { machine = machine_of machine.new; start = start; journal = journal_of journal.new.items }) }
     ensures total { calls.old.total ≡ vec_len journal.old → calls.new.total ≡ vec_len journal.new }
     ensures share { share.new ≡ counted share.old (did result) }
@@ -141,7 +141,7 @@ fn layout_into<L: Ledger, F: FileSystem, I: Iommu + Drop>(
     layout: GuestMemoryMmap,
 ) -> Result<Receipt, Refusal>
     ensures layout { (start : State (Unit {0})) →
-        ActsBy F.may (record { machine = machine_of machine.old; start = start; journal = journal_of journal.old.items }) (SetLayout layout) result
+        JournalsOrRefuses F.may (record { machine = machine_of machine.old; start = start; journal = journal_of journal.old.items }) (SetLayout layout) result
         (record { machine = machine_of machine.new; start = start; journal = journal_of journal.new.items }) }
     ensures total { calls.old.total ≡ vec_len journal.old → calls.new.total ≡ vec_len journal.new }
     ensures share { share.new ≡ counted share.old (did result) }
@@ -195,7 +195,7 @@ impl<L: Ledger, F: FileSystem, I: Iommu + Drop> SharedState<L, F, I> {
         addr: u64,
         bytes: &[u8],
     ) -> Result<Receipt, Refusal>
-        ensures write { ActsBy F.may self.old (GuestWrite addr bytes.now) result self.new }
+        ensures write { JournalsOrRefuses F.may self.old (GuestWrite addr bytes.now) result self.new }
         ensures replays { HoldsReplay self.new }
         ensures share { share.new ≡ counted share.old (did result) }
     {
@@ -218,7 +218,7 @@ impl<L: Ledger, F: FileSystem, I: Iommu + Drop> SharedState<L, F, I> {
         share: &mut Share<L>,
         layout: GuestMemoryMmap,
     ) -> Result<Receipt, Refusal>
-        ensures layout { ActsBy F.may self.old (SetLayout layout) result self.new }
+        ensures layout { JournalsOrRefuses F.may self.old (SetLayout layout) result self.new }
         ensures replays { HoldsReplay self.new }
         ensures share { share.new ≡ counted share.old (did result) }
     {

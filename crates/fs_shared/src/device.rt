@@ -14,7 +14,7 @@ ghost use Rattle.fs_shared.specs.Calls.{did, did_kick};
 ghost use Rattle.fs_shared.specs.Held.{fixed_of, journal_of, start_of};
 ghost use Rattle.fs_shared.specs.JournalPages.{DiffersWithin, joined_pages};
 ghost use Rattle.fs_shared.specs.Replay.{Replays, forget};
-ghost use Rattle.fs_shared.specs.Shared.{ActsSome, IfDone, KicksSome, ReadsSome};
+ghost use Rattle.fs_shared.specs.Shared.{ActsSome, IfDone, KicksSome, ReadsGuest};
 
 use crate::entry::{Kicked, Parts, Receipt};
 use crate::harvest::{PageHarvest, clear_pages};
@@ -204,7 +204,7 @@ impl<L: Ledger, F: FileSystem, I: Iommu + Drop> SharedDevice<L, F, I> {
         addr: u64,
         len: usize,
     ) -> Result<Vec<u8>, Refusal>
-        ensures does { ReadsSome F.may addr len result }
+        ensures does { ReadsGuest F.may addr len result }
     {
         self.state.lock(rt).guest_read(alloc, addr, len)
     }

@@ -32,7 +32,7 @@ pub(crate) struct ReplyRoom {
     pub pages_copy: Vec<usize>,
 }
 
-ghost use Rattle.fs_shared.specs.Keeping.{IsRoomFor, Keeps, KickKeeps};
+ghost use Rattle.fs_shared.specs.Keeping.{IsRoomFor, KeepsEvent, KickKeeps};
 
 // An empty list with room for the longest reply to a chain; a faulty one has none.
 fn reply_buffer(alloc: Global, taken: &Taken) -> Result<Vec<u8>, AllocError>
@@ -125,7 +125,7 @@ fn exchange_kept<F: FileSystem, I: Iommu + Drop>(
     requires taken { let s = machine_of machine.old in HasTaken s.memory s.limit s.queues queue taken.old }
     requires lies { TakenLiesIn (lengths machine.old.host) taken.old }
     requires there { queue < length machine.old.device.queues }
-    ensures keeps { IfOk result (λ kept. Keeps F.may (machine_of machine.old) (Kick queue 1) kept (machine_of machine.new)) }
+    ensures keeps { IfOk result (λ kept. KeepsEvent F.may (machine_of machine.old) (Kick queue 1) kept (machine_of machine.new)) }
     ensures lacks { OnErr result (machine_of machine.new ≡ machine_of machine.old) }
 {
     let request = FetchedRequest::of(alloc, &machine.host, taken)?;

@@ -123,18 +123,18 @@ directory_answer fs (Opendir who node flags) = if node == 1 then Opened None 0 e
 directory_answer fs call = default_answer call
 
 -- a listing: the root's entries behind an offset, unless one is left and the table has as many sharers as can be
-abbrev pub Lists : List OwnedFile → (node offset : ℕ) → FileAnswer → Type 0
-Lists fs node offset (Failed e) = ((node ≡ 1) × (offset < length fs) × (e ≡ ENOMEM)) ⊎ ((node ≢ 1) × (e ≡ ENOENT))
-Lists fs node offset answer = (node ≡ 1) × (answer ≡ Entries (listing_from (offset + 2) (drop offset fs)))
+abbrev pub ListsRoot : List OwnedFile → (node offset : ℕ) → FileAnswer → Type 0
+ListsRoot fs node offset (Failed e) = ((node ≡ 1) × (offset < length fs) × (e ≡ ENOMEM)) ⊎ ((node ≢ 1) × (e ≡ ENOENT))
+ListsRoot fs node offset answer = (node ≡ 1) × (answer ≡ Entries (listing_from (offset + 2) (drop offset fs)))
 
 -- the answers of a call
-abbrev pub Answers : List OwnedFile → FileCall → FileAnswer → Type 0
-Answers fs (Readdir who node handle size offset) answer = Lists fs node offset answer
-Answers fs call answer = answer ≡ directory_answer fs call
+abbrev pub AnswersCall : List OwnedFile → FileCall → FileAnswer → Type 0
+AnswersCall fs (Readdir who node handle size offset) answer = ListsRoot fs node offset answer
+AnswersCall fs call answer = answer ≡ directory_answer fs call
 
 -- each call has one of its answers, and nothing changes
 abbrev pub MayAnswer : OwnedTable → FileCall → FileAnswer → OwnedTable → Type 0
-MayAnswer before call answer after = Answers (files_of before) call answer × (after ≡ before)
+MayAnswer before call answer after = AnswersCall (files_of before) call answer × (after ≡ before)
 
 -- the directory as a file system of all calls
 abbrev pub Directory : Type 0

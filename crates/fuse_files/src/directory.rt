@@ -5,7 +5,7 @@ ghost use Rattle.fuse_fs.specs.Answers.{data_answer, entry_answer, listed};
 ghost use Rattle.fuse_files.specs.OwnedTable.{listed_files};
 ghost use Rattle.fuse_files.specs.Directory.{EROFS, attr_of, bytes_in, file_entry, file_at, found_from, listing_from, MayAnswer};
 
-use crate::owned_table::{Entries, OwnedFile, OwnedTable};
+use crate::owned_table::{TableEntries, OwnedFile, OwnedTable};
 use crate::readable::ReadableFileSystem;
 use fuse_fs::{
     Context, DirEntry, DirectoryIterator, Entry, PositionedFile, Timeout, WritevFlags,
@@ -101,7 +101,7 @@ fn entry_named(files: &[OwnedFile], name: &[u8]) -> Result<Entry<u64>, Errno>
 
 // The contents of a file, as they are read at a place.
 #[derive(Drop)]
-struct Contents<'a> {
+struct ContentsReader<'a> {
     bytes: &'a [u8],
 }
 
@@ -116,7 +116,7 @@ fn rest(bytes: &[u8], off: u64) -> &[u8]
     }
 }
 
-impl<'a> PositionedFile for Contents<'a> {
+impl<'a> PositionedFile for ContentsReader<'a> {
     ghost read_gives = { λ f most off answer g. (answer ≡ Ok (take most (drop off f.bytes.now))) × (g ≡ f) };
 
     ghost write_gives = { λ f bytes off flags answer g. g ≡ f };
@@ -160,7 +160,7 @@ fn put_bytes<W: ZeroCopyWriter>(
     if w.available_bytes() < wanted {
         return Err(Errno::EIO);
     }
-    w.read_from_file_at(&mut Contents { bytes: contents }, wanted, offset)
+    w.read_from_file_at(&mut ContentsReader { bytes: contents }, wanted, offset)
 }
 
 // The entry of a file, by its place in the table.
@@ -176,7 +176,7 @@ fn entry_at(files: &[OwnedFile], at: u64) -> DirEntry<'_>
     }
 }
 
-impl DirectoryIterator for Entries {
+impl DirectoryIterator for TableEntries {
     ghost rest = { λ entries. listing_from (entries.at + 2) (drop entries.at (listed_files entries)) };
 
     fn next(&mut self) -> Option<DirEntry<'_>> {
@@ -190,7 +190,7 @@ impl DirectoryIterator for Entries {
 }
 
 impl ReadableFileSystem for OwnedTable {
-    type DirIter = Entries;
+    type DirIter = TableEntries;
 
     ghost use Rattle.std.specs.Prelude.{true};
 
@@ -291,7 +291,7 @@ impl ReadableFileSystem for OwnedTable {
         _handle: u64,
         _size: u32,
         offset: u64,
-    ) -> Result<Entries, Errno> {
+    ) -> Result<TableEntries, Errno> {
         if inode != ROOT {
             return Err(Errno::ENOENT);
         }

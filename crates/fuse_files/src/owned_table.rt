@@ -37,7 +37,7 @@ pub struct OwnedTable {
 
 /// The entries of the directory, from one on.
 #[derive(Drop)]
-pub struct Entries {
+pub struct TableEntries {
     // None if no entry is left.
     files: Option<Arc<Vec<OwnedFile>>>,
     pub(crate) at: u64,
@@ -67,20 +67,20 @@ impl OwnedTable {
     }
 
     // Its entries from one on. AllocError if there is one, and the table has as many sharers as can be.
-    pub(crate) fn entries(&self, at: u64) -> Result<Entries, AllocError>
+    pub(crate) fn entries(&self, at: u64) -> Result<TableEntries, AllocError>
         ensures at { IfOk result (λ e. e.at ≡ at) }
         ensures files { IfOk result (λ e. drop at (listed_files e) ≡ drop at (files_of self.now)) }
         ensures refused { OnErr result (at < length (files_of self.now)) }
     {
         if at >= self.files().len() as u64 {
-            return Ok(Entries { files: None, at });
+            return Ok(TableEntries { files: None, at });
         }
         let files = Some(Arc::try_clone(&self.files)?);
-        Ok(Entries { files, at })
+        Ok(TableEntries { files, at })
     }
 }
 
-impl Entries {
+impl TableEntries {
     ghost use Rattle.fuse_files.specs.OwnedTable.{listed_files};
 
     // The files that it shares.

@@ -94,23 +94,23 @@ pub data FileAnswer : Type 0 where
   Wants : (options : ℕ) → FileAnswer
 
 -- the kinds of good answer
-pub data Kind : Type 0 where
-  IsDone : Kind
-  IsNeverGood : Kind
-  IsEntry : Kind
-  IsAttr : Kind
-  IsOpen : Kind
-  IsCreate : Kind
-  IsBytes : Kind
-  IsBytesOrCount : Kind
-  IsStats : Kind
-  IsWritten : Kind
-  IsOffset : Kind
-  IsEntries : Kind
-  IsWish : Kind
+pub data AnswerForm : Type 0 where
+  IsDone : AnswerForm
+  IsNeverGood : AnswerForm
+  IsEntry : AnswerForm
+  IsAttr : AnswerForm
+  IsOpen : AnswerForm
+  IsCreate : AnswerForm
+  IsBytes : AnswerForm
+  IsBytesOrCount : AnswerForm
+  IsStats : AnswerForm
+  IsWritten : AnswerForm
+  IsOffset : AnswerForm
+  IsEntries : AnswerForm
+  IsWish : AnswerForm
 
 -- what a good answer to a call is
-abbrev pub kind_of : FileCall → Kind
+abbrev pub kind_of : FileCall → AnswerForm
 kind_of (Lookup c n name) = IsEntry
 kind_of (Symlink c l n name x) = IsEntry
 kind_of (Mknod c n name m r u x) = IsEntry
@@ -147,7 +147,7 @@ is_handle None = true
 is_handle (Some handle) = nat_lt handle (2 ^ 64)
 
 -- whether a good answer is of a kind; numbers of nodes, open files, places and options have 64 bits, counts 32
-abbrev pub is_of : Kind → FileAnswer → Bool
+abbrev pub is_of : AnswerForm → FileAnswer → Bool
 is_of IsDone Done = true
 is_of IsEntry (HasEntry e) = nat_lt e.inode (2 ^ 64)
 is_of IsAttr (HasAttr a t) = true

@@ -2,7 +2,7 @@
 use Rattle.std.specs.Prelude.{List, [], ◌++◌, ◌∷◌}
 use Rattle.vm_values.specs.Fields.{Field, d, q}
 use Rattle.fuse_base.specs.Records.{file_lock}
-use Rattle.fuse_in.specs.Shapes.{Shape, u16, u32, u64, u32s, ◌&◌, end}
+use Rattle.fuse_in.specs.Shapes.{RecordShape, u16, u32, u64, u32s, ◌&◌, end}
 use Rattle.fuse_in.specs.declared.session.InHeader.{InHeader}
 use Rattle.fuse_in.specs.declared.session.InitInCompat.{InitInCompat}
 use Rattle.fuse_in.specs.declared.session.InitInExt.{InitInExt}
@@ -40,7 +40,7 @@ use Rattle.fuse_in.specs.declared.devices.SetupmappingIn.{SetupmappingIn}
 use Rattle.fuse_in.specs.declared.devices.RemovemappingIn.{RemovemappingIn}
 
 -- struct fuse_in_header, 40 bytes
-abbrev pub in_header : Shape InHeader
+abbrev pub in_header : RecordShape InHeader
 in_header = record {
   parts = u32 ∷ u32 ∷ u64 ∷ u64 ∷ u32 ∷ u32 ∷ u32 ∷ u16 ∷ u16 ∷ [];
   make = λ len opcode unique nodeid uid gid pid total_extlen padding.
@@ -59,7 +59,7 @@ in_header = record {
 }
 
 -- struct fuse_init_in, its first 16 bytes
-abbrev pub init_in_compat : Shape InitInCompat
+abbrev pub init_in_compat : RecordShape InitInCompat
 init_in_compat = record {
   parts = u32 ∷ u32 ∷ u32 ∷ u32 ∷ [];
   make = λ major minor max_readahead flags. record { major = major; minor = minor; max_readahead = max_readahead; flags = flags };
@@ -67,7 +67,7 @@ init_in_compat = record {
 }
 
 -- struct fuse_init_in, the 48 bytes after them
-abbrev pub init_in_ext : Shape InitInExt
+abbrev pub init_in_ext : RecordShape InitInExt
 init_in_ext = record {
   parts = u32 ∷ u32s 11 ∷ [];
   make = λ flags2 unused. record { flags2 = flags2; unused = unused };
@@ -79,7 +79,7 @@ abbrev pub interrupt_in : InterruptIn → List Field
 interrupt_in r = q r.unique ∷ []
 
 -- struct fuse_forget_in, 8 bytes
-abbrev pub forget_in : Shape ForgetIn
+abbrev pub forget_in : RecordShape ForgetIn
 forget_in = record {
   parts = u64 ∷ [];
   make = λ nlookup. record { nlookup = nlookup };
@@ -87,7 +87,7 @@ forget_in = record {
 }
 
 -- struct fuse_batch_forget_in, 8 bytes
-abbrev pub batch_forget_in : Shape BatchForgetIn
+abbrev pub batch_forget_in : RecordShape BatchForgetIn
 batch_forget_in = record {
   parts = u32 ∷ u32 ∷ [];
   make = λ count dummy. record { count = count; dummy = dummy };
@@ -99,7 +99,7 @@ abbrev pub syncfs_in : SyncfsIn → List Field
 syncfs_in r = q r.padding ∷ []
 
 -- struct fuse_getattr_in, 16 bytes
-abbrev pub getattr_in : Shape GetattrIn
+abbrev pub getattr_in : RecordShape GetattrIn
 getattr_in = record {
   parts = u32 ∷ u32 ∷ u64 ∷ [];
   make = λ flags dummy fh. record { flags = flags; dummy = dummy; fh = fh };
@@ -107,7 +107,7 @@ getattr_in = record {
 }
 
 -- struct fuse_setattr_in, 88 bytes
-abbrev pub setattr_in : Shape SetattrIn
+abbrev pub setattr_in : RecordShape SetattrIn
 setattr_in = record {
   parts = u32 ∷ u32 ∷ u64 ∷ u64 ∷ u64 ∷ u64 ∷ u64 ∷ u64 ∷ u32 ∷ u32 ∷ u32 ∷ u32 ∷ u32 ∷ u32 ∷ u32 ∷ u32 ∷ [];
   make = λ valid padding fh size lock_owner atime mtime ctime atimensec mtimensec ctimensec mode unused4 uid gid unused5.
@@ -135,7 +135,7 @@ setattr_in = record {
 }
 
 -- struct fuse_mknod_in, 16 bytes
-abbrev pub mknod_in : Shape MknodIn
+abbrev pub mknod_in : RecordShape MknodIn
 mknod_in = record {
   parts = u32 ∷ u32 ∷ u32 ∷ u32 ∷ [];
   make = λ mode rdev umask padding. record { mode = mode; rdev = rdev; umask = umask; padding = padding };
@@ -143,7 +143,7 @@ mknod_in = record {
 }
 
 -- struct fuse_mkdir_in, 8 bytes
-abbrev pub mkdir_in : Shape MkdirIn
+abbrev pub mkdir_in : RecordShape MkdirIn
 mkdir_in = record {
   parts = u32 ∷ u32 ∷ [];
   make = λ mode umask. record { mode = mode; umask = umask };
@@ -151,7 +151,7 @@ mkdir_in = record {
 }
 
 -- struct fuse_rename_in, 8 bytes
-abbrev pub rename_in : Shape RenameIn
+abbrev pub rename_in : RecordShape RenameIn
 rename_in = record {
   parts = u64 ∷ [];
   make = λ newdir. record { newdir = newdir };
@@ -159,7 +159,7 @@ rename_in = record {
 }
 
 -- struct fuse_rename2_in, 16 bytes
-abbrev pub rename2_in : Shape Rename2In
+abbrev pub rename2_in : RecordShape Rename2In
 rename2_in = record {
   parts = u64 ∷ u32 ∷ u32 ∷ [];
   make = λ newdir flags padding. record { newdir = newdir; flags = flags; padding = padding };
@@ -167,7 +167,7 @@ rename2_in = record {
 }
 
 -- struct fuse_link_in, 8 bytes
-abbrev pub link_in : Shape LinkIn
+abbrev pub link_in : RecordShape LinkIn
 link_in = record {
   parts = u64 ∷ [];
   make = λ oldnodeid. record { oldnodeid = oldnodeid };
@@ -175,7 +175,7 @@ link_in = record {
 }
 
 -- struct fuse_access_in, 8 bytes
-abbrev pub access_in : Shape AccessIn
+abbrev pub access_in : RecordShape AccessIn
 access_in = record {
   parts = u32 ∷ u32 ∷ [];
   make = λ mask padding. record { mask = mask; padding = padding };
@@ -183,7 +183,7 @@ access_in = record {
 }
 
 -- struct fuse_setxattr_in, 16 bytes
-abbrev pub setxattr_in : Shape SetxattrIn
+abbrev pub setxattr_in : RecordShape SetxattrIn
 setxattr_in = record {
   parts = u32 ∷ u32 ∷ u32 ∷ u32 ∷ [];
   make = λ size flags setxattr_flags padding. record { size = size; flags = flags; setxattr_flags = setxattr_flags; padding = padding };
@@ -191,7 +191,7 @@ setxattr_in = record {
 }
 
 -- struct fuse_setxattr_in in its older form, 8 bytes
-abbrev pub setxattr_in_compat : Shape SetxattrInCompat
+abbrev pub setxattr_in_compat : RecordShape SetxattrInCompat
 setxattr_in_compat = record {
   parts = u32 ∷ u32 ∷ [];
   make = λ size flags. record { size = size; flags = flags };
@@ -199,7 +199,7 @@ setxattr_in_compat = record {
 }
 
 -- struct fuse_getxattr_in, 8 bytes
-abbrev pub getxattr_in : Shape GetxattrIn
+abbrev pub getxattr_in : RecordShape GetxattrIn
 getxattr_in = record {
   parts = u32 ∷ u32 ∷ [];
   make = λ size padding. record { size = size; padding = padding };
@@ -207,7 +207,7 @@ getxattr_in = record {
 }
 
 -- struct fuse_open_in, 8 bytes
-abbrev pub open_in : Shape OpenIn
+abbrev pub open_in : RecordShape OpenIn
 open_in = record {
   parts = u32 ∷ u32 ∷ [];
   make = λ flags open_flags. record { flags = flags; open_flags = open_flags };
@@ -215,7 +215,7 @@ open_in = record {
 }
 
 -- struct fuse_create_in, 16 bytes
-abbrev pub create_in : Shape CreateIn
+abbrev pub create_in : RecordShape CreateIn
 create_in = record {
   parts = u32 ∷ u32 ∷ u32 ∷ u32 ∷ [];
   make = λ flags mode umask open_flags. record { flags = flags; mode = mode; umask = umask; open_flags = open_flags };
@@ -223,7 +223,7 @@ create_in = record {
 }
 
 -- struct fuse_release_in, 24 bytes
-abbrev pub release_in : Shape ReleaseIn
+abbrev pub release_in : RecordShape ReleaseIn
 release_in = record {
   parts = u64 ∷ u32 ∷ u32 ∷ u64 ∷ [];
   make = λ fh flags release_flags lock_owner. record { fh = fh; flags = flags; release_flags = release_flags; lock_owner = lock_owner };
@@ -231,7 +231,7 @@ release_in = record {
 }
 
 -- struct fuse_flush_in, 24 bytes
-abbrev pub flush_in : Shape FlushIn
+abbrev pub flush_in : RecordShape FlushIn
 flush_in = record {
   parts = u64 ∷ u32 ∷ u32 ∷ u64 ∷ [];
   make = λ fh unused padding lock_owner. record { fh = fh; unused = unused; padding = padding; lock_owner = lock_owner };
@@ -239,7 +239,7 @@ flush_in = record {
 }
 
 -- struct fuse_read_in, 40 bytes
-abbrev pub read_in : Shape ReadIn
+abbrev pub read_in : RecordShape ReadIn
 read_in = record {
   parts = u64 ∷ u64 ∷ u32 ∷ u32 ∷ u64 ∷ u32 ∷ u32 ∷ [];
   make = λ fh offset size read_flags lock_owner flags padding.
@@ -248,7 +248,7 @@ read_in = record {
 }
 
 -- struct fuse_write_in, 40 bytes
-abbrev pub write_in : Shape WriteIn
+abbrev pub write_in : RecordShape WriteIn
 write_in = record {
   parts = u64 ∷ u64 ∷ u32 ∷ u32 ∷ u64 ∷ u32 ∷ u32 ∷ [];
   make = λ fh offset size write_flags lock_owner flags padding.
@@ -257,7 +257,7 @@ write_in = record {
 }
 
 -- struct fuse_fsync_in, 16 bytes
-abbrev pub fsync_in : Shape FsyncIn
+abbrev pub fsync_in : RecordShape FsyncIn
 fsync_in = record {
   parts = u64 ∷ u32 ∷ u32 ∷ [];
   make = λ fh fsync_flags padding. record { fh = fh; fsync_flags = fsync_flags; padding = padding };
@@ -265,7 +265,7 @@ fsync_in = record {
 }
 
 -- struct fuse_fallocate_in, 32 bytes
-abbrev pub fallocate_in : Shape FallocateIn
+abbrev pub fallocate_in : RecordShape FallocateIn
 fallocate_in = record {
   parts = u64 ∷ u64 ∷ u64 ∷ u32 ∷ u32 ∷ [];
   make = λ fh offset length mode padding. record { fh = fh; offset = offset; length = length; mode = mode; padding = padding };
@@ -273,7 +273,7 @@ fallocate_in = record {
 }
 
 -- struct fuse_lseek_in, 24 bytes
-abbrev pub lseek_in : Shape LseekIn
+abbrev pub lseek_in : RecordShape LseekIn
 lseek_in = record {
   parts = u64 ∷ u64 ∷ u32 ∷ u32 ∷ [];
   make = λ fh offset whence padding. record { fh = fh; offset = offset; whence = whence; padding = padding };
@@ -281,7 +281,7 @@ lseek_in = record {
 }
 
 -- struct fuse_copyfilerange_in, 56 bytes
-abbrev pub copyfilerange_in : Shape CopyfilerangeIn
+abbrev pub copyfilerange_in : RecordShape CopyfilerangeIn
 copyfilerange_in = record {
   parts = u64 ∷ u64 ∷ u64 ∷ u64 ∷ u64 ∷ u64 ∷ u64 ∷ [];
   make = λ fh_in off_in nodeid_out fh_out off_out len flags.

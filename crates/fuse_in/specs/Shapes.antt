@@ -83,11 +83,11 @@ made_of [] make xs = make
 made_of (p ∷ ps) make xs = made_of ps (make xs.0) xs.1
 
 -- a record: its parts, how it is made of what they say, and what they say in one
-pub record Shape (R : Type 0) : Type 0 where
+pub record RecordShape (R : Type 0) : Type 0 where
   pub parts : List RecordPart
   pub make : MakesOf parts R
   pub says : R → AllSaid parts
 
 -- the fields that spell a record
-abbrev pub fields_by : {R : Type 0} → Shape R → R → List Field
+abbrev pub fields_by : {R : Type 0} → RecordShape R → R → List Field
 fields_by s x = fields_of s.parts (s.says x)

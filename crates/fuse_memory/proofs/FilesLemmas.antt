@@ -7,9 +7,9 @@ use Rattle.std.proofs.lemmas.Option.{get_or_from_slice_get, slice_get-map, slice
 use Rattle.std.specs.Prelude.{◌≤◌, min, take, Result, Ok, Err, IfOk, OnErr}
 use Rattle.fuse_fs.specs.Answers.{written_answer}
 use Rattle.fuse_fs.specs.Calls.{Failed}
-use Rattle.fuse_memory.specs.Changes.{Alters, Changes, Keeps, changed, written}
-use Rattle.fuse_memory.specs.Files.{DirectoryEntry, File, Files, Nodes, file_at, file_of, entry_of, node_at, there}
-use Rattle.fuse_memory.specs.Memory.{Writes, read_at}
+use Rattle.fuse_memory.specs.Changes.{Alters, ChangesFile, Keeps, changed, written}
+use Rattle.fuse_memory.specs.Files.{DirectoryEntry, File, FileTree, Nodes, file_at, file_of, entry_of, node_at, there}
+use Rattle.fuse_memory.specs.Memory.{WritesFile, read_at}
 use Rattle.fuse_memory.specs.declared.nodes.Name.{Name}
 use Rattle.fuse_memory.specs.declared.nodes.Node.{Node}
 
@@ -61,7 +61,7 @@ pub none_read : (file : Option File) (most off : ℕ) → file ≡ None → Fail
 none_read file most off none = sym (ap (λ (f : Option File). read_at f most off) none)
 
 -- nothing is left of no file
-pub alters_none : (files : Files) (number : ℕ) (change : File → Option File) → files.file number ≡ None → Alters files number change files
+pub alters_none : (files : FileTree) (number : ℕ) (change : File → Option File) → files.file number ≡ None → Alters files number change files
 alters_none files number change none = record {
   files = λ other.
       ⊎_elim
@@ -74,7 +74,7 @@ alters_none files number change none = record {
 }
 
 -- no file changes
-pub changed_none : (files : Files) (number : ℕ) (change : File → File) → files.file number ≡ None → (other : ℕ) → files.file other ≡ changed files number change other
+pub changed_none : (files : FileTree) (number : ℕ) (change : File → File) → files.file number ≡ None → (other : ℕ) → files.file other ≡ changed files number change other
 changed_none files number change none other =
     ⊎_elim
     (λ (e : other ≡ number).
@@ -85,10 +85,10 @@ changed_none files number change none other =
 
 -- a slot of the table was read
 module _ (nodes : Nodes) (entries : List DirectoryEntry) (made most : ℕ) (place number : ℕ) (slot : Option Node) (at : place ≡ number) (low : place < length nodes) (read : slot ≡ get_or nodes place slot) where
-  abbrev before : Files
+  abbrev before : FileTree
   before = record { file = file_at nodes; entries = entries; made = made; most = most }
 
-  abbrev after : Option Node → Files
+  abbrev after : Option Node → FileTree
   after new = record { file = file_at (set nodes place new); entries = entries; made = made; most = most }
 
   -- which file that is
@@ -153,7 +153,7 @@ module _ (nodes : Nodes) (entries : List DirectoryEntry) (made most : ℕ) (plac
 
   -- a file that is changed
   pub changes : (old new : Node) (change : File → File) → slot ≡ Some old → file_of new ≡ change (file_of old) →
-      Changes before number change (after (Some new))
+      ChangesFile before number change (after (Some new))
   changes old new change is same =
       let here : file_at nodes number ≡ Some (file_of old) = file_here ∙ ap (λ (s : Option Node). option_map file_of s) is in
       record {
@@ -174,6 +174,6 @@ module _ (nodes : Nodes) (entries : List DirectoryEntry) (made most : ℕ) (plac
   -- a file that is written
   pub writes : (old new : Node) (left : List ℕ) (size off : ℕ) (answer : Result ℕ ℕ) → slot ≡ Some old → IfOk answer (λ n. n ≤ min size (length left)) → IfOk answer (λ n. 0 < size → 0 < n) →
       IfOk answer (λ n. file_of new ≡ written off (take n left) (file_of old)) → OnErr answer (file_of new ≡ file_of old) →
-      Writes before number left size off (written_answer answer) (after (Some new))
+      WritesFile before number left size off (written_answer answer) (after (Some new))
   writes old new left size off (Ok n) is within some ok err = (within, some, changes old new (written off (take n left)) is ok)
   writes old new left size off (Err e) is within some ok err = keeps (Some new) (ap Some err ∙ ap (λ (s : Option Node). option_map file_of s) (sym is))

@@ -5,7 +5,7 @@ use Rattle.fuse_fs.specs.Calls.{FileAnswer, Failed, Bytes}
 use Rattle.fuse_in.specs.declared.nodes.SetattrIn.{SetattrIn}
 use Rattle.fuse_memory.specs.Contents.{put, sized}
 use Rattle.fuse_memory.specs.Errors.{EISDIR}
-use Rattle.fuse_memory.specs.Files.{DirectoryEntry, File, Files, is_directory}
+use Rattle.fuse_memory.specs.Files.{DirectoryEntry, File, FileTree, is_directory}
 
 -- a read of a file's bytes from an offset on, at most so many
 abbrev pub read_of : (most offset : ℕ) → File → FileAnswer
@@ -56,52 +56,52 @@ abbrev pub unnamed : File → Option File
 unnamed f = kept (record f { links = 0 })
 
 -- each file after a change of one
-abbrev pub changed : Files → (node : ℕ) → (File → File) → (other : ℕ) → Option File
+abbrev pub changed : FileTree → (node : ℕ) → (File → File) → (other : ℕ) → Option File
 changed before node change other = if other == node then option_map change (before.file other) else before.file other
 
 -- each file after a change of one, if that is there, which may go
-abbrev pub altered : Files → (node : ℕ) → (File → Option File) → (other : ℕ) → Option File
+abbrev pub altered : FileTree → (node : ℕ) → (File → Option File) → (other : ℕ) → Option File
 altered before node change other = if other == node then option_and_then change (before.file other) else before.file other
 
 -- entries, how many were made, and how many nodes there may be stay
-pub record KeepsEntries (before after : Files) : Type 0 where
+pub record KeepsEntries (before after : FileTree) : Type 0 where
   pub entries : after.entries ≡ before.entries
   pub made : after.made ≡ before.made
   pub most : after.most ≡ before.most
 
 -- nothing changes
-pub record Keeps (before after : Files) : Type 0 where
+pub record Keeps (before after : FileTree) : Type 0 where
   pub files : (node : ℕ) → after.file node ≡ before.file node
   pub rest : KeepsEntries before after
 
 -- one file is changed, no other is, and the entries stay
-pub record Changes (before : Files) (node : ℕ) (change : File → File) (after : Files) : Type 0 where
+pub record ChangesFile (before : FileTree) (node : ℕ) (change : File → File) (after : FileTree) : Type 0 where
   pub is : File
   pub there : before.file node ≡ Some is
   pub files : (other : ℕ) → after.file other ≡ changed before node change other
   pub rest : KeepsEntries before after
 
 -- one file is changed or goes, if it is there; no other is changed, and the entries stay
-pub record Alters (before : Files) (node : ℕ) (change : File → Option File) (after : Files) : Type 0 where
+pub record Alters (before : FileTree) (node : ℕ) (change : File → Option File) (after : FileTree) : Type 0 where
   pub files : (other : ℕ) → after.file other ≡ altered before node change other
   pub rest : KeepsEntries before after
 
 -- an entry goes, and the file that it names loses its name
-pub record Removes (before : Files) (place : ℕ) (entry : DirectoryEntry) (after : Files) : Type 0 where
+pub record RemovesEntry (before : FileTree) (place : ℕ) (entry : DirectoryEntry) (after : FileTree) : Type 0 where
   pub files : (other : ℕ) → after.file other ≡ altered before entry.node unnamed other
   pub entries : after.entries ≡ remove before.entries place
   pub made : after.made ≡ before.made
   pub most : after.most ≡ before.most
 
 -- an entry gets another directory and name, and the file that it names lies there
-pub record Moves (before : Files) (place : ℕ) (entry : DirectoryEntry) (directory : ℕ) (name : List ℕ) (after : Files) : Type 0 where
+pub record Moves (before : FileTree) (place : ℕ) (entry : DirectoryEntry) (directory : ℕ) (name : List ℕ) (after : FileTree) : Type 0 where
   pub files : (other : ℕ) → after.file other ≡ changed before entry.node (in_directory directory) other
   pub entries : after.entries ≡ slice_set before.entries place (record entry { directory = directory; name = name })
   pub made : after.made ≡ before.made
   pub most : after.most ≡ before.most
 
 -- the least number from 2 on that no node has
-pub record IsFree (before : Files) (node : ℕ) : Type 0 where
+pub record IsFree (before : FileTree) (node : ℕ) : Type 0 where
   pub from : 2 ≤ node
   pub free : before.file node ≡ None
   pub taken : (other : ℕ) → 2 ≤ other → other < node → before.file other ≢ None
@@ -111,7 +111,7 @@ abbrev pub made_file : (directory mode : ℕ) → File
 made_file directory mode = record { contents = []; mode = mode; links = 1; parent = directory; held = 1 }
 
 -- a node is made under a name; its kind stands in the upper bits of its mode (S_IFMT)
-pub record Makes (before : Files) (node directory : ℕ) (name : List ℕ) (mode : ℕ) (after : Files) : Type 0 where
+pub record MakesFile (before : FileTree) (node directory : ℕ) (name : List ℕ) (mode : ℕ) (after : FileTree) : Type 0 where
   pub files : (other : ℕ) → after.file other ≡ (if other == node then Some (made_file directory mode) else before.file other)
   pub entries : after.entries ≡ before.entries ++ record { directory = directory; name = name; node = node; kind = mode / 2 ^ 12 } ∷ []
   pub made : after.made ≡ before.made + 1

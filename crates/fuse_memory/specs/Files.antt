@@ -23,7 +23,7 @@ pub record DirectoryEntry : Type 0 where
 
 -- all files by the numbers of their nodes, all entries in the order of listings, how many entries were ever made, and the greatest
 -- number that a node may have
-pub record Files : Type 0 where
+pub record FileTree : Type 0 where
   pub file : (node : ℕ) → Option File
   pub entries : List DirectoryEntry
   pub made : ℕ
@@ -34,7 +34,7 @@ abbrev pub is_directory : File → Bool
 is_directory f = bit_and f.mode 0xf000 == 0x4000
 
 -- attributes tell a file's size and mode, and how many names it has
-pub record Tells (f : File) (attr : Attr) : Type 0 where
+pub record HasAttrOf (f : File) (attr : Attr) : Type 0 where
   pub size : attr.size ≡ length f.contents
   pub mode : attr.mode ≡ f.mode
   pub links : attr.nlink ≡ f.links
@@ -72,11 +72,11 @@ abbrev pub entry_of : Name → DirectoryEntry
 entry_of entry = record { directory = entry.parent; name = entry.name.items; node = entry.node; kind = entry.kind }
 
 -- all files and entries
-abbrev pub files_of : MemoryFiles → Files
+abbrev pub files_of : MemoryFiles → FileTree
 files_of m = record { file = file_at m.nodes.items; entries = map entry_of m.names.items; made = m.made; most = m.most_nodes }
 
 -- an empty root, which is node 1, and nothing else
-pub record Starts (most : ℕ) (files : Files) : Type 0 where
+pub record StartsEmpty (most : ℕ) (files : FileTree) : Type 0 where
   pub root : files.file 1 ≡ Some (record { contents = []; mode = 0x41ed; links = 1; parent = 0; held = 0 })
   pub others : (other : ℕ) → other ≢ 1 → files.file other ≡ None
   pub entries : files.entries ≡ []

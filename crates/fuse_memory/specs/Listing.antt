@@ -1,7 +1,7 @@
 -- What a listing gives.
 use Rattle.std.specs.Prelude.{List, map, drop}
 use Rattle.fuse_fs.specs.Calls.{Listed}
-use Rattle.fuse_memory.specs.declared.listing.Entries.{Entries}
+use Rattle.fuse_memory.specs.declared.listing.MemoryEntries.{MemoryEntries}
 use Rattle.fuse_memory.specs.declared.listing.OwnedEntry.{OwnedEntry}
 
 -- an entry, as it is listed
@@ -9,5 +9,5 @@ abbrev pub listed_of : OwnedEntry → Listed
 listed_of e = record { ino = e.node; offset = e.offset; kind = e.kind; name = e.name.items }
 
 -- what is left of a listing
-abbrev pub rest_of : Entries → List Listed
+abbrev pub rest_of : MemoryEntries → List Listed
 rest_of list = drop list.at (map listed_of list.entries.items)

@@ -4,7 +4,7 @@ use Rattle.std.specs.List.{list_all, position}
 use Rattle.std.specs.Option.{unwrap_or}
 use Rattle.std.specs.Str.{bytes_eq}
 use Rattle.fuse_memory.specs.Errors.{ENOENT, ENOTDIR, EISDIR, ENAMETOOLONG, ENOTEMPTY}
-use Rattle.fuse_memory.specs.Files.{DirectoryEntry, File, Files, is_directory}
+use Rattle.fuse_memory.specs.Files.{DirectoryEntry, File, FileTree, is_directory}
 
 -- whether an entry has a name in a directory
 abbrev pub is_named : (directory : ℕ) → (name : List ℕ) → DirectoryEntry → Bool
@@ -26,7 +26,7 @@ find_in (Some f) entries directory name =
     else Ok (position (is_named directory name) entries)
 
 -- the same, by all files
-abbrev pub find : Files → (directory : ℕ) → (name : List ℕ) → Result (Option ℕ) ℕ
+abbrev pub find : FileTree → (directory : ℕ) → (name : List ℕ) → Result (Option ℕ) ℕ
 find files directory name = find_in (files.file directory) files.entries directory name
 
 -- an entry that has to be there
@@ -52,6 +52,6 @@ cannot_replace entries moved replaced =
     else None
 
 -- whether a node is another or lies in it, by a walk up of so many steps; a longer walk counts as if it does
-abbrev pub lies_in : Files → (steps at other : ℕ) → Bool
+abbrev pub lies_in : FileTree → (steps at other : ℕ) → Bool
 lies_in files zero at other = true
 lies_in files (suc steps) at other = at == other || unwrap_or (option_map (λ (f : File). lies_in files steps f.parent other) (files.file at)) false

@@ -3,22 +3,22 @@ use Rattle.std.specs.Prelude.{◌≡◌, ◌≤◌, ◌<◌, ◌⊎◌, ⊤, ℕ
 use Rattle.fuse_fs.specs.Calls.{FileCall, FileAnswer, Failed, Done, HasEntry, HasAttr, Opened, Created, Wrote, Entries}
 use Rattle.fuse_fs.specs.Calls.{Lookup, Forget, Getattr, Setattr, Mkdir, Unlink, Rmdir, Rename, Open, Create, Read, Write, Release, Statfs, Opendir, Readdir}
 use Rattle.fuse_in.specs.declared.nodes.SetattrIn.{SetattrIn}
-use Rattle.fuse_memory.specs.Changes.{Alters, Changes, IsFree, Keeps, Makes, Moves, Removes, attributes_set, held_more, let_go, made_file, opened, read_of, written}
+use Rattle.fuse_memory.specs.Changes.{Alters, ChangesFile, IsFree, Keeps, MakesFile, Moves, RemovesEntry, attributes_set, held_more, let_go, made_file, opened, read_of, written}
 use Rattle.fuse_memory.specs.Errors.{EEXIST, EINVAL, EISDIR, ENOENT, ENOMEM, ENOSPC, ENOTDIR, ENOTEMPTY}
-use Rattle.fuse_memory.specs.Files.{DirectoryEntry, File, Files, Tells, files_of}
+use Rattle.fuse_memory.specs.Files.{DirectoryEntry, File, FileTree, HasAttrOf, files_of}
 use Rattle.fuse_memory.specs.Lookups.{cannot_replace, find, is_empty, lies_in, names_directory, needed, no_directory}
 use Rattle.fuse_memory.specs.declared.table.MemoryFiles.{MemoryFiles}
 
 -- a call fails, and nothing changes
-pub record Fails (before : Files) (errno : ℕ) (answer : FileAnswer) (after : Files) : Type 0 where
+pub record Fails (before : FileTree) (errno : ℕ) (answer : FileAnswer) (after : FileTree) : Type 0 where
   pub answers : answer ≡ Failed errno
   pub keeps : Keeps before after
 
 -- GETATTR: size, mode and links are the file's
-abbrev pub Answers : Option File → FileAnswer → Type 0
-Answers None answer = answer ≡ Failed ENOENT
-Answers (Some f) (HasAttr attr time) = Tells f attr
-Answers (Some f) answer = ⊥
+abbrev pub AnswersGetattr : Option File → FileAnswer → Type 0
+AnswersGetattr None answer = answer ≡ Failed ENOENT
+AnswersGetattr (Some f) (HasAttr attr time) = HasAttrOf f attr
+AnswersGetattr (Some f) answer = ⊥
 
 -- READ: a file's bytes from the offset on
 abbrev pub read_at : Option File → (most offset : ℕ) → FileAnswer
@@ -26,72 +26,72 @@ read_at None most offset = Failed ENOENT
 read_at (Some f) most offset = read_of most offset f
 
 -- SETATTR: the file has what is set, and the answer tells it; an error changes nothing
-abbrev pub Sets : Files → (node : ℕ) → (valid : ℕ) → SetattrIn → FileAnswer → Files → Type 0
+abbrev pub Sets : FileTree → (node : ℕ) → (valid : ℕ) → SetattrIn → FileAnswer → FileTree → Type 0
 Sets before node valid to (Failed e) after = Keeps before after
 Sets before node valid to (HasAttr attr time) after =
-    Changes before node (attributes_set valid to) after × Answers (after.file node) (HasAttr attr time)
+    ChangesFile before node (attributes_set valid to) after × AnswersGetattr (after.file node) (HasAttr attr time)
 Sets before node valid to answer after = ⊥
 
 -- OPEN: the file is emptied if the flags say so; an error changes nothing
-abbrev pub Opens : Files → (node flags : ℕ) → FileAnswer → Files → Type 0
+abbrev pub Opens : FileTree → (node flags : ℕ) → FileAnswer → FileTree → Type 0
 Opens before node flags (Failed e) after = Keeps before after
-Opens before node flags (Opened handle options) after = Changes before node (opened flags) after
+Opens before node flags (Opened handle options) after = ChangesFile before node (opened flags) after
 Opens before node flags answer after = ⊥
 
 -- WRITE: so many of the bytes stand at the offset, none only if none were asked for; an error changes nothing
-abbrev pub Writes : Files → (node : ℕ) → (bytes : List ℕ) → (size offset : ℕ) → FileAnswer → Files → Type 0
-Writes before node bytes size offset (Failed e) after = Keeps before after
-Writes before node bytes size offset (Wrote n) after =
-    (n ≤ min size (length bytes)) × (0 < size → 0 < n) × Changes before node (written offset (take n bytes)) after
-Writes before node bytes size offset answer after = ⊥
+abbrev pub WritesFile : FileTree → (node : ℕ) → (bytes : List ℕ) → (size offset : ℕ) → FileAnswer → FileTree → Type 0
+WritesFile before node bytes size offset (Failed e) after = Keeps before after
+WritesFile before node bytes size offset (Wrote n) after =
+    (n ≤ min size (length bytes)) × (0 < size → 0 < n) × ChangesFile before node (written offset (take n bytes)) after
+WritesFile before node bytes size offset answer after = ⊥
 
 -- LOOKUP of an entry's node, or a node that is made: it is held once more, and the entry tells it
-abbrev pub Holds : Files → (node : ℕ) → FileAnswer → Files → Type 0
-Holds before node (Failed e) after = (e ≡ ENOENT) × (before.file node ≡ None) × Keeps before after
-Holds before node (HasEntry e) after = (f : File) × (before.file node ≡ Some f) × (e.inode ≡ node) × Tells f e.attr × Changes before node held_more after
-Holds before node answer after = ⊥
+abbrev pub HoldsNode : FileTree → (node : ℕ) → FileAnswer → FileTree → Type 0
+HoldsNode before node (Failed e) after = (e ≡ ENOENT) × (before.file node ≡ None) × Keeps before after
+HoldsNode before node (HasEntry e) after = (f : File) × (before.file node ≡ Some f) × (e.inode ≡ node) × HasAttrOf f e.attr × ChangesFile before node held_more after
+HoldsNode before node answer after = ⊥
 
 -- LOOKUP: the node that the name stands for
-abbrev pub LooksUp : Files → Result ℕ ℕ → FileAnswer → Files → Type 0
-LooksUp before (Err e) answer after = Fails before e answer after
-LooksUp before (Ok place) answer after =
-    (entry : DirectoryEntry) × (slice_get before.entries place ≡ Some entry) × Holds before entry.node answer after
+abbrev pub LooksUpName : FileTree → Result ℕ ℕ → FileAnswer → FileTree → Type 0
+LooksUpName before (Err e) answer after = Fails before e answer after
+LooksUpName before (Ok place) answer after =
+    (entry : DirectoryEntry) × (slice_get before.entries place ≡ Some entry) × HoldsNode before entry.node answer after
 
 -- an entry is taken away, or there is a reason not to
-abbrev pub Takes : Files → (place : ℕ) → DirectoryEntry → (refused : Option ℕ) → FileAnswer → Files → Type 0
-Takes before place entry (Some e) answer after = Fails before e answer after
-Takes before place entry None answer after = (answer ≡ Done) × Removes before place entry after
+abbrev pub TakesEntry : FileTree → (place : ℕ) → DirectoryEntry → (refused : Option ℕ) → FileAnswer → FileTree → Type 0
+TakesEntry before place entry (Some e) answer after = Fails before e answer after
+TakesEntry before place entry None answer after = (answer ≡ Done) × RemovesEntry before place entry after
 
 -- UNLINK: not that of a directory
 abbrev pub cannot_unlink : DirectoryEntry → Option ℕ
 cannot_unlink entry = if names_directory entry then Some EISDIR else None
 
-abbrev pub Unlinks : Files → Result ℕ ℕ → FileAnswer → Files → Type 0
+abbrev pub Unlinks : FileTree → Result ℕ ℕ → FileAnswer → FileTree → Type 0
 Unlinks before (Err e) answer after = Fails before e answer after
 Unlinks before (Ok place) answer after =
-    (entry : DirectoryEntry) × (slice_get before.entries place ≡ Some entry) × Takes before place entry (cannot_unlink entry) answer after
+    (entry : DirectoryEntry) × (slice_get before.entries place ≡ Some entry) × TakesEntry before place entry (cannot_unlink entry) answer after
 
 -- RMDIR: that of an empty directory
 abbrev pub cannot_rmdir : List DirectoryEntry → DirectoryEntry → Option ℕ
 cannot_rmdir entries entry =
     if names_directory entry then (if is_empty entries entry.node then None else Some ENOTEMPTY) else Some ENOTDIR
 
-abbrev pub RemovesDirectory : Files → Result ℕ ℕ → FileAnswer → Files → Type 0
+abbrev pub RemovesDirectory : FileTree → Result ℕ ℕ → FileAnswer → FileTree → Type 0
 RemovesDirectory before (Err e) answer after = Fails before e answer after
 RemovesDirectory before (Ok place) answer after =
     (entry : DirectoryEntry) × (slice_get before.entries place ≡ Some entry)
-    × Takes before place entry (cannot_rmdir before.entries entry) answer after
+    × TakesEntry before place entry (cannot_rmdir before.entries entry) answer after
 
 -- MKDIR and CREATE in a directory that has no such entry: the node gets the least free number; no error but that an allocation fails,
 -- or that there may be no more nodes or were as many entries as 64 bits count
-abbrev pub MakesNode : Files → (directory : ℕ) → (name : List ℕ) → (mode : ℕ) → FileAnswer → Files → Type 0
+abbrev pub MakesNode : FileTree → (directory : ℕ) → (name : List ℕ) → (mode : ℕ) → FileAnswer → FileTree → Type 0
 MakesNode before directory name mode (Failed e) after =
     ((e ≡ ENOMEM) ⊎ ((e ≡ ENOSPC) × (((node : ℕ) × IsFree before node × (before.most < node)) ⊎ (before.made ≡ 2 ^ 64 - 1)))) × Keeps before after
 MakesNode before directory name mode (HasEntry e) after =
-    IsFree before e.inode × (e.inode ≤ before.most) × Makes before e.inode directory name mode after × Tells (made_file directory mode) e.attr
+    IsFree before e.inode × (e.inode ≤ before.most) × MakesFile before e.inode directory name mode after × HasAttrOf (made_file directory mode) e.attr
 MakesNode before directory name mode answer after = ⊥
 
-abbrev pub MakesEntry : Files → Result (Option ℕ) ℕ → (directory : ℕ) → (name : List ℕ) → (mode : ℕ) → FileAnswer → Files → Type 0
+abbrev pub MakesEntry : FileTree → Result (Option ℕ) ℕ → (directory : ℕ) → (name : List ℕ) → (mode : ℕ) → FileAnswer → FileTree → Type 0
 MakesEntry before (Err e) directory name mode answer after = Fails before e answer after
 MakesEntry before (Ok (Some place)) directory name mode answer after = Fails before EEXIST answer after
 MakesEntry before (Ok None) directory name mode answer after = MakesNode before directory name mode answer after
@@ -106,22 +106,22 @@ abbrev pub mode_of : (kind mode : ℕ) → ℕ
 mode_of kind mode = bit_or kind (bit_and mode 0xfff)
 
 -- RENAME: an entry moves, or there is a reason not to; no other error but that an allocation fails
-abbrev pub MovesEntry : Files → (place : ℕ) → DirectoryEntry → (directory : ℕ) → (name : List ℕ) → (refused : Option ℕ) → FileAnswer → Files → Type 0
+abbrev pub MovesEntry : FileTree → (place : ℕ) → DirectoryEntry → (directory : ℕ) → (name : List ℕ) → (refused : Option ℕ) → FileAnswer → FileTree → Type 0
 MovesEntry before place entry directory name (Some e) answer after = Fails before e answer after
 MovesEntry before place entry directory name None (Failed e) after = (e ≡ ENOMEM) × Keeps before after
 MovesEntry before place entry directory name None Done after = Moves before place entry directory name after
 MovesEntry before place entry directory name None answer after = ⊥
 
 -- in the place of another, which goes
-abbrev pub MovesOver : Files → (place : ℕ) → DirectoryEntry → (directory : ℕ) → (name : List ℕ) → (other : ℕ) → (replaced : DirectoryEntry) → (refused : Option ℕ) → FileAnswer → Files → Type 0
+abbrev pub MovesOver : FileTree → (place : ℕ) → DirectoryEntry → (directory : ℕ) → (name : List ℕ) → (other : ℕ) → (replaced : DirectoryEntry) → (refused : Option ℕ) → FileAnswer → FileTree → Type 0
 MovesOver before place entry directory name other replaced (Some e) answer after = Fails before e answer after
 MovesOver before place entry directory name other replaced None (Failed e) after = (e ≡ ENOMEM) × Keeps before after
 MovesOver before place entry directory name other replaced None Done after =
-    (between : Files) × Moves before place entry directory name between × Removes between other replaced after
+    (between : FileTree) × Moves before place entry directory name between × RemovesEntry between other replaced after
 MovesOver before place entry directory name other replaced None answer after = ⊥
 
 -- why a directory can't lie in another, if it can't: it would lie in itself
-abbrev pub cannot_lie_in : Files → (directory node : ℕ) → Option ℕ
+abbrev pub cannot_lie_in : FileTree → (directory node : ℕ) → Option ℕ
 cannot_lie_in before directory node = if lies_in before (length before.entries + 2) directory node then Some EINVAL else None
 
 -- a refusal, or else another
@@ -130,7 +130,7 @@ first_of_two (Some e) other = Some e
 first_of_two None other = other
 
 -- RENAME of an entry to a name that may be there: with RENAME_NOREPLACE (1 in linux/fs.h) it may not; to itself nothing is done
-abbrev pub RenamesOver : Files → (place : ℕ) → DirectoryEntry → (directory : ℕ) → (name : List ℕ) → (found : Option ℕ) → (keep same : Bool) → FileAnswer → Files → Type 0
+abbrev pub RenamesOver : FileTree → (place : ℕ) → DirectoryEntry → (directory : ℕ) → (name : List ℕ) → (found : Option ℕ) → (keep same : Bool) → FileAnswer → FileTree → Type 0
 RenamesOver before place entry directory name None keep same answer after =
     MovesEntry before place entry directory name (cannot_lie_in before directory entry.node) answer after
 RenamesOver before place entry directory name (Some other) true same answer after = Fails before EEXIST answer after
@@ -145,7 +145,7 @@ is_at place (Some other) = other == place
 is_at place None = false
 
 -- the first error of the two look-ups is answered, the moved name's before the new one's; else the entry moves by what stands there
-abbrev pub Renames : Files → (moved : Result ℕ ℕ) → (target : Result (Option ℕ) ℕ) → (directory : ℕ) → (name : List ℕ) → (keep : Bool) → FileAnswer → Files → Type 0
+abbrev pub Renames : FileTree → (moved : Result ℕ ℕ) → (target : Result (Option ℕ) ℕ) → (directory : ℕ) → (name : List ℕ) → (keep : Bool) → FileAnswer → FileTree → Type 0
 Renames before (Err e) target directory name keep answer after = Fails before e answer after
 Renames before (Ok place) (Err e) directory name keep answer after = Fails before e answer after
 Renames before (Ok place) (Ok found) directory name keep answer after =
@@ -153,7 +153,7 @@ Renames before (Ok place) (Ok found) directory name keep answer after =
     × RenamesOver before place entry directory name found keep (is_at place found) answer after
 
 -- no other flag is known
-abbrev pub RenamesBy : Files → (known : Bool) → (moved : Result ℕ ℕ) → (target : Result (Option ℕ) ℕ) → (directory : ℕ) → (name : List ℕ) → (keep : Bool) → FileAnswer → Files → Type 0
+abbrev pub RenamesBy : FileTree → (known : Bool) → (moved : Result ℕ ℕ) → (target : Result (Option ℕ) ℕ) → (directory : ℕ) → (name : List ℕ) → (keep : Bool) → FileAnswer → FileTree → Type 0
 RenamesBy before false moved target directory name keep answer after = Fails before EINVAL answer after
 RenamesBy before true moved target directory name keep answer after = Renames before moved target directory name keep answer after
 
@@ -170,10 +170,10 @@ Lists None (Entries listed) = ⊤
 Lists None answer = ⊥
 
 -- by the files before and after
-abbrev pub MayDo : Files → FileCall → FileAnswer → Files → Type 0
-MayDo before (Lookup who node name) answer after = LooksUp before (needed (find before node name)) answer after
+abbrev pub MayDo : FileTree → FileCall → FileAnswer → FileTree → Type 0
+MayDo before (Lookup who node name) answer after = LooksUpName before (needed (find before node name)) answer after
 MayDo before (Forget who node count) answer after = Alters before node (let_go count) after
-MayDo before (Getattr who node handle) answer after = Answers (before.file node) answer × Keeps before after
+MayDo before (Getattr who node handle) answer after = AnswersGetattr (before.file node) answer × Keeps before after
 MayDo before (Setattr who node to handle valid) answer after = Sets before node valid to answer after
 MayDo before (Mkdir who node name mode umask extra) answer after =
     MakesEntry before (find before node name) node name (mode_of 0x4000 mode) answer after
@@ -187,7 +187,7 @@ MayDo before (Create who node name mode kill flags umask extra) answer after =
 MayDo before (Read who node handle room size offset owner flags) answer after =
     (answer ≡ read_at (before.file node) (min size room) offset) × Keeps before after
 MayDo before (Write who node handle bytes size offset owner delayed kill flags) answer after =
-    Writes before node bytes size offset answer after
+    WritesFile before node bytes size offset answer after
 MayDo before (Statfs who node) answer after = Keeps before after
 MayDo before (Release who node flags handle flush unlock owner) answer after = Keeps before after
 MayDo before (Opendir who node flags) answer after = (answer ≡ directory_opened (no_directory (before.file node))) × Keeps before after
@@ -195,5 +195,5 @@ MayDo before (Readdir who node handle size offset) answer after = Lists (no_dire
 MayDo before call answer after = ⊤
 
 -- the file system's relation
-abbrev pub May : MemoryFiles → FileCall → FileAnswer → MemoryFiles → Type 0
-May before call answer after = MayDo (files_of before) call answer (files_of after)
+abbrev pub MayByFiles : MemoryFiles → FileCall → FileAnswer → MemoryFiles → Type 0
+MayByFiles before call answer after = MayDo (files_of before) call answer (files_of after)

@@ -1,8 +1,8 @@
 //! The calls of the file system.
 
-ghost use Rattle.fuse_memory.specs.Memory.{May};
+ghost use Rattle.fuse_memory.specs.Memory.{MayByFiles};
 
-use crate::listing::{Entries, list};
+use crate::listing::{MemoryEntries, list};
 use crate::nodes::{DT_DIR, S_IFDIR, S_IFREG, second};
 use crate::table::MemoryFiles;
 use fuse_base::{Attr, Errno, FsOptions, OpenOptions, SetattrValid, StatVfs};
@@ -20,7 +20,7 @@ const BLOCK: u64 = 4096;
 const PERMISSIONS: u32 = 0o7_777;
 
 impl ReadableFileSystem for MemoryFiles {
-    type DirIter = Entries;
+    type DirIter = MemoryEntries;
 
     ghost use Rattle.std.specs.Prelude.{true};
 
@@ -30,7 +30,7 @@ impl ReadableFileSystem for MemoryFiles {
         true
     }
 
-    ghost may = { May };
+    ghost may = { MayByFiles };
 
     fn init(&mut self, capable: FsOptions) -> Result<FsOptions, Errno> {
         self.let_all_go();
@@ -124,7 +124,7 @@ impl ReadableFileSystem for MemoryFiles {
         _handle: u64,
         size: u32,
         offset: u64,
-    ) -> Result<Entries, Errno> {
+    ) -> Result<MemoryEntries, Errno> {
         self.test_directory(inode)?;
         list(self.alloc, &self.names, inode, size, offset)
     }

@@ -2,11 +2,11 @@
 
 ghost use Rattle.std.specs.Prelude.{◌≡◌, ◌≢◌, ℕ, ◌+◌, ◌<◌, ◌≤◌, ◌⊎◌, vec_len, slice_get, option_map, map, Some, None, IfNone, IfErr, IfOk, IfSome, OnOk};
 ghost use Rattle.fuse_fs.specs.Answers.{done_answer, entry_answer};
-ghost use Rattle.fuse_memory.specs.Changes.{Alters, IsFree, Keeps, Removes, let_go};
+ghost use Rattle.fuse_memory.specs.Changes.{Alters, IsFree, Keeps, RemovesEntry, let_go};
 ghost use Rattle.fuse_memory.specs.Errors.{ENOMEM, ENOSPC};
-ghost use Rattle.fuse_memory.specs.Files.{Starts, entry_of, file_at, files_of, node_at};
+ghost use Rattle.fuse_memory.specs.Files.{StartsEmpty, entry_of, file_at, files_of, node_at};
 ghost use Rattle.fuse_memory.specs.Lookups.{cannot_replace, find, is_empty, lies_in, needed, no_directory};
-ghost use Rattle.fuse_memory.specs.Memory.{Holds, MakesEntry, MovesEntry, MovesOver, cannot_lie_in, first_of_two};
+ghost use Rattle.fuse_memory.specs.Memory.{HoldsNode, MakesEntry, MovesEntry, MovesOver, cannot_lie_in, first_of_two};
 ghost use Rattle.fuse_memory.specs.declared.nodes.Name.{Name as NameRecord};
 
 use crate::nodes::{DT_DIR, Name, Node, S_IFDIR, forget, lose_name, move_to, place_of};
@@ -27,7 +27,7 @@ impl MemoryFiles {
     /// copied, and its copy counts for nothing. There are at most `most_nodes` files and directories. AllocError if an
     /// allocation fails.
     pub fn new(alloc: Global, limit: u64, most_nodes: u64) -> Result<MemoryFiles, AllocError>
-        ensures { IfOk result (λ files. Starts most_nodes (files_of files)) }
+        ensures { IfOk result (λ files. StartsEmpty most_nodes (files_of files)) }
     {
         let nobody = Context {
             uid: GuestUid(0),
@@ -127,7 +127,7 @@ impl MemoryFiles {
 
     // The guest holds a node once more. ENOENT changes nothing.
     pub(crate) fn hold(&mut self, number: u64) -> Result<Entry<u64>, Errno>
-        ensures may { Holds (files_of self.old) number (entry_answer (λ n. n) result) (files_of self.new) }
+        ensures may { HoldsNode (files_of self.old) number (entry_answer (λ n. n) result) (files_of self.new) }
     {
         let Some(place) = self.place(number) else {
             return Err(Errno::ENOENT);
@@ -215,7 +215,7 @@ impl MemoryFiles {
     // Takes a name away, and its node if the guest doesn't hold it.
     pub(crate) fn remove(&mut self, place: usize)
         requires { place < vec_len self.old.names }
-        ensures { (name : NameRecord) → slice_get self.old.names.items place ≡ Some name → Removes (files_of self.old) place (entry_of name) (files_of self.new) }
+        ensures { (name : NameRecord) → slice_get self.old.names.items place ≡ Some name → RemovesEntry (files_of self.old) place (entry_of name) (files_of self.new) }
     {
         let number = self.names.remove(place).node;
         if let Some(place) = self.place(number) {

@@ -9,5 +9,5 @@ mod listing;
 mod nodes;
 mod table;
 
-pub use listing::{Entries, OwnedEntry};
+pub use listing::{MemoryEntries, OwnedEntry};
 pub use table::MemoryFiles;

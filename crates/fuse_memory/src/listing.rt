@@ -26,13 +26,13 @@ pub struct OwnedEntry {
 
 /// Entries, which a listing gives one after another.
 #[derive(Drop)]
-pub struct Entries {
+pub struct MemoryEntries {
     entries: Vec<OwnedEntry>,
     // The one that is next.
     at: usize,
 }
 
-impl DirectoryIterator for Entries {
+impl DirectoryIterator for MemoryEntries {
     ghost rest = { rest_of };
 
     fn next(&mut self) -> Option<DirEntry<'_>> {
@@ -59,7 +59,7 @@ pub(crate) fn list(
     directory: u64,
     size: u32,
     offset: u64,
-) -> Result<Entries, Errno>
+) -> Result<MemoryEntries, Errno>
     ensures { IfErr result (λ e. e ≡ ENOMEM) }
 {
     let mut entries = Vec::new(alloc);
@@ -73,7 +73,7 @@ pub(crate) fn list(
             }
         }
     }
-    Ok(Entries { entries, at: 0 })
+    Ok(MemoryEntries { entries, at: 0 })
 }
 
 fn entry_of(alloc: Global, name: &Name) -> Result<OwnedEntry, Errno>

@@ -4,7 +4,7 @@ ghost use Rattle.std.specs.Prelude.{◌≡◌, ℕ, ◌+◌, ◌<◌, ◌≤◌,
 ghost use Rattle.fuse_fs.specs.Answers.{data_answer};
 ghost use Rattle.fuse_memory.specs.Changes.{attributes_set, in_directory, kept, let_go, mode_set, opened, read_of, unnamed, written};
 ghost use Rattle.fuse_memory.specs.Contents.{sized};
-ghost use Rattle.fuse_memory.specs.Files.{Tells, entry_of, file_of, is_directory, slot_file};
+ghost use Rattle.fuse_memory.specs.Files.{HasAttrOf, entry_of, file_of, is_directory, slot_file};
 ghost use Rattle.fuse_memory.specs.Lookups.{is_named};
 
 use crate::contents::Contents;
@@ -100,7 +100,7 @@ impl Node {
 
     // All of its attributes.
     pub fn told(&self) -> Attr
-        ensures { Tells (file_of self.now) result }
+        ensures { HasAttrOf (file_of self.now) result }
     {
         let size = self.contents.len();
         Attr {
@@ -113,7 +113,7 @@ impl Node {
     // What a look-up answers, by the node's number.
     pub fn entry(&self, number: u64) -> Entry<u64>
         ensures inode { result.inode ≡ number }
-        ensures told { Tells (file_of self.now) result.attr }
+        ensures told { HasAttrOf (file_of self.now) result.attr }
     {
         Entry {
             inode: number,
@@ -128,7 +128,7 @@ impl Node {
     // An error changes nothing.
     pub fn set(&mut self, to: &SetattrIn, valid: SetattrValid, room: u64) -> Result<Attr, Errno>
         ensures ok { OnOk result (file_of self.new ≡ attributes_set valid.0 to.now (file_of self.old)) }
-        ensures told { IfOk result (λ attr. Tells (file_of self.new) attr) }
+        ensures told { IfOk result (λ attr. HasAttrOf (file_of self.new) attr) }
         ensures err { OnErr result (file_of self.new ≡ file_of self.old) }
     {
         if valid.contains(SetattrValid::SIZE) {

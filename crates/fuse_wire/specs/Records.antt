@@ -2,7 +2,7 @@
 use Rattle.std.specs.Prelude.{List, [], ◌++◌, ◌∷◌}
 use Rattle.vm_values.specs.Fields.{Field, d, ds, i, l, q, w}
 use Rattle.fuse_base.specs.Records.{attr, file_lock, kstatfs}
-use Rattle.fuse_in.specs.Shapes.{Shape, u32, u64, ◌&◌, end}
+use Rattle.fuse_in.specs.Shapes.{RecordShape, u32, u64, ◌&◌, end}
 use Rattle.fuse_wire.specs.declared.replies.OutHeader.{OutHeader}
 use Rattle.fuse_wire.specs.declared.replies.StatfsOut.{StatfsOut}
 use Rattle.fuse_wire.specs.declared.replies.EntryOut.{EntryOut}
@@ -83,7 +83,7 @@ abbrev pub direntplus : Direntplus → List Field
 direntplus r = entry_out r.entry_out ++ dirent r.dirent
 
 -- struct fuse_forget_one, 16 bytes
-abbrev pub forget_one : Shape ForgetOne
+abbrev pub forget_one : RecordShape ForgetOne
 forget_one = record {
   parts = u64 ∷ u64 ∷ [];
   make = λ nodeid nlookup. record { nodeid = nodeid; nlookup = nlookup };
@@ -111,7 +111,7 @@ abbrev pub poll_out : PollOut → List Field
 poll_out r = d r.revents ∷ d r.padding ∷ []
 
 -- struct fuse_ext_header, 8 bytes
-abbrev pub ext_header : Shape ExtHeader
+abbrev pub ext_header : RecordShape ExtHeader
 ext_header = record {
   parts = u32 ∷ u32 ∷ [];
   make = λ size ext_type. record { size = size; ext_type = ext_type };
@@ -119,7 +119,7 @@ ext_header = record {
 }
 
 -- struct fuse_secctx, 8 bytes
-abbrev pub secctx : Shape Secctx
+abbrev pub secctx : RecordShape Secctx
 secctx = record {
   parts = u32 ∷ u32 ∷ [];
   make = λ size padding. record { size = size; padding = padding };
@@ -131,7 +131,7 @@ abbrev pub secctx_header : SecctxHeader → List Field
 secctx_header r = d r.size ∷ d r.nr_secctx ∷ []
 
 -- struct fuse_supp_groups, 4 bytes
-abbrev pub supp_groups : Shape SuppGroups
+abbrev pub supp_groups : RecordShape SuppGroups
 supp_groups = record {
   parts = u32 ∷ [];
   make = λ nr_groups. record { nr_groups = nr_groups };

@@ -32,17 +32,17 @@ abbrev pub CallSays : InHeader → FileCall → Type 0
 CallSays h call = (is_plain call ≡ true) × IsFor (context_of h) call
 
 -- what a request has behind its header: nothing, a record, a record of an open file, a name, a record with names, or the name of a node that is made
-pub data Shape : Type 0 where
-  Header : Shape
-  Fixed : Shape
-  OnFile : Shape
-  Named : Shape
-  NamedRecord : Shape
-  Made : Shape
-  Other : Shape
+pub data RequestShape : Type 0 where
+  Header : RequestShape
+  Fixed : RequestShape
+  OnFile : RequestShape
+  Named : RequestShape
+  NamedRecord : RequestShape
+  Made : RequestShape
+  Other : RequestShape
 
 -- the shape of the request that asks a call
-abbrev pub shape_of : FileCall → Shape
+abbrev pub shape_of : FileCall → RequestShape
 shape_of (Readlink c n) = Header
 shape_of (Statfs c n) = Header
 shape_of (Syncfs c n) = Header
@@ -85,7 +85,7 @@ shape_of (Create c n name m k f u x) = Made
 shape_of _ = Other
 
 -- a request of one record
-abbrev pub is_record : Shape → Bool
+abbrev pub is_record : RequestShape → Bool
 is_record Fixed = true
 is_record OnFile = true
 is_record _ = false

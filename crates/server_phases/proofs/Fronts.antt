@@ -5,7 +5,7 @@ use Rattle.std.proofs.lemmas.Bool.Decides.{nat_tests}
 use Rattle.std.proofs.lemmas.List.{length-take, length-drop, take-append-drop, take-append-le, drop-append-le, drop-drop}
 use Rattle.fuse_in.specs.declared.session.InHeader.{InHeader}
 use Rattle.fuse_in.specs.Records.{in_header}
-use Rattle.fuse_in.specs.Shapes.{Shape, size, made}
+use Rattle.fuse_in.specs.Shapes.{RecordShape, size, made}
 use Rattle.fuse_wire.specs.declared.opcodes.Opcode.{Opcode}
 use Rattle.fuse_wire.specs.declared.opcodes.Opcode.TheVariants as op
 use Rattle.server_segments.specs.declared.error.Error.{Error}
@@ -13,7 +13,7 @@ use Rattle.server_segments.specs.declared.error.Error.TheVariants.{DecodeMessage
 use Rattle.server_requests.specs.Reading as reading
 use Rattle.server_requests.specs.Reading.{Faults, and_then, reading_of}
 use Rattle.virtiofsd_fuse.specs.DataApart.{is_write}
-use Rattle.server_phases.specs.Asking.{IsFront, BeginsRecord}
+use Rattle.server_phases.specs.Asking.{IsRequestFront, BeginsRecord}
 
 -- a reading that left something else
 abbrev pub leaving : {R : Type 0} → reading.Read R → List ℕ → reading.Read R
@@ -36,30 +36,30 @@ read_by false true n make front all e f = absurd (cc)
 read_by false false n make front all e f = rw f refl
 
 -- a record that begins two lists of bytes is read from both
-read_by_front : {R : Type 0} → (s : Shape R) (front all : List ℕ) → take (size s.parts) front ≡ take (size s.parts) all
+read_by_front : {R : Type 0} → (s : RecordShape R) (front all : List ℕ) → take (size s.parts) front ≡ take (size s.parts) all
     → reading_of s all ≡ leaving (reading_of s front) (drop (size s.parts) all)
 unfolding reading_of
 read_by_front s front all e =
     read_by (nat_lt (length front) (size s.parts)) (nat_lt (length all) (size s.parts)) (size s.parts) (λ b. made s.parts s.make b) front all
     (short_same (size s.parts) front all e) e
 
-pub record_by_front : {R : Type 0} → (s : Shape R) (front all more : List ℕ) (r : R) → take (size s.parts) front ≡ take (size s.parts) all
+pub record_by_front : {R : Type 0} → (s : RecordShape R) (front all more : List ℕ) (r : R) → take (size s.parts) front ≡ take (size s.parts) all
     → Ok (r, more) ≡ reading_of s front → Ok (r, drop (size s.parts) all) ≡ reading_of s all
 record_by_front {R} s front all more r e h = ap (λ (x : reading.Read R). leaving x (drop (size s.parts) all)) h ∙ sym (read_by_front s front all e)
 
-pub fault_by_front : {R : Type 0} → (s : Shape R) (front all : List ℕ) (f : Error) → take (size s.parts) front ≡ take (size s.parts) all
+pub fault_by_front : {R : Type 0} → (s : RecordShape R) (front all : List ℕ) (f : Error) → take (size s.parts) front ≡ take (size s.parts) all
     → Err (Faults f) ≡ reading_of s front → Err (Faults f) ≡ reading_of s all
 fault_by_front {R} s front all f e h = ap (λ (x : reading.Read R). leaving x (drop (size s.parts) all)) h ∙ sym (read_by_front s front all e)
 
 -- a request by its first bytes and the others
-front_and_rest : (front request : List ℕ) → IsFront front request → request ≡ front ++ drop (length front) request
+front_and_rest : (front request : List ℕ) → IsRequestFront front request → request ≡ front ++ drop (length front) request
 front_and_rest front request e = sym (ap (λ (x : List ℕ). x ++ drop (length front) request) (sym e) ∙ take-append-drop (length front) request)
 
-pub front_begins : (n : ℕ) (front request : List ℕ) → IsFront front request → n ≤ length front → take n front ≡ take n request
+pub front_begins : (n : ℕ) (front request : List ℕ) → IsRequestFront front request → n ≤ length front → take n front ≡ take n request
 front_begins n front request e h = sym (ap (take n) (front_and_rest front request e) ∙ take-append-le n front (drop (length front) request) h)
 
 -- the record behind a header
-pub record_begins : (front request : List ℕ) → IsFront front request → 80 ≤ length front → BeginsRecord (drop 40 front) (drop 40 request)
+pub record_begins : (front request : List ℕ) → IsRequestFront front request → 80 ≤ length front → BeginsRecord (drop 40 front) (drop 40 request)
 record_begins front request e h =
     let rest = drop (length front) request in
     let behind : drop 40 request ≡ drop 40 front ++ rest = ap (drop 40) (front_and_rest front request e) ∙ drop-append-le 40 front rest (omega arith) in
@@ -82,7 +82,7 @@ behind_by : {R : Type 0} → (t : Bool) (n : ℕ) (make : List ℕ → R) (bytes
 behind_by true n make bytes more r e = absurd (cc)
 behind_by false n make bytes more r e = sym (ap (left_over bytes) e)
 
-pub behind : {R : Type 0} → (s : Shape R) (bytes more : List ℕ) (r : R) → Ok (r, more) ≡ reading_of s bytes → drop (size s.parts) bytes ≡ more
+pub behind : {R : Type 0} → (s : RecordShape R) (bytes more : List ℕ) (r : R) → Ok (r, more) ≡ reading_of s bytes → drop (size s.parts) bytes ≡ more
 unfolding reading_of
 behind s bytes more r e = behind_by (nat_lt (length bytes) (size s.parts)) (size s.parts) (λ b. made s.parts s.make b) bytes more r e
 

@@ -16,8 +16,8 @@ use Rattle.server_replies.specs.WholeReplies.{reply_bytes, error_bytes, listing_
 use Rattle.server_replies.proofs.ReplyLemmas.{length_reply, length_error}
 use Rattle.virtiofsd_fuse.specs.Grammar.{FileCommand, One, Starts, Lists}
 use Rattle.virtiofsd_fuse.specs.Listings as asked
-use Rattle.virtiofsd_fuse.specs.Listings.{Went, Next, after_call, undo_call, with_entry, list_entry, list_entries, readdir_call}
-use Rattle.virtiofsd_fuse.specs.Serving.{Setting, Served, commanded, replied, list_ended}
+use Rattle.virtiofsd_fuse.specs.Listings.{ListingResult, Next, after_call, undo_call, with_entry, list_entry, list_entries, readdir_call}
+use Rattle.virtiofsd_fuse.specs.Serving.{Setting, ServedMessage, commanded, replied, list_ended}
 use Rattle.server_phases.specs.declared.listing.Listing.{Listing}
 use Rattle.server_phases.specs.declared.listing.NotAdded.{NotAdded}
 use Rattle.server_phases.specs.declared.listing.NotAdded.TheVariants.{TooLong, Full, NoRoom, ShortList}
@@ -63,7 +63,7 @@ name_short : (b : Bool) (n : ℕ) → n ≤ entry_len b n
 name_short true n = omega arith
 name_short false n = omega arith
 
-abbrev went : List FileCall → List ℕ → Option ℕ → Went
+abbrev went : List FileCall → List ℕ → Option ℕ → ListingResult
 went calls bytes error = record { calls = calls; bytes = bytes; error = error }
 
 fits : (n len left room : ℕ) → n < 2 ^ 32 → len ≤ left → len ≤ room → fit_of n len left room ≡ GoesIn
@@ -72,13 +72,13 @@ fits n len left room s f g =
     let short : nat_le (2 ^ 32) n ≡ false = grind (arith, nat_tests) in
     rw (short, le-ltb left len f, le-ltb room len g) refl
 
-goes_in : (b : Bool) (d : Listed) (e : Entry ℕ) (undo : List FileCall) (next : Next) (left room : ℕ) (answers : List FileAnswer) (w : Went)
+goes_in : (b : Bool) (d : Listed) (e : Entry ℕ) (undo : List FileCall) (next : Next) (left room : ℕ) (answers : List FileAnswer) (w : ListingResult)
     → length d.name < 2 ^ 32 → entry_len b (length d.name) ≤ left → entry_len b (length d.name) ≤ room
     → next (left - entry_len b (length d.name)) (room - entry_len b (length d.name)) answers ≡ w
     → with_entry b d e undo next left room answers ≡ went w.calls (entry_bytes b e d ++ w.bytes) w.error
 goes_in b d e undo next left room answers w s f g k = rw (fits (length d.name) (entry_len b (length d.name)) left room s f g, k) refl
 
-brought_by : (b dot : Bool) (unique : ℕ) (l : asked.Listing) (e : Brought) (next : Next) (left room : ℕ) (answers : List FileAnswer) (w : Went)
+brought_by : (b dot : Bool) (unique : ℕ) (l : asked.ListRequest) (e : Brought) (next : Next) (left room : ℕ) (answers : List FileAnswer) (w : ListingResult)
     → l.with_nodes ≡ b → is_dot e.0.name ≡ dot → length e.0.name < 2 ^ 32 → entry_len b (length e.0.name) ≤ left → entry_len b (length e.0.name) ≤ room
     → next (left - entry_len b (length e.0.name)) (room - entry_len b (length e.0.name)) answers ≡ w
     → list_entry l e.0 next left room (cond (is_looked_up l.with_nodes e.0) (HasEntry e.1 ∷ []) [] ++ answers)
@@ -99,7 +99,7 @@ length_brought b e es =
     omega arith
 
 -- entries that were brought are listed, and others after them
-pub listed_all : (unique : ℕ) (l : asked.Listing) (es : List Brought) (ds : List Listed) (left room : ℕ) (answers : List FileAnswer) (w : Went)
+pub listed_all : (unique : ℕ) (l : asked.ListRequest) (es : List Brought) (ds : List Listed) (left room : ℕ) (answers : List FileAnswer) (w : ListingResult)
     → length (all_bytes l.with_nodes es) ≤ left → length (all_bytes l.with_nodes es) ≤ room → length (all_bytes l.with_nodes es) < 2 ^ 32
     → list_entries l ds (left - length (all_bytes l.with_nodes es)) (room - length (all_bytes l.with_nodes es)) answers ≡ w
     → list_entries l (entries_of es ++ ds) left room (all_found l.with_nodes es ++ answers)
@@ -125,7 +125,7 @@ listed_all unique l (e ∷ es) ds left room answers w f g s k =
     ap (list_entry l e.0 next left room) (append_assoc (cond (is_looked_up b e.0) (HasEntry e.1 ∷ []) []) (all_found b es) answers)
     ∙ one ∙ assoc (look_up (Lists unique l) e.0) (look_ups (Lists unique l) es) w.calls (bytes_of b e) (all_bytes b es) w.bytes w.error
 
-listed_only : (unique : ℕ) (l : asked.Listing) (es : List Brought) (left room : ℕ)
+listed_only : (unique : ℕ) (l : asked.ListRequest) (es : List Brought) (left room : ℕ)
     → length (all_bytes l.with_nodes es) ≤ left → length (all_bytes l.with_nodes es) ≤ room → length (all_bytes l.with_nodes es) < 2 ^ 32
     → list_entries l (entries_of es) left room (all_found l.with_nodes es) ≡ went (look_ups (Lists unique l) es) (all_bytes l.with_nodes es) None
 unfolding list_entries
@@ -141,7 +141,7 @@ in_list : (unique len : ℕ) (list bytes : List ℕ) → len ≡ length bytes �
 unfolding reply_bytes
 in_list unique len list bytes e t = rw (t, e) refl
 
-abbrev pub by_reply : List FileCall → ℕ → List ℕ → Served
+abbrev pub by_reply : List FileCall → ℕ → List ℕ → ServedMessage
 by_reply calls options reply = record { calls = calls; options = options; reply = reply; fault = None }
 
 gives_list : (room options unique len : ℕ) (calls : List FileCall) (list bytes : List ℕ) → len ≡ length bytes → take len list ≡ bytes → 16 + len ≤ room
@@ -185,7 +185,7 @@ left_out : (b : Bool) (d : Listed) (e : Entry ℕ) (undo : List FileCall) (next 
 left_out b d e undo next left room answers None f = rw f refl
 left_out b d e undo next left room answers (Some errno) f = rw f refl
 
-out_by : (b dot : Bool) (unique : ℕ) (l : asked.Listing) (e : Brought) (next : Next) (left room : ℕ) (answers : List FileAnswer) (error : Option ℕ)
+out_by : (b dot : Bool) (unique : ℕ) (l : asked.ListRequest) (e : Brought) (next : Next) (left room : ℕ) (answers : List FileAnswer) (error : Option ℕ)
     → l.with_nodes ≡ b → is_dot e.0.name ≡ dot → fit_of (length e.0.name) (entry_len b (length e.0.name)) left room ≡ out error
     → list_entry l e.0 next left room (found_of l.with_nodes e ++ answers) ≡ went (look_up (Lists unique l) e.0 ++ node_given_back (Lists unique l) e) [] error
 out_by false dot unique l e next left room answers error n t f = rw n (left_out false e.0 (no_node e.0) [] next left room answers error f)
@@ -193,7 +193,7 @@ out_by true true unique l e next left room answers error n t f = rw (n, t) (left
 out_by true false unique l e next left room answers error n t f =
     rw (n, t) (ap (after_call (Lookup l.context l.node e.0.name)) (left_out true e.0 e.1 (undo_call l.context e.1.inode ∷ []) next left room answers error f))
 
-out_first : (unique : ℕ) (l : asked.Listing) (e : Brought) (behind : List Listed) (left room : ℕ) (answers : List FileAnswer) (error : Option ℕ)
+out_first : (unique : ℕ) (l : asked.ListRequest) (e : Brought) (behind : List Listed) (left room : ℕ) (answers : List FileAnswer) (error : Option ℕ)
     → fit_of (length e.0.name) (entry_len l.with_nodes (length e.0.name)) left room ≡ out error
     → list_entries l (e.0 ∷ behind) left room (found_of l.with_nodes e ++ answers) ≡ went (look_up (Lists unique l) e.0 ++ node_given_back (Lists unique l) e) [] error
 unfolding list_entries
@@ -204,7 +204,7 @@ abbrev fit_in : Listing → (name_len : ℕ) → Fit
 fit_in l name_len = fit_of name_len (entry_len l.with_nodes name_len) (l.size - l.len) (l.room - l.len)
 
 -- behind entries that are in, one that doesn't go in ends the list
-out_behind : (s : Setting) (l : Listing) (unique : ℕ) (a : asked.Listing) (list : List ℕ) (es : List Brought) (e : Brought) (behind : List Listed) (answers : List FileAnswer)
+out_behind : (s : Setting) (l : Listing) (unique : ℕ) (a : asked.ListRequest) (list : List ℕ) (es : List Brought) (e : Brought) (behind : List Listed) (answers : List FileAnswer)
     (error : Option ℕ) → IsListingFor l s.room (Lists unique a) → Holds l list es → fit_in l (length e.0.name) ≡ out error
     → list_entries a (entries_of es ++ e.0 ∷ behind) a.size (s.room - 16) (all_found a.with_nodes es ++ (found_of a.with_nodes e ++ answers))
     ≡ went (look_ups (Lists unique a) es ++ (look_up (Lists unique a) e.0 ++ node_given_back (Lists unique a) e)) (all_bytes a.with_nodes es) error
@@ -244,7 +244,7 @@ full_ends l list e full s (Lists unique a) es behind answers is holds =
     ∙ ap (list_ended s unique a) (out_behind s l unique a list es e behind answers None is holds full)
     ∙ gives_list s.room s.options unique l.len (readdir_call a ∷ calls) list (all_bytes a.with_nodes es) long stands (omega (arith, room, fits, place))
     ∙ ap (λ u. by_reply (readdir_call a ∷ calls) s.options (data_header u (Ok l.len) ++ take l.len list)) (sym is.0)
-    ∙ sym (ap (λ (x : Served). record x { calls = x.calls ++ (look_up command e.0 ++ node_given_back command e) }) ended)
+    ∙ sym (ap (λ (x : ServedMessage). record x { calls = x.calls ++ (look_up command e.0 ++ node_given_back command e) }) ended)
 
 failed_fits : (t b : Bool) (unique errno room : ℕ) (bytes : List ℕ) → (b && nat_lt 0 (length bytes)) ≡ t → 16 + length bytes ≤ room
     → length (listing_bytes unique b bytes (Some errno)) ≤ room
@@ -252,7 +252,7 @@ failed_fits true b unique errno room bytes t f = rw t (omega (arith, length_repl
 failed_fits false b unique errno room bytes t f = rw t (omega (arith, length_error unique errno, f))
 
 -- a list that an error ended
-failed_told : (s : Setting) (l : Listing) (unique errno : ℕ) (a : asked.Listing) (calls : List FileCall) (list : List ℕ) (es : List Brought)
+failed_told : (s : Setting) (l : Listing) (unique errno : ℕ) (a : asked.ListRequest) (calls : List FileCall) (list : List ℕ) (es : List Brought)
     → IsListingFor l s.room (Lists unique a) → Holds l list es → list_ended s unique a (went calls (all_bytes a.with_nodes es) (Some errno))
     ≡ by_reply (readdir_call a ∷ calls) s.options (listing_bytes l.unique l.with_nodes (all_bytes l.with_nodes es) (Some errno))
 failed_told s l unique errno a calls list es is holds =
@@ -328,7 +328,7 @@ fails_alone s l (Lists unique a) list errno is =
     gives_error s.room s.options unique errno (readdir_call a ∷ []) list is.4
     ∙ ap (λ u. by_reply (readdir_call a ∷ []) s.options (error_bytes u errno ++ take 0 list)) (sym is.0)
 
-not_found : (unique errno : ℕ) (l : asked.Listing) (d : Listed) (left room : ℕ) → l.with_nodes ≡ true → is_dot d.name ≡ false
+not_found : (unique errno : ℕ) (l : asked.ListRequest) (d : Listed) (left room : ℕ) → l.with_nodes ≡ true → is_dot d.name ≡ false
     → list_entries l (d ∷ []) left room (Failed errno ∷ []) ≡ went (look_up (Lists unique l) d) [] (Some errno)
 unfolding list_entries
 not_found unique errno l d left room n t = rw (n, t) refl

@@ -15,7 +15,7 @@ use Rattle.server_replies.proofs.ReplyLemmas.{length_reply}
 use Rattle.server_segments.specs.declared.error.Error.TheVariants.{EncodeMessage}
 use Rattle.virtiofsd_fuse.specs.Grammar.{FileCommand, One, Starts, Lists}
 use Rattle.virtiofsd_fuse.specs.Listings.{readdir_call}
-use Rattle.virtiofsd_fuse.specs.Serving.{Setting, Served, commanded, replied, undone}
+use Rattle.virtiofsd_fuse.specs.Serving.{Setting, ServedMessage, commanded, replied, undone}
 use Rattle.server_phases.specs.declared.answering.Sent.TheVariants as sent
 use Rattle.server_phases.specs.declared.waiting.Awaits.{Awaits}
 use Rattle.server_phases.specs.declared.waiting.Awaits.TheVariants as awaits
@@ -66,13 +66,13 @@ data_long room unique options call bytes len e t =
     data_by true room options call (reply_bytes unique bytes) (lt-ltb room (length (reply_bytes unique bytes)) (omega (arith, length_reply unique bytes, e, long)))
 
 -- the reply to what a call waits for, without data
-abbrev pub Placed : Setting → Waiting → FileCall → FileAnswer → Served → Type 0
+abbrev pub Placed : Setting → Waiting → FileCall → FileAnswer → ServedMessage → Type 0
 Placed s w call a given =
     replied s.room (call ∷ undone s.room (told_bytes (tells_nothing w.awaits) w.unique a) (back_by (brings_entry w.awaits) w.context a))
     (leaves_options s.options w.awaits) (told_bytes (tells_nothing w.awaits) w.unique a) ≡ given
 
 -- a listing waits for no value of an answer but an error
-failed_list : (s : Setting) (w : Waiting) (unique : ℕ) (call : FileCall) (with_nodes : Bool) (size errno : ℕ) (given : Served) → w.unique ≡ unique
+failed_list : (s : Setting) (w : Waiting) (unique : ℕ) (call : FileCall) (with_nodes : Bool) (size errno : ℕ) (given : ServedMessage) → w.unique ≡ unique
     → w.awaits ≡ awaits.Entries with_nodes size → Placed s w call (Failed errno) given → replied s.room (call ∷ []) s.options (error_bytes unique errno) ≡ given
 failed_list s w unique call with_nodes size errno given a b h =
     let bytes = error_bytes unique errno in
@@ -82,7 +82,7 @@ failed_list s w unique call with_nodes size errno given a b h =
     (subst (λ (x : Awaits). Placed s (record { unique = w.unique; context = w.context; awaits = x; room = w.room }) call (Failed errno) given) b h) in
     ap (λ (l : List FileCall). replied s.room (call ∷ l) s.options bytes) (sym none) ∙ h1
 
-pub single_gives : (s : Setting) (w : Waiting) (command : FileCommand) (bytes : List ℕ) (answer : made.FileAnswer) (given : Served) → WaitsFor w command
+pub single_gives : (s : Setting) (w : Waiting) (command : FileCommand) (bytes : List ℕ) (answer : made.FileAnswer) (given : ServedMessage) → WaitsFor w command
     → TellsBytes bytes answer → takes w.awaits (answer_of bytes answer) ≡ true → data_of answer ≡ None → wish_of w.awaits ≡ None
     → Placed s w (first_call command) (answer_of bytes answer) given → commanded s command (answer_of bytes answer ∷ []) ≡ given
 single_gives s w (One unique call) bytes answer given waits t taken plain single h =

@@ -20,27 +20,27 @@ use Rattle.server_segments.specs.declared.error.Error.TheVariants.{EncodeMessage
 use Rattle.virtiofsd_fuse.specs.Grammar.{Meaning, IsFault, IsSilent, Replies, Asks, One, Given, ended, forgets_asked, one}
 use Rattle.virtiofsd_fuse.specs.Serving.{Setting, setting}
 use Rattle.virtiofsd_fuse.proofs.Serve.{ask_of, ended_ask, ended_fault}
-use Rattle.server_phases.specs.declared.asking.Asked.{Asked}
-use Rattle.server_phases.specs.declared.asking.Asked.TheVariants as asked
-use Rattle.server_phases.specs.Asking.{IsTold, IsAskedBy, HasAsker, TellsData, told_reply}
+use Rattle.server_phases.specs.declared.asking.DecodedRequest.{DecodedRequest}
+use Rattle.server_phases.specs.declared.asking.DecodedRequest.TheVariants as asked
+use Rattle.server_phases.specs.Asking.{IsDecoded, IsAskedBy, HasAsker, TellsData, told_reply}
 use Rattle.server_phases.specs.Waiting.{awaits_of, is_one_call}
 
 reply_by : (t : Bool) (page_size options room : ℕ) (reply bytes : List ℕ) → nat_lt room (length reply) ≡ t → 0 < length reply
-    → IsTold (setting page_size options room) (Replies reply) bytes (cond t (asked.Fault EncodeMessage) (asked.Reply reply))
+    → IsDecoded (setting page_size options room) (Replies reply) bytes (cond t (asked.Fault EncodeMessage) (asked.Reply reply))
 reply_by true page_size options room reply bytes e some = rw e refl
 reply_by false page_size options room reply bytes e some = (rw e refl, some)
 
 -- an immediate reply, if it has room
-pub reply_told : (page_size options room : ℕ) (reply bytes : List ℕ) → 0 < length reply → IsTold (setting page_size options room) (Replies reply) bytes (told_reply room reply)
+pub reply_told : (page_size options room : ℕ) (reply bytes : List ℕ) → 0 < length reply → IsDecoded (setting page_size options room) (Replies reply) bytes (told_reply room reply)
 reply_told page_size options room reply bytes some = reply_by (nat_lt room (length reply)) page_size options room reply bytes refl some
 
 -- the same of an error
 pub error_told : (page_size options room unique errno : ℕ) (bytes : List ℕ)
-    → IsTold (setting page_size options room) (Replies (error_bytes unique errno)) bytes (told_reply room (error_bytes unique errno))
+    → IsDecoded (setting page_size options room) (Replies (error_bytes unique errno)) bytes (told_reply room (error_bytes unique errno))
 error_told page_size options room unique errno bytes = reply_told page_size options room (error_bytes unique errno) bytes (omega (arith, length_error unique errno))
 
 -- what is kept of a call names who sent the header
-pub has_asker : (request left : List ℕ) (head : InHeader) (a : Asked) → Ok (head, left) ≡ reading_of in_header request → IsAskedBy (context_of head) a → HasAsker request a
+pub has_asker : (request left : List ℕ) (head : InHeader) (a : DecodedRequest) → Ok (head, left) ≡ reading_of in_header request → IsAskedBy (context_of head) a → HasAsker request a
 has_asker request left head a reads by = λ h more e.
     let both = reads ∙ e in
     let pair : ◌≡◌ {A = InHeader × List ℕ} (head, left) (h, more) = cc in
@@ -63,22 +63,22 @@ plain_by call bytes c e p = (e, tt)
 
 -- one call is told with what it waits for
 pub call_is_told : (s : Setting) (h : InHeader) (bytes : List ℕ) (c : FileCall) (call : made.FileCall) (room : ℕ) → s.room ≡ room → CallSays h c → call_of [] call ≡ c
-    → IsTold s (Asks (One h.unique c)) bytes (asked.Call call (record { unique = h.unique; context = context_of h; awaits = awaits_of (call_of [] call); room = room }))
+    → IsDecoded s (Asks (One h.unique c)) bytes (asked.Call call (record { unique = h.unique; context = context_of h; awaits = awaits_of (call_of [] call); room = room }))
 call_is_told s h bytes c call room place says e =
     let w = plain_by call bytes c e says.0 in
     (One h.unique c, refl, w.0, w.1, (refl, ap awaits_of e, says.1, single c says.0), sym place)
 
 -- a fault
-pub fault_told : (s : Setting) (m : Meaning) (e : Error) → m ≡ IsFault e → IsTold s m [] (asked.Fault e)
+pub fault_told : (s : Setting) (m : Meaning) (e : Error) → m ≡ IsFault e → IsDecoded s m [] (asked.Fault e)
 fault_told s m e h = rw h refl
 
 -- no reply
-pub silence_told : (s : Setting) (m : Meaning) → m ≡ IsSilent → IsTold s m [] asked.Silence
+pub silence_told : (s : Setting) (m : Meaning) → m ≡ IsSilent → IsDecoded s m [] asked.Silence
 silence_told s m h = rw h refl
 
 -- a reply that tells the versions
 pub versions_told : (page_size options room unique : ℕ) (bytes : List ℕ)
-    → IsTold (setting page_size options room) (Replies (reply_bytes unique versions_bytes)) bytes (told_reply room (reply_bytes unique versions_bytes))
+    → IsDecoded (setting page_size options room) (Replies (reply_bytes unique versions_bytes)) bytes (told_reply room (reply_bytes unique versions_bytes))
 versions_told page_size options room unique bytes =
     reply_told page_size options room (reply_bytes unique versions_bytes) bytes (omega (arith, length_reply unique versions_bytes))
 

@@ -2,17 +2,17 @@
 use Rattle.std.specs.Prelude.{◌≡◌, ℕ, ◌+◌, ◌^◌, Bool, true, false, not, ◌&&◌, nat_lt, nat_le, List, [], ◌∷◌, ◌++◌, length, Option, Some, None, if◌then◌else◌}
 use Rattle.fuse_fs.specs.declared.answers.Context.{Context}
 use Rattle.fuse_fs.specs.Calls as call
-use Rattle.fuse_fs.specs.Calls.{Kind, IsDone, IsNeverGood, IsEntry, IsAttr, IsOpen, IsCreate, IsBytes, IsBytesOrCount, IsStats, IsWritten, IsOffset, IsEntries, IsWish, is_of, suits}
+use Rattle.fuse_fs.specs.Calls.{AnswerForm, IsDone, IsNeverGood, IsEntry, IsAttr, IsOpen, IsCreate, IsBytes, IsBytesOrCount, IsStats, IsWritten, IsOffset, IsEntries, IsWish, is_of, suits}
 use Rattle.fuse_values.specs.declared.answer.FileAnswer.{FileAnswer}
 use Rattle.fuse_values.specs.declared.answer.FileAnswer.TheVariants as value
 use Rattle.fuse_values.specs.Answers.{answer_of}
 use Rattle.server_calls.specs.Requests.{give_back, entry_node}
 use Rattle.server_segments.specs.declared.error.Error.TheVariants.{EncodeMessage}
 use Rattle.virtiofsd_fuse.specs.Grammar.{FileCommand}
-use Rattle.virtiofsd_fuse.specs.Serving.{Setting, Served, commanded}
+use Rattle.virtiofsd_fuse.specs.Serving.{Setting, ServedMessage, commanded}
 use Rattle.server_phases.specs.declared.answering.Answered.{Answered}
-use Rattle.server_phases.specs.declared.answering.Refused.{Refused}
-use Rattle.server_phases.specs.declared.answering.Refused.TheVariants as refused
+use Rattle.server_phases.specs.declared.answering.AnswerRefusal.{AnswerRefusal}
+use Rattle.server_phases.specs.declared.answering.AnswerRefusal.TheVariants as refused
 use Rattle.server_phases.specs.declared.answering.Sent.{Sent}
 use Rattle.server_phases.specs.declared.answering.Sent.TheVariants as sent
 use Rattle.server_phases.specs.declared.waiting.Awaits.{Awaits}
@@ -20,7 +20,7 @@ use Rattle.server_phases.specs.declared.waiting.Awaits.TheVariants as awaits
 use Rattle.server_phases.specs.Waiting.{first_call}
 
 -- the kind of good answer that is waited for
-abbrev pub kind_for : Awaits → Kind
+abbrev pub kind_for : Awaits → AnswerForm
 kind_for awaits.Entry = IsEntry
 kind_for awaits.Create = IsCreate
 kind_for awaits.Attr = IsAttr
@@ -77,7 +77,7 @@ forget_call None = []
 forget_call (Some node) = call.Forget node.0 node.1 1 ∷ []
 
 -- the calls that were made, the options, and the reply; bytes: the data behind its front
-abbrev pub served_by : List call.FileCall → (options : ℕ) → Sent → (bytes : List ℕ) → Served
+abbrev pub served_by : List call.FileCall → (options : ℕ) → Sent → (bytes : List ℕ) → ServedMessage
 served_by calls options (sent.Reply front) bytes = record { calls = calls; options = options; reply = front ++ bytes; fault = None }
 served_by calls options sent.NoRoom bytes = record { calls = calls; options = options; reply = []; fault = Some EncodeMessage }
 
@@ -106,6 +106,6 @@ is_too_long room (value.Bytes len) = nat_le (16 + len) room && nat_le (2 ^ 32) (
 is_too_long room _ = false
 
 -- why an answer is refused: it isn't one that the call can have, or it is, and too long
-abbrev pub IsRefusedFor : Refused → call.FileCall → (room : ℕ) → (bytes : List ℕ) → FileAnswer → Type 0
+abbrev pub IsRefusedFor : AnswerRefusal → call.FileCall → (room : ℕ) → (bytes : List ℕ) → FileAnswer → Type 0
 IsRefusedFor refused.OtherKind asked room bytes answer = suits asked (answer_of bytes answer) ≡ false
 IsRefusedFor refused.TooLong asked room bytes answer = (suits asked (answer_of bytes answer) ≡ true) × (is_too_long room answer ≡ true)

@@ -11,10 +11,10 @@ use Rattle.server_requests.specs.Reading.{Reading, reading_of}
 use Rattle.server_segments.specs.declared.error.Error.TheVariants.{EncodeMessage}
 use Rattle.virtiofsd_fuse.specs.DataApart.{begins_a_write}
 use Rattle.virtiofsd_fuse.specs.Grammar.{Meaning, Asks, FileCommand, Given, ended, given}
-use Rattle.virtiofsd_fuse.specs.Serving.{Setting, setting, served, Served, no_reply}
+use Rattle.virtiofsd_fuse.specs.Serving.{Setting, setting, served, ServedMessage, no_reply}
 use Rattle.server_phases.specs.declared.waiting.Waiting.{Waiting}
-use Rattle.server_phases.specs.declared.asking.Asked.{Asked}
-use Rattle.server_phases.specs.declared.asking.Asked.TheVariants as asked
+use Rattle.server_phases.specs.declared.asking.DecodedRequest.{DecodedRequest}
+use Rattle.server_phases.specs.declared.asking.DecodedRequest.TheVariants as asked
 use Rattle.server_phases.specs.declared.asking.AskedFront.{AskedFront}
 use Rattle.server_phases.specs.declared.asking.AskedFront.TheVariants as asked_front
 use Rattle.server_phases.specs.Waiting.{WaitsFor, first_call}
@@ -31,37 +31,37 @@ AsksCall s m bytes made w =
     (command : FileCommand) × (m ≡ Asks command) × (call_of bytes made ≡ first_call command) × TellsData bytes made × WaitsFor w command × (w.room ≡ s.room)
 
 -- no call is made, and this is the reply
-abbrev pub all_reply : (options : ℕ) → List ℕ → Served
+abbrev pub all_reply : (options : ℕ) → List ℕ → ServedMessage
 all_reply options reply = record { calls = []; options = options; reply = reply; fault = None }
 
 -- what is told of a request with this meaning: its call, or what it is served without one
-abbrev pub IsTold : Setting → Meaning → (bytes : List ℕ) → Asked → Type 0
-IsTold s m bytes (asked.Call made w) = AsksCall s m bytes made w
-IsTold s m bytes (asked.Reply reply) = (served s m [] ≡ all_reply s.options reply) × (0 < length reply)
-IsTold s m bytes asked.Silence = served s m [] ≡ all_reply s.options []
-IsTold s m bytes (asked.Fault e) = served s m [] ≡ no_reply [] s.options (Some e)
+abbrev pub IsDecoded : Setting → Meaning → (bytes : List ℕ) → DecodedRequest → Type 0
+IsDecoded s m bytes (asked.Call made w) = AsksCall s m bytes made w
+IsDecoded s m bytes (asked.Reply reply) = (served s m [] ≡ all_reply s.options reply) × (0 < length reply)
+IsDecoded s m bytes asked.Silence = served s m [] ≡ all_reply s.options []
+IsDecoded s m bytes (asked.Fault e) = served s m [] ≡ no_reply [] s.options (Some e)
 
 -- what is kept of a call that is told names this one
-abbrev pub IsAskedBy : Context → Asked → Type 0
+abbrev pub IsAskedBy : Context → DecodedRequest → Type 0
 IsAskedBy who (asked.Call made w) = w.context ≡ who
 IsAskedBy who asked = Unit {0}
 
 -- it names who sent the request (struct fuse_in_header: uid, gid, pid)
-abbrev pub HasAsker : (request : List ℕ) → Asked → Type 0
+abbrev pub HasAsker : (request : List ℕ) → DecodedRequest → Type 0
 HasAsker request asked = (h : InHeader) (more : List ℕ) → reading_of in_header request ≡ Ok (h, more) → IsAskedBy (context_of h) asked
 
 -- what is told of a reply without a call: it has room, or it is a fault
-abbrev pub told_reply : (room : ℕ) → List ℕ → Asked
+abbrev pub told_reply : (room : ℕ) → List ℕ → DecodedRequest
 told_reply room reply = if nat_lt room (length reply) then asked.Fault EncodeMessage else asked.Reply reply
 
 -- a row of the grammar is told so, of a request whose header is this one; bytes: those behind the header
-abbrev pub IsRowTold : (page_size options : ℕ) → InHeader → (room : ℕ) → (Given → Reading Meaning) → (bytes : List ℕ) → Asked → Type 0
+abbrev pub IsRowTold : (page_size options : ℕ) → InHeader → (room : ℕ) → (Given → Reading Meaning) → (bytes : List ℕ) → DecodedRequest → Type 0
 IsRowTold page_size options h room row bytes asked =
-    IsTold (setting page_size options room) (ended h.unique (row (given h options room) bytes)) (drop 40 bytes) asked
+    IsDecoded (setting page_size options room) (ended h.unique (row (given h options room) bytes)) (drop 40 bytes) asked
 
 -- the first bytes of a request
-abbrev pub IsFront : (front request : List ℕ) → Type 0
-IsFront front request = take (length front) request ≡ front
+abbrev pub IsRequestFront : (front request : List ℕ) → Type 0
+IsRequestFront front request = take (length front) request ≡ front
 
 -- whether the first bytes of a request of so many tell what it asks: all of them do, and of a WRITE those before its data
 abbrev pub front_tells : (front : List ℕ) → (len : ℕ) → Bool
@@ -74,7 +74,7 @@ is_told asked_front.More = false
 
 -- what is told by the first bytes of a request with this meaning
 abbrev pub IsToldByFront : Setting → Meaning → (bytes : List ℕ) → AskedFront → Type 0
-IsToldByFront s m bytes (asked_front.Told asked) = IsTold s m bytes asked
+IsToldByFront s m bytes (asked_front.Told asked) = IsDecoded s m bytes asked
 IsToldByFront s m bytes asked_front.More = Unit {0}
 
 -- what is kept of a call that they tell names who sent the request

@@ -6,7 +6,7 @@ use Rattle.server_replies.specs.Entries.{entry_len, entry_bytes, is_dot, no_node
 use Rattle.server_replies.specs.WholeReplies.{listing_bytes}
 use Rattle.virtiofsd_fuse.specs.Grammar.{FileCommand, Lists}
 use Rattle.virtiofsd_fuse.specs.Listings.{undo_call}
-use Rattle.virtiofsd_fuse.specs.Serving.{Served, Setting, commanded}
+use Rattle.virtiofsd_fuse.specs.Serving.{ServedMessage, Setting, commanded}
 use Rattle.server_phases.specs.declared.listing.Listing.{Listing}
 use Rattle.server_phases.specs.declared.listing.ListingReply.{ListingReply}
 use Rattle.server_phases.specs.declared.listing.NotAdded.{NotAdded}
@@ -131,5 +131,5 @@ abbrev pub StaysBut : (old new : Listing) → Type 0
 StaysBut old new = (new.unique ≡ old.unique) × (new.with_nodes ≡ old.with_nodes) × (new.size ≡ old.size) × (new.room ≡ old.room)
 
 -- these calls were made, and this is the reply, of which so many bytes stand in the list
-abbrev pub served_list : List FileCall → (options : ℕ) → ListingReply → (list : List ℕ) → Served
+abbrev pub served_list : List FileCall → (options : ℕ) → ListingReply → (list : List ℕ) → ServedMessage
 served_list calls options reply list = record { calls = calls; options = options; reply = reply.front ++ take reply.len list; fault = None }

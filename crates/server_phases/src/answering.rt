@@ -36,7 +36,7 @@ pub struct Answered {
 
 /// Why an answer is refused: it changes nothing.
 #[derive(Clone, Copy, Debug, PartialEq, Eq)]
-pub enum Refused {
+pub enum AnswerRefusal {
     /// The call waits for another kind of answer, or for no error, or for less data.
     OtherKind,
     /// The reply has room, but 2^32 bytes or more, which its header can't tell.
@@ -46,7 +46,7 @@ pub enum Refused {
 /// An answer that is refused.
 #[derive(Debug, Drop)]
 pub struct RefusedAnswer {
-    pub why: Refused,
+    pub why: AnswerRefusal,
     /// The request, which waits still.
     pub waiting: Waiting,
 }

@@ -12,7 +12,7 @@ ghost use Rattle.virtiofsd_fuse.specs.DataApart.{begins_a_write, is_write};
 ghost use Rattle.virtiofsd_fuse.specs.Grammar.{Meaning, Replies, Asks, One, Starts, Lists, given, ended, known_options, meant, meaning, write_row};
 ghost use Rattle.virtiofsd_fuse.specs.Listings.{listing_of};
 ghost use Rattle.virtiofsd_fuse.specs.Serving.{Setting, setting};
-ghost use Rattle.server_phases.specs.Asking.{IsTold, IsAskedBy, HasAsker, TellsData, IsFront, BeginsRecord, told_reply};
+ghost use Rattle.server_phases.specs.Asking.{IsDecoded, IsAskedBy, HasAsker, TellsData, IsRequestFront, BeginsRecord, told_reply};
 
 use crate::waiting::{Awaits, Waiting, awaits_of};
 use bitflags::Flags;
@@ -34,7 +34,7 @@ pub(crate) const WRITE_IN_LEN: usize = 40;
 
 /// What a request asks.
 #[derive(Drop)]
-pub enum Asked<'a> {
+pub enum DecodedRequest<'a> {
     /// This call, whose answer is waited for.
     Call(FileCall<'a>, Waiting),
     /// No call; this is the reply.
@@ -49,35 +49,35 @@ pub enum Asked<'a> {
 #[derive(Drop)]
 pub enum AskedFront<'a> {
     /// What the request asks.
-    Told(Asked<'a>),
+    Told(DecodedRequest<'a>),
     /// Nothing yet: all of the request's bytes are wanted.
     More,
 }
 
 /// An immediate reply, if it has room.
-pub(crate) fn replied<'a>(room: usize, reply: Front) -> Asked<'a>
+pub(crate) fn replied<'a>(room: usize, reply: Front) -> DecodedRequest<'a>
     ensures { result ≡ told_reply room reply }
 {
     if room < reply.bytes().len() {
-        Asked::Fault(Error::EncodeMessage)
+        DecodedRequest::Fault(Error::EncodeMessage)
     } else {
-        Asked::Reply(reply)
+        DecodedRequest::Reply(reply)
     }
 }
 
 /// The reply of an error, if it has room.
-pub(crate) fn refused<'a>(head: &InHeader, error: Errno, room: usize) -> Asked<'a>
-    ensures told { (page_size options : ℕ) (m : Meaning) (bytes : List ℕ) → m ≡ Replies (error_bytes head.now.unique error) → IsTold (setting page_size options room) m bytes result }
+pub(crate) fn refused<'a>(head: &InHeader, error: Errno, room: usize) -> DecodedRequest<'a>
+    ensures told { (page_size options : ℕ) (m : Meaning) (bytes : List ℕ) → m ≡ Replies (error_bytes head.now.unique error) → IsDecoded (setting page_size options room) m bytes result }
     ensures asker { IsAskedBy (context_of head.now) result }
 {
     replied(room, Front::error(head.unique, error))
 }
 
 /// A READ that has room for the header of its reply.
-pub(crate) fn read_asked<'a>(head: &InHeader, request: &ReadIn, room: usize) -> Asked<'a>
+pub(crate) fn read_asked<'a>(head: &InHeader, request: &ReadIn, room: usize) -> DecodedRequest<'a>
     requires { 16 ≤ room }
     ensures told { (page_size options : ℕ) (bytes : List ℕ)
-        → IsTold (setting page_size options room) (Asks (One head.now.unique (read_call head.now (room - 16) request.now))) bytes result }
+        → IsDecoded (setting page_size options room) (Asks (One head.now.unique (read_call head.now (room - 16) request.now))) bytes result }
     ensures asker { IsAskedBy (context_of head.now) result }
 {
     let most = room - OUT_HEADER_LEN;
@@ -87,7 +87,7 @@ pub(crate) fn read_asked<'a>(head: &InHeader, request: &ReadIn, room: usize) -> 
         awaits: Awaits::FileBytes { most },
         room,
     };
-    Asked::Call(read_value(head, request, most), waiting)
+    DecodedRequest::Call(read_value(head, request, most), waiting)
 }
 
 // The call of a READ that has room for so many bytes.
@@ -113,11 +113,11 @@ pub(crate) fn entries_asked<'a>(
     request: &ReadIn,
     with_nodes: bool,
     room: usize,
-) -> Asked<'a>
+) -> DecodedRequest<'a>
     requires size { request.now.size ≤ 2 ^ 20 }
     requires enough { 16 ≤ room }
     ensures told { (page_size options : ℕ) (bytes : List ℕ)
-        → IsTold (setting page_size options room) (Asks (Lists head.now.unique (listing_of with_nodes head.now request.now))) bytes result }
+        → IsDecoded (setting page_size options room) (Asks (Lists head.now.unique (listing_of with_nodes head.now request.now))) bytes result }
     ensures asker { IsAskedBy (context_of head.now) result }
 {
     let context = Context::from(*head);
@@ -133,7 +133,7 @@ pub(crate) fn entries_asked<'a>(
         size: request.size,
     };
     let unique = head.unique;
-    Asked::Call(
+    DecodedRequest::Call(
         call,
         Waiting {
             unique,
@@ -145,9 +145,9 @@ pub(crate) fn entries_asked<'a>(
 }
 
 // WRITE, by its record; so many bytes of data stand behind it.
-fn write_asked<'a>(head: &InHeader, request: &WriteIn, len: usize, room: usize) -> Asked<'a>
+fn write_asked<'a>(head: &InHeader, request: &WriteIn, len: usize, room: usize) -> DecodedRequest<'a>
     ensures told { (page_size options : ℕ) (bytes : List ℕ) → len ≡ length bytes
-        → IsTold (setting page_size options room) (Asks (One head.now.unique (write_call head.now request.now bytes))) bytes result }
+        → IsDecoded (setting page_size options room) (Asks (One head.now.unique (write_call head.now request.now bytes))) bytes result }
     ensures asker { IsAskedBy (context_of head.now) result }
 {
     let waiting = Waiting {
@@ -156,7 +156,7 @@ fn write_asked<'a>(head: &InHeader, request: &WriteIn, len: usize, room: usize) 
         awaits: Awaits::Written,
         room,
     };
-    Asked::Call(write_value(head, request, len), waiting)
+    DecodedRequest::Call(write_value(head, request, len), waiting)
 }
 
 // The call of a WRITE of so many bytes.
@@ -180,9 +180,9 @@ fn write_value<'a>(head: &InHeader, request: &WriteIn, len: usize) -> FileCall<'
 }
 
 /// One call, which waits for its answer.
-pub(crate) fn called<'a>(head: &InHeader, made: FileCall<'a>, room: usize) -> Asked<'a>
+pub(crate) fn called<'a>(head: &InHeader, made: FileCall<'a>, room: usize) -> DecodedRequest<'a>
     ensures told { (s : Setting) (m : Meaning) (bytes : List ℕ) (c : call.FileCall) → s.room ≡ room → m ≡ Asks (One head.now.unique c) → CallSays head.now c
-        → call_of [] made.entry ≡ c → IsTold s m bytes result }
+        → call_of [] made.entry ≡ c → IsDecoded s m bytes result }
     ensures asker { IsAskedBy (context_of head.now) result }
 {
     let awaits = awaits_of(&made);
@@ -192,13 +192,13 @@ pub(crate) fn called<'a>(head: &InHeader, made: FileCall<'a>, room: usize) -> As
         awaits,
         room,
     };
-    Asked::Call(made, waiting)
+    DecodedRequest::Call(made, waiting)
 }
 
 /// BATCH_FORGET: a call whose pairs are these bytes.
-pub(crate) fn pairs_asked<'a>(head: &InHeader, counts: &'a [u8], room: usize) -> Asked<'a>
+pub(crate) fn pairs_asked<'a>(head: &InHeader, counts: &'a [u8], room: usize) -> DecodedRequest<'a>
     ensures told { (page_size options : ℕ) (m : Meaning) (bytes : List ℕ) → length counts.now ≡ 16 * length (pairs_in counts.now)
-        → m ≡ Asks (One head.now.unique (batch_forget_call head.now (pairs_in counts.now))) → IsTold (setting page_size options room) m bytes result }
+        → m ≡ Asks (One head.now.unique (batch_forget_call head.now (pairs_in counts.now))) → IsDecoded (setting page_size options room) m bytes result }
     ensures asker { IsAskedBy (context_of head.now) result }
 {
     let context = Context::from(*head);
@@ -208,7 +208,7 @@ pub(crate) fn pairs_asked<'a>(head: &InHeader, counts: &'a [u8], room: usize) ->
         awaits: Awaits::Forgotten,
         room,
     };
-    Asked::Call(FileCall::BatchForget { context, counts }, waiting)
+    DecodedRequest::Call(FileCall::BatchForget { context, counts }, waiting)
 }
 
 /// The call of an INIT, whose client reads `readahead` bytes ahead.
@@ -217,9 +217,9 @@ pub(crate) fn init_asked<'a>(
     capable: FsOptions,
     readahead: u32,
     room: usize,
-) -> Asked<'a>
+) -> DecodedRequest<'a>
     requires { bit_and capable.0 known_options ≡ capable.0 }
-    ensures told { (s : Setting) (m : Meaning) (bytes : List ℕ) → s.room ≡ room → m ≡ Asks (Starts head.now.unique capable.0 readahead) → IsTold s m bytes result }
+    ensures told { (s : Setting) (m : Meaning) (bytes : List ℕ) → s.room ≡ room → m ≡ Asks (Starts head.now.unique capable.0 readahead) → IsDecoded s m bytes result }
     ensures asker { IsAskedBy (context_of head.now) result }
 {
     let waiting = Waiting {
@@ -231,7 +231,7 @@ pub(crate) fn init_asked<'a>(
         },
         room,
     };
-    Asked::Call(FileCall::Init { capable }, waiting)
+    DecodedRequest::Call(FileCall::Init { capable }, waiting)
 }
 
 // WRITE: its record is read, behind which so many bytes of data stand, here or elsewhere.
@@ -240,15 +240,15 @@ pub(crate) fn ask_write_row<'a>(
     len: usize,
     room: usize,
     source: Flat<'a>,
-) -> Asked<'a>
+) -> DecodedRequest<'a>
     ensures told { (page_size options : ℕ) (bytes : List ℕ) → BeginsRecord source.entry.bytes.now bytes → len ≡ length (drop 40 bytes)
-        → IsTold (setting page_size options room) (ended head.now.unique (write_row (given head.now options room) bytes)) (drop 40 bytes) result }
+        → IsDecoded (setting page_size options room) (ended head.now.unique (write_row (given head.now options room) bytes)) (drop 40 bytes) result }
     ensures asker { IsAskedBy (context_of head.now) result }
 {
     let mut source = source;
     match source.record() {
         Ok(request) => write_asked(head, &request, len, room),
-        Err(error) => Asked::Fault(error),
+        Err(error) => DecodedRequest::Fault(error),
     }
 }
 
@@ -271,26 +271,26 @@ pub(crate) fn begins_a_write(front: &[u8]) -> bool
 }
 
 /// What a WRITE asks, by its bytes before the data; it has `len` bytes in all.
-pub(crate) fn ask_write_front<'a>(front: &'a [u8], len: usize, room: usize) -> Asked<'a>
+pub(crate) fn ask_write_front<'a>(front: &'a [u8], len: usize, room: usize) -> DecodedRequest<'a>
     requires write { begins_a_write front.now ≡ true }
     requires front { 80 ≤ length front.now }
     requires len { 80 ≤ len }
-    ensures told { (page_size options : ℕ) (request : List ℕ) → len ≡ length request → IsFront front.now request
-        → IsTold (setting page_size options room) (meaning options request room) (drop 80 request) result }
-    ensures asker { (request : List ℕ) → IsFront front.now request → HasAsker request result }
+    ensures told { (page_size options : ℕ) (request : List ℕ) → len ≡ length request → IsRequestFront front.now request
+        → IsDecoded (setting page_size options room) (meaning options request room) (drop 80 request) result }
+    ensures asker { (request : List ℕ) → IsRequestFront front.now request → HasAsker request result }
 {
     let mut source = Flat { bytes: front };
     match source.record::<InHeader>() {
         Ok(head) => ask_write_head(&head, len - REQUEST_FRONT, room, source),
-        Err(error) => Asked::Fault(error),
+        Err(error) => DecodedRequest::Fault(error),
     }
 }
 
 // WRITE: its header is read.
-fn ask_write_head<'a>(head: &InHeader, len: usize, room: usize, source: Flat<'a>) -> Asked<'a>
+fn ask_write_head<'a>(head: &InHeader, len: usize, room: usize, source: Flat<'a>) -> DecodedRequest<'a>
     requires { is_write (opcode_of head.now.opcode) ≡ true }
     ensures told { (page_size options : ℕ) (bytes : List ℕ) → BeginsRecord source.entry.bytes.now bytes → len ≡ length (drop 40 bytes)
-        → IsTold (setting page_size options room) (meant (given head.now options room) bytes) (drop 40 bytes) result }
+        → IsDecoded (setting page_size options room) (meant (given head.now options room) bytes) (drop 40 bytes) result }
     ensures asker { IsAskedBy (context_of head.now) result }
 {
     if head.len > MAX_REQUEST_LEN {

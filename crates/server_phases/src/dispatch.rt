@@ -4,9 +4,9 @@ ghost use Rattle.std.specs.Prelude.{drop};
 ghost use Rattle.fuse_fs.specs.Answers.{context_of};
 ghost use Rattle.virtiofsd_fuse.specs.Grammar.{given, meant, row};
 ghost use Rattle.virtiofsd_fuse.specs.Serving.{setting};
-ghost use Rattle.server_phases.specs.Asking.{IsAskedBy, IsRowTold, IsTold};
+ghost use Rattle.server_phases.specs.Asking.{IsAskedBy, IsRowTold, IsDecoded};
 
-use crate::asking::{Asked, refused};
+use crate::asking::{DecodedRequest, refused};
 use crate::session::Session;
 use fuse_in::InHeader;
 use fuse_wire::{Errno, Opcode};
@@ -22,7 +22,7 @@ impl Session {
         head: &InHeader,
         room: usize,
         source: Flat<'a>,
-    ) -> Asked<'a>
+    ) -> DecodedRequest<'a>
         ensures told { IsRowTold self.now.page_size self.now.options.0 head.now room (λ g. row g opcode) source.entry.bytes.now result }
         ensures asker { IsAskedBy (context_of head.now) result }
     {
@@ -38,8 +38,8 @@ impl Session {
     }
 
     /// What a request asks whose header was read.
-    pub(crate) fn ask_head<'a>(&self, head: &InHeader, room: usize, source: Flat<'a>) -> Asked<'a>
-        ensures told { IsTold (setting self.now.page_size self.now.options.0 room)
+    pub(crate) fn ask_head<'a>(&self, head: &InHeader, room: usize, source: Flat<'a>) -> DecodedRequest<'a>
+        ensures told { IsDecoded (setting self.now.page_size self.now.options.0 room)
             (meant (given head.now self.now.options.0 room) source.entry.bytes.now) (drop 40 source.entry.bytes.now) result }
         ensures asker { IsAskedBy (context_of head.now) result }
     {

@@ -9,7 +9,7 @@ ghost use Rattle.server_phases.specs.Answering.{Gives, TellsBytes, takes, forget
 ghost use Rattle.server_phases.specs.Waiting.{WaitsFor, first_call};
 
 use crate::answering::{
-    Answered, Refused, RefusedAnswer, answered_without_data, data_answered, is_too_long,
+    Answered, AnswerRefusal, RefusedAnswer, answered_without_data, data_answered, is_too_long,
     placed_alone, suits,
 };
 use crate::session::Session;
@@ -150,13 +150,13 @@ impl Session {
     {
         if !suits(&waiting.awaits, &answer) {
             return Err(RefusedAnswer {
-                why: Refused::OtherKind,
+                why: AnswerRefusal::OtherKind,
                 waiting,
             });
         }
         if is_too_long(waiting.room, &answer) {
             return Err(RefusedAnswer {
-                why: Refused::TooLong,
+                why: AnswerRefusal::TooLong,
                 waiting,
             });
         }

@@ -12,7 +12,7 @@ ghost use Rattle.server_phases.specs.Gathering.{Brought, EndsList, FailsList, Ho
 ghost use Rattle.server_phases.specs.Gathering.{is_listing, bytes_of, all_bytes, all_found, entries_of, look_up, look_ups};
 ghost use Rattle.server_phases.specs.Waiting.{WaitsFor, first_call};
 
-use crate::answering::{Refused, RefusedAnswer};
+use crate::answering::{AnswerRefusal, RefusedAnswer};
 use crate::entries::{node_front, put_entry};
 use crate::listing::{Listing, ListingReply, NotAdded};
 use crate::waiting::{Awaits, Waiting};
@@ -63,7 +63,7 @@ impl Listing {
         ensures empty { IfOk result (λ l. l.len ≡ 0) }
         ensures taken { OnOk result ((command : FileCommand) → WaitsFor waiting command → is_listing command ≡ true) }
         ensures refused { OnErr result ((command : FileCommand) → WaitsFor waiting command → is_listing command ≡ false) }
-        ensures given_back { IfErr result (λ r. (r.why ≡ Refused.OtherKind) × (r.waiting ≡ waiting)) }
+        ensures given_back { IfErr result (λ r. (r.why ≡ AnswerRefusal.OtherKind) × (r.waiting ≡ waiting)) }
     {
         match waiting.awaits {
             Awaits::Entries { with_nodes, size } => Ok(Listing {
@@ -74,7 +74,7 @@ impl Listing {
                 len: 0,
             }),
             _ => Err(RefusedAnswer {
-                why: Refused::OtherKind,
+                why: AnswerRefusal::OtherKind,
                 waiting,
             }),
         }

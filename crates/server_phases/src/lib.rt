@@ -12,8 +12,8 @@ mod rows;
 mod session;
 mod waiting;
 
-pub use answering::{Answered, Refused, RefusedAnswer, Sent};
-pub use asking::{Asked, AskedFront};
+pub use answering::{Answered, AnswerRefusal, RefusedAnswer, Sent};
+pub use asking::{DecodedRequest, AskedFront};
 pub use listing::{Listing, ListingReply, NotAdded};
 pub use server_replies::fronts::Front;
 pub use session::Session;

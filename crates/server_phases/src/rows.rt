@@ -5,10 +5,10 @@ ghost use Rattle.fuse_fs.specs.Answers.{context_of};
 ghost use Rattle.virtiofsd_fuse.specs.Grammar.{row, forgets_asked, batch_forget_row, init_row, listing_row, read_row, write_row, ended, given};
 ghost use Rattle.virtiofsd_fuse.specs.RowMeanings.{is_single};
 ghost use Rattle.virtiofsd_fuse.specs.Serving.{setting};
-ghost use Rattle.server_phases.specs.Asking.{IsAskedBy, IsRowTold, IsTold};
+ghost use Rattle.server_phases.specs.Asking.{IsAskedBy, IsRowTold, IsDecoded};
 
 use crate::asking::{
-    Asked, WRITE_IN_LEN, ask_write_row, called, entries_asked, init_asked, pairs_asked, read_asked,
+    DecodedRequest, WRITE_IN_LEN, ask_write_row, called, entries_asked, init_asked, pairs_asked, read_asked,
     refused, replied,
 };
 use crate::session::Session;
@@ -30,7 +30,7 @@ impl Session {
         head: &InHeader,
         room: usize,
         source: Flat<'a>,
-    ) -> Asked<'a>
+    ) -> DecodedRequest<'a>
         requires { is_single opcode ≡ true }
         ensures told { IsRowTold self.now.page_size self.now.options.0 head.now room (λ g. row g opcode) source.entry.bytes.now result }
         ensures asker { IsAskedBy (context_of head.now) result }
@@ -38,21 +38,21 @@ impl Session {
         match row_meaning(opcode, head, self.options, source) {
             RequestMeaning::Call(call) => called(head, call, room),
             RequestMeaning::Error(error) => refused(head, error, room),
-            RequestMeaning::Silence => Asked::Silence,
-            RequestMeaning::Fault(error) => Asked::Fault(error),
+            RequestMeaning::Silence => DecodedRequest::Silence,
+            RequestMeaning::Fault(error) => DecodedRequest::Fault(error),
         }
     }
 
     // BATCH_FORGET, by how many pairs it says.
-    fn ask_pairs<'a>(&self, head: &InHeader, count: u32, room: usize, source: Flat<'a>) -> Asked<'a>
+    fn ask_pairs<'a>(&self, head: &InHeader, count: u32, room: usize, source: Flat<'a>) -> DecodedRequest<'a>
         requires { count ≤ 65536 }
-        ensures told { (bytes : List ℕ) → IsTold (setting self.now.page_size self.now.options.0 room)
+        ensures told { (bytes : List ℕ) → IsDecoded (setting self.now.page_size self.now.options.0 room)
             (ended head.now.unique (forgets_asked count (given head.now self.now.options.0 room) source.entry.bytes.now)) bytes result }
         ensures asker { IsAskedBy (context_of head.now) result }
     {
         match source.pairs(count) {
             Ok(counts) => pairs_asked(head, counts, room),
-            Err(error) => Asked::Fault(error),
+            Err(error) => DecodedRequest::Fault(error),
         }
     }
 
@@ -62,7 +62,7 @@ impl Session {
         head: &InHeader,
         room: usize,
         source: Flat<'a>,
-    ) -> Asked<'a>
+    ) -> DecodedRequest<'a>
         ensures told { IsRowTold self.now.page_size self.now.options.0 head.now room batch_forget_row source.entry.bytes.now result }
         ensures asker { IsAskedBy (context_of head.now) result }
     {
@@ -70,18 +70,18 @@ impl Session {
         match forgets_meaning(&mut source) {
             ForgetsMeaning::Pairs(count) => self.ask_pairs(head, count, room, source),
             ForgetsMeaning::Error(error) => refused(head, error, room),
-            ForgetsMeaning::Fault(error) => Asked::Fault(error),
+            ForgetsMeaning::Fault(error) => DecodedRequest::Fault(error),
         }
     }
 
     /// READ.
-    pub(crate) fn ask_read<'a>(&self, head: &InHeader, room: usize, source: Flat<'a>) -> Asked<'a>
+    pub(crate) fn ask_read<'a>(&self, head: &InHeader, room: usize, source: Flat<'a>) -> DecodedRequest<'a>
         ensures told { IsRowTold self.now.page_size self.now.options.0 head.now room read_row source.entry.bytes.now result }
         ensures asker { IsAskedBy (context_of head.now) result }
     {
         match read_with_room(room, source) {
             Ok(request) => read_asked(head, &request, room),
-            Err(error) => Asked::Fault(error),
+            Err(error) => DecodedRequest::Fault(error),
         }
     }
 
@@ -92,19 +92,19 @@ impl Session {
         with_nodes: bool,
         room: usize,
         source: Flat<'a>,
-    ) -> Asked<'a>
+    ) -> DecodedRequest<'a>
         ensures told { IsRowTold self.now.page_size self.now.options.0 head.now room (listing_row with_nodes) source.entry.bytes.now result }
         ensures asker { IsAskedBy (context_of head.now) result }
     {
         match listing_meaning(room, source) {
             ListingMeaning::List(request) => entries_asked(head, &request, with_nodes, room),
             ListingMeaning::Error(error) => refused(head, error, room),
-            ListingMeaning::Fault(error) => Asked::Fault(error),
+            ListingMeaning::Fault(error) => DecodedRequest::Fault(error),
         }
     }
 
     /// INIT.
-    pub(crate) fn ask_init<'a>(&self, head: &InHeader, room: usize, source: Flat<'a>) -> Asked<'a>
+    pub(crate) fn ask_init<'a>(&self, head: &InHeader, room: usize, source: Flat<'a>) -> DecodedRequest<'a>
         ensures told { IsRowTold self.now.page_size self.now.options.0 head.now room init_row source.entry.bytes.now result }
         ensures asker { IsAskedBy (context_of head.now) result }
     {
@@ -112,12 +112,12 @@ impl Session {
             InitMeaning::Start { capable, readahead } => init_asked(head, capable, readahead, room),
             InitMeaning::Versions => replied(room, Front::reply(head.unique, &versions())),
             InitMeaning::Error(error) => refused(head, error, room),
-            InitMeaning::Fault(error) => Asked::Fault(error),
+            InitMeaning::Fault(error) => DecodedRequest::Fault(error),
         }
     }
 
     /// WRITE, whose data stands behind its record.
-    pub(crate) fn ask_write<'a>(&self, head: &InHeader, room: usize, source: Flat<'a>) -> Asked<'a>
+    pub(crate) fn ask_write<'a>(&self, head: &InHeader, room: usize, source: Flat<'a>) -> DecodedRequest<'a>
         ensures told { IsRowTold self.now.page_size self.now.options.0 head.now room write_row source.entry.bytes.now result }
         ensures asker { IsAskedBy (context_of head.now) result }
     {

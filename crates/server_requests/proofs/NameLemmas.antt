@@ -9,7 +9,7 @@ use Rattle.std.proofs.lemmas.Bool.Decides.{nat_tests}
 use Rattle.std.proofs.lemmas.List.{take_at, take_all, length-drop}
 use Rattle.server_segments.specs.declared.error.Error.TheVariants.{InvalidCString, DecodeMessage, InvalidHeaderLength, InvalidXattrSize, MissingParameter}
 use Rattle.server_segments.specs.declared.error.Error.{Error}
-use Rattle.fuse_in.specs.Shapes.{Shape}
+use Rattle.fuse_in.specs.Shapes.{RecordShape}
 use Rattle.server_requests.specs.Reading.{Read, ReadFailure, Faults, and_then, at_zero, before_zero, last_name, two_names, name_and_value, front_name, value_of, reading_of}
 use Rattle.vm_values.specs.Bits.{has_bit}
 use Rattle.fuse_in.specs.declared.nodes.SetxattrIn.{SetxattrIn}
@@ -189,17 +189,17 @@ with_value : {R : Type 0} → (r : R) (x : Read (List ℕ)) → value_of (and_th
 with_value r (Ok b) = refl
 with_value r (Err e) = refl
 
-pub with_both : {R : Type 0} → (s : Shape R) (k len : ℕ) (all more bytes : List ℕ) (r : R) → Ok (r, more) ≡ reading_of s all → Ok bytes ≡ value_of (counted len k more)
+pub with_both : {R : Type 0} → (s : RecordShape R) (k len : ℕ) (all more bytes : List ℕ) (r : R) → Ok (r, more) ≡ reading_of s all → Ok bytes ≡ value_of (counted len k more)
     → Ok (r, bytes) ≡ value_of (with_bytes s k len all)
 unfolding with_bytes
 with_both s k len all more bytes r e h = sym (rw (← e) (with_value r (counted len k more) ∙ ap (paired r) (sym h)))
 
-pub with_few : {R : Type 0} → (s : Shape R) (k len : ℕ) (all more : List ℕ) (r : R) (f : Error) → Ok (r, more) ≡ reading_of s all → Err (Faults f) ≡ value_of (counted len k more)
+pub with_few : {R : Type 0} → (s : RecordShape R) (k len : ℕ) (all more : List ℕ) (r : R) (f : Error) → Ok (r, more) ≡ reading_of s all → Err (Faults f) ≡ value_of (counted len k more)
     → Err (Faults f) ≡ value_of (with_bytes s k len all)
 unfolding with_bytes
 with_few s k len all more r f e h = sym (rw (← e) (with_value r (counted len k more) ∙ ap (paired r) (sym h)))
 
-pub with_short : {R : Type 0} → (s : Shape R) (k len : ℕ) (all : List ℕ) (f : Error) → Err (Faults f) ≡ reading_of s all → Err (Faults f) ≡ value_of (with_bytes s k len all)
+pub with_short : {R : Type 0} → (s : RecordShape R) (k len : ℕ) (all : List ℕ) (f : Error) → Err (Faults f) ≡ reading_of s all → Err (Faults f) ≡ value_of (with_bytes s k len all)
 unfolding with_bytes
 with_short s k len all f e = sym (rw (← e) refl)
 

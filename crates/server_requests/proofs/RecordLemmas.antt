@@ -7,7 +7,7 @@ use Rattle.std.proofs.lemmas.List.{take_at, drop_at}
 use Rattle.std.proofs.lemmas.Nat.{from_le_bytes-to_le_bytes_2, from_le_bytes-to_le_bytes_4, from_le_bytes-to_le_bytes_8}
 use Rattle.vm_values.specs.Fields.{Field, field_bytes, Fits, AllFit, spelled}
 use Rattle.vm_values.specs.UniqueProof.{then_is}
-use Rattle.fuse_in.specs.Shapes.{RecordPart, u16, u32, u64, u32s, Said, size_of, numbers, said, MakesOf, size, made, AllSaid, field_of, fields_of, made_of, Shape, fields_by}
+use Rattle.fuse_in.specs.Shapes.{RecordPart, u16, u32, u64, u32s, Said, size_of, numbers, said, MakesOf, size, made, AllSaid, field_of, fields_of, made_of, RecordShape, fields_by}
 use Rattle.server_segments.specs.declared.error.Error.TheVariants.{DecodeMessage}
 use Rattle.server_requests.specs.Reading.{Faults, reading_of}
 
@@ -62,7 +62,7 @@ made_is (p ∷ ps) make xs h =
     ∙ made_is ps (make xs.0) xs.1 h.1
 
 -- where the bytes of a record stand in front, it is read; the law is that of the trait `InRecord`
-pub read_front : {R : Type 0} → (s : Shape R) (fields : R → List Field) (n : ℕ)
+pub read_front : {R : Type 0} → (s : RecordShape R) (fields : R → List Field) (n : ℕ)
     → ((x : R) → fields_by s x ≡ fields x) × ((x : R) → made_of s.parts s.make (s.says x) ≡ x) × (size s.parts ≡ n)
     → (x : R) (all more : List ℕ) → all ≡ spelled (fields x) ++ more → AllFit (fields x) → Ok (x, more) ≡ reading_of s all
 unfolding reading_of
@@ -76,7 +76,7 @@ read_front s fields n law x all more e h =
     rw (all_is, le-ltb (length (b ++ more)) (size s.parts) enough, take_at b more (size s.parts) l, drop_at b more (size s.parts) l, same) refl
 
 -- too few bytes are no record
-pub read_short : {R : Type 0} → (s : Shape R) (fields : R → List Field) (n : ℕ)
+pub read_short : {R : Type 0} → (s : RecordShape R) (fields : R → List Field) (n : ℕ)
     → ((x : R) → fields_by s x ≡ fields x) × ((x : R) → made_of s.parts s.make (s.says x) ≡ x) × (size s.parts ≡ n)
     → (all : List ℕ) → length all < n → Err (Faults DecodeMessage) ≡ reading_of s all
 unfolding reading_of

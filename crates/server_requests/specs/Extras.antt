@@ -1,7 +1,7 @@
 -- The extensions after the names of a request that makes a node (struct fuse_ext_header, fuse_secctx and fuse_supp_groups of linux/fuse.h).
 use Rattle.std.specs.Prelude.{ℕ, zero, suc, ◌-◌, Bool, true, false, not, ◌&&◌, ◌||◌, ◌==◌, nat_le, nat_lt, List, [], ◌∷◌, length, Option, Some, None, Ok, Err, Result, if◌then◌else◌, is_none}
 use Rattle.vm_values.specs.Bits.{has_bit}
-use Rattle.fuse_in.specs.Shapes.{Shape, u32, ◌&◌, end}
+use Rattle.fuse_in.specs.Shapes.{RecordShape, u32, ◌&◌, end}
 use Rattle.fuse_wire.specs.Records.{ext_header, secctx, supp_groups}
 use Rattle.fuse_fs.specs.Calls.{SecurityContext, Extra, NewLink}
 use Rattle.server_segments.specs.declared.error.Error.TheVariants.{DecodeMessage, MissingParameter, MissingExtension, InvalidHeaderLength, InvalidCString}
@@ -18,17 +18,17 @@ abbrev pub takes_group : ℕ → Bool
 takes_group options = has_bit options 34
 
 -- what has come so far: whether a context was sent, perhaps an empty one, and the parts
-pub record Sent : Type 0 where
+pub record SentParts : Type 0 where
   pub was_sent : Bool
   pub security : Option SecurityContext
   pub group : Option ℕ
 
 -- before the first extension
-abbrev pub nothing_sent : Sent
+abbrev pub nothing_sent : SentParts
 nothing_sent = record { was_sent = false; security = None; group = None }
 
 -- what has come, where it stands
-abbrev pub sent_of : SoFar → Sent
+abbrev pub sent_of : SoFar → SentParts
 sent_of s = let parts = received_extra s.received in record { was_sent = s.was_sent; security = parts.security; group = parts.group }
 
 -- a context that isn't empty: its name and its label
@@ -39,7 +39,7 @@ security_context =
     name_or DecodeMessage >>= λ name. exactly head.size >>= λ label. give (record { name = name; label = label }))
 
 -- a group's number
-abbrev pub group_number : Shape ℕ
+abbrev pub group_number : RecordShape ℕ
 group_number = record { parts = u32 ∷ []; make = λ n. n; says = λ n. n & end }
 
 -- one group
@@ -47,43 +47,43 @@ unfoldable pub one_group : Reading ℕ
 one_group = reading_of supp_groups >>= λ head. needs (head.nr_groups == 1) (Faults DecodeMessage) >> reading_of group_number
 
 -- a context, of which kind 0 is empty
-abbrev pub security_part : ℕ → Sent → ℕ → Reading Sent
+abbrev pub security_part : ℕ → SentParts → ℕ → Reading SentParts
 security_part options sent kind =
     needs (takes_security options && not sent.was_sent && nat_le kind 1) (Faults DecodeMessage)
     >> (if kind == 0 then give (record { was_sent = true; security = sent.security; group = sent.group })
     else (security_context >>= λ x. give (record { was_sent = true; security = Some x; group = sent.group })))
 
 -- a group
-abbrev pub group_part : ℕ → Sent → Reading Sent
+abbrev pub group_part : ℕ → SentParts → Reading SentParts
 group_part options sent =
     needs (takes_group options && is_none sent.group) (Faults DecodeMessage)
     >> one_group >>= λ group. give (record { was_sent = sent.was_sent; security = sent.security; group = Some group })
 
 -- what an extension's body says, by its kind
-unfoldable pub part : ℕ → Sent → ℕ → Reading Sent
+unfoldable pub part : ℕ → SentParts → ℕ → Reading SentParts
 part options sent kind =
     if nat_lt 32 kind then refuse (Faults DecodeMessage)
     else if kind == 32 then group_part options sent
     else security_part options sent kind
 
 -- one extension; what its body has besides is ignored
-unfoldable pub extension : ℕ → Sent → Reading Sent
+unfoldable pub extension : ℕ → SentParts → Reading SentParts
 extension options sent =
     reading_of ext_header >>= λ head. needs (nat_le 8 head.size) (Faults InvalidHeaderLength) >> exactly (head.size - 8) >>= λ body.
     within body (part options sent head.ext_type)
 
 -- one after the other until the bytes end; there are no more of them than bytes
-unfoldable pub extensions : ℕ → ℕ → Sent → List ℕ → Result Sent ReadFailure
+unfoldable pub extensions : ℕ → ℕ → SentParts → List ℕ → Result SentParts ReadFailure
 extensions options n sent [] = Ok sent
 extensions options zero sent (b ∷ bytes) = Ok sent
 extensions options (suc n) sent (b ∷ bytes) = and_then (extension options sent (b ∷ bytes)) (λ x. extensions options n x.0 x.1)
 
 -- the parts as they came, without the mark that one was sent
-abbrev pub parts_of : Sent → Extra
+abbrev pub parts_of : SentParts → Extra
 parts_of sent = record { security = sent.security; group = sent.group }
 
 -- a context has to be sent where it is agreed, be it empty
-abbrev pub all_sent : ℕ → Sent → Result Extra ReadFailure
+abbrev pub all_sent : ℕ → SentParts → Result Extra ReadFailure
 all_sent options sent =
     if takes_security options && not sent.was_sent then Err (Faults MissingExtension)
     else Ok (parts_of sent)

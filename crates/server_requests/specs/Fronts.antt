@@ -4,7 +4,7 @@ use Rattle.vm_values.specs.Bits.{has_bit}
 use Rattle.fuse_in.specs.declared.session.InitInCompat.{InitInCompat}
 use Rattle.fuse_in.specs.declared.nodes.SetxattrIn.{SetxattrIn}
 use Rattle.fuse_in.specs.declared.nodes.SetxattrInCompat.{SetxattrInCompat}
-use Rattle.fuse_in.specs.Shapes.{Shape}
+use Rattle.fuse_in.specs.Shapes.{RecordShape}
 use Rattle.fuse_fs.specs.Lengths.{first, past}
 use Rattle.fuse_in.specs.Records.{init_in_ext, setxattr_in, setxattr_in_compat}
 use Rattle.fuse_wire.specs.Records.{forget_one}
@@ -24,7 +24,7 @@ abbrev pub counted_split : (len k : ℕ) → (segments : List ℕ) → Bool
 counted_split len k segments = is_split (len - 40 - k) (past k segments)
 
 -- a record of k bytes, and as many bytes as the header's length leaves after it
-unfoldable pub with_bytes : {R : Type 0} → Shape R → (k len : ℕ) → Reading (R × List ℕ)
+unfoldable pub with_bytes : {R : Type 0} → RecordShape R → (k len : ℕ) → Reading (R × List ℕ)
 with_bytes s k len = reading_of s >>= λ r. counted len k >>= λ bytes. give (r, bytes)
 
 -- how many bytes SETXATTR's record has: FUSE_SETXATTR_EXT (bit 29 of the options) decides

@@ -1,6 +1,6 @@
 -- Reading a request from its front, with the first refusal that is met.
 use Rattle.std.specs.Prelude.{ℕ, zero, suc, Bool, ◌==◌, nat_lt, List, [], ◌∷◌, length, take, drop, Option, Some, None, Result, Ok, Err, if◌then◌else◌, option_map, true, false}
-use Rattle.fuse_in.specs.Shapes.{Shape, size, made}
+use Rattle.fuse_in.specs.Shapes.{RecordShape, size, made}
 use Rattle.server_segments.specs.declared.error.Error.{Error}
 use Rattle.server_segments.specs.declared.error.Error.TheVariants.{DecodeMessage, InvalidCString, InvalidXattrSize, MissingParameter}
 
@@ -58,7 +58,7 @@ many zero p = give []
 many (suc n) p = p >>= λ x. many n p >>= λ xs. give (x ∷ xs)
 
 -- a record, part by part
-unfoldable pub reading_of : {R : Type 0} → Shape R → Reading R
+unfoldable pub reading_of : {R : Type 0} → RecordShape R → Reading R
 reading_of s = exactly (size s.parts) >>= λ bytes. give (made s.parts s.make bytes)
 
 -- a reading of these bytes alone, of which what is left is ignored

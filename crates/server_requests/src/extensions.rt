@@ -35,7 +35,7 @@ struct SoFar<'a> {
 
 // The same with one more extension, and the bytes after it.
 #[derive(Clone, Copy)]
-struct Progress<'a> {
+struct ParseProgress<'a> {
     sent: SoFar<'a>,
     rest: &'a [u8],
 }
@@ -223,7 +223,7 @@ fn extension<'a>(
     options: FsOptions,
     sent: SoFar<'a>,
     bytes: &'a [u8],
-) -> Result<Progress<'a>, Error>
+) -> Result<ParseProgress<'a>, Error>
     ensures reads { IfOk result (λ x. Ok (sent_of x.sent, x.rest.now) ≡ extension options.0 (sent_of sent.entry) bytes.now) }
     ensures fault { IfErr result (λ e. (Err (Faults e) ≡ extension options.0 (sent_of sent.entry) bytes.now) × (is_memory e ≡ false)) }
     ensures shorter { IfOk result (λ x. length x.rest.now < length bytes.now) }
@@ -239,7 +239,7 @@ fn extension<'a>(
             }
             let (body, rest) = head.rest.split_at(size);
             match part(options, sent, head.record.ext_type, body) {
-                Ok(sent) => Ok(Progress { sent, rest }),
+                Ok(sent) => Ok(ParseProgress { sent, rest }),
                 Err(error) => Err(error),
             }
         }
@@ -265,7 +265,7 @@ fn extensions<'a>(options: FsOptions, bytes: &'a [u8]) -> Result<SoFar<'a>, Erro
     ensures reads { outcome sent_of result ≡ extensions options.0 (length bytes.now) nothing_sent bytes.now }
     ensures fault { IfErr result (λ e. is_memory e ≡ false) }
 {
-    let mut progress = Progress {
+    let mut progress = ParseProgress {
         sent: nothing(),
         rest: bytes,
     };

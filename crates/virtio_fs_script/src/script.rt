@@ -3,7 +3,7 @@
 use crate::calls::FirstCalls;
 use crate::halt::Halt;
 use crate::line::parse;
-use crate::session::Session;
+use crate::session::ScriptSession;
 use std::alloc::Global;
 use std::cell::Cell;
 use std::io::{BufWriter, Read, Write};
@@ -37,7 +37,7 @@ fn read_script<R: Read>(alloc: Global, reader: &mut R) -> Result<Vec<u8>, Halt> 
 // Runs the line of this number. An empty one and a comment are skipped.
 fn run_line<W: Write>(
     alloc: Global,
-    session: &mut Session<'_>,
+    session: &mut ScriptSession<'_>,
     number: usize,
     text: &[u8],
     writer: &mut W,
@@ -54,7 +54,7 @@ fn run_line<W: Write>(
 // Runs each line in turn, up to the first that can't be run.
 fn run_lines<W: Write>(alloc: Global, script: &[u8], writer: &mut W) -> Result<(), Halt> {
     let log = Cell::new(FirstCalls::default());
-    let mut session = Session::new(alloc, &log);
+    let mut session = ScriptSession::new(alloc, &log);
     for (index, text) in script.split(|byte| *byte == b'\n').enumerate() {
         let number = index.saturating_add(1);
         run_line(alloc, &mut session, number, text, writer)?;

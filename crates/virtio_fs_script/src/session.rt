@@ -22,7 +22,7 @@ const MOST_QUEUES: usize = 64;
 
 /// The queues so far, and from the first other command on a guest whose device has them.
 #[derive(Drop)]
-pub(crate) struct Session<'a> {
+pub(crate) struct ScriptSession<'a> {
     alloc: Global,
     log: &'a Cell<FirstCalls>,
     queues: Vec<Queue>,
@@ -30,10 +30,10 @@ pub(crate) struct Session<'a> {
     ghost few: { length queues.items ≤ 64 },
 }
 
-impl<'a> Session<'a> {
+impl<'a> ScriptSession<'a> {
     /// No queue yet. What the file system is asked goes through the log.
-    pub fn new(alloc: Global, log: &'a Cell<FirstCalls>) -> Session<'a> {
-        Session {
+    pub fn new(alloc: Global, log: &'a Cell<FirstCalls>) -> ScriptSession<'a> {
+        ScriptSession {
             alloc,
             log,
             queues: Vec::new(alloc),

@@ -5,7 +5,7 @@ use Rattle.fuse_in.specs.declared.session.InHeader.{InHeader}
 use Rattle.fuse_fs.specs.Calls.{FileCall, BatchForget, Symlink, Mknod, Mkdir, Create}
 use Rattle.fuse_values.specs.declared.call.FileCall as made
 use Rattle.fuse_values.specs.Values.{call_of}
-use Rattle.server_calls.specs.Callers.{CallSays, Shape, Made, shape_of, is_plain, is_record}
+use Rattle.server_calls.specs.Callers.{CallSays, RequestShape, Made, shape_of, is_plain, is_record}
 use Rattle.server_calls.specs.Requests.{owns_memory}
 use Rattle.virtiofsd_fuse.specs.Grammar.{Meaning, Asks, One}
 use Rattle.virtiofsd_fuse.specs.RowMeanings.{Reads}
@@ -14,7 +14,7 @@ use Rattle.virtiofsd_fuse.specs.declared.meanings.RequestMeaning.TheVariants as 
 use Rattle.virtiofsd_fuse.proofs.Left.{owned_none}
 
 -- whether a node is made
-abbrev pub is_made : Shape → Bool
+abbrev pub is_made : RequestShape → Bool
 is_made Made = true
 is_made _ = false
 
@@ -26,7 +26,7 @@ owns_none (Mkdir c n name m u x) p s = absurd (cc)
 owns_none (Create c n name m k f u x) p s = absurd (cc)
 owns_none _ p s = refl
 
-pub record_makes_none : (s : Shape) → is_record s ≡ true → is_made s ≡ false
+pub record_makes_none : (s : RequestShape) → is_record s ≡ true → is_made s ≡ false
 record_makes_none Made h = absurd (cc)
 record_makes_none _ h = refl
 

@@ -4,7 +4,7 @@ use Rattle.std.specs.Prelude.{IsTrue, nat_le, bit_and, ◌*◌, ◌^◌, IfErr, 
 use Rattle.std.proofs.lemmas.Bool.{lt-ltb, le-ltb}
 use Rattle.std.proofs.lemmas.Bool.Decides.{nat_tests}
 use Rattle.fuse_in.specs.declared.session.InHeader.{InHeader}
-use Rattle.fuse_in.specs.Shapes.{Shape}
+use Rattle.fuse_in.specs.Shapes.{RecordShape}
 use Rattle.fuse_in.specs.Records.{in_header, read_in, init_in_compat, getxattr_in, write_in}
 use Rattle.fuse_in.specs.declared.session.InitInCompat.{InitInCompat}
 use Rattle.fuse_in.specs.declared.files.ReadIn.{ReadIn}
@@ -22,7 +22,7 @@ use Rattle.server_replies.specs.WholeReplies.{error_bytes, reply_bytes, versions
 use Rattle.virtiofsd_fuse.specs.Grammar.{started, known_options, read_asked, read_row, init_row, ENOMEM}
 use Rattle.virtiofsd_fuse.specs.Grammar.{at_most_a_mebibyte, listxattr_row, Lists, write_row, listing_asked, listing_row, symlink_row}
 use Rattle.server_calls.specs.Requests.{read_call, listxattr_call, write_call, symlink_call}
-use Rattle.virtiofsd_fuse.specs.Listings.{listing_of, Listing, readdir_call}
+use Rattle.virtiofsd_fuse.specs.Listings.{listing_of, ListRequest, readdir_call}
 use Rattle.virtiofsd_fuse.specs.Serving.{answer_bytes}
 use Rattle.fuse_in.specs.declared.files.WriteIn.{WriteIn}
 use Rattle.server_requests.specs.Extras.{new_link}
@@ -48,7 +48,7 @@ pub meant_none : (g : Given) (bytes : List ℕ) → g.header.len ≤ 0x101000 �
 meant_none g bytes h e = meant_row g bytes None h e
 
 -- a request that is one record
-pub record_asks : {R : Type 0} → (g : Given) (s : Shape R) (call : InHeader → R → FileCall) (bytes more : List ℕ) (r : R) → Ok (r, more) ≡ reading_of s bytes
+pub record_asks : {R : Type 0} → (g : Given) (s : RecordShape R) (call : InHeader → R → FileCall) (bytes more : List ℕ) (r : R) → Ok (r, more) ≡ reading_of s bytes
     → ended g.header.unique (record_row s call g bytes) ≡ Asks (One g.header.unique (call g.header r))
 record_asks g s call bytes more r h = rw (← h) refl
 
@@ -264,5 +264,5 @@ listing_told room unique n with_nodes front before written bytes error l e fits 
     let back : drop 16 before ≡ bytes = rw e (drop_at front bytes 16 l) in
     ap Ok (w ∙ ap (λ (b : List ℕ). listing_bytes unique with_nodes b error) back) ∙ sym (data_sent room unique (listing_answer (length bytes) with_nodes error) bytes fits)
 
-pub listing_suits : (l : Listing) (errno : ℕ) → (0 < errno) × (errno < 4096) → IsTrue (suits (readdir_call l) (Failed errno))
+pub listing_suits : (l : ListRequest) (errno : ℕ) → (0 < errno) × (errno < 4096) → IsTrue (suits (readdir_call l) (Failed errno))
 listing_suits l errno k = grind (arith, nat_tests, k.0, k.1)

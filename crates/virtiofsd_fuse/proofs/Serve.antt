@@ -7,9 +7,9 @@ use Rattle.fuse_fs.specs.Calls.{Wants}
 use Rattle.server_requests.specs.Reading.{ReadFailure, Faults, Read, Reading, and_then, value_of, within}
 use Rattle.virtiofsd_fuse.specs.Grammar.{Meaning, IsFault, Replies, IsSilent, Asks, One, Starts, refused, ended, Lists}
 use Rattle.server_replies.specs.WholeReplies.{error_bytes, with_written, whole_or_none, listing_bytes}
-use Rattle.virtiofsd_fuse.specs.Listings.{Listing, readdir_call}
+use Rattle.virtiofsd_fuse.specs.Listings.{ListRequest, readdir_call}
 use Rattle.virtiofsd_fuse.specs.ListingRuns.{ListRun}
-use Rattle.virtiofsd_fuse.specs.Serving.{Served, served, Setting, Serves, Handles, served_of, replied, no_reply, answer_bytes, start_options, undone, all_done}
+use Rattle.virtiofsd_fuse.specs.Serving.{ServedMessage, served, Setting, Serves, Handles, served_of, replied, no_reply, answer_bytes, start_options, undone, all_done}
 use Rattle.server_calls.specs.Requests.{options_after, given_back}
 use Rattle.virtiofsd_fuse.specs.Serving.{start_answered, lacks_memory, list_ended, list_answered}
 use Rattle.server_segments.specs.Errors.{is_memory}
@@ -132,7 +132,7 @@ module _ {F : Type 0} (may : F → FileCall → FileAnswer → F → Type 0) whe
       }))
 
   -- a listing that went so, and its reply
-  pub handles_list : (s : Setting) (m : Meaning) (unique : ℕ) (l : Listing) (ds : List Listed) (before between after : F) (front final : List ℕ) (error : Option ℕ)
+  pub handles_list : (s : Setting) (m : Meaning) (unique : ℕ) (l : ListRequest) (ds : List Listed) (before between after : F) (front final : List ℕ) (error : Option ℕ)
       (result : Result ℕ Error) (written : List ℕ) (options : ℕ) → m ≡ Asks (Lists unique l) → may before (readdir_call l) (Entries ds) between
       → (went : ListRun may l ds l.size (s.room - 16) between front final error after) → options ≡ s.options
       → with_written result written ≡ whole_or_none s.room (listing_bytes unique l.with_nodes went.bytes error) → Handles may s m before result written options after
@@ -148,7 +148,7 @@ module _ {F : Type 0} (may : F → FileCall → FileAnswer → F → Type 0) whe
       }))
 
   -- a directory that isn't listed
-  pub handles_unlisted : (s : Setting) (m : Meaning) (unique : ℕ) (l : Listing) (errno : ℕ) (before after : F)
+  pub handles_unlisted : (s : Setting) (m : Meaning) (unique : ℕ) (l : ListRequest) (errno : ℕ) (before after : F)
       (result : Result ℕ Error) (written : List ℕ) (options : ℕ) → m ≡ Asks (Lists unique l) → IsTrue (suits (readdir_call l) (Failed errno))
       → may before (readdir_call l) (Failed errno) after → options ≡ s.options
       → with_written result written ≡ whole_or_none s.room (error_bytes unique errno) → Handles may s m before result written options after
@@ -196,7 +196,7 @@ fits_by false room calls options bytes e = grind (arith, nat_tests, e)
 replied_fits : (room : ℕ) (calls : List FileCall) (options : ℕ) (bytes : List ℕ) → length (replied room calls options bytes).reply ≤ room
 replied_fits room calls options bytes = fits_by (nat_lt room (length bytes)) room calls options bytes refl
 
-list_fits : (s : Setting) (unique : ℕ) (l : Listing) (answer : FileAnswer) (answers : List FileAnswer) → length (list_answered s unique l answer answers).reply ≤ s.room
+list_fits : (s : Setting) (unique : ℕ) (l : ListRequest) (answer : FileAnswer) (answers : List FileAnswer) → length (list_answered s unique l answer answers).reply ≤ s.room
 list_fits s unique l (Entries ds) answers = replied_fits s.room _ s.options _
 list_fits s unique l (Failed errno) answers = replied_fits s.room _ s.options _
 list_fits s unique l Done answers = omega arith
@@ -227,6 +227,6 @@ served_fits s (Asks (Lists unique l)) (answer ∷ answers) = list_fits s unique 
 pub handles_fits : {F : Type 0} (may : F → FileCall → FileAnswer → F → Type 0) (s : Setting) (m : Meaning) (before : F) (result : Result ℕ Error)
     (written : List ℕ) (options : ℕ) (after : F) → Handles may s m before result written options after → OnOk result (length written ≤ s.room)
 handles_fits may s m before (Ok n) written options after h =
-    let same : (served s m (map (λ step. step.1) h.steps)).reply ≡ written = ap (λ (x : Served). x.reply) h.gives in
+    let same : (served s m (map (λ step. step.1) h.steps)).reply ≡ written = ap (λ (x : ServedMessage). x.reply) h.gives in
     subst (λ b. length b ≤ s.room) same (served_fits s m (map (λ step. step.1) h.steps))
 handles_fits may s m before (Err e) written options after h = tt

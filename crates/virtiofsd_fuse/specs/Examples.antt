@@ -13,7 +13,7 @@ use Rattle.server_requests.specs.Fronts.{counted, with_bytes, setxattr_front}
 use Rattle.server_replies.specs.WholeReplies.{error_bytes, reply_bytes, versions_bytes, started_bytes}
 use Rattle.virtiofsd_fuse.specs.Listings.{list_entries}
 use Rattle.server_replies.specs.Entries.{entry_len, fit_of, GoesIn, IsWrong, dirent_bytes, node_bytes, no_node}
-use Rattle.virtiofsd_fuse.specs.Serving.{Served, served, setting}
+use Rattle.virtiofsd_fuse.specs.Serving.{ServedMessage, served, setting}
 
 -- who asks: nobody in particular
 abbrev pub nobody : Context
@@ -48,7 +48,7 @@ abbrev init : (major minor readahead flags : ℕ) → List ℕ
 init major minor readahead flags = in_header_bytes 56 26 1 0 ++ le32 major ++ le32 minor ++ le32 readahead ++ le32 flags
 
 -- a request served in a room without options, by the answers to its calls
-abbrev serve : List ℕ → (room : ℕ) → List FileAnswer → Served
+abbrev serve : List ℕ → (room : ℕ) → List FileAnswer → ServedMessage
 serve request room answers = served (setting 4096 0 room) (meaning 0 request room) answers
 
 -- FORGET of node 5, held three times less

@@ -4,7 +4,7 @@ use Rattle.std.specs.Prelude.{Bool, true, false}
 use Rattle.fuse_in.specs.declared.session.InHeader.{InHeader}
 use Rattle.fuse_in.specs.declared.session.InitInCompat.{InitInCompat}
 use Rattle.fuse_in.specs.declared.files.ReadIn.{ReadIn}
-use Rattle.fuse_in.specs.Shapes.{Shape}
+use Rattle.fuse_in.specs.Shapes.{RecordShape}
 use Rattle.fuse_in.specs.Records.{in_header, forget_in, getattr_in, setattr_in, open_in, read_in, release_in, fsync_in, flush_in, access_in, fallocate_in}
 use Rattle.fuse_in.specs.Records.{lseek_in, copyfilerange_in, init_in_compat, link_in, rename_in, rename2_in, getxattr_in}
 use Rattle.fuse_in.specs.Records.{batch_forget_in, write_in, mknod_in, mkdir_in, create_in}
@@ -23,13 +23,13 @@ use Rattle.server_calls.specs.Requests.{write_call, batch_forget_call, symlink_c
 use Rattle.server_requests.specs.Fronts.{counted, with_bytes, setxattr_front, forget_pair, flags2_of}
 use Rattle.server_replies.specs.WholeReplies.{versions_bytes}
 unfoldable pub use Rattle.server_replies.specs.WholeReplies.{reply_bytes, error_bytes}
-use Rattle.virtiofsd_fuse.specs.Listings.{Listing, listing_of}
+use Rattle.virtiofsd_fuse.specs.Listings.{ListRequest, listing_of}
 
 -- a file command: one call, INIT, or a listing
 pub data FileCommand : Type 0 where
   One : (unique : ℕ) → FileCall → FileCommand
   Starts : (unique capable readahead : ℕ) → FileCommand
-  Lists : (unique : ℕ) → Listing → FileCommand
+  Lists : (unique : ℕ) → ListRequest → FileCommand
 
 -- what a request means: a fault, a reply that asks no file system, silence, or a file command
 pub data Meaning : Type 0 where
@@ -81,7 +81,7 @@ started g r flags2 =
     else give (Asks (Starts g.header.unique (bit_and (flags2 * 2 ^ 32 + r.flags) known_options) r.max_readahead))
 
 -- the rows of the grammar by their shape, each of which asks one call; one record
-abbrev pub record_row : {R : Type 0} → Shape R → (InHeader → R → FileCall) → Given → Reading Meaning
+abbrev pub record_row : {R : Type 0} → RecordShape R → (InHeader → R → FileCall) → Given → Reading Meaning
 record_row s call g = reading_of s >>= λ r. one g (call g.header r)
 
 -- nothing but the header
@@ -98,15 +98,15 @@ abbrev pub bytes_row : {R A : Type 0} → (Given → Reading (R × List ℕ)) �
 bytes_row front parts call g = front g >>= λ x. within x.1 (parts g x.0) >>= λ y. one g (call g.header x.0 y)
 
 -- a record of k bytes, and one name
-abbrev pub record_name_row : {R : Type 0} → Shape R → (k : ℕ) → (InHeader → R → List ℕ → FileCall) → Given → Reading Meaning
+abbrev pub record_name_row : {R : Type 0} → RecordShape R → (k : ℕ) → (InHeader → R → List ℕ → FileCall) → Given → Reading Meaning
 record_name_row s k call = bytes_row (λ g. with_bytes s k g.header.len) (λ g r. last_name) call
 
 -- a record of k bytes, and two names
-abbrev pub two_names_row : {R : Type 0} → Shape R → (k : ℕ) → (InHeader → R → List ℕ × List ℕ → FileCall) → Given → Reading Meaning
+abbrev pub two_names_row : {R : Type 0} → RecordShape R → (k : ℕ) → (InHeader → R → List ℕ × List ℕ → FileCall) → Given → Reading Meaning
 two_names_row s k call = bytes_row (λ g. with_bytes s k g.header.len) (λ g r. two_names) call
 
 -- a record of k bytes, and the name of a node that is made
-abbrev pub new_name_row : {R : Type 0} → Shape R → (k : ℕ) → (InHeader → R → List ℕ × Extra → FileCall) → Given → Reading Meaning
+abbrev pub new_name_row : {R : Type 0} → RecordShape R → (k : ℕ) → (InHeader → R → List ℕ × Extra → FileCall) → Given → Reading Meaning
 new_name_row s k call = bytes_row (λ g. with_bytes s k g.header.len) (λ g r. new_name g.options) call
 
 -- SYMLINK: two names

@@ -9,7 +9,7 @@ use Rattle.fuse_fs.specs.Calls.{FileCall, FileAnswer, Listed, Lookup, Forget, Re
 use Rattle.server_replies.specs.Entries.{entry_len, entry_bytes, Fit, GoesIn, IsFull, IsWrong, fit_of, is_dot, no_node}
 
 -- which entries are asked for, and whether each comes with its node
-pub record Listing : Type 0 where
+pub record ListRequest : Type 0 where
   pub context : Context
   pub node : ℕ
   pub handle : ℕ
@@ -18,32 +18,32 @@ pub record Listing : Type 0 where
   pub with_nodes : Bool
 
 -- READDIR, and with nodes READDIRPLUS
-abbrev pub listing_of : (with_nodes : Bool) → InHeader → ReadIn → Listing
+abbrev pub listing_of : (with_nodes : Bool) → InHeader → ReadIn → ListRequest
 listing_of with_nodes h r =
     record { context = context_of h; node = h.nodeid; handle = r.fh; size = r.size; offset = r.offset; with_nodes = with_nodes }
 
 -- the call that opens it
-abbrev pub readdir_call : Listing → FileCall
+abbrev pub readdir_call : ListRequest → FileCall
 readdir_call l = Readdir l.context l.node l.handle l.size l.offset
 
 -- what listing gives: the calls after READDIR, the bytes of the entries that went in, and the error that ended it, if one did
-pub record Went : Type 0 where
+pub record ListingResult : Type 0 where
   pub calls : List FileCall
   pub bytes : List ℕ
   pub error : Option ℕ
 
 -- no entry goes in any more
-abbrev pub nothing_more : List FileCall → Option ℕ → Went
+abbrev pub nothing_more : List FileCall → Option ℕ → ListingResult
 nothing_more calls error = record { calls = calls; bytes = []; error = error }
 
 -- an entry at the front; undo: the call that takes its node back, if it has one and doesn't go in; next: the entries after it
-abbrev pub placed : Fit → List ℕ → List FileCall → Went → Went
+abbrev pub placed : Fit → List ℕ → List FileCall → ListingResult → ListingResult
 placed GoesIn bytes undo next = record { calls = next.calls; bytes = bytes ++ next.bytes; error = next.error }
 placed IsFull bytes undo next = nothing_more undo None
 placed (IsWrong errno) bytes undo next = nothing_more undo (Some errno)
 
 -- a call, and what comes after it
-abbrev pub after_call : FileCall → Went → Went
+abbrev pub after_call : FileCall → ListingResult → ListingResult
 after_call call w = record { calls = call ∷ w.calls; bytes = w.bytes; error = w.error }
 
 -- the call that takes a node back
@@ -52,28 +52,28 @@ undo_call who node = Forget who node 1
 
 -- the entries after one, by what is left of size and room and the answers that are left
 abbrev pub Next : Type 0
-Next = (left room : ℕ) → List FileAnswer → Went
+Next = (left room : ℕ) → List FileAnswer → ListingResult
 
 -- an entry that has its node, or needs none
-abbrev pub with_entry : Bool → Listed → Entry ℕ → List FileCall → Next → (left room : ℕ) → List FileAnswer → Went
+abbrev pub with_entry : Bool → Listed → Entry ℕ → List FileCall → Next → (left room : ℕ) → List FileAnswer → ListingResult
 with_entry with_nodes d e undo next left room answers =
     let len = entry_len with_nodes (length d.name) in
     placed (fit_of (length d.name) len left room) (entry_bytes with_nodes e d) undo (next (left - len) (room - len) answers)
 
 -- an entry that is looked up; a failed lookup is an error
-abbrev pub looked_up : Listing → Listed → Next → (left room : ℕ) → List FileAnswer → Went
+abbrev pub looked_up : ListRequest → Listed → Next → (left room : ℕ) → List FileAnswer → ListingResult
 looked_up l d next left room (HasEntry e ∷ answers) = with_entry true d e (undo_call l.context e.inode ∷ []) next left room answers
 looked_up l d next left room (Failed errno ∷ answers) = nothing_more [] (Some errno)
 looked_up l d next left room _ = nothing_more [] None
 
 -- one entry and those after it
-abbrev pub list_entry : Listing → Listed → Next → (left room : ℕ) → List FileAnswer → Went
+abbrev pub list_entry : ListRequest → Listed → Next → (left room : ℕ) → List FileAnswer → ListingResult
 list_entry l d next left room answers =
     if not l.with_nodes then with_entry false d (no_node d) [] next left room answers
     else if is_dot d.name then with_entry true d (no_node d) (undo_call l.context 0 ∷ []) next left room answers
     else after_call (Lookup l.context l.node d.name) (looked_up l d next left room answers)
 
 -- the entries in their order
-unfoldable pub list_entries : Listing → List Listed → Next
+unfoldable pub list_entries : ListRequest → List Listed → Next
 list_entries l [] left room answers = nothing_more [] None
 list_entries l (d ∷ ds) left room answers = list_entry l d (list_entries l ds) left room answers

@@ -8,7 +8,7 @@ use Rattle.server_segments.specs.declared.error.Error.TheVariants.{EncodeMessage
 use Rattle.fuse_in.specs.declared.session.InHeader.{InHeader}
 use Rattle.virtiofsd_fuse.specs.declared.server.Server.{Server}
 use Rattle.server_requests.specs.Reading.{Reading}
-use Rattle.virtiofsd_fuse.specs.Listings.{Listing, Went, list_entries, readdir_call}
+use Rattle.virtiofsd_fuse.specs.Listings.{ListRequest, ListingResult, list_entries, readdir_call}
 use Rattle.virtiofsd_fuse.specs.Grammar.{Meaning, IsFault, Replies, IsSilent, Asks, FileCommand, One, Starts, Lists, Given, given, ended, row, default_options}
 use Rattle.server_segments.specs.ReaderAndWriterView.{WriterView}
 use Rattle.server_replies.specs.WholeReplies.{reply_bytes, error_bytes, started_bytes, told_bytes, listing_bytes, LeavesWriter}
@@ -16,7 +16,7 @@ use Rattle.server_calls.specs.Requests.{is_silent, options_after, given_back}
 pub use Rattle.server_segments.specs.Errors.{is_memory, lacks_memory}
 
 -- what serving gives so far: the calls, the last of which may wait for its answer, the options after, the reply, and the fault if there is one
-pub record Served : Type 0 where
+pub record ServedMessage : Type 0 where
   pub calls : List FileCall
   pub options : ℕ
   pub reply : List ℕ
@@ -43,11 +43,11 @@ start_options options capable (Wants wanted) = agreed capable wanted
 start_options options capable _ = options
 
 -- these calls and options, and no reply: a fault, or silence
-abbrev pub no_reply : List FileCall → ℕ → Option Error → Served
+abbrev pub no_reply : List FileCall → ℕ → Option Error → ServedMessage
 no_reply calls options fault = record { calls = calls; options = options; reply = []; fault = fault }
 
 -- the whole reply, or none if it is longer than the room
-abbrev pub replied : (room : ℕ) → List FileCall → ℕ → List ℕ → Served
+abbrev pub replied : (room : ℕ) → List FileCall → ℕ → List ℕ → ServedMessage
 replied room calls options bytes =
     if nat_lt room (length bytes) then no_reply calls options (Some EncodeMessage)
     else record { calls = calls; options = options; reply = bytes; fault = None }
@@ -63,11 +63,11 @@ abbrev pub setting : (page_size options room : ℕ) → Setting
 setting page_size options room = record { page_size = page_size; options = options; room = room }
 
 -- the calls of a listing that went so, and its reply
-abbrev pub list_ended : Setting → ℕ → Listing → Went → Served
+abbrev pub list_ended : Setting → ℕ → ListRequest → ListingResult → ServedMessage
 list_ended s unique l w = replied s.room (readdir_call l ∷ w.calls) s.options (listing_bytes unique l.with_nodes w.bytes w.error)
 
 -- the same by the answers, of which the first is the list of entries
-abbrev pub list_answered : Setting → ℕ → Listing → FileAnswer → List FileAnswer → Served
+abbrev pub list_answered : Setting → ℕ → ListRequest → FileAnswer → List FileAnswer → ServedMessage
 list_answered s unique l (Entries ds) answers = list_ended s unique l (list_entries l ds l.size (s.room - 16) answers)
 list_answered s unique l (Failed errno) answers = replied s.room (readdir_call l ∷ []) s.options (error_bytes unique errno)
 list_answered s unique l _ answers = no_reply (readdir_call l ∷ []) s.options None
@@ -77,13 +77,13 @@ abbrev pub undone : (room : ℕ) → (reply : List ℕ) → (undo : List FileCal
 undone room reply undo = if nat_lt room (length reply) then undo else []
 
 -- one call that was answered, and its reply; an entry whose reply is longer than the room is given back
-abbrev pub one_answered : Setting → ℕ → FileCall → FileAnswer → Served
+abbrev pub one_answered : Setting → ℕ → FileCall → FileAnswer → ServedMessage
 one_answered s unique call answer =
     let bytes = answer_bytes unique call answer in
     replied s.room (call ∷ undone s.room bytes (given_back call answer)) (options_after s.options call) bytes
 
 -- a call without an answer so far has no reply; with one the reply is told of it
-abbrev pub commanded : Setting → FileCommand → List FileAnswer → Served
+abbrev pub commanded : Setting → FileCommand → List FileAnswer → ServedMessage
 commanded s (One unique call) [] = no_reply (call ∷ []) s.options None
 commanded s (One unique call) (answer ∷ answers) = one_answered s unique call answer
 commanded s (Starts unique capable readahead) [] = no_reply (Init capable ∷ []) s.options None
@@ -94,14 +94,14 @@ commanded s (Lists unique l) [] = no_reply (readdir_call l ∷ []) s.options Non
 commanded s (Lists unique l) (answer ∷ answers) = list_answered s unique l answer answers
 
 -- the calls of a meaning and its reply, by the answers so far
-abbrev pub served : Setting → Meaning → List FileAnswer → Served
+abbrev pub served : Setting → Meaning → List FileAnswer → ServedMessage
 served s (IsFault fault) answers = no_reply [] s.options (Some fault)
 served s (Replies bytes) answers = replied s.room [] s.options bytes
 served s IsSilent answers = no_reply [] s.options None
 served s (Asks command) answers = commanded s command answers
 
 -- what an answer of the server says, after these calls
-abbrev pub served_of : List FileCall → (options : ℕ) → Result ℕ Error → (written : List ℕ) → Served
+abbrev pub served_of : List FileCall → (options : ℕ) → Result ℕ Error → (written : List ℕ) → ServedMessage
 served_of calls options (Ok n) written = record { calls = calls; options = options; reply = written; fault = None }
 served_of calls options (Err fault) written = no_reply calls options (Some fault)
 

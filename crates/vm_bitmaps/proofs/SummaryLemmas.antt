@@ -9,7 +9,7 @@ use Rattle.std.proofs.lemmas.Nat.Bits.{bit_at-zero, bit_at_above, same_from_bits
 use Rattle.std.proofs.lemmas.Bool.{cases_lt, cases_eq, lt-ltb, le-ltb}
 use Rattle.vm_bitmaps.specs.Pages.{IsNextMarked}
 use Rattle.vm_bitmaps.specs.Words.{page_bit, bit_of, marks_of, IsClean, WritesRun}
-use Rattle.vm_bitmaps.specs.Summary.{IsSummary, Tells, IsFirstSet, IsNextSet}
+use Rattle.vm_bitmaps.specs.Summary.{IsSummary, Summarizes, IsFirstSet, IsNextSet}
 use Rattle.vm_bitmaps.proofs.PageMarks.{mark_of-marks_of, page_bit-at, page_bit-zeros, get_or-zeros}
 
 -- ---- words and their bits
@@ -46,19 +46,19 @@ told_none : (n : ℕ) → n ≡ 0 → bit_of (ltb 0 n) ≡ 0
 told_none n e = ap bit_of (le-ltb 0 n (omega arith))
 
 -- of a word that is not told of
-not_told : (words summary : List ℕ) (w : ℕ) → Tells words summary w → page_bit summary w ≡ 0 → get_or words w 0 ≡ 0
+not_told : (words summary : List ℕ) (w : ℕ) → Summarizes words summary w → page_bit summary w ≡ 0 → get_or words w 0 ≡ 0
 not_told words summary w tells none = elim (cases_lt 0 (get_or words w 0)) [
   | inl l ↦ let one = told_one (get_or words w 0) l in absurd (omega arith)
   | inr g ↦ omega arith
 ]
 
-is_some_word : (words summary : List ℕ) (w : ℕ) → Tells words summary w → page_bit summary w ≡ 1 → 0 < get_or words w 0
+is_some_word : (words summary : List ℕ) (w : ℕ) → Summarizes words summary w → page_bit summary w ≡ 1 → 0 < get_or words w 0
 is_some_word words summary w tells one = elim (cases_lt 0 (get_or words w 0)) [
   | inl l ↦ l
   | inr g ↦ let z = told_none (get_or words w 0) (omega arith) in absurd (omega arith)
 ]
 
-tells_same : (old new summary : List ℕ) (w : ℕ) → Tells old summary w → get_or new w 0 ≡ get_or old w 0 → Tells new summary w
+tells_same : (old new summary : List ℕ) (w : ℕ) → Summarizes old summary w → get_or new w 0 ≡ get_or old w 0 → Summarizes new summary w
 tells_same old new summary w tells same = tells ∙ ap (λ n. bit_of (ltb 0 n)) (sym same)
 
 -- the same run by equal ends
@@ -122,9 +122,9 @@ pub cleared_summary : (old new s0 s1 s2 s3 : List ℕ) (first last : ℕ) → fi
 cleared_summary old new s0 s1 s2 s3 first last order run fo fn len room none told2 others2 told3 others3 s =
     let head = first / 64 in
     let tail = last / 64 in
-    let at_head : Tells new s2 head = told2 ∙ put (ltb 0 (get_or new head 0)) (page_bit s1 head) (none.inside head (omega arith) (omega arith)) in
-    let at_tail : Tells new s3 tail = elim (cases_eq tail head) [
-      | inl e ↦ told3 ∙ put_same (ltb 0 (get_or new tail 0)) (page_bit s2 tail) (subst (λ i. Tells new s2 i) (sym e) at_head)
+    let at_head : Summarizes new s2 head = told2 ∙ put (ltb 0 (get_or new head 0)) (page_bit s1 head) (none.inside head (omega arith) (omega arith)) in
+    let at_tail : Summarizes new s3 tail = elim (cases_eq tail head) [
+      | inl e ↦ told3 ∙ put_same (ltb 0 (get_or new tail 0)) (page_bit s2 tail) (subst (λ i. Summarizes new s2 i) (sym e) at_head)
       | inr ne ↦ told3 ∙ put (ltb 0 (get_or new tail 0)) (page_bit s2 tail) (others2 tail ne ∙ none.inside tail (omega arith) (omega arith))
     ] in
     record {
@@ -136,9 +136,9 @@ cleared_summary old new s0 s1 s2 s3 first last order run fo fn len room none tol
           | inl high ↦ others3 w (λ e. absurd (omega arith)) ∙ others2 w (λ e. absurd (omega arith)) ∙ none.above w (omega arith) ∙
               tells_same old new s0 w (s.tells w) (same_word old new w (fo w) (fn w) (λ p at. run.above p (omega arith)))
           | inr to ↦ elim (cases_eq w tail) [
-            | inl is ↦ subst (λ i. Tells new s3 i) (sym is) at_tail
+            | inl is ↦ subst (λ i. Summarizes new s3 i) (sym is) at_tail
             | inr ne ↦ others3 w ne ∙ elim (cases_eq w head) [
-              | inl is ↦ subst (λ i. Tells new s2 i) (sym is) at_head
+              | inl is ↦ subst (λ i. Summarizes new s2 i) (sym is) at_head
               | inr other ↦ others2 w other ∙ none.inside w from (omega arith) ∙
                   sym (told_none (get_or new w 0) (word_none new w (fn w) (λ p at. run.inside p (omega arith) (omega arith))))
             ]

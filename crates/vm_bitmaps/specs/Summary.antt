@@ -4,13 +4,13 @@ use Rattle.std.specs.Int.{div_ceil}
 use Rattle.vm_bitmaps.specs.Words.{page_bit, bit_of}
 
 -- bit w mod 64 of summary word w / 64 tells whether word w isn't 0
-abbrev pub Tells : (words summary : List ℕ) → (w : ℕ) → Type 0
-Tells words summary w = page_bit summary w ≡ bit_of (nat_lt 0 (slice_index words w))
+abbrev pub Summarizes : (words summary : List ℕ) → (w : ℕ) → Type 0
+Summarizes words summary w = page_bit summary w ≡ bit_of (nat_lt 0 (slice_index words w))
 
 -- the summary has room for these words and no more than that takes, and tells of each whether it isn't 0
 pub record IsSummary (words summary : List ℕ) : Type 0 where
   pub count : length summary ≡ div_ceil (length words) 64
-  pub tells : (w : ℕ) → Tells words summary w
+  pub tells : (w : ℕ) → Summarizes words summary w
 
 -- the first page from one up to an end whose bit is set, if there is one
 abbrev pub IsFirstSet : List ℕ → (from end : ℕ) → Option ℕ → Type 0

@@ -4,7 +4,7 @@ use Rattle.std.specs.Prelude.{nat_lt, MatchOption}
 use Rattle.std.specs.Map.{values_of}
 use Rattle.std.proofs.lemmas.Bool.{cases_lt, cases_eq, lt-ltb, le-ltb}
 use Rattle.vm_iotlb.specs.declared.range.IotlbRange.{IotlbRange}
-use Rattle.vm_iotlb.specs.Keys.{AreKeyed, HasAddress, IsFree, IsTaken, ReachesFrom, part_from, part_up_to, put_at, range_at}
+use Rattle.vm_iotlb.specs.Keys.{AreKeyed, HasAddress, IsNoKey, IsKey, ReachesFrom, part_from, part_up_to, put_at, range_at}
 use Rattle.vm_iotlb.specs.Ranges.{IsRange, AreRanges}
 use Rattle.vm_iotlb.proofs.MapLemmas.{is_at_key, pair_at, put_apart, put_here, some_is, some_one}
 use Rattle.vm_iotlb.proofs.ExchangeLemmas.{Part}
@@ -30,7 +30,7 @@ old_part es lo hi q r keyed are at out =
 
 -- ---- the range behind
 
-pub tail_free : (es : List (ℕ × IotlbRange)) (e : ℕ) (after : Option IotlbRange) → AreKeyed es → AreRanges (values_of es) → HasAddress es e after → IsFree (range_at es) (part_from after e)
+pub tail_free : (es : List (ℕ × IotlbRange)) (e : ℕ) (after : Option IotlbRange) → AreKeyed es → AreRanges (values_of es) → HasAddress es e after → IsNoKey (range_at es) (part_from after e)
 tail_free es e None keyed are has = tt
 tail_free es e (Some a) keyed are has =
     elim (cases_lt a.start e) [
@@ -119,7 +119,7 @@ pub head_apart : (es : List (ℕ × IotlbRange)) (before : Option IotlbRange) (g
 head_apart es None g s q reaches high = refl
 head_apart es (Some b) g s q reaches high = put_apart (record { start = b.start; end = s; target = b.target; perm = b.perm }) g q (λ same. omega (arith, reaches.0))
 
-pub head_taken : (es : List (ℕ × IotlbRange)) (before : Option IotlbRange) (s : ℕ) → ReachesFrom es s before → IsTaken (range_at es) (part_up_to before s)
+pub head_taken : (es : List (ℕ × IotlbRange)) (before : Option IotlbRange) (s : ℕ) → ReachesFrom es s before → IsKey (range_at es) (part_up_to before s)
 head_taken es None s reaches = tt
 head_taken es (Some b) s reaches = some_is (range_at es b.start) b reaches.2
 

@@ -3,7 +3,7 @@ use Rattle.std.proofs.Common.{◌≡◌, ℕ, ◌+◌, ◌-◌, ◌<◌, ◌≤�
 use Rattle.std.specs.Map.{values_of}
 use Rattle.std.proofs.lemmas.Bool.{cases_lt}
 use Rattle.vm_iotlb.specs.declared.range.IotlbRange.{IotlbRange}
-use Rattle.vm_iotlb.specs.Keys.{AreKeyed, HasAddress, IsFree, IsTaken, JoinsLeft, JoinsRight, ReachesFrom, end_joined, left_over, put_at, range_at, right_over, start_joined, target_joined}
+use Rattle.vm_iotlb.specs.Keys.{AreKeyed, HasAddress, IsNoKey, IsKey, JoinsLeft, JoinsRight, ReachesFrom, end_joined, left_over, put_at, range_at, right_over, start_joined, target_joined}
 use Rattle.vm_iotlb.specs.Ranges.{AreRanges, IsRange}
 use Rattle.vm_iotlb.proofs.MapLemmas.{is_at_key, pair_at, some_one}
 use Rattle.vm_iotlb.proofs.ExchangeLemmas.{Part, Has}
@@ -38,7 +38,7 @@ module _ (es : List (ℕ × IotlbRange)) (r : IotlbRange) (keyed : AreKeyed es) 
     left_low None joins = (omega arith, omega arith)
     left_low (Some b) joins = let here = rw joins.0 at reaches in (omega (arith, here.0), joins.1.0)
 
-    pub left_taken : (left : Option IotlbRange) → IsTaken (range_at es) (left_over left before r.start)
+    pub left_taken : (left : Option IotlbRange) → IsKey (range_at es) (left_over left before r.start)
     left_taken None = head_taken es before r.start reaches
     left_taken (Some b) = tt
 
@@ -101,7 +101,7 @@ module _ (es : List (ℕ × IotlbRange)) (r : IotlbRange) (keyed : AreKeyed es) 
         let this = is_at_key es a.start a keyed are here.2 in
         (omega (arith, here.1), this.1.1, omega (arith, is.0, here.0, here.1, joins.1.0, this.1.2))
 
-    pub right_free : (right : Option IotlbRange) → IsFree (range_at es) (right_over right after r.end)
+    pub right_free : (right : Option IotlbRange) → IsNoKey (range_at es) (right_over right after r.end)
     right_free None = tail_free es r.end after keyed are has
     right_free (Some a) = tt
 

@@ -4,7 +4,7 @@ use Rattle.std.specs.Prelude.{Bool, not, nat_lt, ◌&&◌}
 use Rattle.std.specs.Map.{values_of}
 use Rattle.std.proofs.lemmas.Bool.{cases_eq, cases_lt, false_from_ne_true, le-ltb, or_left, or_right}
 use Rattle.vm_iotlb.specs.declared.range.IotlbRange.{IotlbRange}
-use Rattle.vm_iotlb.specs.Keys.{AreKeyed, HasAddress, IsTaken, JoinsLeft, JoinsRight, ReachesFrom, joined, part_from, range_at, right_over}
+use Rattle.vm_iotlb.specs.Keys.{AreKeyed, HasAddress, IsKey, JoinsLeft, JoinsRight, ReachesFrom, joined, part_from, range_at, right_over}
 use Rattle.vm_iotlb.specs.Table.{Mapping, Table}
 use Rattle.vm_iotlb.specs.Ranges.{AreRanges, IsRange, mapping_in, table_kept, with_range}
 use Rattle.vm_iotlb.specs.AddressRuns.{begins_anew, begins_anew_about, begins_at, go_together, goes_on_at, misses}
@@ -40,7 +40,7 @@ anew t m a new old = true_both (begins_at m a) (begins_at t a) new old
 
 -- what is left behind an address of the range that has it is under a new key only if the address is mapped as one with the one before it
 pub split_goes_on : (es : List (ℕ × IotlbRange)) (e : ℕ) (after : Option IotlbRange) → AreKeyed es → AreRanges (values_of es) → HasAddress es e after →
-    (IsTaken (range_at es) (part_from after e) → ⊥) → goes_on_at (table_kept (values_of es)) e ≡ true
+    (IsKey (range_at es) (part_from after e) → ⊥) → goes_on_at (table_kept (values_of es)) e ≡ true
 split_goes_on es e None keyed are has new = absurd (new tt)
 split_goes_on es e (Some a) keyed are has new =
     elim (cases_lt a.start e) [
@@ -56,7 +56,7 @@ module _ (es : List (ℕ × IotlbRange)) (r : IotlbRange) (keyed : AreKeyed es) 
   m = with_range r t
 
   -- what is left of the range behind is under a key that is there, or a run begins anew where the new range ends
-  right_begins : (after right : Option IotlbRange) → HasAddress es r.end after → JoinsRight r after right → IsTaken (range_at es) (right_over right after r.end) ⊎ (begins_anew t m r.end ≡ true)
+  right_begins : (after right : Option IotlbRange) → HasAddress es r.end after → JoinsRight r after right → IsKey (range_at es) (right_over right after r.end) ⊎ (begins_anew t m r.end ≡ true)
   right_begins after (Some a) has joins = inl tt
   right_begins None None has joins = inl tt
   right_begins (Some a) None has joins =
@@ -116,10 +116,10 @@ module _ (es : List (ℕ × IotlbRange)) (r : IotlbRange) (keyed : AreKeyed es) 
       ]
 
   -- the new range is under a key that is there, or a run begins anew where it begins
-  left_begins : (before left right : Option IotlbRange) → ReachesFrom es r.start before → JoinsLeft r before left → IsTaken (range_at es) (Some (joined r left right)) ⊎ (begins_anew t m r.start ≡ true)
+  left_begins : (before left right : Option IotlbRange) → ReachesFrom es r.start before → JoinsLeft r before left → IsKey (range_at es) (Some (joined r left right)) ⊎ (begins_anew t m r.start ≡ true)
   left_begins before (Some b) right reaches joins = let here = rw joins.0 at reaches in inl (some_is (range_at es b.start) b here.2)
   left_begins before None right reaches joins =
-      elim (range_at es r.start) as (λ o. range_at es r.start ≡ o → IsTaken (range_at es) (Some (joined r None right)) ⊎ (begins_anew t m r.start ≡ true)) [
+      elim (range_at es r.start) as (λ o. range_at es r.start ≡ o → IsKey (range_at es) (Some (joined r None right)) ⊎ (begins_anew t m r.start ≡ true)) [
         | Some s ↦ λ at. inl (some_is (range_at es r.start) s at)
         | None ↦ λ none.
             let inside = has_in r r.start (omega arith) (omega (arith, is.0)) in
@@ -128,7 +128,7 @@ module _ (es : List (ℕ × IotlbRange)) (r : IotlbRange) (keyed : AreKeyed es) 
       ] refl
 
   pub map_begins : (before after left right : Option IotlbRange) → ReachesFrom es r.start before → HasAddress es r.end after → JoinsLeft r before left → JoinsRight r after right →
-      (IsTaken (range_at es) (right_over right after r.end) → IsTaken (range_at es) (Some (joined r left right)) → ⊥) →
+      (IsKey (range_at es) (right_over right after r.end) → IsKey (range_at es) (Some (joined r left right)) → ⊥) →
       begins_anew_about (table_kept (values_of es)) (with_range r (table_kept (values_of es))) r.start r.end ≡ true
   map_begins before after left right reaches has lefts rights new =
       elim (right_begins after right has rights) [

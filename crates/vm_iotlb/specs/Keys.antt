@@ -36,14 +36,14 @@ abbrev pub cleared : (from to : ℕ) → (ℕ → Option IotlbRange) → ℕ →
 cleared from to ranges q = if nat_le from q && nat_lt q to then None else ranges q
 
 -- a range's start is no key, or there is no range
-abbrev pub IsFree : (ℕ → Option IotlbRange) → Option IotlbRange → Type 0
-IsFree ranges None = Unit {0}
-IsFree ranges (Some r) = ranges r.start ≡ None
+abbrev pub IsNoKey : (ℕ → Option IotlbRange) → Option IotlbRange → Type 0
+IsNoKey ranges None = Unit {0}
+IsNoKey ranges (Some r) = ranges r.start ≡ None
 
 -- a range's start is a key, or there is no range
-abbrev pub IsTaken : (ℕ → Option IotlbRange) → Option IotlbRange → Type 0
-IsTaken ranges None = Unit {0}
-IsTaken ranges (Some r) = IsSome (ranges r.start)
+abbrev pub IsKey : (ℕ → Option IotlbRange) → Option IotlbRange → Type 0
+IsKey ranges None = Unit {0}
+IsKey ranges (Some r) = IsSome (ranges r.start)
 
 -- the range that begins below an address and ends there or above it, if there is one
 abbrev pub ReachesFrom : List (ℕ × IotlbRange) → ℕ → Option IotlbRange → Type 0

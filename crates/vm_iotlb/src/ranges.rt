@@ -6,7 +6,7 @@ ghost use Rattle.std.specs.BTreeMap.{BTreeMap as SeenMap, IsOrdered};
 ghost use Rattle.std.specs.Ordering.{nat_cmp};
 ghost use Rattle.vm_iotlb.specs.AddressRuns.{begins_anew_about, goes_on_at};
 ghost use Rattle.vm_iotlb.specs.Ranges.{AddsRange, AreRanges, IsRange, table_kept, with_range};
-ghost use Rattle.vm_iotlb.specs.Keys.{AreKeyed, Divides, HasAddress, IsFree, IsLastUpTo, IsTaken, JoinsLeft, JoinsRight, NoneUpTo};
+ghost use Rattle.vm_iotlb.specs.Keys.{AreKeyed, Divides, HasAddress, IsNoKey, IsLastUpTo, IsKey, JoinsLeft, JoinsRight, NoneUpTo};
 ghost use Rattle.vm_iotlb.specs.Keys.{ReachesFrom, cleared, joined, left_over, part_from, part_up_to, put_at, range_at, right_over};
 ghost use Rattle.vm_iotlb.specs.declared.range.IotlbRange.{IotlbRange};
 
@@ -85,7 +85,7 @@ fn law_ordered(ranges: &Ranges)
 fn put(ranges: &mut Ranges, range: Option<IotlbRange>) -> Result<(), AllocError>
     ensures ok { OnOk result ((q : ℕ) → range_at ranges.new.entries q ≡ put_at range (range_at ranges.old.entries) q) }
     ensures err { OnErr result (ranges.new.entries ≡ ranges.old.entries) }
-    ensures free { OnErr result (IsTaken (range_at ranges.old.entries) range → ⊥) }
+    ensures free { OnErr result (IsKey (range_at ranges.old.entries) range → ⊥) }
 {
     match range {
         Some(range) => {
@@ -98,7 +98,7 @@ fn put(ranges: &mut Ranges, range: Option<IotlbRange>) -> Result<(), AllocError>
 
 // Takes out what was put under a key that was free.
 fn take_back(ranges: &mut Ranges, range: Option<IotlbRange>)
-    ensures { (before : SeenMap ℕ IotlbRange) → IsOrdered nat_cmp before → IsFree (range_at before.entries) range
+    ensures { (before : SeenMap ℕ IotlbRange) → IsOrdered nat_cmp before → IsNoKey (range_at before.entries) range
         → ((q : ℕ) → range_at ranges.old.entries q ≡ put_at range (range_at before.entries) q) → ranges.new.entries ≡ before.entries }
 {
     match range {
@@ -140,12 +140,12 @@ fn exchange(
     to: u64,
 ) -> Result<(), AllocError>
     requires order { from ≤ to }
-    requires free { IsFree (range_at ranges.old.entries) puts.0 }
-    requires taken { IsTaken (range_at ranges.old.entries) puts.2 }
+    requires free { IsNoKey (range_at ranges.old.entries) puts.0 }
+    requires taken { IsKey (range_at ranges.old.entries) puts.2 }
     ensures ok { OnOk result ((q : ℕ) → range_at ranges.new.entries q
         ≡ cleared from to (put_at puts.2 (put_at puts.1 (put_at puts.0 (range_at ranges.old.entries)))) q) }
     ensures err { OnErr result (ranges.new.entries ≡ ranges.old.entries) }
-    ensures memory { OnErr result (IsTaken (range_at ranges.old.entries) puts.0 → IsTaken (range_at ranges.old.entries) puts.1 → ⊥) }
+    ensures memory { OnErr result (IsKey (range_at ranges.old.entries) puts.0 → IsKey (range_at ranges.old.entries) puts.1 → ⊥) }
     ensures ordered { IsOrdered nat_cmp ranges.new }
 {
     let (behind, new, before) = puts;

@@ -6,7 +6,7 @@ use Rattle.std.proofs.lemmas.List.{drop-drop, length-take-le, take-append-drop}
 use Rattle.std.proofs.Math.Seq.{take-add}
 use Rattle.vm_memory_core.specs.Window.{Window, places, places_of}
 use Rattle.vm_memory.specs.Memory.{circular, located, reached, after}
-use Rattle.vm_memory.specs.Slices.{AreAllOf, AreAllUpTo, AreLongest, AreWindowsOf, Gives, GivesWindow, Slices, TakesWindow, error_items, error_of, first_error, next_len}
+use Rattle.vm_memory.specs.Slices.{AreAllOf, AreAllUpTo, AreLongest, AreWindowsOf, GivesSlice, GivesWindow, Slices, TakesWindow, error_items, error_of, first_error, next_len}
 use Rattle.vm_memory.specs.declared.error.GuestMemoryError.{GuestMemoryError}
 use Rattle.vm_memory.proofs.Places.{Where, located-append, reached-append}
 use Rattle.vm_memory.proofs.SliceLemmas.{drop_circular, next_len-circular, reached_error}
@@ -15,7 +15,7 @@ abbrev Items : Type 0
 Items = List (Result Window GuestMemoryError)
 
 abbrev steps_of : {S : Type 0} → (S → Slices) → S → Option (Result Window GuestMemoryError) → S → Type 0
-steps_of v s r t = Gives (v s) r (v t)
+steps_of v s r t = GivesSlice (v s) r (v t)
 
 no_error_of : (s : Slices) (e : GuestMemoryError) → s.left ≡ [] → first_error s ≡ Some e → ⊥
 no_error_of s e empty h = let none : error_of s.where_is s.left ≡ None = ap (error_of s.where_is) empty in cc
@@ -69,7 +69,7 @@ all_of_more s t w items taken rest =
     subst (λ n. AreAllUpTo s n (Ok w ∷ items)) (sym (reached_more s.where_is s.left w le taken.2))
     (window_first s.where_is s.longest s.left w (reached s.where_is (drop w.len s.left)) items taken.0 taken.1 taken.2 more)
 
-all_of_run : {S : Type 0} (v : S → Slices) (items : Items) (s t u : S) → Yields (steps_of v) s items t → Gives (v t) None (v u) → AreAllOf (v s) items
+all_of_run : {S : Type 0} (v : S → Slices) (items : Items) (s t u : S) → Yields (steps_of v) s items t → GivesSlice (v t) None (v u) → AreAllOf (v s) items
 all_of_run v [] s t u y end = all_of_none (v s) (ap (λ x. (v x).left) y ∙ end.0)
 all_of_run v (Ok w ∷ items) s t u y end = all_of_more (v s) (v y.0) w items y.1 (all_of_run v items y.0 t u y.2 end)
 all_of_run v (Err e ∷ items) s t u y end =

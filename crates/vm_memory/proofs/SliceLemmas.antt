@@ -5,7 +5,7 @@ use Rattle.std.proofs.lemmas.List.{drop_at}
 use Rattle.vm_memory_core.specs.Host.{Place}
 use Rattle.vm_memory_core.specs.Window.{Window, places_of}
 use Rattle.vm_memory.specs.Memory.{addresses, circular, located, reached}
-use Rattle.vm_memory.specs.Slices.{Slices, error_of, next_len, slices_from, Gives, GivesWindow, IsUsedUp, TakesWindow}
+use Rattle.vm_memory.specs.Slices.{Slices, error_of, next_len, slices_from, GivesSlice, GivesWindow, IsUsedUp, TakesWindow}
 use Rattle.vm_memory.specs.declared.error.GuestMemoryError.{GuestMemoryError}
 use Rattle.vm_memory.specs.declared.error.GuestMemoryError.TheVariants.{InvalidGuestAddress}
 use Rattle.vm_memory.proofs.Places.{Where, circular-append, circular-low, length-circular, parts, take_circular}
@@ -76,12 +76,12 @@ reached_error f [] e h = absurd (cc)
 reached_error f (x ∷ xs) e h = error_step (f x) x (reached f xs) e h
 
 -- what ends the windows without their error
-pub ends_at_error : (s t : Slices) (r : Result Window GuestMemoryError) (e : GuestMemoryError) → r ≡ Err e → Gives s (Some r) t → GivesWindow s None t
+pub ends_at_error : (s t : Slices) (r : Result Window GuestMemoryError) (e : GuestMemoryError) → r ≡ Err e → GivesSlice s (Some r) t → GivesWindow s None t
 ends_at_error s t r e is gives =
-    let h : Gives s (Some (Err e)) t = subst (λ (x : Result Window GuestMemoryError). Gives s (Some x) t) is gives in
+    let h : GivesSlice s (Some (Err e)) t = subst (λ (x : Result Window GuestMemoryError). GivesSlice s (Some x) t) is gives in
     (reached_error s.where_is s.left e h.0, h.1)
 
-pub ends_at_end : (s t : Slices) → Gives s None t → GivesWindow s None t
+pub ends_at_end : (s t : Slices) → GivesSlice s None t → GivesWindow s None t
 unfolding reached
 ends_at_end s t h = (ap (reached s.where_is) h.0, h.1)
 
@@ -90,11 +90,11 @@ unfolding addresses
 used_up f g a = refl
 
 -- an error that ends the windows
-pub error_given : (f : Where) (g : ℕ → ℕ) (a n : ℕ) → a < 2 ^ 64 → 0 < n → f a ≡ None → Gives (slices_from f g a n) (Some (Err (InvalidGuestAddress (record { 0 = a })))) (slices_from f g a 0)
+pub error_given : (f : Where) (g : ℕ → ℕ) (a n : ℕ) → a < 2 ^ 64 → 0 < n → f a ≡ None → GivesSlice (slices_from f g a n) (Some (Err (InvalidGuestAddress (record { 0 = a })))) (slices_from f g a 0)
 error_given f g a n low some none = (error_there f a n low some none, used_up f g a)
 
 -- no address is left
-pub end_given : (f : Where) (g : ℕ → ℕ) (a n : ℕ) → n ≡ 0 → Gives (slices_from f g a n) None (slices_from f g a n)
+pub end_given : (f : Where) (g : ℕ → ℕ) (a n : ℕ) → n ≡ 0 → GivesSlice (slices_from f g a n) None (slices_from f g a n)
 unfolding addresses
 end_given f g a zero e = (refl, refl)
 end_given f g a (suc n) e = absurd (omega arith)

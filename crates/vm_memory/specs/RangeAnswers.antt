@@ -14,9 +14,9 @@ Checks m access a n (Ok found) = found ≡ is_some (places_from m access a n)
 Checks m access a n (Err e) = is_mapped m access a n ≡ false
 
 -- where they have, the bytes there were read
-abbrev pub Reads : Memory → (a n : ℕ) → (new : List ℕ) → Result Bool AllocError → Type 0
-Reads m a n new (Ok found) = IsTrue found → new ≡ map (byte m) (circular a n)
-Reads m a n new (Err e) = Unit {0}
+abbrev pub ReadsRange : Memory → (a n : ℕ) → (new : List ℕ) → Result Bool AllocError → Type 0
+ReadsRange m a n new (Ok found) = IsTrue found → new ≡ map (byte m) (circular a n)
+ReadsRange m a n new (Err e) = Unit {0}
 
 -- no windows of n addresses from a on are given, since they aren't mapped throughout; an allocation may fail to say that
 abbrev pub CannotGive : Memory → Permissions → (a n : ℕ) → GuestMemoryError → Type 0

@@ -73,10 +73,10 @@ abbrev pub IsUsedUp : Slices → Slices → Type 0
 IsUsedUp s t = t ≡ record s { left = [] }
 
 -- what comes next, and what is left then: a window, or the error of an address without a place, after which nothing comes
-abbrev pub Gives : Slices → Option (Result Window GuestMemoryError) → Slices → Type 0
-Gives s None t = (s.left ≡ []) × IsUsedUp s t
-Gives s (Some (Ok w)) t = TakesWindow s w t
-Gives s (Some (Err e)) t = (first_error s ≡ Some e) × IsUsedUp s t
+abbrev pub GivesSlice : Slices → Option (Result Window GuestMemoryError) → Slices → Type 0
+GivesSlice s None t = (s.left ≡ []) × IsUsedUp s t
+GivesSlice s (Some (Ok w)) t = TakesWindow s w t
+GivesSlice s (Some (Err e)) t = (first_error s ≡ Some e) × IsUsedUp s t
 
 -- the same up to the first address without a place
 abbrev pub GivesWindow : Slices → Option Window → Slices → Type 0

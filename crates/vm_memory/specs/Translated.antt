@@ -28,8 +28,8 @@ abbrev pub translated_left : List Region → Table → ℕ → ℕ
 translated_left layout table a = min (run_len table a (2 ^ 64 - a)) (left_at layout (target_of (table a)))
 
 -- n addresses from a on that end below 2^64 and are mapped with a permission, and the pieces that they are mapped to
-abbrev pub AreMapped : Table → Permissions → (a n : ℕ) → List MappedRange → Type 0
-AreMapped table access a n mapped = (a + n < 2 ^ 64) × (may_all table access a n ≡ true) × (mapped ≡ pieces table a n)
+abbrev pub AreMappedTo : Table → Permissions → (a n : ℕ) → List MappedRange → Type 0
+AreMappedTo table access a n mapped = (a + n < 2 ^ 64) × (may_all table access a n ≡ true) × (mapped ≡ pieces table a n)
 
 -- what n addresses from a on are mapped to, piece by piece: a piece, if it isn't empty, and those that follow
 abbrev pub AreLeft : Table → (a n : ℕ) → MappedRange → List MappedRange → Type 0

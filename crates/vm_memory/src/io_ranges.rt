@@ -9,7 +9,7 @@ ghost use Rattle.vm_memory.specs.Bytes.{places_at};
 ghost use Rattle.vm_memory.specs.Layout.{AreHeld};
 ghost use Rattle.vm_memory.specs.Memory.{circular, io_location, io_memory, located, reached, read_first, table_in};
 ghost use Rattle.vm_memory.specs.Slices.{AddsLongest, IsWindowAt, Joins, StayIn};
-ghost use Rattle.vm_memory.specs.Translated.{AreMapped, translated_left};
+ghost use Rattle.vm_memory.specs.Translated.{AreMappedTo, translated_left};
 
 use crate::backend::GuestMemoryBackend;
 use crate::translated::{PiecesLeft, translated_window};
@@ -52,7 +52,7 @@ pub(crate) fn io_reached<M: GuestMemoryBackend, H: HostBlocks>(
     len: usize,
     mapped: IotlbIterator<'_>,
 ) -> usize
-    requires { AreMapped (table_in (H.host h.now) table) access addr len mapped }
+    requires { AreMappedTo (table_in (H.host h.now) table) access addr len mapped }
     ensures { result ≡ reached (io_location (H.host h.now) (M.layout backend.now) table set access) (circular addr len) }
 {
     let _ = h;
@@ -81,7 +81,7 @@ pub(crate) fn push_io<M: GuestMemoryBackend, H: HostBlocks>(
     mapped: IotlbIterator<'_>,
     windows: &mut Windows,
 ) -> Result<bool, AllocError>
-    requires { AreMapped (table_in (H.host h.now) table) access addr len mapped }
+    requires { AreMappedTo (table_in (H.host h.now) table) access addr len mapped }
     ensures found { let found = located (io_location (H.host h.now) (M.layout backend.now) table set access) (circular addr len) in
         Joins windows.old.items windows.new.items found result }
     ensures longest { let longest = translated_left (M.layout backend.now) (table_in (H.host h.now) table) in
@@ -115,7 +115,7 @@ pub(crate) fn read_io<M: GuestMemoryBackend, H: HostBlocks>(
     mapped: IotlbIterator<'_>,
 ) -> usize
     requires held { AreHeld (lengths (H.host h.now)) (M.layout backend.now) }
-    requires mapped { AreMapped (table_in (H.host h.now) table) Read addr (length buffer.old) mapped }
+    requires mapped { AreMappedTo (table_in (H.host h.now) table) Read addr (length buffer.old) mapped }
     ensures count { result ≡ reached (io_location (H.host h.now) (M.layout backend.now) table set Read) (circular addr (length buffer.old)) }
     ensures bytes { buffer.new ≡ read_first (io_memory (H.host h.now) (M.layout backend.now) table set) (circular addr (length buffer.old)) result buffer.old }
 {

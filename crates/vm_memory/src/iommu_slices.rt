@@ -4,7 +4,7 @@ ghost use Rattle.std.specs.Prelude.{◌≡◌, ◌+◌, ◌<◌, ◌^◌, length
 ghost use Rattle.std.specs.Iterator.{at_most};
 ghost use Rattle.vm_iotlb.specs.AddressRuns.{may_all};
 ghost use Rattle.vm_memory.specs.Memory.{circular, table_in};
-ghost use Rattle.vm_memory.specs.Slices.{Gives};
+ghost use Rattle.vm_memory.specs.Slices.{GivesSlice};
 ghost use Rattle.vm_memory.specs.Translated.{ranges_in, slices_translated};
 
 use crate::backend::GuestMemoryBackend;
@@ -82,7 +82,7 @@ impl<'a, M: GuestMemoryBackend> IommuMemorySliceIterator<'a, M> {
 impl<'a, M: GuestMemoryBackend> Iterator for IommuMemorySliceIterator<'a, M> {
     type Item = Result<VolatileSlice, GuestMemoryError>;
 
-    ghost next_gives = { λ s r t. Gives (slices_translated s) r (slices_translated t) };
+    ghost next_gives = { λ s r t. GivesSlice (slices_translated s) r (slices_translated t) };
 
     ghost remaining = { λ s. at_most (length s.left) };
 

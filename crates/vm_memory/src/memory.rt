@@ -8,9 +8,9 @@ ghost use Rattle.vm_iotlb.specs.declared.permissions.Permissions.{Permissions};
 ghost use Rattle.vm_iotlb.specs.declared.permissions.Permissions.TheVariants.{Read};
 ghost use Rattle.vm_memory.specs.Layout.{left_at, held-same};
 ghost use Rattle.vm_memory.specs.Memory.{Memory, circular, is_mapped, location, memory_of, physical_layout, places_from};
-ghost use Rattle.vm_memory.specs.RangeAnswers.{CannotGive, Checks, Reads};
+ghost use Rattle.vm_memory.specs.RangeAnswers.{CannotGive, Checks, ReadsRange};
 ghost use Rattle.vm_memory.specs.declared.error.GuestMemoryError.{GuestMemoryError};
-ghost use Rattle.vm_memory.specs.Slices.{AddsLongest, AreAllOf, Gives, Joins, StayIn, slices_from};
+ghost use Rattle.vm_memory.specs.Slices.{AddsLongest, AreAllOf, GivesSlice, Joins, StayIn, slices_from};
 
 use crate::backend::GuestMemoryBackend;
 use crate::collection::GuestRegionCollection;
@@ -37,7 +37,7 @@ impl<'a, M: GuestMemoryBackend> Iterator for GuestMemorySlices<'a, M> {
 
     type Item = Result<VolatileSlice, GuestMemoryError>;
 
-    ghost next_gives = { λ s r t. Gives (slices_of s) r (slices_of t) };
+    ghost next_gives = { λ s r t. GivesSlice (slices_of s) r (slices_of t) };
 
     ghost remaining = { λ s. at_most (length (slices_of s).left) };
 
@@ -106,7 +106,7 @@ pub trait GuestMemory: HeldIn {
     ) -> Result<GuestMemorySlices<'a, Self::PhysicalMemory>, GuestMemoryError>
         ensures slices { IfOk result (λ s. slices_of s
             ≡ slices_from (location (memory self.now (H.host h.now)) access) (longest self.now (H.host h.now) access) addr.0 count) }
-        ensures joined { IfOk result (λ s. (items : List (Result Window GuestMemoryError)) → Drains (λ s r t. Gives (slices_of s) r (slices_of t)) s items
+        ensures joined { IfOk result (λ s. (items : List (Result Window GuestMemoryError)) → Drains (λ s r t. GivesSlice (slices_of s) r (slices_of t)) s items
             → AreAllOf (slices_from (location (memory self.now (H.host h.now)) access) (longest self.now (H.host h.now) access) addr.0 count) items) }
         ensures mapped { IfOk result (λ s. is_mapped (memory self.now (H.host h.now)) access addr.0 count ≡ true) }
         ensures refused { IfErr result (CannotGive (memory self.now (H.host h.now)) access addr.0 count) };
@@ -127,7 +127,7 @@ pub trait GuestMemory: HeldIn {
     ) -> Result<bool, AllocError>
         requires { Self.IsHeld self.now (H.host h.now) }
         ensures found { Checks (memory self.now (H.host h.now)) Read addr.0 (length buffer.old) result }
-        ensures bytes { Reads (memory self.now (H.host h.now)) addr.0 (length buffer.old) buffer.new result };
+        ensures bytes { ReadsRange (memory self.now (H.host h.now)) addr.0 (length buffer.old) buffer.new result };
 
     /// Adds the windows of `count` addresses from one on, joined, for an access, or answers false, if one of them
     /// has no place. AllocError only if they aren't mapped throughout, or if the list has no room left.

@@ -5,7 +5,7 @@ ghost use Rattle.std.specs.Iterator.{at_most};
 ghost use Rattle.vm_memory_core.specs.Window.{LiesIn};
 ghost use Rattle.vm_memory.specs.Layout.{left_at, place, AreHeld};
 ghost use Rattle.vm_memory.specs.Memory.{circular};
-ghost use Rattle.vm_memory.specs.Slices.{slices_in, Gives, IsWindowAt};
+ghost use Rattle.vm_memory.specs.Slices.{slices_in, GivesSlice, IsWindowAt};
 
 use crate::backend::GuestMemoryBackend;
 use crate::error::GuestMemoryError;
@@ -52,7 +52,7 @@ impl<'a, M: GuestMemoryBackend> GuestMemoryBackendSliceIterator<'a, M> {
 impl<'a, M: GuestMemoryBackend> Iterator for GuestMemoryBackendSliceIterator<'a, M> {
     type Item = Result<VolatileSlice, GuestMemoryError>;
 
-    ghost next_gives = { λ s r t. (t.layout ≡ s.layout) × Gives (slices_in s) r (slices_in t) };
+    ghost next_gives = { λ s r t. (t.layout ≡ s.layout) × GivesSlice (slices_in s) r (slices_in t) };
 
     ghost remaining = { λ s. at_most (length s.left) };
 

@@ -3,7 +3,7 @@
 ghost use Rattle.std.specs.Prelude.{◌≡◌, List, length, Option, Result, Some, None, IfOk, MatchResult};
 ghost use Rattle.std.specs.Iterator.{at_most, Drains};
 ghost use Rattle.vm_memory_core.specs.Window.{Window};
-ghost use Rattle.vm_memory.specs.Slices.{AreWindowsOf, Gives, GivesWindow, Slices, first_error};
+ghost use Rattle.vm_memory.specs.Slices.{AreWindowsOf, GivesSlice, GivesWindow, Slices, first_error};
 ghost use Rattle.vm_memory.specs.declared.error.GuestMemoryError.{GuestMemoryError};
 
 use crate::error::GuestMemoryError;
@@ -24,7 +24,7 @@ pub trait GuestMemorySliceIterator: Iterator<Item = Result<VolatileSlice, GuestM
 
     // what comes next is that of the addresses that are left
     ghost by_address: { (s : Self) (r : Option (Result Window GuestMemoryError)) (t : Self)
-        → Self.next_gives s r t → Gives (slices s) r (slices t) };
+        → Self.next_gives s r t → GivesSlice (slices s) r (slices t) };
 
     /// The windows before the first error, or the error that comes first.
     final fn stop_on_error(self) -> Result<SlicesBeforeError<Self>, GuestMemoryError>

@@ -8,7 +8,7 @@ use Rattle.fs_queue.specs.Chain.{chain, found, path}
 use Rattle.fs_queue.specs.NextAvail.{NextAvail, Head, next_avail}
 use Rattle.fs_queue.specs.OfferLoads.{request_in}
 use Rattle.fs_regions.specs.Laws.{HasLoaded}
-use Rattle.fs_regions.specs.declared.step.Step.TheVariants as step
+use Rattle.fs_regions.specs.declared.step.CourseStep.TheVariants as step
 use Rattle.fuse_fs.specs.Calls.{Destroy, Done}
 use Rattle.server_replies.specs.WholeReplies.{error_bytes, reply_bytes}
 use Rattle.server_requests.specs.Reading.{reading_of}

@@ -2,27 +2,27 @@
 use Rattle.std.proofs.Common.{◌≡◌, ℕ, ◌≤◌, ◌^◌, List, [], ◌∷◌, ◌++◌, Some, None, slice_get, refl, subst, sym, ap, ◌∙◌}
 use Rattle.std.specs.Prelude.{drop, IsTrue}
 use Rattle.fs_regions.specs.Places.{places_in}
-use Rattle.fs_regions.specs.declared.step.Step as comes
-use Rattle.fs_regions.specs.declared.step.Step.TheVariants as step
+use Rattle.fs_regions.specs.declared.step.CourseStep as comes
+use Rattle.fs_regions.specs.declared.step.CourseStep.TheVariants as step
 use Rattle.fuse_fs.specs.Calls.{FileAnswer, FileCall, suits}
 use Rattle.fuse_values.specs.Values.{call_of}
 use Rattle.fuse_values.specs.declared.call.FileCall as made_call
 use Rattle.virtiofsd_fuse.specs.Serving.{May}
 use Rattle.server_phases.specs.declared.session.Session.{Session}
-use Rattle.fs_chain.specs.Whole.{IsAskedBy, IsWalked}
-use Rattle.fs_chain.specs.declared.asking.Told.TheVariants as asks
-use Rattle.fs_chain.specs.declared.loads.Went.TheVariants as wents
-use Rattle.fs_chain.specs.declared.queue.KeptQueue.{KeptQueue}
-use Rattle.fs_chain.specs.declared.walking.WalkOutcome.TheVariants as says
-use Rattle.fs_chain.specs.declared.workbench.Workbench.{Workbench}
+use Rattle.fs_chain.specs.Whole.{IsDecodedBy, IsWalked}
+use Rattle.fs_chain.specs.declared.decoding.Decoded.TheVariants as asks
+use Rattle.fs_chain.specs.declared.loads.LoadOutcome.TheVariants as wents
+use Rattle.fs_chain.specs.declared.queue.QueueState.{QueueState}
+use Rattle.fs_chain.specs.declared.popping.PopOutcome.TheVariants as says
+use Rattle.fs_chain.specs.declared.chain_handle.ChainHandle.{ChainHandle}
 use Rattle.fs_live.specs.Handles.{HandleAsks, HandleWalks, IsHeld, IsOut, IsReached, IsSessionOf, live_of}
 use Rattle.fs_live.specs.Live.{Abandons, Answers, Asks, Happens, LiveEvent, LiveRun, LiveState, OutChain, Walks, after_answer, after_asking, after_loss, after_walk, asked_chain, calls_among, new_chain}
 use Rattle.fs_live.specs.Others.{HandleAbandons}
 use Rattle.worked_callers.proofs.ServedBeside.{chain_is, reached_by}
 
-module _ {F : Type 0} (may : May F) (walks_law : HandleWalks may) (asks_law : HandleAsks may) (abandons_law : HandleAbandons may) (old one two : Workbench) (before after : KeptQueue) (head n r : ℕ)
+module _ {F : Type 0} (may : May F) (walks_law : HandleWalks may) (asks_law : HandleAsks may) (abandons_law : HandleAbandons may) (old one two : ChainHandle) (before after : QueueState) (head n r : ℕ)
     (session : Session) (request : List ℕ) (made : made_call.FileCall) (goes : before.stopped ≡ None) (walks : IsWalked old one before after (wents.On (says.Chain head n r)))
-    (asked : IsAskedBy one session request request (asks.Call made) two) where
+    (asked : IsDecodedBy one session request request (asks.Call made) two) where
   abbrev call : FileCall
   call = call_of (drop 80 request) made
 
@@ -40,9 +40,9 @@ module _ {F : Type 0} (may : May F) (walks_law : HandleWalks may) (asks_law : Ha
       let came = step.Chain head None in
       let c : OutChain = new_chain s i q loaded ds head None in
       let s₁ : LiveState F = after_walk s i q loaded ds came in
-      let first : Happens may s (Walks i loaded ds came) s₁ = subst (λ (k : comes.Step). Happens may s (Walks i loaded ds k) (after_walk s i q loaded ds k)) is walk.4 in
-      let there₁ : slice_get s₁.queues i ≡ Some (live_of after) = subst (λ (k : comes.Step). slice_get (after_walk s i q loaded ds k).queues i ≡ Some (live_of after)) is walk.5 in
-      let held : IsOut s.limit c one = subst (λ (k : comes.Step). IsHeld s i q loaded k one) is walk.6 in
+      let first : Happens may s (Walks i loaded ds came) s₁ = subst (λ (k : comes.CourseStep). Happens may s (Walks i loaded ds k) (after_walk s i q loaded ds k)) is walk.4 in
+      let there₁ : slice_get s₁.queues i ≡ Some (live_of after) = subst (λ (k : comes.CourseStep). slice_get (after_walk s i q loaded ds k).queues i ≡ Some (live_of after)) is walk.5 in
+      let held : IsOut s.limit c one = subst (λ (k : comes.CourseStep). IsHeld s i q loaded k one) is walk.6 in
       let asking = asks_law s₁ c s.outs [] one two session request request (asks.Call made) (reached_by may s s₁ (Walks i loaded ds came) reached first) small refl refl held in_session asked tt in
       let s₂ : LiveState F = after_asking s₁ s.outs [] c request in
       let d : OutChain = asked_chain c request s.options [] in

@@ -3,17 +3,17 @@ use Rattle.std.proofs.Common.{◌≡◌, ℕ, ◌≤◌, ◌^◌, Bool, List, []
 use Rattle.std.specs.Prelude.{Option}
 use Rattle.std.specs.List.{AllByRecursion}
 use Rattle.fs_regions.specs.Places.{places_in}
-use Rattle.fs_regions.specs.declared.step.Step as comes
-use Rattle.fs_regions.specs.declared.step.Step.TheVariants as step
+use Rattle.fs_regions.specs.declared.step.CourseStep as comes
+use Rattle.fs_regions.specs.declared.step.CourseStep.TheVariants as step
 use Rattle.virtiofsd_fuse.specs.Serving.{May}
 use Rattle.vm_memory.specs.Memory.{Memory}
 use Rattle.fs_chain.specs.OwnReplies.{IfUnanswered, own_error, own_reply}
 use Rattle.fs_chain.specs.Whole.{FromTaken, IsWalked}
-use Rattle.fs_chain.specs.declared.loads.Went.TheVariants as wents
-use Rattle.fs_chain.specs.declared.queue.KeptQueue.{KeptQueue}
-use Rattle.fs_chain.specs.declared.state.State.TheVariants as at
-use Rattle.fs_chain.specs.declared.walking.WalkOutcome.TheVariants as says
-use Rattle.fs_chain.specs.declared.workbench.Workbench.{Workbench}
+use Rattle.fs_chain.specs.declared.loads.LoadOutcome.TheVariants as wents
+use Rattle.fs_chain.specs.declared.queue.QueueState.{QueueState}
+use Rattle.fs_chain.specs.declared.state.ChainState.TheVariants as at
+use Rattle.fs_chain.specs.declared.popping.PopOutcome.TheVariants as says
+use Rattle.fs_chain.specs.declared.chain_handle.ChainHandle.{ChainHandle}
 use Rattle.fs_device.specs.StepBy.{Act}
 use Rattle.fs_live.specs.Handles.{HandleWalks, IsHeld, IsOut, IsReached, live_of}
 use Rattle.fs_live.specs.Live.{Happens, IfKeepsReturns, KeepsQueue, KeepsReturns, LiveEvent, LiveRun, LiveState, Maps, OutChain, Own, Replies, Returns, Walks, after_giving, after_own, after_walk, calls_among, new_chain, room_of}
@@ -23,8 +23,8 @@ use Rattle.fs_live.proofs.Queues.{same_some, there_same}
 use Rattle.worked_callers.proofs.OthersBeside.{own_kept}
 use Rattle.worked_callers.proofs.ServedBeside.{chain_is, reached_by, taken_of}
 
-pub mapped_amid : {F : Type 0} (may : May F) (walks_law : HandleWalks may) (maps_law : HandleMaps may) (replies_law : HandleReplies may) (returns_law : HandleReturnsOwn may) (old one two other : Workbench)
-    (before after : KeptQueue) (head n r serial : ℕ) (request reply : List ℕ) (notice : Bool) → before.stopped ≡ None → IsWalked old one before after (wents.On (says.Chain head n r))
+pub mapped_amid : {F : Type 0} (may : May F) (walks_law : HandleWalks may) (maps_law : HandleMaps may) (replies_law : HandleReplies may) (returns_law : HandleReturnsOwn may) (old one two other : ChainHandle)
+    (before after : QueueState) (head n r serial : ℕ) (request reply : List ℕ) (notice : Bool) → before.stopped ≡ None → IsWalked old one before after (wents.On (says.Chain head n r))
     → FromTaken one.state (λ out. out.request_len ≡ length request) → own_error one.state one.serial serial (length reply) ≡ None
     → IfUnanswered one.state (λ out. two ≡ record one { state = at.HasReply out (own_reply (length reply)) })
     → ((room bytes : List ℕ) (last : ℕ) → (acts : List Act) × GoesBackOwn after room bytes two.state acts last notice) → (s : LiveState F) (i : ℕ) → IsReached may s → s.outs ≡ []
@@ -42,9 +42,9 @@ mapped_amid {F} may walks_law maps_law replies_law returns_law old one two other
     let came = step.Chain head None in
     let c : OutChain = new_chain s i q loaded ds head None in
     let s₁ : LiveState F = after_walk s i q loaded ds came in
-    let first : Happens may s (Walks i loaded ds came) s₁ = subst (λ (k : comes.Step). Happens may s (Walks i loaded ds k) (after_walk s i q loaded ds k)) is walk.4 in
-    let there₁ : slice_get s₁.queues i ≡ Some (live_of after) = subst (λ (k : comes.Step). slice_get (after_walk s i q loaded ds k).queues i ≡ Some (live_of after)) is walk.5 in
-    let held : IsOut s.limit c one = subst (λ (k : comes.Step). IsHeld s i q loaded k one) is walk.6 in
+    let first : Happens may s (Walks i loaded ds came) s₁ = subst (λ (k : comes.CourseStep). Happens may s (Walks i loaded ds k) (after_walk s i q loaded ds k)) is walk.4 in
+    let there₁ : slice_get s₁.queues i ≡ Some (live_of after) = subst (λ (k : comes.CourseStep). slice_get (after_walk s i q loaded ds k).queues i ≡ Some (live_of after)) is walk.5 in
+    let held : IsOut s.limit c one = subst (λ (k : comes.CourseStep). IsHeld s i q loaded k one) is walk.6 in
     let taken_is : took q ≡ live_of after = same_some (took q) (live_of after) (sym (there_same s.queues i i (λ _. took q) q refl there) ∙ there₁) in
     let kept_queue : KeepsReturns s.places m (took q) = record { returns = keeps.returns; event = keeps.event } in
     let kept_after : KeepsReturns s.places m (live_of after) = subst (λ (w : LiveQueue). KeepsReturns s.places m w) taken_is kept_queue in
@@ -58,11 +58,11 @@ mapped_amid {F} may walks_law maps_law replies_law returns_law old one two other
     let s₃ : LiveState F = after_own s₂ s.outs [] c request reply s.options in
     let own : IsOwn d reply two.state = own_kept one.state one two d reply replied.1 is_kept in
     let goes_back = back (room_of d) reply 0 in
-    let returned = returns_law s₃ d s.outs [] two.state after request reply goes_back.0 0 notice refl there₁ (taken_of before after goes taken_is) refl own goes_back.1 in
+    let next_used = returns_law s₃ d s.outs [] two.state after request reply goes_back.0 0 notice refl there₁ (taken_of before after goes taken_is) refl own goes_back.1 in
     let s₄ : LiveState F = after_giving s₃ s.outs [] d (live_of after) in (
-      Walks i loaded ds came ∷ Maps m ∷ Replies c request reply s.options ∷ Returns d returned.0 notice 0 returned.1 returned.2 ∷ [],
+      Walks i loaded ds came ∷ Maps m ∷ Replies c request reply s.options ∷ Returns d next_used.0 notice 0 next_used.1 next_used.2 ∷ [],
       s₄,
-      (s₁, first, (s₂, mapped, (s₃, replied.0, (s₄, returned.4, refl)))),
+      (s₁, first, (s₂, mapped, (s₃, replied.0, (s₄, next_used.4, refl)))),
       refl,
       ap (λ (outs : List OutChain). outs ++ []) none,
       refl,

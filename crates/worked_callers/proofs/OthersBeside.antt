@@ -11,22 +11,22 @@ use Rattle.fs_record.specs.Record.{IsRecord, IsSavedQueue, Version}
 use Rattle.fs_queue.specs.WalkingView.{at_position}
 use Rattle.fs_queue.specs.declared.fault.QueueError.{QueueError}
 use Rattle.fs_regions.specs.Places.{places_in}
-use Rattle.fs_regions.specs.declared.step.Step as comes
-use Rattle.fs_regions.specs.declared.step.Step.TheVariants as step
+use Rattle.fs_regions.specs.declared.step.CourseStep as comes
+use Rattle.fs_regions.specs.declared.step.CourseStep.TheVariants as step
 use Rattle.virtiofsd_fuse.specs.Serving.{May}
 use Rattle.fs_chain.specs.Events.{tells_of}
 use Rattle.fs_chain.specs.Orders.{give_up_error, is_out, return_error}
 use Rattle.fs_chain.specs.OwnReplies.{IfUnanswered, own_error, own_reply}
-use Rattle.fs_chain.specs.Queues.{begun_anew, gave, untook}
-use Rattle.fs_chain.specs.Returns.{IfHasReply, ReturnsBy}
+use Rattle.fs_chain.specs.Queues.{reset_to, gave, untook}
+use Rattle.fs_chain.specs.Pushes.{IfHasReply, PushesBy}
 use Rattle.fs_chain.specs.Whole.{FromTaken, IsWalked}
-use Rattle.fs_chain.specs.declared.loads.Went.TheVariants as wents
-use Rattle.fs_chain.specs.declared.queue.KeptQueue.{KeptQueue}
-use Rattle.fs_chain.specs.declared.returning.Stores.{Stores}
-use Rattle.fs_chain.specs.declared.state.State as state
-use Rattle.fs_chain.specs.declared.state.State.TheVariants as at
-use Rattle.fs_chain.specs.declared.walking.WalkOutcome.TheVariants as says
-use Rattle.fs_chain.specs.declared.workbench.Workbench.{Workbench}
+use Rattle.fs_chain.specs.declared.loads.LoadOutcome.TheVariants as wents
+use Rattle.fs_chain.specs.declared.queue.QueueState.{QueueState}
+use Rattle.fs_chain.specs.declared.pushing.PushStores.{PushStores}
+use Rattle.fs_chain.specs.declared.state.ChainState as state
+use Rattle.fs_chain.specs.declared.state.ChainState.TheVariants as at
+use Rattle.fs_chain.specs.declared.popping.PopOutcome.TheVariants as says
+use Rattle.fs_chain.specs.declared.chain_handle.ChainHandle.{ChainHandle}
 use Rattle.fs_device.specs.StepBy.{Act, reply_stores, return_acts}
 use Rattle.fs_live.specs.Handles.{HandleWalks, IsHeld, IsOut, IsReached, live_of}
 use Rattle.fs_live.specs.Live.{Abandons, Drops, Happens, IsEven, LiveEvent, LiveRun, LiveState, MayBeOut, Moves, OutChain, Own, Replies, Returns, Walks, after_drop, after_giving, after_loss, after_own, after_walk, calls_among, new_chain, room_of}
@@ -35,7 +35,7 @@ use Rattle.fs_live.specs.Several.{LiveQueue, took}
 use Rattle.fs_live.proofs.Queues.{same_some, there_same}
 use Rattle.worked_callers.proofs.ServedBeside.{chain_is, reached_by, taken_of}
 
-pub dropped_beside : {F : Type 0} (may : May F) (walks_law : HandleWalks may) (drops_law : HandleDrops may) (old one : Workbench) (before after last : KeptQueue) (head n r : ℕ) → before.stopped ≡ None
+pub dropped_beside : {F : Type 0} (may : May F) (walks_law : HandleWalks may) (drops_law : HandleDrops may) (old one : ChainHandle) (before after last : QueueState) (head n r : ℕ) → before.stopped ≡ None
     → IsWalked old one before after (wents.On (says.Chain head n r)) → give_up_error one.state after ≡ None → last ≡ (if is_out one.state then untook after else after) → (s : LiveState F) (i : ℕ)
     → slice_get s.queues i ≡ Some (live_of before) → s.places ≡ places_in old.regions → s.limit ≡ old.limit
     → (es : List LiveEvent) × (end : LiveState F) × LiveRun may s es end × (end.outs ≡ s.outs) × (slice_get end.queues i ≡ Some (live_of last))
@@ -48,16 +48,16 @@ dropped_beside {F} may walks_law drops_law old one before after last head n r go
     let came = step.Chain head None in
     let c : OutChain = new_chain s i q loaded ds head None in
     let s₁ : LiveState F = after_walk s i q loaded ds came in
-    let first : Happens may s (Walks i loaded ds came) s₁ = subst (λ (k : comes.Step). Happens may s (Walks i loaded ds k) (after_walk s i q loaded ds k)) is walk.4 in
-    let there₁ : slice_get s₁.queues i ≡ Some (live_of after) = subst (λ (k : comes.Step). slice_get (after_walk s i q loaded ds k).queues i ≡ Some (live_of after)) is walk.5 in
-    let held : IsOut s.limit c one = subst (λ (k : comes.Step). IsHeld s i q loaded k one) is walk.6 in
+    let first : Happens may s (Walks i loaded ds came) s₁ = subst (λ (k : comes.CourseStep). Happens may s (Walks i loaded ds k) (after_walk s i q loaded ds k)) is walk.4 in
+    let there₁ : slice_get s₁.queues i ≡ Some (live_of after) = subst (λ (k : comes.CourseStep). slice_get (after_walk s i q loaded ds k).queues i ≡ Some (live_of after)) is walk.5 in
+    let held : IsOut s.limit c one = subst (λ (k : comes.CourseStep). IsHeld s i q loaded k one) is walk.6 in
     let dropped = drops_law s₁ c s.outs [] one after refl there₁ refl held clear in
     let s₂ : LiveState F = after_drop s₁ s.outs [] c (live_of after) in
     let out : is_out one.state ≡ true = ap is_out held.state in
     let left_is : untook after ≡ last = sym (left ∙ ap (λ (b : Bool). if b then untook after else after) out) in
-    (Walks i loaded ds came ∷ Drops c ∷ [], s₂, (s₁, first, (s₂, dropped.0, refl)), append-nil s.outs, dropped.1 ∙ ap (λ (k : KeptQueue). Some (live_of k)) left_is)
+    (Walks i loaded ds came ∷ Drops c ∷ [], s₂, (s₁, first, (s₂, dropped.0, refl)), append-nil s.outs, dropped.1 ∙ ap (λ (k : QueueState). Some (live_of k)) left_is)
 
-pub lost_beside : {F : Type 0} (may : May F) (walks_law : HandleWalks may) (abandons_law : HandleAbandons may) (old one : Workbench) (before after : KeptQueue) (head n r : ℕ) → before.stopped ≡ None
+pub lost_beside : {F : Type 0} (may : May F) (walks_law : HandleWalks may) (abandons_law : HandleAbandons may) (old one : ChainHandle) (before after : QueueState) (head n r : ℕ) → before.stopped ≡ None
     → IsWalked old one before after (wents.On (says.Chain head n r)) → (s : LiveState F) (i : ℕ) → slice_get s.queues i ≡ Some (live_of before) → s.places ≡ places_in old.regions → s.limit ≡ old.limit
     → (es : List LiveEvent) × (end : LiveState F) × LiveRun may s es end × (slice_get end.queues i ≡ Some (live_of after))
 lost_beside {F} may walks_law abandons_law old one before after head n r goes walks s i there places limit =
@@ -69,33 +69,33 @@ lost_beside {F} may walks_law abandons_law old one before after head n r goes wa
     let came = step.Chain head None in
     let c : OutChain = new_chain s i q loaded ds head None in
     let s₁ : LiveState F = after_walk s i q loaded ds came in
-    let first : Happens may s (Walks i loaded ds came) s₁ = subst (λ (k : comes.Step). Happens may s (Walks i loaded ds k) (after_walk s i q loaded ds k)) is walk.4 in
-    let there₁ : slice_get s₁.queues i ≡ Some (live_of after) = subst (λ (k : comes.Step). slice_get (after_walk s i q loaded ds k).queues i ≡ Some (live_of after)) is walk.5 in
+    let first : Happens may s (Walks i loaded ds came) s₁ = subst (λ (k : comes.CourseStep). Happens may s (Walks i loaded ds k) (after_walk s i q loaded ds k)) is walk.4 in
+    let there₁ : slice_get s₁.queues i ≡ Some (live_of after) = subst (λ (k : comes.CourseStep). slice_get (after_walk s i q loaded ds k).queues i ≡ Some (live_of after)) is walk.5 in
     let lost = abandons_law s₁ c s.outs [] refl in
     (Walks i loaded ds came ∷ Abandons c ∷ [], after_loss s₁ s.outs [] c, (s₁, first, (after_loss s₁ s.outs [] c, lost.0, refl)), there₁)
 
--- a chain that its caller replied to goes back by what begin_return told, with his bytes
-pub own_goes_back : (st : state.State) (q : KeptQueue) (len : ℕ) (s : Stores) (flags room reply : List ℕ) (last : ℕ) → return_error st q len ≡ None → length flags ≡ 2 →
-    IfHasReply st (λ out reply. ReturnsBy q out reply s) → (acts : List Act) × GoesBackOwn q room reply st acts last (tells_of q flags)
+-- a chain that its caller replied to goes back by what push told, with his bytes
+pub own_goes_back : (st : state.ChainState) (q : QueueState) (len : ℕ) (s : PushStores) (flags room reply : List ℕ) (last : ℕ) → return_error st q len ≡ None → length flags ≡ 2 →
+    IfHasReply st (λ out reply. PushesBy q out reply s) → (acts : List Act) × GoesBackOwn q room reply st acts last (tells_of q flags)
 own_goes_back (at.HasReply out r) q len s flags room reply last can two back =
     (return_acts (reply_stores room reply last ++ stores_of s.used) flags, record { stores = s; flags = flags; flags_len = two; returns = (back, refl); notified = refl })
 own_goes_back at.Free q len s flags room reply last can two back = absurd (cc)
-own_goes_back (at.Walking course ticket walk) q len s flags room reply last can two back = absurd (cc)
+own_goes_back (at.Walking course pop_id walk) q len s flags room reply last can two back = absurd (cc)
 own_goes_back (at.Taken out) q len s flags room reply last can two back = absurd (cc)
 own_goes_back (at.Waits out w) q len s flags room reply last can two back = absurd (cc)
 own_goes_back (at.Lists out l) q len s flags room reply last can two back = absurd (cc)
-own_goes_back (at.Returning out) q len s flags room reply last can two back = absurd (cc)
+own_goes_back (at.Pushing out) q len s flags room reply last can two back = absurd (cc)
 
 -- the reply is kept
-pub own_kept : (st : state.State) (one two : Workbench) (d : OutChain) (reply : List ℕ) → IfOut st (λ out. IsOwn d reply (at.HasReply out (own_reply (length reply)))) →
+pub own_kept : (st : state.ChainState) (one two : ChainHandle) (d : OutChain) (reply : List ℕ) → IfOut st (λ out. IsOwn d reply (at.HasReply out (own_reply (length reply)))) →
     IfUnanswered st (λ out. two ≡ record one { state = at.HasReply out (own_reply (length reply)) }) → IsOwn d reply two.state
-own_kept (at.Taken out) one two d reply own is = subst (λ (w : Workbench). IsOwn d reply w.state) (sym is) own
-own_kept (at.Waits out w) one two d reply own is = subst (λ (w : Workbench). IsOwn d reply w.state) (sym is) own
-own_kept (at.Lists out l) one two d reply own is = subst (λ (w : Workbench). IsOwn d reply w.state) (sym is) own
+own_kept (at.Taken out) one two d reply own is = subst (λ (w : ChainHandle). IsOwn d reply w.state) (sym is) own
+own_kept (at.Waits out w) one two d reply own is = subst (λ (w : ChainHandle). IsOwn d reply w.state) (sym is) own
+own_kept (at.Lists out l) one two d reply own is = subst (λ (w : ChainHandle). IsOwn d reply w.state) (sym is) own
 own_kept at.Free one two d reply own is = absurd own
-own_kept (at.Walking course ticket walk) one two d reply own is = absurd own
+own_kept (at.Walking course pop_id walk) one two d reply own is = absurd own
 own_kept (at.HasReply out r) one two d reply own is = absurd own
-own_kept (at.Returning out) one two d reply own is = absurd own
+own_kept (at.Pushing out) one two d reply own is = absurd own
 
 -- what changes twice changes at last
 changed_twice : {A : Type 0} (xs : List A) (i : ℕ) (x y : A) → changed_at (changed_at xs i (λ _. x)) i (λ _. y) ≡ changed_at xs i (λ _. y)
@@ -103,8 +103,8 @@ changed_twice [] i x y = refl
 changed_twice (z ∷ zs) zero x y = refl
 changed_twice {A} (z ∷ zs) (suc i) x y = ap (λ (l : List A). z ∷ l) (changed_twice zs i x y)
 
-pub replied_beside : {F : Type 0} (may : May F) (walks_law : HandleWalks may) (replies_law : HandleReplies may) (returns_law : HandleReturnsOwn may) (old one two : Workbench)
-    (before after final : KeptQueue) (head n r serial : ℕ) (request reply : List ℕ) (notice : Bool) → before.stopped ≡ None → IsWalked old one before after (wents.On (says.Chain head n r))
+pub replied_beside : {F : Type 0} (may : May F) (walks_law : HandleWalks may) (replies_law : HandleReplies may) (returns_law : HandleReturnsOwn may) (old one two : ChainHandle)
+    (before after final : QueueState) (head n r serial : ℕ) (request reply : List ℕ) (notice : Bool) → before.stopped ≡ None → IsWalked old one before after (wents.On (says.Chain head n r))
     → FromTaken one.state (λ out. out.request_len ≡ length request) → own_error one.state one.serial serial (length reply) ≡ None
     → IfUnanswered one.state (λ out. two ≡ record one { state = at.HasReply out (own_reply (length reply)) })
     → ((room bytes : List ℕ) (last : ℕ) → (acts : List Act) × GoesBackOwn after room bytes two.state acts last notice) → final ≡ gave after → (s : LiveState F) (i : ℕ)
@@ -120,33 +120,33 @@ replied_beside {F} may walks_law replies_law returns_law old one two before afte
     let came = step.Chain head None in
     let c : OutChain = new_chain s i q loaded ds head None in
     let s₁ : LiveState F = after_walk s i q loaded ds came in
-    let first : Happens may s (Walks i loaded ds came) s₁ = subst (λ (k : comes.Step). Happens may s (Walks i loaded ds k) (after_walk s i q loaded ds k)) is walk.4 in
-    let there₁ : slice_get s₁.queues i ≡ Some (live_of after) = subst (λ (k : comes.Step). slice_get (after_walk s i q loaded ds k).queues i ≡ Some (live_of after)) is walk.5 in
-    let held : IsOut s.limit c one = subst (λ (k : comes.Step). IsHeld s i q loaded k one) is walk.6 in
+    let first : Happens may s (Walks i loaded ds came) s₁ = subst (λ (k : comes.CourseStep). Happens may s (Walks i loaded ds k) (after_walk s i q loaded ds k)) is walk.4 in
+    let there₁ : slice_get s₁.queues i ≡ Some (live_of after) = subst (λ (k : comes.CourseStep). slice_get (after_walk s i q loaded ds k).queues i ≡ Some (live_of after)) is walk.5 in
+    let held : IsOut s.limit c one = subst (λ (k : comes.CourseStep). IsHeld s i q loaded k one) is walk.6 in
     let replied = replies_law s₁ c s.outs [] one serial s.options request reply (reached_by may s s₁ (Walks i loaded ds came) reached first) small refl refl held len clear in
     let d : OutChain = record c { phase = Own request reply } in
     let s₂ : LiveState F = after_own s₁ s.outs [] c request reply s.options in
     let own : IsOwn d reply two.state = own_kept one.state one two d reply replied.1 is_kept in
     let taken_is : took q ≡ live_of after = same_some (took q) (live_of after) (sym (there_same s.queues i i (λ _. took q) q refl there) ∙ there₁) in
     let goes_back = back (room_of d) reply 0 in
-    let returned = returns_law s₂ d s.outs [] two.state after request reply goes_back.0 0 notice refl there₁ (taken_of before after goes taken_is) refl own goes_back.1 in
+    let next_used = returns_law s₂ d s.outs [] two.state after request reply goes_back.0 0 notice refl there₁ (taken_of before after goes taken_is) refl own goes_back.1 in
     let s₃ : LiveState F = after_giving s₂ s.outs [] d (live_of after) in (
-      Walks i loaded ds came ∷ Replies c request reply s.options ∷ Returns d returned.0 notice 0 returned.1 returned.2 ∷ [],
+      Walks i loaded ds came ∷ Replies c request reply s.options ∷ Returns d next_used.0 notice 0 next_used.1 next_used.2 ∷ [],
       s₃,
-      (s₁, first, (s₂, replied.0, (s₃, returned.4, refl))),
+      (s₁, first, (s₂, replied.0, (s₃, next_used.4, refl))),
       refl,
       append-nil s.outs,
-      changed_twice s.queues i (took q) (live_of (gave after)) ∙ ap (λ (k : KeptQueue). changed_at s.queues i (λ _. live_of k)) (sym final_is),
+      changed_twice s.queues i (took q) (live_of (gave after)) ∙ ap (λ (k : QueueState). changed_at s.queues i (λ _. live_of k)) (sym final_is),
       refl,
       refl,
       refl,
     )
 
 -- a queue that is begun where it stands is as it was
-pub begun_same : (q : KeptQueue) → q.stopped ≡ None → q.returned ≡ q.position → live_of (begun_anew q q.layout q.position) ≡ live_of q
+pub begun_same : (q : QueueState) → q.stopped ≡ None → q.next_used ≡ q.next_avail → live_of (reset_to q q.layout q.next_avail) ≡ live_of q
 begun_same q goes even =
-    ap (λ (r : ℕ). record { queue = record (at_position q.layout q.position) { stopped = false }; returned = r; most_out = q.most_out; event_index = q.event_index }) (sym even)
-    ∙ ap (λ (x : Option QueueError). record { queue = record (at_position q.layout q.position) { stopped = is_some x }; returned = q.returned; most_out = q.most_out; event_index = q.event_index }) (sym goes)
+    ap (λ (r : ℕ). record { queue = record (at_position q.layout q.next_avail) { stopped = false }; next_used = r; max_in_flight = q.max_in_flight; event_index = q.event_index }) (sym even)
+    ∙ ap (λ (x : Option QueueError). record { queue = record (at_position q.layout q.next_avail) { stopped = is_some x }; next_used = q.next_used; max_in_flight = q.max_in_flight; event_index = q.event_index }) (sym goes)
 
 pub on_ok_two : {A E : Type 0} (r : Result A E) (P Q S : Type 0) → (P → Q → S) → OnOk r P → OnOk r Q → OnOk r S
 on_ok_two (Ok a) P Q S more p q = more p q
@@ -159,8 +159,8 @@ on_ok_any (Err e) P p = tt
 -- ---- moves
 
 -- a queue that is begun by that of a record stands as that
-pub begun_by : (q : KeptQueue) (layout : QueueLayout) (read : Queue) (stopped : Option QueueError) → layout.size ≡ read.size → layout.desc ≡ read.desc → layout.avail ≡ read.avail →
-    layout.used ≡ read.used → is_some stopped ≡ read.stopped → recorded (record (begun_anew q layout read.position) { stopped = stopped }) ≡ read
+pub begun_by : (q : QueueState) (layout : QueueLayout) (read : Queue) (stopped : Option QueueError) → layout.size ≡ read.size → layout.desc ≡ read.desc → layout.avail ≡ read.avail →
+    layout.used ≡ read.used → is_some stopped ≡ read.stopped → recorded (record (reset_to q layout read.position) { stopped = stopped }) ≡ read
 begun_by q layout read stopped size desc avail used is =
     let made : (size desc avail used : ℕ) → Bool → Queue = λ size desc avail used stopped.
     record { size = size; desc = desc; avail = avail; used = used; position = read.position; stopped = stopped } in
@@ -170,19 +170,19 @@ begun_by q layout read stopped size desc avail used is =
     ∙ ap (λ (n : ℕ). made read.size read.desc read.avail n (is_some stopped)) used
     ∙ ap (λ (b : Bool). made read.size read.desc read.avail read.used b) is
 
-pub moved_by : {F : Type 0} (may : May F) (law : HandleMoves may) (q after : KeptQueue) (layout : QueueLayout) (read : Queue) (stopped : Option QueueError) → layout.size ≡ read.size →
-    layout.desc ≡ read.desc → layout.avail ≡ read.avail → layout.used ≡ read.used → is_some stopped ≡ read.stopped → after ≡ record (begun_anew q layout read.position) { stopped = stopped } →
-    1 ≤ q.most_out → q.most_out ≤ read.size → (s : LiveState F) (here : KeptQueue) (m : Memory) (bytes : List ℕ) (v v' : Version) (options : ℕ) → s.outs ≡ [] →
+pub moved_by : {F : Type 0} (may : May F) (law : HandleMoves may) (q after : QueueState) (layout : QueueLayout) (read : Queue) (stopped : Option QueueError) → layout.size ≡ read.size →
+    layout.desc ≡ read.desc → layout.avail ≡ read.avail → layout.used ≡ read.used → is_some stopped ≡ read.stopped → after ≡ record (reset_to q layout read.position) { stopped = stopped } →
+    1 ≤ q.max_in_flight → q.max_in_flight ≤ read.size → (s : LiveState F) (here : QueueState) (m : Memory) (bytes : List ℕ) (v v' : Version) (options : ℕ) → s.outs ≡ [] →
     s.queues ≡ live_of here ∷ [] → IsRecord bytes v s.options (recorded here ∷ []) → IsRecord bytes v' options (read ∷ []) →
     (options ≡ s.options) × (next : LiveState F) × Happens may s (Moves m (live_of after ∷ [])) next × (next.queues ≡ live_of after ∷ []) × (next.places ≡ m) × (next.outs ≡ [])
     × (next.options ≡ s.options) × (next.limit ≡ s.limit)
 moved_by {F} may law q after layout read stopped size desc avail used is after_is some few s here m bytes v v' options none queues made found =
     let small : read.position < 2 ^ 16 = (All-head IsSavedQueue read [] found.2.3).2 in
-    let there : KeptQueue = record (begun_anew q layout read.position) { stopped = stopped } in
+    let there : QueueState = record (reset_to q layout read.position) { stopped = stopped } in
     let begun : AreBegunBy (read ∷ []) (after ∷ []) = record {
       same = ap (λ (x : Queue). x ∷ []) (ap recorded after_is ∙ begun_by q layout read stopped size desc avail used is);
-      even = (subst (λ (k : KeptQueue). IsEven (live_of k)) (sym after_is) (refl, small), tt);
-      few = (subst (λ (k : KeptQueue). MayBeOut (live_of k)) (sym after_is) (some, subst (λ (n : ℕ). q.most_out ≤ n) (sym size) few), tt);
+      even = (subst (λ (k : QueueState). IsEven (live_of k)) (sym after_is) (refl, small), tt);
+      few = (subst (λ (k : QueueState). MayBeOut (live_of k)) (sym after_is) (some, subst (λ (n : ℕ). q.max_in_flight ≤ n) (sym size) few), tt);
     } in
     let moved = law s (here ∷ []) (after ∷ []) m bytes v v' options (read ∷ []) none queues made found begun in
     (moved.0, record s { places = m; queues = live_of after ∷ [] }, moved.1, refl, refl, none, refl, refl)

@@ -10,26 +10,26 @@ use Rattle.fs_queue.specs.declared.fault.QueueError.{QueueError}
 use Rattle.fs_queue.specs.WalkingView.{at_position}
 use Rattle.fs_regions.specs.Places.{places_in}
 use Rattle.fs_regions.specs.Walks.{Loaded, queue_of}
-use Rattle.fs_regions.specs.declared.step.Step as comes
-use Rattle.fs_regions.specs.declared.step.Step.TheVariants as step
+use Rattle.fs_regions.specs.declared.step.CourseStep as comes
+use Rattle.fs_regions.specs.declared.step.CourseStep.TheVariants as step
 use Rattle.fuse_fs.specs.Calls.{FileCall, FileAnswer, FileRun, suits}
 use Rattle.virtiofsd_fuse.specs.Serving.{May}
 use Rattle.server_phases.specs.declared.session.Session.{Session}
-use Rattle.fs_chain.specs.Events.{kick_store, store_of}
+use Rattle.fs_chain.specs.Events.{notification_store, store_of}
 use Rattle.fs_chain.specs.Queues.{gave}
 use Rattle.fs_chain.specs.Walks.{course_of, told_of}
-use Rattle.fs_chain.specs.Whole.{Given, GoesBackBy, HasReply, IsAskedBy, IsWalked, data_behind, file_calls}
-use Rattle.fs_chain.specs.declared.asking.Told as told
-use Rattle.fs_chain.specs.declared.asking.Told.TheVariants as asks
-use Rattle.fs_chain.specs.declared.event_index.KickStore.{KickStore}
-use Rattle.fs_chain.specs.declared.loads.Went.TheVariants as wents
-use Rattle.fs_chain.specs.declared.queue.KeptQueue.{KeptQueue}
-use Rattle.fs_chain.specs.declared.walking.WalkOutcome as walked
-use Rattle.fs_chain.specs.declared.walking.WalkOutcome.TheVariants as says
-use Rattle.fs_chain.specs.declared.workbench.Workbench.{Workbench}
+use Rattle.fs_chain.specs.Whole.{ChainAnswer, GoesBackBy, HasReply, IsDecodedBy, IsWalked, data_behind, file_calls}
+use Rattle.fs_chain.specs.declared.decoding.Decoded as told
+use Rattle.fs_chain.specs.declared.decoding.Decoded.TheVariants as asks
+use Rattle.fs_chain.specs.declared.event_index.NotificationStore.{NotificationStore}
+use Rattle.fs_chain.specs.declared.loads.LoadOutcome.TheVariants as wents
+use Rattle.fs_chain.specs.declared.queue.QueueState.{QueueState}
+use Rattle.fs_chain.specs.declared.popping.PopOutcome as walked
+use Rattle.fs_chain.specs.declared.popping.PopOutcome.TheVariants as says
+use Rattle.fs_chain.specs.declared.chain_handle.ChainHandle.{ChainHandle}
 use Rattle.fs_device.specs.Step.{Calls, EachSuits}
 use Rattle.fs_device.specs.StepBy.{Act}
-use Rattle.fs_live.specs.Handles.{HandleAsks, HandleCalls, HandleFaulty, HandleReturns, HandleSleeps, HandleWalks, IsFaultyOut, IsHeld, IsKept, IsOut, IsReached, IsSessionOf, IsTold, calls_told, live_of}
+use Rattle.fs_live.specs.Handles.{HandleAsks, HandleCalls, HandleFaulty, HandleReturns, HandleSleeps, HandleWalks, IsFaultyOut, IsHeld, IsKept, IsOut, IsReached, IsSessionOf, IsDecodedWhole, calls_told, live_of}
 use Rattle.fs_live.specs.Live.{
   Answers,
   Asks,
@@ -95,15 +95,15 @@ calls_of_both (e ∷ es) fs = calls_behind e es fs (calls_of_both es fs)
 
 -- ---- the walk
 
-abbrev IsAChain : walked.WalkOutcome → Type 0
+abbrev IsAChain : walked.PopOutcome → Type 0
 IsAChain (says.Chain head n r) = Unit {0}
 IsAChain _ = ⊥
 
-abbrev head_in : walked.WalkOutcome → ℕ
+abbrev head_in : walked.PopOutcome → ℕ
 head_in (says.Chain head n r) = head
 head_in _ = 0
 
-pub chain_is : (ds : List Descriptor) (came : comes.Step) (head n r : ℕ) → says.Chain head n r ≡ told_of ds came → came ≡ step.Chain head None
+pub chain_is : (ds : List Descriptor) (came : comes.CourseStep) (head n r : ℕ) → says.Chain head n r ≡ told_of ds came → came ≡ step.Chain head None
 chain_is ds (step.Load walk) head n r is = absurd (subst IsAChain is tt)
 chain_is ds step.Idle head n r is = absurd (subst IsAChain is tt)
 chain_is ds (step.Refused e) head n r is = absurd (subst IsAChain is tt)
@@ -111,12 +111,12 @@ chain_is ds (step.Chain h None) head n r is = ap (λ (x : ℕ). step.Chain x Non
 chain_is ds (step.Chain h (Some fault)) head n r is = absurd (subst IsAChain is tt)
 
 -- a chain that was taken is of the queue's layout still
-pub taken_of : (before after : KeptQueue) → before.stopped ≡ None → took (live_of before) ≡ live_of after
+pub taken_of : (before after : QueueState) → before.stopped ≡ None → took (live_of before) ≡ live_of after
     → (live_of before).queue ≡ queue_of (course_of (record after { position = (live_of before).queue.position }) 0)
 taken_of before after goes is =
-    let q : (live_of before).queue ≡ at_position before.layout before.position =
-    ap (λ (x : Option QueueError). record (at_position before.layout before.position) { stopped = is_some x }) goes in
-    q ∙ ap (λ (k : LiveQueue). record (k.queue) { position = before.position; stopped = false }) is
+    let q : (live_of before).queue ≡ at_position before.layout before.next_avail =
+    ap (λ (x : Option QueueError). record (at_position before.layout before.next_avail) { stopped = is_some x }) goes in
+    q ∙ ap (λ (k : LiveQueue). record (k.queue) { position = before.next_avail; stopped = false }) is
 
 -- ---- the calls
 
@@ -125,13 +125,13 @@ each_suits may files files' [] run = tt
 each_suits may files files' (step ∷ calls) run = (run.1, each_suits may run.0 files' calls run.3)
 
 -- what was asked is told, where there is a reply to it
-pub told_with_reply : (made : told.Told) (w w' : Workbench) (given : Given) → HasReply made w given w' → IsTold made
+pub told_with_reply : (made : told.Decoded) (w w' : ChainHandle) (given : ChainAnswer) → HasReply made w given w' → IsDecodedWhole made
 told_with_reply (asks.Call made) w w' given has = tt
 told_with_reply (asks.More n) w w' given has = absurd has
 told_with_reply asks.Nothing w w' given has = tt
 told_with_reply (asks.Fault e) w w' given has = tt
 
-pub kept_on : (page_size options : ℕ) (request : List ℕ) (c : OutChain) (earlier more : Calls) (made : told.Told) (w : Workbench)
+pub kept_on : (page_size options : ℕ) (request : List ℕ) (c : OutChain) (earlier more : Calls) (made : told.Decoded) (w : ChainHandle)
     → IsKept page_size options request (asked_chain c request options earlier) made w → IsKept page_size options request (asked_chain c request options more) made w
 kept_on page_size options request c earlier more made w kept =
     record { out = kept.out; head = kept.head; taken = kept.taken; room = kept.room; small = kept.small; tells = kept.tells; session = kept.session }
@@ -148,7 +148,7 @@ pub record AllAnswered {F : Type 0} (may : May F) (s : LiveState F) (before behi
   pub anew : (i : ℕ) → AllByRecursion (NotAnew i) es
   pub files_are : end.files ≡ files
 
-module _ {F : Type 0} (may : May F) (law : HandleCalls may) (w w' : Workbench) (request : List ℕ) (options : ℕ) (made : told.Told) (given : Given) (has : HasReply made w given w') where
+module _ {F : Type 0} (may : May F) (law : HandleCalls may) (w w' : ChainHandle) (request : List ℕ) (options : ℕ) (made : told.Decoded) (given : ChainAnswer) (has : HasReply made w given w') where
   abbrev pub all : Calls
   all = file_calls (drop 80 request) made given
 
@@ -188,7 +188,7 @@ module _ {F : Type 0} (may : May F) (law : HandleCalls may) (w w' : Workbench) (
 -- ---- the whole chain
 
 -- these calls are answered and the chain goes back, whatever other chains are out: a run, which begins no queue anew
-pub record IsServed {F : Type 0} (may : May F) (s : LiveState F) (i : ℕ) (after : KeptQueue) (calls : Calls) : Type 0 where
+pub record IsServed {F : Type 0} (may : May F) (s : LiveState F) (i : ℕ) (after : QueueState) (calls : Calls) : Type 0 where
   pub es : List LiveEvent
   pub end : LiveState F
   pub run : LiveRun may s es end
@@ -197,9 +197,9 @@ pub record IsServed {F : Type 0} (may : May F) (s : LiveState F) (i : ℕ) (afte
   pub there : slice_get end.queues i ≡ Some (live_of (gave after))
   pub anew : AllByRecursion (NotAnew i) es
 
-module _ {F : Type 0} (may : May F) (walks_law : HandleWalks may) (asks_law : HandleAsks may) (calls_law : HandleCalls may) (returns_law : HandleReturns may) (old one two three : Workbench)
-    (before after : KeptQueue) (head n r : ℕ) (session : Session) (request : List ℕ) (made : told.Told) (given : Given) (notice : Bool) (goes : before.stopped ≡ None)
-    (walks : IsWalked old one before after (wents.On (says.Chain head n r))) (asked : IsAskedBy one session request request made two)
+module _ {F : Type 0} (may : May F) (walks_law : HandleWalks may) (asks_law : HandleAsks may) (calls_law : HandleCalls may) (returns_law : HandleReturns may) (old one two three : ChainHandle)
+    (before after : QueueState) (head n r : ℕ) (session : Session) (request : List ℕ) (made : told.Decoded) (given : ChainAnswer) (notice : Bool) (goes : before.stopped ≡ None)
+    (walks : IsWalked old one before after (wents.On (says.Chain head n r))) (asked : IsDecodedBy one session request request made two)
     (has : HasReply made two given three) (back : (room behind : List ℕ) → (acts : List Act) × (last : ℕ) × GoesBackBy after room behind three.state acts last notice) where
   pub served_beside : (s : LiveState F) (i : ℕ) (files : F) → IsReached may s → slice_get s.queues i ≡ Some (live_of before) → s.places ≡ places_in old.regions → s.limit ≡ old.limit
       → s.limit ≤ 2 ^ 31 → IsSessionOf s session → FileRun may s.files (file_calls (drop 80 request) made given) files → IsServed may s i after (file_calls (drop 80 request) made given)
@@ -213,9 +213,9 @@ module _ {F : Type 0} (may : May F) (walks_law : HandleWalks may) (asks_law : Ha
       let c : OutChain = new_chain s i q loaded ds head None in
       let s₁ : LiveState F = after_walk s i q loaded ds (step.Chain head None) in
       let first : Happens may s (Walks i loaded ds (step.Chain head None)) s₁ =
-      subst (λ (k : comes.Step). Happens may s (Walks i loaded ds k) (after_walk s i q loaded ds k)) is walk.4 in
-      let there₁ : slice_get s₁.queues i ≡ Some (live_of after) = subst (λ (k : comes.Step). slice_get (after_walk s i q loaded ds k).queues i ≡ Some (live_of after)) is walk.5 in
-      let held : IsOut s.limit c one = subst (λ (k : comes.Step). IsHeld s i q loaded k one) is walk.6 in
+      subst (λ (k : comes.CourseStep). Happens may s (Walks i loaded ds k) (after_walk s i q loaded ds k)) is walk.4 in
+      let there₁ : slice_get s₁.queues i ≡ Some (live_of after) = subst (λ (k : comes.CourseStep). slice_get (after_walk s i q loaded ds k).queues i ≡ Some (live_of after)) is walk.5 in
+      let held : IsOut s.limit c one = subst (λ (k : comes.CourseStep). IsHeld s i q loaded k one) is walk.6 in
       let asking = asks_law s₁ c s.outs [] one two session request request made (reached_by may s s₁ (Walks i loaded ds (step.Chain head None)) reached first) small refl refl held in_session asked
       (told_with_reply made two three given has) in
       let s₂ : LiveState F = after_asking s₁ s.outs [] c request in
@@ -227,17 +227,17 @@ module _ {F : Type 0} (may : May F) (walks_law : HandleWalks may) (asks_law : Ha
       let there₃ : slice_get ans.end.queues i ≡ Some (live_of after) = ap (λ (l : List LiveQueue). slice_get l i) ans.queues_are ∙ there₁ in
       let kept₃ : IsKept ans.end.page_size s.options request d made two =
       subst (λ (p : ℕ). IsKept p s.options request d made two) (sym ans.page_size) (kept_on s.page_size s.options request c [] calls made two kept) in
-      let returned = returns_law ans.end d s.outs [] two three after request s.options made given goes_back.0 goes_back.1 notice ans.outs there₃ (taken_of before after goes taken_is) refl
+      let next_used = returns_law ans.end d s.outs [] two three after request s.options made given goes_back.0 goes_back.1 notice ans.outs there₃ (taken_of before after goes taken_is) refl
       (each_suits may s.files files calls run) kept₃ has goes_back.2 in
-      let last = Returns d returned.0 notice goes_back.1 returned.1 returned.2 in
+      let last = Returns d next_used.0 notice goes_back.1 next_used.1 next_used.2 in
       let s₄ : LiveState F = after_giving ans.end s.outs [] d (live_of after) in
       record {
         es = Walks i loaded ds (step.Chain head None) ∷ Asks c request (calls_told (drop 80 request) made) ∷ (ans.es ++ last ∷ []);
         end = s₄;
-        run = (s₁, first, (s₂, asking.0, run_more may s₂ ans.end s₄ ans.es last ans.run returned.4));
+        run = (s₁, first, (s₂, asking.0, run_more may s₂ ans.end s₄ ans.es last ans.run next_used.4));
         calls_are = calls_of_both ans.es (last ∷ []) ∙ append-nil (calls_among ans.es) ∙ ans.calls;
         outs = append-nil s.outs;
-        there = returned.5;
+        there = next_used.5;
         anew = (tt, (tt, all_both (NotAnew i) ans.es (last ∷ []) (ans.anew i) (tt, tt)));
       }
 
@@ -249,7 +249,7 @@ pub options_after : (changes : Bool) (now now' asked asked' left : ℕ) → left
 options_after changes now now' asked asked' left is stays = (λ no. ((stays.0 no).0, is ∙ (stays.0 no).1), λ yes. stays.1 yes ∙ sym is)
 
 -- what is stored before a sleep
-pub sleep_is : {F : Type 0} (may : May F) (q : KeptQueue) (wanted : Bool) (told : Option KickStore) → HandleSleeps may → StoresStayThere may → option_map store_of told ≡ kick_store q wanted
+pub sleep_is : {F : Type 0} (may : May F) (q : QueueState) (wanted : Bool) (told : Option NotificationStore) → HandleSleeps may → StoresStayThere may → option_map store_of told ≡ notification_store q wanted
     → IfSome told (λ store. (s : LiveState F) (i : ℕ) → slice_get s.queues i ≡ Some (live_of q) → HasPlace s.places store.address
     → (run : LiveRun may s (Sleeps i (store_of store) ∷ []) s) × EachStoresThere may s (Sleeps i (store_of store) ∷ []) s run)
 sleep_is may q wanted None law stores is = tt
@@ -258,27 +258,27 @@ sleep_is {F} may q wanted (Some store) law stores is = λ s i there place.
     (run, stores s s (Sleeps i (store_of store) ∷ []) run)
 
 -- a faulty chain that is walked and goes back
-abbrev IsFaulty : walked.WalkOutcome → Type 0
+abbrev IsFaulty : walked.PopOutcome → Type 0
 IsFaulty (says.Faulty head fault) = Unit {0}
 IsFaulty _ = ⊥
 
-abbrev faulty_head : walked.WalkOutcome → ℕ
+abbrev faulty_head : walked.PopOutcome → ℕ
 faulty_head (says.Faulty head fault) = head
 faulty_head _ = 0
 
-abbrev fault_in : ChainFault → walked.WalkOutcome → ChainFault
+abbrev fault_in : ChainFault → walked.PopOutcome → ChainFault
 fault_in f (says.Faulty head fault) = fault
 fault_in f _ = f
 
-faulty_is : (ds : List Descriptor) (came : comes.Step) (head : ℕ) (fault : ChainFault) → says.Faulty head fault ≡ told_of ds came → came ≡ step.Chain head (Some fault)
+faulty_is : (ds : List Descriptor) (came : comes.CourseStep) (head : ℕ) (fault : ChainFault) → says.Faulty head fault ≡ told_of ds came → came ≡ step.Chain head (Some fault)
 faulty_is ds (step.Load walk) head fault is = absurd (subst IsFaulty is tt)
 faulty_is ds step.Idle head fault is = absurd (subst IsFaulty is tt)
 faulty_is ds (step.Refused e) head fault is = absurd (subst IsFaulty is tt)
 faulty_is ds (step.Chain h None) head fault is = absurd (subst IsFaulty is tt)
 faulty_is ds (step.Chain h (Some why)) head fault is =
-    ap (λ (x : ℕ). step.Chain x (Some why)) (sym (ap faulty_head is)) ∙ ap (λ (x : ChainFault). step.Chain head (Some x)) (sym (ap (λ (w : walked.WalkOutcome). fault_in fault w) is))
+    ap (λ (x : ℕ). step.Chain x (Some why)) (sym (ap faulty_head is)) ∙ ap (λ (x : ChainFault). step.Chain head (Some x)) (sym (ap (λ (w : walked.PopOutcome). fault_in fault w) is))
 
-pub faulty_beside : {F : Type 0} (may : May F) (walks_law : HandleWalks may) (faulty_law : HandleFaulty may) (old one : Workbench) (before after : KeptQueue) (head : ℕ) (fault : ChainFault)
+pub faulty_beside : {F : Type 0} (may : May F) (walks_law : HandleWalks may) (faulty_law : HandleFaulty may) (old one : ChainHandle) (before after : QueueState) (head : ℕ) (fault : ChainFault)
     (notice : Bool) → before.stopped ≡ None → IsWalked old one before after (wents.On (says.Faulty head fault))
     → ((room behind : List ℕ) → (acts : List Act) × (last : ℕ) × GoesBackBy after room behind one.state acts last notice) → (s : LiveState F) (i : ℕ) → slice_get s.queues i ≡ Some (live_of before)
     → s.places ≡ places_in old.regions → s.limit ≡ old.limit
@@ -292,11 +292,11 @@ faulty_beside {F} may walks_law faulty_law old one before after head fault notic
     let came = step.Chain head (Some fault) in
     let c : OutChain = new_chain s i q loaded ds head (Some fault) in
     let s₁ : LiveState F = after_walk s i q loaded ds came in
-    let first : Happens may s (Walks i loaded ds came) s₁ = subst (λ (k : comes.Step). Happens may s (Walks i loaded ds k) (after_walk s i q loaded ds k)) is walk.4 in
-    let there₁ : slice_get s₁.queues i ≡ Some (live_of after) = subst (λ (k : comes.Step). slice_get (after_walk s i q loaded ds k).queues i ≡ Some (live_of after)) is walk.5 in
-    let held : IsFaultyOut s.limit c one = subst (λ (k : comes.Step). IsHeld s i q loaded k one) is walk.6 in
+    let first : Happens may s (Walks i loaded ds came) s₁ = subst (λ (k : comes.CourseStep). Happens may s (Walks i loaded ds k) (after_walk s i q loaded ds k)) is walk.4 in
+    let there₁ : slice_get s₁.queues i ≡ Some (live_of after) = subst (λ (k : comes.CourseStep). slice_get (after_walk s i q loaded ds k).queues i ≡ Some (live_of after)) is walk.5 in
+    let held : IsFaultyOut s.limit c one = subst (λ (k : comes.CourseStep). IsHeld s i q loaded k one) is walk.6 in
     let taken_is : took q ≡ live_of after = same_some (took q) (live_of after) (sym (there_same s.queues i i (λ _. took q) q refl there) ∙ there₁) in
     let goes_back = back [] [] in
-    let returned = faulty_law s₁ c s.outs [] one after fault goes_back.0 goes_back.1 notice refl there₁ (taken_of before after goes taken_is) refl held goes_back.2 in
+    let next_used = faulty_law s₁ c s.outs [] one after fault goes_back.0 goes_back.1 notice refl there₁ (taken_of before after goes taken_is) refl held goes_back.2 in
     let s₂ : LiveState F = after_giving s₁ s.outs [] c (live_of after) in
-    (Walks i loaded ds came ∷ Returns c returned.0 notice goes_back.1 returned.1 returned.2 ∷ [], s₂, (s₁, first, (s₂, returned.4, refl)), refl, append-nil s.outs)
+    (Walks i loaded ds came ∷ Returns c next_used.0 notice goes_back.1 next_used.1 next_used.2 ∷ [], s₂, (s₁, first, (s₂, next_used.4, refl)), refl, append-nil s.outs)

@@ -4,19 +4,19 @@ use Rattle.std.specs.Prelude.{drop, false}
 use Rattle.fs_queue.specs.Queue.{Queue}
 use Rattle.fs_regions.specs.Places.{places_in}
 use Rattle.fs_regions.specs.Walks.{queue_of}
-use Rattle.fs_regions.specs.declared.step.Step as comes
-use Rattle.fs_regions.specs.declared.step.Step.TheVariants as step
+use Rattle.fs_regions.specs.declared.step.CourseStep as comes
+use Rattle.fs_regions.specs.declared.step.CourseStep.TheVariants as step
 use Rattle.fuse_fs.specs.Calls.{FileRun}
 use Rattle.virtiofsd_fuse.specs.Serving.{May}
 use Rattle.server_phases.specs.declared.session.Session.{Session}
 use Rattle.fs_chain.specs.Queues.{gave}
 use Rattle.fs_chain.specs.Walks.{course_of}
-use Rattle.fs_chain.specs.Whole.{Given, GoesBackBy, HasReply, IsAskedBy, IsWalked, data_behind, file_calls}
-use Rattle.fs_chain.specs.declared.asking.Told as told
-use Rattle.fs_chain.specs.declared.loads.Went.TheVariants as wents
-use Rattle.fs_chain.specs.declared.queue.KeptQueue.{KeptQueue}
-use Rattle.fs_chain.specs.declared.walking.WalkOutcome.TheVariants as says
-use Rattle.fs_chain.specs.declared.workbench.Workbench.{Workbench}
+use Rattle.fs_chain.specs.Whole.{ChainAnswer, GoesBackBy, HasReply, IsDecodedBy, IsWalked, data_behind, file_calls}
+use Rattle.fs_chain.specs.declared.decoding.Decoded as told
+use Rattle.fs_chain.specs.declared.loads.LoadOutcome.TheVariants as wents
+use Rattle.fs_chain.specs.declared.queue.QueueState.{QueueState}
+use Rattle.fs_chain.specs.declared.popping.PopOutcome.TheVariants as says
+use Rattle.fs_chain.specs.declared.chain_handle.ChainHandle.{ChainHandle}
 use Rattle.fs_device.specs.Step.{Calls}
 use Rattle.fs_device.specs.StepBy.{Act}
 use Rattle.fs_live.specs.Handles.{HandleAsks, HandleCalls, HandleReturns, HandleWalks, IsHeld, IsKept, IsOut, IsReached, IsSessionOf, calls_told, live_of}
@@ -31,15 +31,15 @@ run_both {F} may s mid after [] fs run more = subst (λ (k : LiveState F). LiveR
 run_both may s mid after (x ∷ es) fs run more = (run.0, run.1, run_both may run.0 mid after es fs run.2 more)
 
 -- a chain that goes back after another one was taken of its queue is of the queue's layout still
-late_of : (before mid after : KeptQueue) → before.stopped ≡ None → took (live_of before) ≡ live_of mid → took (live_of mid) ≡ live_of after
+late_of : (before mid after : QueueState) → before.stopped ≡ None → took (live_of before) ≡ live_of mid → took (live_of mid) ≡ live_of after
     → (live_of before).queue ≡ queue_of (course_of (record (gave after) { position = (live_of before).queue.position }) 0)
 late_of before mid after goes one two =
-    taken_of before mid goes one ∙ ap (λ (k : LiveQueue). record (k.queue) { position = before.position; stopped = false }) two
+    taken_of before mid goes one ∙ ap (λ (k : LiveQueue). record (k.queue) { position = before.next_avail; stopped = false }) two
 
-module _ {F : Type 0} (may : May F) (walks_law : HandleWalks may) (asks_law : HandleAsks may) (calls_law : HandleCalls may) (returns_law : HandleReturns may) (old one one₂ one₃ old' two two₂ two₃ : Workbench)
-    (before mid after : KeptQueue) (head n r head' n' r' : ℕ) (session session' : Session) (request request' : List ℕ) (made made' : told.Told) (given given' : Given) (notice notice' : Bool)
+module _ {F : Type 0} (may : May F) (walks_law : HandleWalks may) (asks_law : HandleAsks may) (calls_law : HandleCalls may) (returns_law : HandleReturns may) (old one one₂ one₃ old' two two₂ two₃ : ChainHandle)
+    (before mid after : QueueState) (head n r head' n' r' : ℕ) (session session' : Session) (request request' : List ℕ) (made made' : told.Decoded) (given given' : ChainAnswer) (notice notice' : Bool)
     (goes : before.stopped ≡ None) (walks : IsWalked old one before mid (wents.On (says.Chain head n r))) (walks' : IsWalked old' two mid after (wents.On (says.Chain head' n' r')))
-    (asked : IsAskedBy one session request request made one₂) (asked' : IsAskedBy two session' request' request' made' two₂) (has : HasReply made one₂ given one₃) (has' : HasReply made' two₂ given' two₃)
+    (asked : IsDecodedBy one session request request made one₂) (asked' : IsDecodedBy two session' request' request' made' two₂) (has : HasReply made one₂ given one₃) (has' : HasReply made' two₂ given' two₃)
     (back : (room behind : List ℕ) → (acts : List Act) × (last : ℕ) × GoesBackBy (gave after) room behind one₃.state acts last notice)
     (back' : (room behind : List ℕ) → (acts : List Act) × (last : ℕ) × GoesBackBy after room behind two₃.state acts last notice') where
   abbrev late : Calls
@@ -61,18 +61,18 @@ module _ {F : Type 0} (may : May F) (walks_law : HandleWalks may) (asks_law : Ha
       let came = step.Chain head None in
       let c : OutChain = new_chain s i q walk.0 ds head None in
       let s₁ : LiveState F = after_walk s i q walk.0 ds came in
-      let first : Happens may s (Walks i walk.0 ds came) s₁ = subst (λ (k : comes.Step). Happens may s (Walks i walk.0 ds k) (after_walk s i q walk.0 ds k)) is walk.4 in
-      let there₁ : slice_get s₁.queues i ≡ Some q' = subst (λ (k : comes.Step). slice_get (after_walk s i q walk.0 ds k).queues i ≡ Some q') is walk.5 in
-      let held : IsOut s.limit c one = subst (λ (k : comes.Step). IsHeld s i q walk.0 k one) is walk.6 in
+      let first : Happens may s (Walks i walk.0 ds came) s₁ = subst (λ (k : comes.CourseStep). Happens may s (Walks i walk.0 ds k) (after_walk s i q walk.0 ds k)) is walk.4 in
+      let there₁ : slice_get s₁.queues i ≡ Some q' = subst (λ (k : comes.CourseStep). slice_get (after_walk s i q walk.0 ds k).queues i ≡ Some q') is walk.5 in
+      let held : IsOut s.limit c one = subst (λ (k : comes.CourseStep). IsHeld s i q walk.0 k one) is walk.6 in
       let goes' : mid.stopped ≡ None = goes_still old one before mid head n r goes walks in
       let walk' = walks_law s₁ i walks'.0 old' two mid after (says.Chain head' n' r') there₁ places' limit' goes' tt walks'.1 tt in
       let is' = chain_is ds' walk'.2 head' n' r' walk'.3 in
       let came' = step.Chain head' None in
       let c' : OutChain = new_chain s₁ i q' walk'.0 ds' head' None in
       let s₂ : LiveState F = after_walk s₁ i q' walk'.0 ds' came' in
-      let second : Happens may s₁ (Walks i walk'.0 ds' came') s₂ = subst (λ (k : comes.Step). Happens may s₁ (Walks i walk'.0 ds' k) (after_walk s₁ i q' walk'.0 ds' k)) is' walk'.4 in
-      let there₂ : slice_get s₂.queues i ≡ Some (live_of after) = subst (λ (k : comes.Step). slice_get (after_walk s₁ i q' walk'.0 ds' k).queues i ≡ Some (live_of after)) is' walk'.5 in
-      let held' : IsOut s.limit c' two = subst (λ (k : comes.Step). IsHeld s₁ i q' walk'.0 k two) is' walk'.6 in
+      let second : Happens may s₁ (Walks i walk'.0 ds' came') s₂ = subst (λ (k : comes.CourseStep). Happens may s₁ (Walks i walk'.0 ds' k) (after_walk s₁ i q' walk'.0 ds' k)) is' walk'.4 in
+      let there₂ : slice_get s₂.queues i ≡ Some (live_of after) = subst (λ (k : comes.CourseStep). slice_get (after_walk s₁ i q' walk'.0 ds' k).queues i ≡ Some (live_of after)) is' walk'.5 in
+      let held' : IsOut s.limit c' two = subst (λ (k : comes.CourseStep). IsHeld s₁ i q' walk'.0 k two) is' walk'.6 in
       let reached₂ = reached_by may s₁ s₂ (Walks i walk'.0 ds' came') (reached_by may s s₁ (Walks i walk.0 ds came) reached first) second in
       let asking = asks_law s₂ c s.outs (c' ∷ []) one one₂ session request request made reached₂ small (append_assoc s.outs (c ∷ []) (c' ∷ [])) refl held in_session asked
       (told_with_reply made one₂ one₃ given has) in
@@ -103,11 +103,11 @@ module _ {F : Type 0} (may : May F) (walks_law : HandleWalks may) (asks_law : Ha
       let goes_back = back (room_of e) (data_behind given) in
       let kept₆ : IsKept ans.end.page_size s.options request e made one₂ =
       subst (λ (p : ℕ). IsKept p s.options request e made one₂) (sym (ans.page_size ∙ ans'.page_size)) (kept_on s.page_size s.options request c [] late made one₂ kept) in
-      let returned = returns_law ans.end e s.outs [] one₂ one₃ (gave after) request s.options made given goes_back.0 goes_back.1 notice ans.outs
+      let next_used = returns_law ans.end e s.outs [] one₂ one₃ (gave after) request s.options made given goes_back.0 goes_back.1 notice ans.outs
       (ap (λ (l : List LiveQueue). slice_get l i) ans.queues_are ∙ returned'.5) (late_of before mid after goes taken taken') refl (each_suits may between files late run) kept₆ has goes_back.2 in
       let s₆ : LiveState F = after_giving ans.end s.outs [] e (live_of (gave after)) in
       let last' = Returns e' returned'.0 notice' goes_back'.1 returned'.1 returned'.2 in
-      let last = Returns e returned.0 notice goes_back.1 returned.1 returned.2 in
+      let last = Returns e next_used.0 notice goes_back.1 next_used.1 next_used.2 in
       let ends : List LiveEvent = ans.es ++ last ∷ [] in (
         Walks i walk.0 ds came ∷ Walks i walk'.0 ds' came' ∷ asks ∷ asks' ∷ (ans'.es ++ last' ∷ ends),
         s₆,
@@ -124,7 +124,7 @@ module _ {F : Type 0} (may : May F) (walks_law : HandleWalks may) (asks_law : Ha
                 s₄,
                 asking'.0,
                 run_both may s₄ ans'.end s₆ ans'.es (last' ∷ ends) ans'.run
-                    (s₅, returned'.4, run_both may s₅ ans.end s₆ ans.es (last ∷ []) ans.run (s₆, returned.4, refl)),
+                    (s₅, returned'.4, run_both may s₅ ans.end s₆ ans.es (last ∷ []) ans.run (s₆, next_used.4, refl)),
               ),
             ),
           ),

@@ -4,31 +4,31 @@ use Rattle.std.specs.Prelude.{◌==◌}
 use Rattle.std.proofs.lemmas.Bool.{eq-eqb}
 use Rattle.fs_queue.specs.Chain.{Descriptor}
 use Rattle.fs_regions.specs.Walks.{Loaded}
-use Rattle.fs_regions.specs.declared.step.Step as comes
-use Rattle.fs_regions.specs.declared.step.Step.TheVariants as step
+use Rattle.fs_regions.specs.declared.step.CourseStep as comes
+use Rattle.fs_regions.specs.declared.step.CourseStep.TheVariants as step
 use Rattle.virtiofsd_fuse.specs.Serving.{May}
 use Rattle.fs_chain.specs.Walks.{queue_after, told_of}
 use Rattle.fs_chain.specs.Whole.{IsWalked}
-use Rattle.fs_chain.specs.declared.loads.Went.TheVariants as wents
-use Rattle.fs_chain.specs.declared.queue.KeptQueue.{KeptQueue}
-use Rattle.fs_chain.specs.declared.walking.WalkOutcome as walked
-use Rattle.fs_chain.specs.declared.walking.WalkOutcome.TheVariants as says
-use Rattle.fs_chain.specs.declared.workbench.Workbench.{Workbench}
+use Rattle.fs_chain.specs.declared.loads.LoadOutcome.TheVariants as wents
+use Rattle.fs_chain.specs.declared.queue.QueueState.{QueueState}
+use Rattle.fs_chain.specs.declared.popping.PopOutcome as walked
+use Rattle.fs_chain.specs.declared.popping.PopOutcome.TheVariants as says
+use Rattle.fs_chain.specs.declared.chain_handle.ChainHandle.{ChainHandle}
 use Rattle.fs_chain.proofs.WholeWalks.{walk_comes}
 use Rattle.fs_live.specs.Live.{Happens, LiveState, Walks}
 use Rattle.fs_live.specs.Runs.{events_on}
 use Rattle.fs_live.specs.Several.{heads_ended, heads_taken}
 
-abbrev IsAChain : walked.WalkOutcome → Type 0
+abbrev IsAChain : walked.PopOutcome → Type 0
 IsAChain (says.Chain head n r) = Unit {0}
 IsAChain _ = ⊥
 
-abbrev head_in : walked.WalkOutcome → ℕ
+abbrev head_in : walked.PopOutcome → ℕ
 head_in (says.Chain head n r) = head
 head_in _ = 0
 
 -- a walk that told a chain took it: places and limit stay
-pub took_so : {F : Type 0} (may : May F) (s next : LiveState F) (i : ℕ) (loaded : Loaded) (ds : List Descriptor) (came : comes.Step) (head n r : ℕ) → says.Chain head n r ≡ told_of ds came
+pub took_so : {F : Type 0} (may : May F) (s next : LiveState F) (i : ℕ) (loaded : Loaded) (ds : List Descriptor) (came : comes.CourseStep) (head n r : ℕ) → says.Chain head n r ≡ told_of ds came
     → Happens may s (Walks i loaded ds came) next → (came ≡ step.Chain head None) × (next.places ≡ s.places) × (next.limit ≡ s.limit)
 took_so may s next i loaded ds (step.Load walk) head n r told happens = absurd (subst IsAChain told tt)
 took_so may s next i loaded ds step.Idle head n r told happens = absurd (subst IsAChain told tt)
@@ -40,17 +40,17 @@ took_so {F} may s next i loaded ds (step.Chain h None) head n r told happens = (
 )
 took_so may s next i loaded ds (step.Chain h (Some fault)) head n r told happens = absurd (subst IsAChain told tt)
 
-after_chain_goes : (q : KeptQueue) (ds : List Descriptor) (came : comes.Step) (head n r : ℕ) → says.Chain head n r ≡ told_of ds came → (queue_after q came).stopped ≡ q.stopped
+after_chain_goes : (q : QueueState) (ds : List Descriptor) (came : comes.CourseStep) (head n r : ℕ) → says.Chain head n r ≡ told_of ds came → (queue_after q came).stopped ≡ q.stopped
 after_chain_goes q ds (step.Load walk) head n r told = refl
 after_chain_goes q ds step.Idle head n r told = refl
 after_chain_goes q ds (step.Refused e) head n r told = absurd (subst IsAChain told tt)
 after_chain_goes q ds (step.Chain h fault) head n r told = refl
 
 -- and its queue goes on
-pub goes_still : (old new : Workbench) (before after : KeptQueue) (head n r : ℕ) → before.stopped ≡ None → IsWalked old new before after (wents.On (says.Chain head n r)) → after.stopped ≡ None
+pub goes_still : (old new : ChainHandle) (before after : QueueState) (head n r : ℕ) → before.stopped ≡ None → IsWalked old new before after (wents.On (says.Chain head n r)) → after.stopped ≡ None
 goes_still old new before after head n r goes walked =
     let came = walk_comes walked.0 old new before after (says.Chain head n r) goes tt walked.1 in
-    ap (λ (q : KeptQueue). q.stopped) came.2.1.2 ∙ after_chain_goes before new.descriptors.items came.2.0 head n r came.2.1.0 ∙ goes
+    ap (λ (q : QueueState). q.stopped) came.2.1.2 ∙ after_chain_goes before new.descriptors.items came.2.0 head n r came.2.1.0 ∙ goes
 
 -- two takes on one queue
 takes_two : (i head other : ℕ) (one two : Loaded) (ds more : List Descriptor) → (i == i) ≡ true

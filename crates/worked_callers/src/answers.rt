@@ -9,26 +9,26 @@ ghost use Rattle.fuse_values.specs.declared.call.FileCall as value;
 ghost use Rattle.fs_chain.specs.Whole.{IsAnsweredBy};
 ghost use Rattle.fs_chain.specs.WholeListings.{EndsThere, listing_calls};
 ghost use Rattle.fs_chain.specs.declared.answering.Replied.{Replied};
-ghost use Rattle.fs_chain.specs.declared.state.State.TheVariants as at;
+ghost use Rattle.fs_chain.specs.declared.state.ChainState.TheVariants as at;
 ghost use Rattle.fs_device.specs.Step.{Calls};
 ghost use Rattle.fs_live.specs.Handles.{IsReached, IsSessionOf, live_of};
 ghost use Rattle.fs_live.specs.Live.{LiveEvent, LiveRun, LiveState, calls_among};
 
 use crate::listings::{Pair, ask_call, list_two};
 use crate::wholes::{give_back, walk_chain};
-use fs_chain::{ChainError, KeptQueue, Workbench};
+use fs_chain::{ChainError, QueueState, ChainHandle};
 use fs_live::law_handles;
 use fuse_fs::{Entry, FileSystem};
 use fuse_values::FileAnswer;
 use server_phases::Session;
 
 /// Answers the pending call by data, which the caller stores in the reply buffer behind the reply's front.
-pub fn give_data(workbench: &mut Workbench, bytes: &[u8]) -> Result<(), ChainError>
-    ensures { OnOk result ((told : Replied) × IsAnsweredBy workbench.old (FileAnswer.Bytes (length bytes.now)) bytes.now told workbench.new) }
+pub fn give_data(handle: &mut ChainHandle, bytes: &[u8]) -> Result<(), ChainError>
+    ensures { OnOk result ((told : Replied) × IsAnsweredBy handle.old (FileAnswer.Bytes (length bytes.now)) bytes.now told handle.new) }
 {
-    let serial = workbench.serial();
+    let serial = handle.serial();
     let answer = FileAnswer::Bytes { len: bytes.len() };
-    match workbench.answer(serial, answer) {
+    match handle.answer(serial, answer) {
         Ok(_) => Ok(()),
         Err(error) => Err(error),
     }
@@ -37,35 +37,35 @@ pub fn give_data(workbench: &mut Workbench, bytes: &[u8]) -> Result<(), ChainErr
 /// A chain whose answer has data, from its walk to its return: the run's call has this data for its answer,
 /// whichever other chains are in flight.
 pub fn read_beside<F: FileSystem>(
-    workbench: &mut Workbench,
-    queue: &mut KeptQueue,
+    handle: &mut ChainHandle,
+    queue: &mut QueueState,
     given: &[&[u8]],
     session: Session,
     request: &[u8],
     bytes: &[u8],
 ) -> Result<bool, ChainError>
-    requires free { workbench.old.state ≡ at.Free }
+    requires free { handle.old.state ≡ at.Free }
     requires goes { queue.old.stopped ≡ None }
     ensures run { IfOk result (λ notice. (s : LiveState F) (i : ℕ) (files : F) → IsReached F.may s → slice_get s.queues i ≡ Some (live_of queue.old)
-        → s.places ≡ places_in workbench.old.regions → s.limit ≡ workbench.old.limit → s.limit ≤ 2 ^ 31 → IsSessionOf s session
+        → s.places ≡ places_in handle.old.regions → s.limit ≡ handle.old.limit → s.limit ≤ 2 ^ 31 → IsSessionOf s session
         → (made : value.FileCall) × (more : Calls) × (FileRun F.may s.files ((call_of (drop 80 request.now) made, Bytes bytes.now) ∷ more) files
         → (es : List LiveEvent) × (end : LiveState F) × LiveRun F.may s es end × (calls_among es ≡ (call_of (drop 80 request.now) made, Bytes bytes.now) ∷ more) × (end.outs ≡ s.outs))) }
 {
     law_handles::<F>();
-    let (_, request_len, _) = walk_chain(workbench, queue, given)?;
+    let (_, request_len, _) = walk_chain(handle, queue, given)?;
     if request_len != request.len() {
         return Err(ChainError::BadArgument);
     }
-    ask_call(workbench, session, request)?;
-    give_data(workbench, bytes)?;
-    give_back(workbench, queue)
+    ask_call(handle, session, request)?;
+    give_data(handle, bytes)?;
+    give_back(handle, queue)
 }
 
 /// A chain that lists two entries with their nodes, from its walk to its return: the run's calls are the
 /// listing and its look-ups, whichever other chains are in flight.
 pub fn list_beside<F: FileSystem>(
-    workbench: &mut Workbench,
-    queue: &mut KeptQueue,
+    handle: &mut ChainHandle,
+    queue: &mut QueueState,
     given: &[&[u8]],
     session: Session,
     request: &[u8],
@@ -73,21 +73,21 @@ pub fn list_beside<F: FileSystem>(
     entries: &Pair<'_>,
     nodes: (Entry<u64>, Entry<u64>),
 ) -> Result<bool, ChainError>
-    requires free { workbench.old.state ≡ at.Free }
+    requires free { handle.old.state ≡ at.Free }
     requires goes { queue.old.stopped ≡ None }
     ensures run { IfOk result (λ notice. (s : LiveState F) (i : ℕ) (files : F) → IsReached F.may s → slice_get s.queues i ≡ Some (live_of queue.old)
-        → s.places ≡ places_in workbench.old.regions → s.limit ≡ workbench.old.limit → s.limit ≤ 2 ^ 31 → IsSessionOf s session
+        → s.places ≡ places_in handle.old.regions → s.limit ≡ handle.old.limit → s.limit ≤ 2 ^ 31 → IsSessionOf s session
         → (made : value.FileCall) × (let calls = listing_calls (call_of (drop 80 request.now) made) true
         ((listed entries.now.first, nodes.0) ∷ (listed entries.now.second, nodes.1) ∷ []) EndsThere in
         FileRun F.may s.files calls files
         → (es : List LiveEvent) × (end : LiveState F) × LiveRun F.may s es end × (calls_among es ≡ calls) × (end.outs ≡ s.outs))) }
 {
     law_handles::<F>();
-    let (_, request_len, _) = walk_chain(workbench, queue, given)?;
+    let (_, request_len, _) = walk_chain(handle, queue, given)?;
     if request_len != request.len() {
         return Err(ChainError::BadArgument);
     }
-    ask_call(workbench, session, request)?;
-    let _len = list_two(workbench, list, entries, nodes)?;
-    give_back(workbench, queue)
+    ask_call(handle, session, request)?;
+    let _len = list_two(handle, list, entries, nodes)?;
+    give_back(handle, queue)
 }

@@ -13,8 +13,8 @@ ghost use Rattle.server_phases.specs.Answering.{TellsBytes};
 ghost use Rattle.fs_chain.specs.Events.{store_of};
 ghost use Rattle.fs_chain.specs.Walks.{HasEvents};
 ghost use Rattle.fs_chain.specs.Whole.{IsWalked, WalksBy};
-ghost use Rattle.fs_chain.specs.declared.asking.Told.TheVariants as asks;
-ghost use Rattle.fs_chain.specs.declared.state.State.TheVariants as at;
+ghost use Rattle.fs_chain.specs.declared.decoding.Decoded.TheVariants as asks;
+ghost use Rattle.fs_chain.specs.declared.state.ChainState.TheVariants as at;
 ghost use Rattle.fs_device.specs.Step.{Calls};
 ghost use Rattle.fs_live.specs.Handles.{IsKept, IsReached, IsSessionOf, changes_options, live_of, load_count};
 ghost use Rattle.fs_live.specs.Live.{Answers, Asked, Begins, Declines, Happens, HasPlace, LiveEvent, LiveRun, LiveState, NoneWaits, OutChain, Sleeps, calls_among, room_of, why_declined};
@@ -22,7 +22,7 @@ ghost use Rattle.fs_live.specs.Runs.{EachStoresThere, events_on, going, tickets_
 ghost use Rattle.fs_live.specs.Several.{LiveQueue, RunsOver, UsedFrom, returns_among};
 
 use crate::wholes::{give_back, reply, walk_by, walk_chain};
-use fs_chain::{ChainError, KeptQueue, KickStore, WalkOutcome, Went, Workbench};
+use fs_chain::{ChainError, QueueState, NotificationStore, PopOutcome, LoadOutcome, ChainHandle};
 use fs_live::{law_handles, law_runs};
 use fs_queue::{ChainFault, QueueError, QueueLayout};
 use fuse_fs::FileSystem;
@@ -32,18 +32,18 @@ use server_phases::Session;
 /// A chain from its walk to its return, whatever other chains are out: its calls are those of the run and are one of the file system, its stores stay
 /// where they may be, and its queue is as a queue alone.
 pub fn serve_beside<F: FileSystem>(
-    workbench: &mut Workbench,
-    queue: &mut KeptQueue,
+    handle: &mut ChainHandle,
+    queue: &mut QueueState,
     given: &[&[u8]],
     session: Session,
     request: &[u8],
     answer: FileAnswer,
 ) -> Result<bool, ChainError>
-    requires free { workbench.old.state ≡ at.Free }
+    requires free { handle.old.state ≡ at.Free }
     requires goes { queue.old.stopped ≡ None }
     requires data { TellsBytes [] answer }
     ensures run { IfOk result (λ notice. (s : LiveState F) (i : ℕ) (files : F) → IsReached F.may s → slice_get s.queues i ≡ Some (live_of queue.old)
-        → s.places ≡ places_in workbench.old.regions → s.limit ≡ workbench.old.limit → s.limit ≤ 2 ^ 31 → IsSessionOf s session
+        → s.places ≡ places_in handle.old.regions → s.limit ≡ handle.old.limit → s.limit ≤ 2 ^ 31 → IsSessionOf s session
         → (calls : Calls) × (FileRun F.may s.files calls files → (es : List LiveEvent) × (end : LiveState F) × (run : LiveRun F.may s es end) × (calls_among es ≡ calls)
         × (end.outs ≡ s.outs) × FileRun F.may s.files (calls_among es) end.files × EachStoresThere F.may s es end run
         × UsedFrom (going (live_of queue.old)) (returns_among (events_on i es)) × ((w : LiveQueue) × (slice_get end.queues i ≡ Some w)
@@ -51,31 +51,31 @@ pub fn serve_beside<F: FileSystem>(
 {
     law_handles::<F>();
     law_runs::<F, F>();
-    let (_, request_len, _) = walk_chain(workbench, queue, given)?;
+    let (_, request_len, _) = walk_chain(handle, queue, given)?;
     if request_len != request.len() {
         return Err(ChainError::BadArgument);
     }
-    reply(workbench, session, request, answer)?;
-    give_back(workbench, queue)
+    reply(handle, session, request, answer)?;
+    give_back(handle, queue)
 }
 
 /// A call without data is answered, by the options of its asking: the run's options after it are those of this moment, but after DESTROY, or an INIT that is
 /// agreed on, those that the handle's session has then.
 pub fn answer_beside<F: FileSystem>(
-    workbench: &mut Workbench,
+    handle: &mut ChainHandle,
     serial: u32,
     answer: FileAnswer,
 ) -> Result<(), ChainError>
     requires data { TellsBytes [] answer }
     ensures answers { OnOk result ((s : LiveState F) (c : OutChain) (before behind : List OutChain) (request : List ℕ) (options : ℕ) (made : value.FileCall) (files : F)
-        → s.outs ≡ before ++ c ∷ behind → c.phase ≡ Asked request options [] → IsKept s.page_size options request c (asks.Call made) workbench.old
+        → s.outs ≡ before ++ c ∷ behind → c.phase ≡ Asked request options [] → IsKept s.page_size options request c (asks.Call made) handle.old
         → F.may s.files (call_of (drop 80 request) made) (answer_of [] answer) files
         → (next : LiveState F) × Happens F.may s (Answers c (call_of (drop 80 request) made) (answer_of [] answer)) next
-        × (changes_options (meaning options request (length (room_of c))) (answer_of [] answer ∷ []) ≡ false → (next.options ≡ s.options) × (workbench.new.session.options.0 ≡ options))
-        × (changes_options (meaning options request (length (room_of c))) (answer_of [] answer ∷ []) ≡ true → next.options ≡ workbench.new.session.options.0)) }
+        × (changes_options (meaning options request (length (room_of c))) (answer_of [] answer ∷ []) ≡ false → (next.options ≡ s.options) × (handle.new.session.options.0 ≡ options))
+        × (changes_options (meaning options request (length (room_of c))) (answer_of [] answer ∷ []) ≡ true → next.options ≡ handle.new.session.options.0)) }
 {
     law_handles::<F>();
-    match workbench.answer(serial, answer) {
+    match handle.answer(serial, answer) {
         Ok(_) => Ok(()),
         Err(error) => Err(error),
     }
@@ -83,100 +83,100 @@ pub fn answer_beside<F: FileSystem>(
 
 /// A walk of a queue to its end.
 pub fn walk_to_end(
-    workbench: &mut Workbench,
-    queue: &mut KeptQueue,
+    handle: &mut ChainHandle,
+    queue: &mut QueueState,
     given: &[&[u8]],
-) -> Result<WalkOutcome, ChainError>
-    requires free { workbench.old.state ≡ at.Free }
-    ensures walked { IfOk result (λ told. IsWalked workbench.old workbench.new queue.old queue.new (Went.On told)) }
+) -> Result<PopOutcome, ChainError>
+    requires free { handle.old.state ≡ at.Free }
+    ensures walked { IfOk result (λ told. IsWalked handle.old handle.new queue.old queue.new (LoadOutcome.On told)) }
 {
-    match walk_by(workbench, queue, given)? {
-        Went::On(told) => Ok(told),
-        Went::Part => Err(ChainError::BadArgument),
+    match walk_by(handle, queue, given)? {
+        LoadOutcome::On(told) => Ok(told),
+        LoadOutcome::Part => Err(ChainError::BadArgument),
     }
 }
 
 /// A walk to its end was given few loads, whatever they found.
 pub fn walk_in_few_loads<F: FileSystem>(
-    workbench: &mut Workbench,
-    queue: &mut KeptQueue,
+    handle: &mut ChainHandle,
+    queue: &mut QueueState,
     given: &[&[u8]],
-) -> Result<WalkOutcome, ChainError>
-    requires free { workbench.old.state ≡ at.Free }
+) -> Result<PopOutcome, ChainError>
+    requires free { handle.old.state ≡ at.Free }
     requires goes { queue.old.stopped ≡ None }
-    ensures few { IfOk result (λ told. (loads : List (List ℕ)) × (walks : WalksBy loads workbench.old workbench.new queue.old queue.new (Went.On told))
-        × (load_count loads workbench.old workbench.new queue.old queue.new (Went.On told) walks ≤ queue.old.layout.size + 4)) }
+    ensures few { IfOk result (λ told. (loads : List (List ℕ)) × (walks : WalksBy loads handle.old handle.new queue.old queue.new (LoadOutcome.On told))
+        × (load_count loads handle.old handle.new queue.old queue.new (LoadOutcome.On told) walks ≤ queue.old.layout.size + 4)) }
 {
     law_handles::<F>();
-    walk_to_end(workbench, queue, given)
+    walk_to_end(handle, queue, given)
 }
 
 /// A walk that is refused by what it loaded, or by the queue, leaves the queue of the run as it leaves the kept one.
 pub fn refuse_beside<F: FileSystem>(
-    workbench: &mut Workbench,
-    queue: &mut KeptQueue,
+    handle: &mut ChainHandle,
+    queue: &mut QueueState,
     given: &[&[u8]],
-) -> Result<WalkOutcome, ChainError>
-    requires free { workbench.old.state ≡ at.Free }
+) -> Result<PopOutcome, ChainError>
+    requires free { handle.old.state ≡ at.Free }
     requires goes { queue.old.stopped ≡ None }
-    ensures loaded { (e : QueueError) → result ≡ Ok (WalkOutcome.Refused e) → (s : LiveState F) (i : ℕ) → slice_get s.queues i ≡ Some (live_of queue.old)
-        → s.places ≡ places_in workbench.old.regions → s.limit ≡ workbench.old.limit → HasEvents workbench.old queue.old
+    ensures loaded { (e : QueueError) → result ≡ Ok (PopOutcome.Refused e) → (s : LiveState F) (i : ℕ) → slice_get s.queues i ≡ Some (live_of queue.old)
+        → s.places ≡ places_in handle.old.regions → s.limit ≡ handle.old.limit → HasEvents handle.old queue.old
         → (es : List LiveEvent) × (end : LiveState F) × LiveRun F.may s es end × (slice_get end.queues i ≡ Some (live_of queue.new)) }
     ensures declined { IfOk result (λ told. (s : LiveState F) (i : ℕ) (e : QueueError) → slice_get s.queues i ≡ Some (live_of queue.old)
-        → s.places ≡ places_in workbench.old.regions → why_declined s.places (live_of queue.old) ≡ Some e
-        → (told ≡ WalkOutcome.Refused e) × (next : LiveState F) × Happens F.may s (Declines i e) next × (slice_get next.queues i ≡ Some (live_of queue.new))) }
+        → s.places ≡ places_in handle.old.regions → why_declined s.places (live_of queue.old) ≡ Some e
+        → (told ≡ PopOutcome.Refused e) × (next : LiveState F) × Happens F.may s (Declines i e) next × (slice_get next.queues i ≡ Some (live_of queue.new))) }
 {
     law_handles::<F>();
-    walk_to_end(workbench, queue, given)
+    walk_to_end(handle, queue, given)
 }
 
 /// A walk comes to a faulty chain: its head, and what is wrong with it.
 pub fn take_faulty(
-    workbench: &mut Workbench,
-    queue: &mut KeptQueue,
+    handle: &mut ChainHandle,
+    queue: &mut QueueState,
     given: &[&[u8]],
 ) -> Result<(u16, ChainFault), ChainError>
-    requires free { workbench.old.state ≡ at.Free }
-    ensures walked { IfOk result (λ c. IsWalked workbench.old workbench.new queue.old queue.new (Went.On (WalkOutcome.Faulty c.0 c.1))) }
+    requires free { handle.old.state ≡ at.Free }
+    ensures walked { IfOk result (λ c. IsWalked handle.old handle.new queue.old queue.new (LoadOutcome.On (PopOutcome.Faulty c.0 c.1))) }
 {
-    match walk_to_end(workbench, queue, given)? {
-        WalkOutcome::Faulty { head, fault } => Ok((head, fault)),
+    match walk_to_end(handle, queue, given)? {
+        PopOutcome::Faulty { head, fault } => Ok((head, fault)),
         _ => Err(ChainError::WrongOrder),
     }
 }
 
 /// A faulty chain is walked and goes back, whatever other chains are out: no call is made.
 pub fn give_faulty_beside<F: FileSystem>(
-    workbench: &mut Workbench,
-    queue: &mut KeptQueue,
+    handle: &mut ChainHandle,
+    queue: &mut QueueState,
     given: &[&[u8]],
 ) -> Result<bool, ChainError>
-    requires free { workbench.old.state ≡ at.Free }
+    requires free { handle.old.state ≡ at.Free }
     requires goes { queue.old.stopped ≡ None }
-    ensures run { IfOk result (λ notice. (s : LiveState F) (i : ℕ) → slice_get s.queues i ≡ Some (live_of queue.old) → s.places ≡ places_in workbench.old.regions
-        → s.limit ≡ workbench.old.limit → (es : List LiveEvent) × (end : LiveState F) × LiveRun F.may s es end × (calls_among es ≡ []) × (end.outs ≡ s.outs)) }
+    ensures run { IfOk result (λ notice. (s : LiveState F) (i : ℕ) → slice_get s.queues i ≡ Some (live_of queue.old) → s.places ≡ places_in handle.old.regions
+        → s.limit ≡ handle.old.limit → (es : List LiveEvent) × (end : LiveState F) × LiveRun F.may s es end × (calls_among es ≡ []) × (end.outs ≡ s.outs)) }
 {
     law_handles::<F>();
-    let (_, _fault) = take_faulty(workbench, queue, given)?;
-    give_back(workbench, queue)
+    let (_, _fault) = take_faulty(handle, queue, given)?;
+    give_back(handle, queue)
 }
 
 /// What the device stores before it sleeps, where it has a place, is an event, and stays where it may be.
-pub fn sleep_beside<F: FileSystem>(queue: &KeptQueue, wanted: bool) -> Option<KickStore>
+pub fn sleep_beside<F: FileSystem>(queue: &QueueState, wanted: bool) -> Option<NotificationStore>
     ensures sleeps { IfSome result (λ store. (s : LiveState F) (i : ℕ) → slice_get s.queues i ≡ Some (live_of queue.now) → HasPlace s.places store.address
         → (run : LiveRun F.may s (Sleeps i (store_of store) ∷ []) s) × EachStoresThere F.may s (Sleeps i (store_of store) ∷ []) s run) }
 {
     law_handles::<F>();
     law_runs::<F, F>();
-    queue.kick_store(wanted)
+    queue.notification_store(wanted)
 }
 
 /// A queue that is begun anew once no call of its chains waits is an event.
-pub fn begin_beside<F: FileSystem>(queue: &mut KeptQueue, layout: QueueLayout, position: u16)
-    ensures begins { (s : LiveState F) (i : ℕ) → slice_get s.queues i ≡ Some (live_of queue.old) → 1 ≤ queue.old.most_out → queue.old.most_out ≤ layout.size
+pub fn begin_beside<F: FileSystem>(queue: &mut QueueState, layout: QueueLayout, position: u16)
+    ensures begins { (s : LiveState F) (i : ℕ) → slice_get s.queues i ≡ Some (live_of queue.old) → 1 ≤ queue.old.max_in_flight → queue.old.max_in_flight ≤ layout.size
         → AllByRecursion (λ c. NoneWaits s.page_size i c c.phase) s.outs
         → (next : LiveState F) × Happens F.may s (Begins i (live_of queue.new)) next × (slice_get next.queues i ≡ Some (live_of queue.new)) }
 {
     law_handles::<F>();
-    queue.begin_anew(layout, position);
+    queue.reset(layout, position);
 }

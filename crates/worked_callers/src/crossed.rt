@@ -6,7 +6,7 @@ ghost use Rattle.fs_regions.specs.Places.{places_in};
 ghost use Rattle.fuse_fs.specs.Calls.{Bytes, FileRun};
 ghost use Rattle.fuse_values.specs.Values.{call_of};
 ghost use Rattle.fuse_values.specs.declared.call.FileCall as value;
-ghost use Rattle.fs_chain.specs.declared.state.State.TheVariants as at;
+ghost use Rattle.fs_chain.specs.declared.state.ChainState.TheVariants as at;
 ghost use Rattle.fs_device.specs.Step.{Calls};
 ghost use Rattle.fs_live.specs.Handles.{IsReached, IsSessionOf, live_of};
 ghost use Rattle.fs_live.specs.Live.{LiveEvent, LiveRun, LiveState, calls_among};
@@ -14,7 +14,7 @@ ghost use Rattle.fs_live.specs.Live.{LiveEvent, LiveRun, LiveState, calls_among}
 use crate::answers::give_data;
 use crate::listings::ask_call;
 use crate::wholes::{give_back, walk_chain};
-use fs_chain::{ChainError, KeptQueue, Workbench};
+use fs_chain::{ChainError, QueueState, ChainHandle};
 use fs_live::law_handles;
 use fuse_fs::FileSystem;
 use server_phases::Session;
@@ -33,9 +33,9 @@ pub struct Asked<'a> {
 /// Two handles take a chain each and decode its request. The second one's chain is answered and returned, and
 /// then the first one's. That is a run, in which the calls are in the order of their answers.
 pub fn serve_crossed<F: FileSystem>(
-    first: &mut Workbench,
-    second: &mut Workbench,
-    queue: &mut KeptQueue,
+    first: &mut ChainHandle,
+    second: &mut ChainHandle,
+    queue: &mut QueueState,
     sessions: (Session, Session),
     one: &Asked<'_>,
     two: &Asked<'_>,

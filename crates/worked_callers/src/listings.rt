@@ -9,14 +9,14 @@ ghost use Rattle.fs_device.specs.Step.{Exchange, Exchanged, State};
 ghost use Rattle.fs_device.specs.StepBy.{Effects, StepBy, StepLoads};
 ghost use Rattle.fs_regions.specs.Walks.{queue_of};
 ghost use Rattle.fs_chain.specs.Walks.{course_of};
-ghost use Rattle.fs_chain.specs.Whole.{FromTaken, IsAskedBy, IsBefore, IsSession, after_chain};
-ghost use Rattle.fs_chain.specs.WholeListings.{Brings, EndsThere, FromLists, IsListedBy, listing_calls};
-ghost use Rattle.fs_chain.specs.declared.asking.Told.TheVariants as asks;
-ghost use Rattle.fs_chain.specs.declared.state.State.TheVariants as at;
+ghost use Rattle.fs_chain.specs.Whole.{FromTaken, IsDecodedBy, IsMachineBefore, IsSession, after_chain};
+ghost use Rattle.fs_chain.specs.WholeListings.{BringsEntry, EndsThere, FromLists, IsListedBy, listing_calls};
+ghost use Rattle.fs_chain.specs.declared.decoding.Decoded.TheVariants as asks;
+ghost use Rattle.fs_chain.specs.declared.state.ChainState.TheVariants as at;
 
 use crate::wholes::{give_back, walk_chain};
 use fs_chain::laws::law_chains;
-use fs_chain::{Added, ChainError, KeptQueue, Told, Workbench};
+use fs_chain::{Added, ChainError, QueueState, Decoded, ChainHandle};
 use fuse_fs::{DirEntry, Entry, FileSystem};
 use server_phases::Session;
 
@@ -31,31 +31,31 @@ pub struct Pair<'a> {
 
 /// A chain is asked by its whole request, and makes a call.
 pub fn ask_call(
-    workbench: &mut Workbench,
+    handle: &mut ChainHandle,
     session: Session,
     request: &[u8],
 ) -> Result<(), ChainError>
-    requires taken { FromTaken workbench.old.state (λ out. out.request_len ≡ length request.now) }
-    ensures asked { OnOk result ((made : value.FileCall) × IsAskedBy workbench.old session request.now request.now (asks.Call made) workbench.new) }
+    requires taken { FromTaken handle.old.state (λ out. out.request_len ≡ length request.now) }
+    ensures asked { OnOk result ((made : value.FileCall) × IsDecodedBy handle.old session request.now request.now (asks.Call made) handle.new) }
 {
-    match workbench.ask(session, request)? {
-        Told::Call(_) => Ok(()),
+    match handle.decode(session, request)? {
+        Decoded::Call(_) => Ok(()),
         _ => Err(ChainError::WrongOrder),
     }
 }
 
 /// An entry is brought with its node, and is in.
 pub fn bring(
-    workbench: &mut Workbench,
+    handle: &mut ChainHandle,
     list: &mut [u8],
     entry: &DirEntry<'_>,
     node: Entry<u64>,
 ) -> Result<(), ChainError>
-    ensures brought { OnOk result (Brings workbench.old list.old (listed entry.now, node) (Ok Added.In) workbench.new list.new) }
-    ensures kind { OnOk result (FromLists workbench.old.state (λ l. l.with_nodes ≡ true)) }
+    ensures brought { OnOk result (BringsEntry handle.old list.old (listed entry.now, node) (Ok Added.In) handle.new list.new) }
+    ensures kind { OnOk result (FromLists handle.old.state (λ l. l.with_nodes ≡ true)) }
 {
-    let serial = workbench.serial();
-    match workbench.add_with_node(serial, list, entry, node)? {
+    let serial = handle.serial();
+    match handle.add_with_node(serial, list, entry, node)? {
         Added::In => Ok(()),
         _ => Err(ChainError::LongReply),
     }
@@ -63,25 +63,25 @@ pub fn bring(
 
 /// Two entries are brought with their nodes, and the directory has ended: how many bytes of the list are the data.
 pub fn list_two(
-    workbench: &mut Workbench,
+    handle: &mut ChainHandle,
     list: &mut [u8],
     entries: &Pair<'_>,
     nodes: (Entry<u64>, Entry<u64>),
 ) -> Result<usize, ChainError>
-    ensures { IfOk result (λ n. IsListedBy workbench.old true
-        ((listed entries.now.first, nodes.0) ∷ (listed entries.now.second, nodes.1) ∷ []) EndsThere (take n list.new) workbench.new) }
+    ensures { IfOk result (λ n. IsListedBy handle.old true
+        ((listed entries.now.first, nodes.0) ∷ (listed entries.now.second, nodes.1) ∷ []) EndsThere (take n list.new) handle.new) }
 {
     let (first, second) = nodes;
-    bring(workbench, list, &entries.first, first)?;
-    bring(workbench, list, &entries.second, second)?;
-    let serial = workbench.serial();
-    workbench.end(serial)
+    bring(handle, list, &entries.first, first)?;
+    bring(handle, list, &entries.second, second)?;
+    let serial = handle.serial();
+    handle.end(serial)
 }
 
 /// A chain that is out alone and lists two entries with their nodes is a step by the listing and its look-ups.
 pub fn serve_two<F: FileSystem>(
-    workbench: &mut Workbench,
-    queue: &mut KeptQueue,
+    handle: &mut ChainHandle,
+    queue: &mut QueueState,
     given: &[&[u8]],
     session: Session,
     request: &[u8],
@@ -89,22 +89,22 @@ pub fn serve_two<F: FileSystem>(
     entries: &Pair<'_>,
     nodes: (Entry<u64>, Entry<u64>),
 ) -> Result<bool, ChainError>
-    requires free { workbench.old.state ≡ at.Free }
+    requires free { handle.old.state ≡ at.Free }
     requires goes { queue.old.stopped ≡ None }
-    requires none_out { queue.old.returned ≡ queue.old.position }
+    requires none_out { queue.old.next_used ≡ queue.old.next_avail }
     requires by_flags { queue.old.event_index ≡ false }
-    ensures step { IfOk result (λ notice. (i : ℕ) (m : State F) (files : F) → IsBefore workbench.old queue.old i m → IsSession session m
+    ensures step { IfOk result (λ notice. (i : ℕ) (m : State F) (files : F) → IsMachineBefore handle.old queue.old i m → IsSession session m
         → (made : value.FileCall) × (let calls = listing_calls (call_of (drop 80 request.now) made) true
         ((listed entries.now.first, nodes.0) ∷ (listed entries.now.second, nodes.1) ∷ []) EndsThere in
         FileRun F.may m.files calls files → (l : StepLoads) × (x : Exchange) × (e : Effects) × (x.request ≡ request.now)
-        × StepBy F.may m i l calls (Exchanged x notice) e (after_chain m i (queue_of (course_of queue.old workbench.old.limit)) workbench.new.session.options.0 files))) }
+        × StepBy F.may m i l calls (Exchanged x notice) e (after_chain m i (queue_of (course_of queue.old handle.old.limit)) handle.new.session.options.0 files))) }
 {
     law_chains::<F>();
-    let (_, request_len, _) = walk_chain(workbench, queue, given)?;
+    let (_, request_len, _) = walk_chain(handle, queue, given)?;
     if request_len != request.len() {
         return Err(ChainError::BadArgument);
     }
-    ask_call(workbench, session, request)?;
-    let _len = list_two(workbench, list, entries, nodes)?;
-    give_back(workbench, queue)
+    ask_call(handle, session, request)?;
+    let _len = list_two(handle, list, entries, nodes)?;
+    give_back(handle, queue)
 }

@@ -16,7 +16,7 @@ use fuse_fs::FileSystem;
 
 /// Of two chains that are taken, if the first one goes back first, each goes back where it was taken.
 pub fn oldest_first()
-    ensures { (w : LiveQueue) (first second n m : ℕ) (stores more : List Store) → w.returned ≡ w.queue.position → w.queue.position < 2 ^ 16
+    ensures { (w : LiveQueue) (first second n m : ℕ) (stores more : List Store) → w.next_used ≡ w.queue.position → w.queue.position < 2 ^ 16
         → AtTheirPlaces w (((w.queue.position, first), n, stores) ∷ ((next_position w.queue, second), m, more) ∷ []) }
 {
     law_queues();

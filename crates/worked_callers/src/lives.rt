@@ -2,21 +2,21 @@
 
 ghost use Rattle.std.specs.Prelude.{◌≡◌, ℕ, List, [], ◌∷◌, map, IsPermutation, None, Some, IfOk, slice_get};
 ghost use Rattle.fs_regions.specs.Places.{places_in};
-ghost use Rattle.fs_chain.specs.declared.state.State.TheVariants as at;
+ghost use Rattle.fs_chain.specs.declared.state.ChainState.TheVariants as at;
 ghost use Rattle.fs_live.specs.Handles.{live_of};
 ghost use Rattle.fs_live.specs.Live.{LiveEvent, LiveRun, LiveState};
 ghost use Rattle.fs_live.specs.Runs.{tickets_on};
 
 use crate::wholes::walk_chain;
-use fs_chain::{ChainError, KeptQueue, Workbench};
+use fs_chain::{ChainError, QueueState, ChainHandle};
 use fs_live::{law_handles, law_runs};
 use fuse_fs::FileSystem;
 
 /// Two chains of one queue are taken by two handles: both are out then, each once.
 pub fn take_two<F: FileSystem>(
-    first: &mut Workbench,
-    second: &mut Workbench,
-    queue: &mut KeptQueue,
+    first: &mut ChainHandle,
+    second: &mut ChainHandle,
+    queue: &mut QueueState,
     given: &[&[u8]],
     more: &[&[u8]],
 ) -> Result<(u16, u16), ChainError>

@@ -5,13 +5,13 @@ ghost use Rattle.fs_regions.specs.Places.{places_in};
 ghost use Rattle.fuse_fs.specs.Calls as file;
 ghost use Rattle.fuse_values.specs.Values.{call_of};
 ghost use Rattle.fuse_values.specs.declared.call.FileCall as value;
-ghost use Rattle.fs_chain.specs.declared.state.State.TheVariants as at;
+ghost use Rattle.fs_chain.specs.declared.state.ChainState.TheVariants as at;
 ghost use Rattle.fs_live.specs.Handles.{IsReached, IsSessionOf, live_of};
 ghost use Rattle.fs_live.specs.Live.{LiveEvent, LiveRun, LiveState, calls_among};
 
 use crate::listings::ask_call;
 use crate::wholes::walk_chain;
-use fs_chain::{ChainError, KeptQueue, Workbench};
+use fs_chain::{ChainError, QueueState, ChainHandle};
 use fs_live::law_handles;
 use fuse_fs::FileSystem;
 use fuse_values::FileAnswer;
@@ -20,18 +20,18 @@ use server_phases::Session;
 /// A chain's request is decoded, its handle is freed, and the late answer is refused by the error that is
 /// returned. In the run the chain is lost: once with the file system's answer before that, and once without.
 pub fn lose_asked<F: FileSystem>(
-    workbench: &mut Workbench,
-    queue: &mut KeptQueue,
+    handle: &mut ChainHandle,
+    queue: &mut QueueState,
     given: &[&[u8]],
     session: Session,
     request: &[u8],
     late: FileAnswer,
 ) -> Result<ChainError, ChainError>
-    requires free { workbench.old.state ≡ at.Free }
+    requires free { handle.old.state ≡ at.Free }
     requires goes { queue.old.stopped ≡ None }
-    ensures again { OnOk result (workbench.new.state ≡ at.Free) }
+    ensures again { OnOk result (handle.new.state ≡ at.Free) }
     ensures run { OnOk result ((s : LiveState F) (i : ℕ) → IsReached F.may s → slice_get s.queues i ≡ Some (live_of queue.old)
-        → s.places ≡ places_in workbench.old.regions → s.limit ≡ workbench.old.limit → s.limit ≤ 2 ^ 31 → IsSessionOf s session
+        → s.places ≡ places_in handle.old.regions → s.limit ≡ handle.old.limit → s.limit ≤ 2 ^ 31 → IsSessionOf s session
         → (made : value.FileCall)
         × ((es : List LiveEvent) × (end : LiveState F) × LiveRun F.may s es end × (calls_among es ≡ []) × (slice_get end.queues i ≡ Some (live_of queue.new)))
         × ((answer : file.FileAnswer) (files : F) → IsTrue (file.suits (call_of (drop 80 request.now) made) answer) → F.may s.files (call_of (drop 80 request.now) made) answer files
@@ -39,14 +39,14 @@ pub fn lose_asked<F: FileSystem>(
         × (slice_get end.queues i ≡ Some (live_of queue.new)))) }
 {
     law_handles::<F>();
-    let (_, request_len, _) = walk_chain(workbench, queue, given)?;
+    let (_, request_len, _) = walk_chain(handle, queue, given)?;
     if request_len != request.len() {
         return Err(ChainError::BadArgument);
     }
-    ask_call(workbench, session, request)?;
-    let serial = workbench.serial();
-    workbench.abandon();
-    match workbench.answer(serial, late) {
+    ask_call(handle, session, request)?;
+    let serial = handle.serial();
+    handle.abandon();
+    match handle.answer(serial, late) {
         Ok(_) => Err(ChainError::WrongOrder),
         Err(error) => Ok(error),
     }

@@ -4,14 +4,14 @@ ghost use Rattle.std.specs.Prelude.{◌≡◌, ◌≤◌, ◌^◌, ℕ, [], ◌�
 ghost use Rattle.std.specs.Io.KnownBytes.{Appends, Consumes};
 ghost use Rattle.fs_record.specs.Record.{HasKnownBits, IsRecord, Version};
 ghost use Rattle.fs_regions.specs.Places.{places_in};
-ghost use Rattle.fs_chain.specs.declared.state.State.TheVariants as at;
+ghost use Rattle.fs_chain.specs.declared.state.ChainState.TheVariants as at;
 ghost use Rattle.fs_live.specs.Handles.{IsReached, live_of};
 ghost use Rattle.fs_live.specs.Live.{LiveEvent, LiveRun, LiveState};
 ghost use Rattle.fs_live.specs.Others.{recorded};
 
 use crate::crossed::Asked;
 use crate::others::{begin_by_record, reply_beside};
-use fs_chain::{ChainError, KeptQueue, Workbench};
+use fs_chain::{ChainError, QueueState, ChainHandle};
 use fs_queue::Queue;
 use fs_record::{RecordSink, RecordSource, restore_record, save_record};
 use fuse_base::FsOptions;
@@ -22,12 +22,12 @@ use std::alloc::Global;
 pub fn save_one<S: RecordSink>(
     sink: &mut S,
     options: FsOptions,
-    queue: &KeptQueue,
+    queue: &QueueState,
 ) -> Result<(), ChainError>
     requires known { HasKnownBits options.0 }
     ensures { OnOk result ((sent : List ℕ) × (v : Version) × Appends (S.sent sink.old) (S.sent sink.new) sent × IsRecord sent v options.0 (recorded queue.now ∷ [])) }
 {
-    let saved = [Queue::resume(queue.layout, queue.position, queue.stopped.is_some())];
+    let saved = [Queue::resume(queue.layout, queue.next_avail, queue.stopped.is_some())];
     match save_record(sink, options, &saved, 4096, 0x101000) {
         Ok(_) => Ok(()),
         Err(_) => Err(ChainError::ShortBuffer),
@@ -63,10 +63,10 @@ pub fn restore_one<T: RecordSource>(
 /// goes on where it was.
 pub fn move_amid<F: FileSystem, S: RecordSink, T: RecordSource>(
     alloc: Global,
-    here: &mut Workbench,
-    there: &mut Workbench,
-    queue: &mut KeptQueue,
-    moved: &mut KeptQueue,
+    here: &mut ChainHandle,
+    there: &mut ChainHandle,
+    queue: &mut QueueState,
+    moved: &mut QueueState,
     options: FsOptions,
     sink: &mut S,
     source: &mut T,
@@ -76,7 +76,7 @@ pub fn move_amid<F: FileSystem, S: RecordSink, T: RecordSource>(
     requires here_free { here.old.state ≡ at.Free }
     requires there_free { there.old.state ≡ at.Free }
     requires goes { queue.old.stopped ≡ None }
-    requires some { 1 ≤ moved.old.most_out }
+    requires some { 1 ≤ moved.old.max_in_flight }
     requires known { HasKnownBits options.0 }
     ensures run { IfOk result (λ notice. (s : LiveState F) → IsReached F.may s → s.outs ≡ [] → s.queues ≡ live_of queue.old ∷ [] → s.options ≡ options.0
         → s.places ≡ places_in here.old.regions → s.limit ≡ here.old.limit → s.limit ≡ there.old.limit → s.limit ≤ 2 ^ 31
@@ -91,7 +91,7 @@ pub fn move_amid<F: FileSystem, S: RecordSink, T: RecordSource>(
         return Err(ChainError::BadArgument);
     };
     let layout = read.layout();
-    if layout.size() < moved.most_out {
+    if layout.size() < moved.max_in_flight {
         return Err(ChainError::BadArgument);
     }
     begin_by_record::<F>(moved, read);

@@ -7,22 +7,22 @@ ghost use Rattle.fs_live.specs.Handles.{live_of};
 ghost use Rattle.fs_live.specs.Several.{passes, returning};
 
 use crate::seen::give_back_by;
-use fs_chain::{ChainError, KeptQueue, Workbench};
+use fs_chain::{ChainError, QueueState, ChainHandle};
 use fs_live::law_queues;
 
 /// Returns a chain whose reply is known, while used_event has this value. The driver is notified just if the
 /// used index passes it.
 pub fn notify_by_event(
-    workbench: &mut Workbench,
-    queue: &mut KeptQueue,
+    handle: &mut ChainHandle,
+    queue: &mut QueueState,
     used_event: u16,
 ) -> Result<bool, ChainError>
     requires by_event { queue.old.event_index ≡ true }
-    ensures { IfOk result (λ notice. notice ≡ passes used_event queue.old.returned (next_position (returning (live_of queue.old)))) }
+    ensures { IfOk result (λ notice. notice ≡ passes used_event queue.old.next_used (next_position (returning (live_of queue.old)))) }
 {
     law_queues();
-    let _returned = queue.returned;
+    let _returned = queue.next_used;
     let bytes = used_event.to_le_bytes();
-    let (notice, _) = give_back_by(workbench, queue, bytes)?;
+    let (notice, _) = give_back_by(handle, queue, bytes)?;
     Ok(notice)
 }

@@ -7,7 +7,7 @@ ghost use Rattle.vm_memory_core.specs.Host.{changed_at};
 ghost use Rattle.fs_record.specs.Record.{IsRecord, Version};
 ghost use Rattle.fs_regions.specs.Places.{places_in};
 ghost use Rattle.fs_chain.specs.Queues.{gave};
-ghost use Rattle.fs_chain.specs.declared.state.State.TheVariants as at;
+ghost use Rattle.fs_chain.specs.declared.state.ChainState.TheVariants as at;
 ghost use Rattle.fs_device.specs.StepBy.{Act};
 ghost use Rattle.fs_live.specs.Handles.{IsReached, live_of};
 ghost use Rattle.fs_live.specs.Live.{Begins, Happens, LiveEvent, LiveRun, LiveState, Maps, Moves, NoneWaits, calls_among};
@@ -15,7 +15,7 @@ ghost use Rattle.fs_live.specs.Others.{GoesBackOwn, recorded};
 ghost use Rattle.fs_live.specs.Runs.{IsEven, tickets_on};
 
 use crate::wholes::walk_chain;
-use fs_chain::{ChainError, KeptQueue, Workbench};
+use fs_chain::{ChainError, QueueState, ChainHandle};
 use fs_live::{law_handles, law_runs};
 use fs_queue::{Queue, QueueError};
 use fs_regions::GuestMap;
@@ -23,85 +23,85 @@ use fuse_fs::FileSystem;
 
 /// A chain that is walked and given up: the chains that are out are those of before, and the queue is as the call left it.
 pub fn drop_beside<F: FileSystem>(
-    workbench: &mut Workbench,
-    queue: &mut KeptQueue,
+    handle: &mut ChainHandle,
+    queue: &mut QueueState,
     given: &[&[u8]],
 ) -> Result<(), ChainError>
-    requires free { workbench.old.state ≡ at.Free }
+    requires free { handle.old.state ≡ at.Free }
     requires goes { queue.old.stopped ≡ None }
-    ensures run { OnOk result ((s : LiveState F) (i : ℕ) → slice_get s.queues i ≡ Some (live_of queue.old) → s.places ≡ places_in workbench.old.regions
-        → s.limit ≡ workbench.old.limit → (es : List LiveEvent) × (end : LiveState F) × LiveRun F.may s es end × (end.outs ≡ s.outs)
+    ensures run { OnOk result ((s : LiveState F) (i : ℕ) → slice_get s.queues i ≡ Some (live_of queue.old) → s.places ≡ places_in handle.old.regions
+        → s.limit ≡ handle.old.limit → (es : List LiveEvent) × (end : LiveState F) × LiveRun F.may s es end × (end.outs ≡ s.outs)
         × (slice_get end.queues i ≡ Some (live_of queue.new))) }
 {
     law_handles::<F>();
-    let (_, _len, _) = walk_chain(workbench, queue, given)?;
-    workbench.give_up(queue)
+    let (_, _len, _) = walk_chain(handle, queue, given)?;
+    handle.give_up(queue)
 }
 
 /// A chain that is walked and whose handle is freed: it is lost to its queue, and the handle walks again.
 pub fn lose_beside<F: FileSystem>(
-    workbench: &mut Workbench,
-    queue: &mut KeptQueue,
+    handle: &mut ChainHandle,
+    queue: &mut QueueState,
     given: &[&[u8]],
 ) -> Result<(), ChainError>
-    requires free { workbench.old.state ≡ at.Free }
+    requires free { handle.old.state ≡ at.Free }
     requires goes { queue.old.stopped ≡ None }
-    ensures run { OnOk result ((s : LiveState F) (i : ℕ) → slice_get s.queues i ≡ Some (live_of queue.old) → s.places ≡ places_in workbench.old.regions
-        → s.limit ≡ workbench.old.limit → (es : List LiveEvent) × (end : LiveState F) × LiveRun F.may s es end × (slice_get end.queues i ≡ Some (live_of queue.new))) }
-    ensures again { OnOk result (workbench.new.state ≡ at.Free) }
+    ensures run { OnOk result ((s : LiveState F) (i : ℕ) → slice_get s.queues i ≡ Some (live_of queue.old) → s.places ≡ places_in handle.old.regions
+        → s.limit ≡ handle.old.limit → (es : List LiveEvent) × (end : LiveState F) × LiveRun F.may s es end × (slice_get end.queues i ≡ Some (live_of queue.new))) }
+    ensures again { OnOk result (handle.new.state ≡ at.Free) }
 {
     law_handles::<F>();
-    let (_, _len, _) = walk_chain(workbench, queue, given)?;
-    workbench.abandon();
+    let (_, _len, _) = walk_chain(handle, queue, given)?;
+    handle.abandon();
     Ok(())
 }
 
 /// A chain that its caller replied to goes back with his bytes, to a driver that wants to be told.
-pub fn give_own_back(workbench: &mut Workbench, queue: &mut KeptQueue) -> Result<bool, ChainError>
-    ensures back { IfOk result (λ notice. (room reply : List ℕ) (last : ℕ) → (acts : List Act) × GoesBackOwn queue.old room reply workbench.old.state acts last notice) }
+pub fn give_own_back(handle: &mut ChainHandle, queue: &mut QueueState) -> Result<bool, ChainError>
+    ensures back { IfOk result (λ notice. (room reply : List ℕ) (last : ℕ) → (acts : List Act) × GoesBackOwn queue.old room reply handle.old.state acts last notice) }
     ensures queue { OnOk result (queue.new ≡ gave queue.old) }
 {
     let mut front = [0u8; 160];
-    let _stores = workbench.begin_return(queue, &mut front)?;
-    workbench.end_return(queue, [0, 0])
+    let _stores = handle.push(queue, &mut front)?;
+    handle.pushed(queue, [0, 0])
 }
 
 /// A chain is walked, replied by bytes of the caller's own, and goes back with them: no call is made, and the other chains are out still.
 pub fn reply_beside<F: FileSystem>(
-    workbench: &mut Workbench,
-    queue: &mut KeptQueue,
+    handle: &mut ChainHandle,
+    queue: &mut QueueState,
     given: &[&[u8]],
     request: &[u8],
     bytes: &[u8],
 ) -> Result<bool, ChainError>
-    requires free { workbench.old.state ≡ at.Free }
+    requires free { handle.old.state ≡ at.Free }
     requires goes { queue.old.stopped ≡ None }
     ensures run { IfOk result (λ notice. (s : LiveState F) (i : ℕ) → IsReached F.may s → slice_get s.queues i ≡ Some (live_of queue.old)
-        → s.places ≡ places_in workbench.old.regions → s.limit ≡ workbench.old.limit → s.limit ≤ 2 ^ 31
+        → s.places ≡ places_in handle.old.regions → s.limit ≡ handle.old.limit → s.limit ≤ 2 ^ 31
         → (es : List LiveEvent) × (end : LiveState F) × LiveRun F.may s es end × (calls_among es ≡ []) × (end.outs ≡ s.outs)
         × (end.queues ≡ changed_at s.queues i (λ _. live_of queue.new)) × (end.options ≡ s.options) × (end.limit ≡ s.limit) × (end.places ≡ s.places)) }
 {
     law_handles::<F>();
-    let (_, request_len, _) = walk_chain(workbench, queue, given)?;
+    let (_, request_len, _) = walk_chain(handle, queue, given)?;
     if request_len != request.len() {
         return Err(ChainError::BadArgument);
     }
-    let serial = workbench.serial();
-    workbench.reply(serial, bytes.len())?;
-    give_own_back(workbench, queue)
+    let serial = handle.serial();
+    handle.reply(serial, bytes.len())?;
+    give_own_back(handle, queue)
 }
 
 /// Other regions, while no chain is out, are the event of other places.
 pub fn map_beside<F: FileSystem>(
-    workbench: &mut Workbench,
+    handle: &mut ChainHandle,
     regions: GuestMap,
     limit: u32,
 ) -> Result<(), ChainError>
-    ensures maps { OnOk result ((s : LiveState F) → s.outs ≡ [] → (next : LiveState F) × Happens F.may s (Maps (places_in workbench.new.regions)) next
-        × (next.places ≡ places_in workbench.new.regions) × (next.queues ≡ s.queues)) }
+    ensures maps { OnOk result ((s : LiveState F) → s.outs ≡ [] → (next : LiveState F) × Happens F.may s (Maps (places_in handle.new.regions)) next
+        × (next.places ≡ places_in handle.new.regions) × (next.queues ≡ s.queues)) }
 {
     law_handles::<F>();
-    workbench.set_memory(regions, limit)
+    handle.set_memory(regions, limit)
 }
 
 /// What stopped a queue isn't told by a record, only whether something did.
@@ -116,10 +116,10 @@ pub fn stopped_by(read: &Queue) -> Option<QueueError>
 }
 
 /// The one queue of a device is begun by that of a record, as it stood where the record was made: that is the event of a move, and the options are those of before.
-pub fn begin_by_record<F: FileSystem>(queue: &mut KeptQueue, read: &Queue)
-    requires some { 1 ≤ queue.old.most_out }
-    requires few { queue.old.most_out ≤ read.now.size }
-    ensures moves { (s : LiveState F) (here : KeptQueue) (m : Memory) (bytes : List ℕ) (v v' : Version) (options : ℕ) → s.outs ≡ [] → s.queues ≡ live_of here ∷ []
+pub fn begin_by_record<F: FileSystem>(queue: &mut QueueState, read: &Queue)
+    requires some { 1 ≤ queue.old.max_in_flight }
+    requires few { queue.old.max_in_flight ≤ read.now.size }
+    ensures moves { (s : LiveState F) (here : QueueState) (m : Memory) (bytes : List ℕ) (v v' : Version) (options : ℕ) → s.outs ≡ [] → s.queues ≡ live_of here ∷ []
         → IsRecord bytes v s.options (recorded here ∷ []) → IsRecord bytes v' options (read.now ∷ [])
         → (options ≡ s.options) × (next : LiveState F) × Happens F.may s (Moves m (live_of queue.new ∷ [])) next × (next.queues ≡ live_of queue.new ∷ []) × (next.places ≡ m)
         × (next.outs ≡ []) × (next.options ≡ s.options) × (next.limit ≡ s.limit) }
@@ -128,20 +128,20 @@ pub fn begin_by_record<F: FileSystem>(queue: &mut KeptQueue, read: &Queue)
     let layout = read.layout();
     let position = read.position();
     let stopped = stopped_by(read);
-    queue.begin_anew(layout, position);
+    queue.reset(layout, position);
     queue.stopped = stopped;
 }
 
 /// A queue of which no chain is out, and which is begun where it stands, as after GET_VRING_BASE and SET_VRING_BASE, goes on as if it weren't begun.
-pub fn begin_again<F: FileSystem>(queue: &mut KeptQueue)
+pub fn begin_again<F: FileSystem>(queue: &mut QueueState)
     requires goes { queue.old.stopped ≡ None }
     ensures stands { (start now : LiveState F) (es : List LiveEvent) (i : ℕ) → start.outs ≡ [] → AllByRecursion IsEven start.queues → LiveRun F.may start es now
-        → slice_get now.queues i ≡ Some (live_of queue.old) → tickets_on i now.outs ≡ [] → 1 ≤ queue.old.most_out → queue.old.most_out ≤ queue.old.layout.size
+        → slice_get now.queues i ≡ Some (live_of queue.old) → tickets_on i now.outs ≡ [] → 1 ≤ queue.old.max_in_flight → queue.old.max_in_flight ≤ queue.old.layout.size
         → AllByRecursion (λ c. NoneWaits now.page_size i c c.phase) now.outs → Happens F.may now (Begins i (live_of queue.new)) now }
 {
     law_handles::<F>();
     law_runs::<F, F>();
     let layout = queue.layout;
-    let position = queue.position;
-    queue.begin_anew(layout, position);
+    let position = queue.next_avail;
+    queue.reset(layout, position);
 }

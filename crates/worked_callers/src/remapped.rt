@@ -3,13 +3,13 @@
 
 ghost use Rattle.std.specs.Prelude.{◌≡◌, ◌≤◌, ◌^◌, ℕ, [], IfOk, List, None, Some, slice_get};
 ghost use Rattle.fs_regions.specs.Places.{places_in};
-ghost use Rattle.fs_chain.specs.declared.state.State.TheVariants as at;
+ghost use Rattle.fs_chain.specs.declared.state.ChainState.TheVariants as at;
 ghost use Rattle.fs_live.specs.Handles.{IsReached, live_of};
 ghost use Rattle.fs_live.specs.Live.{KeepsReturns, LiveEvent, LiveRun, LiveState, calls_among};
 
 use crate::others::give_own_back;
 use crate::wholes::walk_chain;
-use fs_chain::{ChainError, KeptQueue, Workbench};
+use fs_chain::{ChainError, QueueState, ChainHandle};
 use fs_live::law_handles;
 use fs_regions::GuestMap;
 use fuse_fs::FileSystem;
@@ -18,9 +18,9 @@ use fuse_fs::FileSystem;
 /// own bytes. That is a run, if the new regions have places for the queue's returns just where the old ones
 /// have them.
 pub fn map_amid<F: FileSystem>(
-    first: &mut Workbench,
-    second: &mut Workbench,
-    queue: &mut KeptQueue,
+    first: &mut ChainHandle,
+    second: &mut ChainHandle,
+    queue: &mut QueueState,
     given: &[&[u8]],
     request: &[u8],
     bytes: &[u8],

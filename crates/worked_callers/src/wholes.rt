@@ -13,39 +13,39 @@ ghost use Rattle.fs_regions.specs.Walks.{queue_of};
 ghost use Rattle.fs_chain.specs.Events.{event_fault};
 ghost use Rattle.fs_chain.specs.Queues.{gave};
 ghost use Rattle.fs_chain.specs.Walks.{HasEvents, course_of};
-ghost use Rattle.fs_chain.specs.Whole.{FromTaken, Given, GoesBackBy, HasReply, IsAskedBy, IsBefore, IsSession, IsWalked, WantsBytes, after_chain, data_behind, no_effects};
-ghost use Rattle.fs_chain.specs.declared.asking.Told as told;
-ghost use Rattle.fs_chain.specs.declared.state.State.TheVariants as at;
+ghost use Rattle.fs_chain.specs.Whole.{FromTaken, ChainAnswer, GoesBackBy, HasReply, IsDecodedBy, IsMachineBefore, IsSession, IsWalked, WantsBytes, after_chain, data_behind, no_effects};
+ghost use Rattle.fs_chain.specs.declared.decoding.Decoded as told;
+ghost use Rattle.fs_chain.specs.declared.state.ChainState.TheVariants as at;
 
 use fs_chain::laws::law_chains;
-use fs_chain::{ChainError, KeptQueue, Told, WalkOutcome, Went, Workbench};
+use fs_chain::{ChainError, QueueState, Decoded, PopOutcome, LoadOutcome, ChainHandle};
 use fuse_fs::FileSystem;
 use fuse_values::FileAnswer;
 use server_phases::Session;
 
 /// Whether a call of walk wants bytes.
-pub fn wants_bytes(told: &Went) -> bool
+pub fn wants_bytes(told: &LoadOutcome) -> bool
     ensures { result ≡ true → WantsBytes told.now }
 {
-    matches!(told, Went::Part | Went::On(WalkOutcome::Load(_)))
+    matches!(told, LoadOutcome::Part | LoadOutcome::On(PopOutcome::Load(_)))
 }
 
 /// A walk by these bytes, a call for each, as long as it wants some.
 #[tactic(auto, using(fs_chain::proofs::WholeWalks::begins_by, fs_chain::proofs::WholeWalks::goes_on_by))]
 pub fn walk_by(
-    workbench: &mut Workbench,
-    queue: &mut KeptQueue,
+    handle: &mut ChainHandle,
+    queue: &mut QueueState,
     given: &[&[u8]],
-) -> Result<Went, ChainError>
-    requires free { workbench.old.state ≡ at.Free }
-    ensures walks { IfOk result (λ told. IsWalked workbench.old workbench.new queue.old queue.new told) }
+) -> Result<LoadOutcome, ChainError>
+    requires free { handle.old.state ≡ at.Free }
+    ensures walks { IfOk result (λ told. IsWalked handle.old handle.new queue.old queue.new told) }
 {
-    let mut told = workbench.walk(queue, &[])?;
+    let mut told = handle.pop(queue, &[])?;
     for bytes in given {
         if !wants_bytes(&told) {
             return Ok(told);
         }
-        told = workbench.walk(queue, bytes)?;
+        told = handle.pop(queue, bytes)?;
     }
     Ok(told)
 }
@@ -53,34 +53,34 @@ pub fn walk_by(
 /// A walk that finds nothing is an idle step, and one that is refused a step that stops the queue, if its event index has places; without them it is
 /// refused by that, whatever waits, and stops it too.
 pub fn look<F: FileSystem>(
-    workbench: &mut Workbench,
-    queue: &mut KeptQueue,
+    handle: &mut ChainHandle,
+    queue: &mut QueueState,
     given: &[&[u8]],
-) -> Result<Went, ChainError>
-    requires free { workbench.old.state ≡ at.Free }
-    ensures idle { result ≡ Ok (Went.On WalkOutcome.Idle) → (i : ℕ) (m : State F) → IsBefore workbench.old queue.old i m
+) -> Result<LoadOutcome, ChainError>
+    requires free { handle.old.state ≡ at.Free }
+    ensures idle { result ≡ Ok (LoadOutcome.On PopOutcome.Idle) → (i : ℕ) (m : State F) → IsMachineBefore handle.old queue.old i m
         → (l : StepLoads) × StepBy F.may m i l [] Idle no_effects m }
-    ensures refused { (e : QueueError) (i : ℕ) (m : State F) → result ≡ Ok (Went.On (WalkOutcome.Refused e)) → IsBefore workbench.old queue.old i m → HasEvents workbench.old queue.old
-        → (l : StepLoads) × StepBy F.may m i l [] (Refused (device.Queue e)) no_effects (with_queue m i (after_refusal (queue_of (course_of queue.old workbench.old.limit)) e)) }
-    ensures unplaced { IfOk result (λ told. (e : QueueError) → queue.old.stopped ≡ None → event_fault (places_in workbench.old.regions) queue.old ≡ Some e
-        → (told ≡ Went.On (WalkOutcome.Refused e)) × (queue.new ≡ record queue.old { stopped = Some e })) }
+    ensures refused { (e : QueueError) (i : ℕ) (m : State F) → result ≡ Ok (LoadOutcome.On (PopOutcome.Refused e)) → IsMachineBefore handle.old queue.old i m → HasEvents handle.old queue.old
+        → (l : StepLoads) × StepBy F.may m i l [] (Refused (device.Queue e)) no_effects (with_queue m i (after_refusal (queue_of (course_of queue.old handle.old.limit)) e)) }
+    ensures unplaced { IfOk result (λ told. (e : QueueError) → queue.old.stopped ≡ None → event_fault (places_in handle.old.regions) queue.old ≡ Some e
+        → (told ≡ LoadOutcome.On (PopOutcome.Refused e)) × (queue.new ≡ record queue.old { stopped = Some e })) }
 {
     law_chains::<F>();
-    walk_by(workbench, queue, given)
+    walk_by(handle, queue, given)
 }
 
 /// A walk that comes to a chain: its head, how many bytes its request has, and how many its room.
 pub fn walk_chain(
-    workbench: &mut Workbench,
-    queue: &mut KeptQueue,
+    handle: &mut ChainHandle,
+    queue: &mut QueueState,
     given: &[&[u8]],
 ) -> Result<(u16, usize, usize), ChainError>
-    requires free { workbench.old.state ≡ at.Free }
-    ensures walked { IfOk result (λ c. IsWalked workbench.old workbench.new queue.old queue.new (Went.On (WalkOutcome.Chain c.0 c.1 c.2))) }
+    requires free { handle.old.state ≡ at.Free }
+    ensures walked { IfOk result (λ c. IsWalked handle.old handle.new queue.old queue.new (LoadOutcome.On (PopOutcome.Chain c.0 c.1 c.2))) }
 {
-    match walk_by(workbench, queue, given)? {
-        Went::On(
-            WalkOutcome::Chain {
+    match walk_by(handle, queue, given)? {
+        LoadOutcome::On(
+            PopOutcome::Chain {
                 head,
                 request_len,
                 room_len,
@@ -92,64 +92,64 @@ pub fn walk_chain(
 
 /// A chain is asked by its whole request, and its call, if there is one, is answered.
 pub fn reply(
-    workbench: &mut Workbench,
+    handle: &mut ChainHandle,
     session: Session,
     request: &[u8],
     answer: FileAnswer,
 ) -> Result<(), ChainError>
-    requires taken { FromTaken workbench.old.state (λ out. out.request_len ≡ length request.now) }
+    requires taken { FromTaken handle.old.state (λ out. out.request_len ≡ length request.now) }
     requires data { TellsBytes [] answer }
-    ensures replied { OnOk result ((made : told.Told) × (asked : Workbench) × (given : Given)
-        × IsAskedBy workbench.old session request.now request.now made asked × HasReply made asked given workbench.new × (data_behind given ≡ [])) }
+    ensures replied { OnOk result ((made : told.Decoded) × (asked : ChainHandle) × (given : ChainAnswer)
+        × IsDecodedBy handle.old session request.now request.now made asked × HasReply made asked given handle.new × (data_behind given ≡ [])) }
 {
-    match workbench.ask(session, request)? {
-        Told::Call(_) => {
-            let serial = workbench.serial();
-            match workbench.answer(serial, answer) {
+    match handle.decode(session, request)? {
+        Decoded::Call(_) => {
+            let serial = handle.serial();
+            match handle.answer(serial, answer) {
                 Ok(_) => Ok(()),
                 Err(error) => Err(error),
             }
         }
-        Told::More(_) => Err(ChainError::BadArgument),
-        Told::Nothing => Ok(()),
-        Told::Fault(_) => Ok(()),
+        Decoded::More(_) => Err(ChainError::BadArgument),
+        Decoded::Nothing => Ok(()),
+        Decoded::Fault(_) => Ok(()),
     }
 }
 
 /// A chain whose reply is known goes back to a driver that wants to be told.
-pub fn give_back(workbench: &mut Workbench, queue: &mut KeptQueue) -> Result<bool, ChainError>
-    ensures back { IfOk result (λ notice. (room behind : List ℕ) → (acts : List Act) × (last : ℕ) × GoesBackBy queue.old room behind workbench.old.state acts last notice) }
-    ensures session { OnOk result (workbench.new.session ≡ workbench.old.session) }
+pub fn give_back(handle: &mut ChainHandle, queue: &mut QueueState) -> Result<bool, ChainError>
+    ensures back { IfOk result (λ notice. (room behind : List ℕ) → (acts : List Act) × (last : ℕ) × GoesBackBy queue.old room behind handle.old.state acts last notice) }
+    ensures session { OnOk result (handle.new.session ≡ handle.old.session) }
     ensures queue { OnOk result (queue.new ≡ gave queue.old) }
 {
     let mut front = [0u8; 160];
-    let _stores = workbench.begin_return(queue, &mut front)?;
-    workbench.end_return(queue, [0, 0])
+    let _stores = handle.push(queue, &mut front)?;
+    handle.pushed(queue, [0, 0])
 }
 
 /// A chain that is out alone from its walk to its return, whose answer has no data and which lists nothing, is a step.
 pub fn serve<F: FileSystem>(
-    workbench: &mut Workbench,
-    queue: &mut KeptQueue,
+    handle: &mut ChainHandle,
+    queue: &mut QueueState,
     given: &[&[u8]],
     session: Session,
     request: &[u8],
     answer: FileAnswer,
 ) -> Result<bool, ChainError>
-    requires free { workbench.old.state ≡ at.Free }
+    requires free { handle.old.state ≡ at.Free }
     requires goes { queue.old.stopped ≡ None }
-    requires none_out { queue.old.returned ≡ queue.old.position }
+    requires none_out { queue.old.next_used ≡ queue.old.next_avail }
     requires by_flags { queue.old.event_index ≡ false }
     requires data { TellsBytes [] answer }
-    ensures step { IfOk result (λ notice. (i : ℕ) (m : State F) (files : F) → IsBefore workbench.old queue.old i m → IsSession session m
+    ensures step { IfOk result (λ notice. (i : ℕ) (m : State F) (files : F) → IsMachineBefore handle.old queue.old i m → IsSession session m
         → (calls : Calls) × (FileRun F.may m.files calls files → (l : StepLoads) × (x : Exchange) × (e : Effects) × (x.request ≡ request.now)
-        × StepBy F.may m i l calls (Exchanged x notice) e (after_chain m i (queue_of (course_of queue.old workbench.old.limit)) workbench.new.session.options.0 files))) }
+        × StepBy F.may m i l calls (Exchanged x notice) e (after_chain m i (queue_of (course_of queue.old handle.old.limit)) handle.new.session.options.0 files))) }
 {
     law_chains::<F>();
-    let (_, request_len, _) = walk_chain(workbench, queue, given)?;
+    let (_, request_len, _) = walk_chain(handle, queue, given)?;
     if request_len != request.len() {
         return Err(ChainError::BadArgument);
     }
-    reply(workbench, session, request, answer)?;
-    give_back(workbench, queue)
+    reply(handle, session, request, answer)?;
+    give_back(handle, queue)
 }

@@ -22,7 +22,7 @@ struct bench {
     bool replied;                   /* it has a reply of the author's own bytes, */
     uint64_t replied_len;           /* so many of them */
     uint32_t ticket;
-    struct pk_step step;
+    struct pk_pop step;
     struct pk_call call;
     uint8_t *request;
 };
@@ -125,7 +125,7 @@ static void stir_guest(const struct pk_queue *queue) {
     unsigned head = (unsigned)below(SIZE);
     some_chain(head);
     put(AVAIL + 4 + 2u * (available() % SIZE), below(60) ? head : below(40), 2);
-    uint16_t behind = (uint16_t)(available() - queue->position);
+    uint16_t behind = (uint16_t)(available() - queue->next_avail);
     if (behind < SIZE || below(100) == 0) put(AVAIL + 2, available() + 1u, 2);
     if (below(300) == 0) put(AVAIL + 2, chance(), 2);
 }
@@ -138,20 +138,20 @@ static void some_queue(struct pk_queue *queue) {
     queue->avail = below(6) ? AVAIL : some_address();
     queue->used = below(6) ? USED : some_address();
     queue->size = below(6) ? SIZE : (uint16_t)ONE_OF(0, 1, 3, 32768, chance());
-    queue->most_out = below(9) ? (uint16_t)below(CHAINS + 1) : (uint16_t)chance();
+    queue->max_in_flight = below(9) ? (uint16_t)below(CHAINS + 1) : (uint16_t)chance();
     queue->event_index = (uint8_t)(below(9) ? below(2) : chance());
     struct pk_queue before = *queue;
     uint32_t status = named(pk_queue_begin(queue, position));
     if (status != PK_DONE && memcmp(&before, queue, sizeof before) != 0) wrong("a queue that isn't begun is another", status);
-    if (status == PK_DONE && (queue->position != position || queue->returned != position || queue->begun != before.begun + 1))
-        wrong("a queue begins elsewhere", queue->position);
+    if (status == PK_DONE && (queue->next_avail != position || queue->next_used != position || queue->reset_count != before.reset_count + 1))
+        wrong("a queue begins elsewhere", queue->next_avail);
     if (below(9)) return;
     switch (below(5)) {
-    case 0: queue->position = (uint16_t)chance(); break;
-    case 1: queue->returned = (uint16_t)(queue->position - below(4)); break;
+    case 0: queue->next_avail = (uint16_t)chance(); break;
+    case 1: queue->next_used = (uint16_t)(queue->next_avail - below(4)); break;
     case 2: queue->stopped = (uint16_t)below(12); break;
-    case 3: queue->returning = (uint8_t)below(3); break;
-    default: queue->taken = (uint32_t)chance();
+    case 3: queue->pushing = (uint8_t)below(3); break;
+    default: queue->pop_count = (uint32_t)chance();
     }
 }
 
@@ -182,7 +182,7 @@ static void tell_memory(struct bench *b) {
 
 /* ------------------------------------------------------------- calls */
 
-static uint16_t out_of(const struct pk_queue *queue) { return (uint16_t)(queue->position - queue->returned); }
+static uint16_t out_of(const struct pk_queue *queue) { return (uint16_t)(queue->next_avail - queue->next_used); }
 
 /* Which of the two says that nothing was done leaves the numbers as they were. */
 static void check_same(uint32_t status, const struct pk_queue *before, const struct pk_queue *after) {
@@ -191,27 +191,27 @@ static void check_same(uint32_t status, const struct pk_queue *before, const str
 
 static uint32_t do_walk(struct bench *b, struct pk_queue *queue) {
     static uint8_t bytes[PK_LOAD_MAX];
-    size_t len = below(30) ? b->step.len : (size_t)ONE_OF(16, below(PK_LOAD_MAX + 1));
+    size_t len = below(30) ? b->step.load_len : (size_t)ONE_OF(16, below(PK_LOAD_MAX + 1));
     struct pk_queue before = *queue;
-    struct pk_step step;
-    if (len == b->step.len && len > 0 && is_told(b, b->step.at, len)) memcpy(bytes, (const void *)b->step.at, len);
+    struct pk_pop step;
+    if (len == b->step.load_len && len > 0 && is_told(b, b->step.load_at, len)) memcpy(bytes, (const void *)b->step.load_at, len);
     if (below(500) == 0)
         for (size_t k = 0; k < len; k++) bytes[k] = (uint8_t)chance();
-    uint32_t status = named(pk_walk(&b->chain, queue, bytes, len, &step));
+    uint32_t status = named(pk_pop(&b->chain, queue, bytes, len, &step));
     check_same(status, &before, queue);
     if (status != PK_BAD_ARGUMENT) b->step = step; /* else the load is wanted still */
-    if (status == PK_LOAD && (b->step.len == 0 || b->step.len > PK_LOAD_MAX || !is_told(b, b->step.at, b->step.len)))
-        wrong("a load lies outside", b->step.len);
+    if (status == PK_LOAD && (b->step.load_len == 0 || b->step.load_len > PK_LOAD_MAX || !is_told(b, b->step.load_at, b->step.load_len)))
+        wrong("a load lies outside", b->step.load_len);
     if (status != PK_DONE) return status;
-    if (queue->position != (uint16_t)(before.position + 1) || queue->returned != before.returned)
-        wrong("a chain is taken elsewhere", queue->position);
-    if (out_of(queue) > (queue->most_out ? queue->most_out : 1)) wrong("too many chains are out", out_of(queue));
+    if (queue->next_avail != (uint16_t)(before.next_avail + 1) || queue->next_used != before.next_used)
+        wrong("a chain is taken elsewhere", queue->next_avail);
+    if (out_of(queue) > (queue->max_in_flight ? queue->max_in_flight : 1)) wrong("too many chains are out", out_of(queue));
     if (out_of(queue) > at_once) at_once = out_of(queue);
     taken++;
     b->have = 0;
     b->replied = false;
     b->request_len = b->step.request_len;
-    b->room_len = b->step.room_len;
+    b->room_len = b->step.reply_len;
     b->ticket = b->step.ticket;
     return status;
 }
@@ -224,12 +224,12 @@ static void do_drop(struct bench *b, struct pk_queue *queue) {
     check_same(status, &before, queue);
     if (status == PK_DONE && memcmp(&before, queue, sizeof before) != 0 && out_of(queue) != out - 1)
         wrong("a chain is dropped elsewhere", out_of(queue));
-    b->step = (struct pk_step){0};
+    b->step = (struct pk_pop){0};
 }
 
 static void do_abandon(struct bench *b) {
     pk_abandon(&b->chain);
-    b->step = (struct pk_step){0};
+    b->step = (struct pk_pop){0};
     calls++;
 }
 
@@ -251,7 +251,7 @@ static void do_ask(struct bench *b) {
     if (want > PK_REQUEST_MAX) return;
     gather(&b->chain, 0, b->request, want);
     b->have = want;
-    uint32_t status = named(pk_ask(&b->chain, &device, b->request, want, &b->call));
+    uint32_t status = named(pk_decode(&b->chain, &device, b->request, want, &b->call));
     if (status == PK_DONE) asked++;
     if (status == PK_DONE && b->call.ticket != b->ticket) wrong("a call has another ticket", b->call.ticket);
     const struct pk_span *spans[] = {&b->call.name, &b->call.name2, &b->call.value};
@@ -296,9 +296,9 @@ static void do_windows(struct bench *b) {
     size_t most = below(6), count;
     count = pk_request_windows(&b->chain, from, len, windows, most);
     check_windows(b, windows, count, most, len);
-    count = pk_room_windows(&b->chain, from, len, windows, most);
+    count = pk_reply_windows(&b->chain, from, len, windows, most);
     check_windows(b, windows, count, most, len);
-    count = pk_room_ranges(&b->chain, from, len, ranges, most);
+    count = pk_reply_ranges(&b->chain, from, len, ranges, most);
     check_ranges(b, ranges, count, most, len);
     calls += 3;
 }
@@ -366,7 +366,7 @@ static void do_reply(struct bench *b) {
     check_ticket(b, ticket, named(status));
 }
 
-/* A reply of the author's own bytes: in place of pk_ask or of an answer, behind one, or of a chain that isn't out. */
+/* A reply of the author's own bytes: in place of pk_decode or of an answer, behind one, or of a chain that isn't out. */
 static void do_bytes(struct bench *b) {
     uint64_t room = b->room_len, none;
     uint64_t len = ONE_OF(0, PK_HEADER, below(room + 1), room, room + 1, room + below(100), UINT32_MAX, chance());
@@ -389,12 +389,12 @@ static void do_bytes(struct bench *b) {
 
 /* A chain goes back at `returned`, whichever was taken first. */
 static void check_stores(const struct bench *b, const struct pk_queue *queue, const struct pk_stores *stores) {
-    uint64_t element = queue->used + 4 + 8 * (uint64_t)(queue->returned & (queue->size - 1u));
+    uint64_t element = queue->used + 4 + 8 * (uint64_t)(queue->next_used & (queue->size - 1u));
     if (!is_told(b, stores->id_at, 4) || !is_told(b, stores->len_at, 4) || !is_told(b, stores->index_at, 2) ||
         !is_told(b, stores->seen_at, 2))
         wrong("a store lies outside", element);
     if (stores->len_at - stores->id_at != 4 && b->region_count == 1) wrong("the element's halves lie apart", element);
-    if (stores->index != (uint16_t)(queue->returned + 1)) wrong("another index", stores->index);
+    if (stores->index != (uint16_t)(queue->next_used + 1)) wrong("another index", stores->index);
     if (stores->element_guest != element || stores->index_guest != queue->used + 2) wrong("another guest address", stores->element_guest);
     if (stores->front_len > stores->len || stores->len > b->room_len)
         wrong("the reply is longer than the room", stores->len);
@@ -404,12 +404,12 @@ static void check_stores(const struct bench *b, const struct pk_queue *queue, co
 static void do_returned(struct bench *b, struct pk_queue *queue) {
     struct pk_queue before = *queue;
     uint8_t notify;
-    uint32_t status = named(pk_returned(&b->chain, queue, (uint16_t)chance(), &notify));
+    uint32_t status = named(pk_pushed(&b->chain, queue, (uint16_t)chance(), &notify));
     check_same(status, &before, queue);
     if (notify > 1) wrong("neither 0 nor 1", notify);
     if (status != PK_DONE) return;
-    if (queue->returned != (uint16_t)(before.returned + 1) || queue->position != before.position)
-        wrong("a chain goes back elsewhere", queue->returned);
+    if (queue->next_used != (uint16_t)(before.next_used + 1) || queue->next_avail != before.next_avail)
+        wrong("a chain goes back elsewhere", queue->next_used);
     returned++;
 }
 
@@ -418,7 +418,7 @@ static void do_return(struct bench *b, struct pk_queue *queue) {
     struct pk_queue before = *queue;
     size_t len = below(20) ? PK_FRONT_MAX : below(PK_FRONT_MAX);
     begin_buffer(len);
-    uint32_t status = named(pk_return(&b->chain, queue, buffer, len, &stores));
+    uint32_t status = named(pk_push(&b->chain, queue, buffer, len, &stores));
     check_buffer(len);
     check_same(status, &before, queue);
     if (status == PK_DONE) {
@@ -434,11 +434,11 @@ static void do_return(struct bench *b, struct pk_queue *queue) {
 /* Where the driver is told whether its kicks are wanted. */
 static void do_kicks(struct bench *b, const struct pk_queue *queue) {
     struct pk_store store;
-    uint32_t wanted = (uint32_t)(below(9) ? below(2) : chance()), status = named(pk_ask_kicks(&b->chain, queue, wanted, &store));
+    uint32_t wanted = (uint32_t)(below(9) ? below(2) : chance()), status = named(pk_set_notification(&b->chain, queue, wanted, &store));
     if (status != PK_DONE) return;
     if (store.len != 2 && (store.len != 0 || wanted || !queue->event_index)) wrong("another length", store.len);
     if (store.len && !is_told(b, store.at, 2)) wrong("a store lies outside", store.at);
-    if (store.len && store.value != (queue->event_index ? queue->position : !wanted)) wrong("another value", store.value);
+    if (store.len && store.value != (queue->event_index ? queue->next_avail : !wanted)) wrong("another value", store.value);
 }
 
 /* A record is written and read again, sometimes cut, with other bytes in it, or into too few queues. */

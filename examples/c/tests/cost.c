@@ -118,11 +118,11 @@ static void lay_request(const struct row *row) {
 }
 
 static void serve_next(const struct row *row, struct pk_chain *chains, struct pk_queue *queue, const struct pk_device *device) {
-    struct pk_step steps[MOST_OUT];
+    struct pk_pop steps[MOST_OUT];
     struct pk_call call;
     uint8_t request[PK_FIRST];
     bool notify = false;
-    put(AVAIL + 2, (uint16_t)(queue->position + row->out), 2);
+    put(AVAIL + 2, (uint16_t)(queue->next_avail + row->out), 2);
     for (size_t k = 0; k < row->out; k++)
         if (take_chain(&chains[k], queue, &offered, &steps[k])) abort();
     for (size_t k = 0; k < row->out; k++)
@@ -147,7 +147,7 @@ int main(int argc, char **argv) {
     struct pk_chain chains[MOST_OUT] = {{0}};
     struct pk_device device = {.page_size = 4096, .limit = 0x101000};
     struct pk_region region = {0, sizeof memory, (uintptr_t)memory};
-    struct pk_queue queue = {.size = SIZE, .desc = DESC, .avail = AVAIL, .used = USED, .most_out = MOST_OUT};
+    struct pk_queue queue = {.size = SIZE, .desc = DESC, .avail = AVAIL, .used = USED, .max_in_flight = MOST_OUT};
     for (size_t k = 0; k < MOST_OUT; k++)
         if (count < 1 || pk_chain_set_memory(&chains[k], &device, &region, 1)) return 1;
     for (size_t at = 0; at < sizeof rows / sizeof *rows; at++) {

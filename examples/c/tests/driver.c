@@ -45,7 +45,7 @@ static void start(struct driver *driver, uint16_t position) {
                                            .avail = AVAIL,
                                            .used = USED,
                                            .size = RING_SIZE,
-                                           .position = position,
+                                           .next_avail = position,
                                            .event_index = driver->event_index},
                                  .avail_at = (uintptr_t)place_of(driver, AVAIL),
                                  .kick = driver->live.kick,

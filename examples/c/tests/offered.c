@@ -12,7 +12,7 @@ static struct pk_device device = PK_DEVICE;
 static struct pk_queue queue = {.desc = DESC, .avail = AVAIL, .used = USED, .size = SIZE};
 static struct offered offered;
 static struct pk_chain chain;
-static struct pk_step step;
+static struct pk_pop step;
 
 static void expect(const char *what, uint64_t found, uint64_t wanted) {
     if (found == wanted) return;
@@ -49,15 +49,15 @@ static void begin(uint16_t position, uint16_t waiting) {
 static void loads_once_for_all(void) {
     begin(0xfffe, 4); /* positions wrap */
     serve("the first of four");
-    set_index((uint16_t)(queue.position + SIZE + 1));
+    set_index((uint16_t)(queue.next_avail + SIZE + 1));
     for (int k = 0; k < 3; k++) serve("the others, while the index goes too far");
-    set_index((uint16_t)(queue.position + 2));
+    set_index((uint16_t)(queue.next_avail + 2));
     serve("the first of two that were offered later");
-    set_index(queue.position);
+    set_index(queue.next_avail);
     serve("the other one, while the index is back");
-    set_index(queue.position);
+    set_index(queue.next_avail);
     expect("none", take(), PK_IDLE);
-    set_index((uint16_t)(queue.position + 1));
+    set_index((uint16_t)(queue.next_avail + 1));
     serve("one behind an empty queue");
     expect("none", take(), PK_IDLE);
 }
@@ -96,7 +96,7 @@ static void takes_again(void) {
     begin(100, 2);
     serve("the first of two");
     expect("the second one", take(), PK_DONE);
-    set_index((uint16_t)(queue.position + SIZE + 1));
+    set_index((uint16_t)(queue.next_avail + SIZE + 1));
     expect("its drop", pk_drop(&chain, &queue), PK_DONE);
     serve("the second one again");
     expect("too far", take(), PK_AVAIL_TOO_FAR);

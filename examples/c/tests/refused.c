@@ -60,7 +60,7 @@ enum { SPLIT = 8, TABLE = BOUND - 16 * SPLIT - 8, PIECE = 4, ROOM_PIECE = 16, RO
 /* What a handle shows of itself by calls that change nothing. */
 struct seen {
     uint32_t walks, begins, asks, answers;
-    struct pk_step wanted, first;
+    struct pk_pop wanted, first;
     size_t request_count, room_count, range_count;
     struct pk_window request[WINDOWS], room[WINDOWS];
     struct pk_range ranges[WINDOWS];
@@ -73,7 +73,7 @@ struct world {
     unsigned low, offered;
     struct pk_device device, moved;
     struct pk_queue queues[2], restored[2];
-    struct pk_step step;
+    struct pk_pop step;
     struct pk_call call;
     struct pk_stores stores;
     uint64_t listed;
@@ -105,7 +105,7 @@ static const struct {
     FIELD(moved),
     FIELD(queues),
     FIELD(restored),
-    FIELDS(step.at, step.head),
+    FIELDS(step.load_at, step.head),
     FIELD(step.ticket),
     FIELDS(call.kind, call.fault),
     FIELDS(call.unique, call.has_group),
@@ -120,9 +120,9 @@ static const struct {
     FIELD(record),
     FIELD(notify),
     FIELDS(seen.walks, seen.answers),
-    FIELDS(seen.wanted.at, seen.wanted.head),
+    FIELDS(seen.wanted.load_at, seen.wanted.head),
     FIELD(seen.wanted.ticket),
-    FIELDS(seen.first.at, seen.first.head),
+    FIELDS(seen.first.load_at, seen.first.head),
     FIELD(seen.first.ticket),
     FIELDS(seen.request_count, seen.ranges),
 };
@@ -146,15 +146,15 @@ static const struct {
     bool stays;       /* or with what stood there before */
 } kinds[KINDS] = {
     [SET_MEMORY] = {"pk_chain_set_memory", PK_OUT_OF_MEMORY, .stays = true},
-    [WALK] = {"pk_walk", PK_OUT_OF_MEMORY, PLACE(step), .stays = true},
+    [WALK] = {"pk_pop", PK_OUT_OF_MEMORY, PLACE(step), .stays = true},
     [SAVE] = {"pk_save", PK_OUT_OF_MEMORY, PLACE(len), .stays = false},
     [RESTORE] = {"pk_restore", PK_RECORD_OUT_OF_MEMORY, PLACE(count), .stays = false},
-    [ASK] = {.name = "pk_ask"},
+    [ASK] = {.name = "pk_decode"},
     [DROP] = {.name = "pk_drop"},
     [REPLY] = {.name = "an answer"},
-    [RETURN] = {.name = "pk_return"},
-    [RETURNED] = {.name = "pk_returned"},
-    [KICKS] = {.name = "pk_ask_kicks"},
+    [RETURN] = {.name = "pk_push"},
+    [RETURNED] = {.name = "pk_pushed"},
+    [KICKS] = {.name = "pk_set_notification"},
     [FREE] = {.name = "pk_chain_free"},
 };
 
@@ -189,17 +189,17 @@ static void look(void) {
     struct pk_call call;
     uint64_t made = heap.made;
     memset(seen, 0, sizeof *seen);
-    seen->walks = pk_walk(chain, queue, nothing, sizeof nothing, &seen->wanted);
-    if (seen->walks == PK_BAD_ARGUMENT && seen->wanted.len == 0) {
-        seen->begins = pk_walk(chain, queue, nothing, 0, &seen->first);
+    seen->walks = pk_pop(chain, queue, nothing, sizeof nothing, &seen->wanted);
+    if (seen->walks == PK_BAD_ARGUMENT && seen->wanted.load_len == 0) {
+        seen->begins = pk_pop(chain, queue, nothing, 0, &seen->first);
         (void)pk_drop(chain, queue);
     }
-    seen->asks = pk_ask(chain, &now.device, nothing, sizeof nothing, &call);
+    seen->asks = pk_decode(chain, &now.device, nothing, sizeof nothing, &call);
     bool is_seek = now.call.answer == PK_ANSWER_LSEEK;
     seen->answers = is_seek ? pk_reply_open(chain, tickets[chain - chains], 1, 0) : pk_reply_lseek(chain, tickets[chain - chains], 1);
     seen->request_count = pk_request_windows(chain, 0, UINT64_MAX, seen->request, WINDOWS);
-    seen->room_count = pk_room_windows(chain, 0, UINT64_MAX, seen->room, WINDOWS);
-    seen->range_count = pk_room_ranges(chain, 0, UINT64_MAX, seen->ranges, WINDOWS);
+    seen->room_count = pk_reply_windows(chain, 0, UINT64_MAX, seen->room, WINDOWS);
+    seen->range_count = pk_reply_ranges(chain, 0, UINT64_MAX, seen->ranges, WINDOWS);
     if (heap.made != made) wrong("a look at the handle asks for memory", "");
 }
 
@@ -354,15 +354,15 @@ static void walk_to(uintptr_t end, uint32_t wanted) {
     uint8_t bytes[PK_LOAD_MAX];
     uint32_t status;
     size_t len = 0;
-    now.step = (struct pk_step){0};
+    now.step = (struct pk_pop){0};
     do {
         do {
             begin(WALK);
-            status = pk_walk(chain, &now.queues[0], bytes, len, &now.step);
+            status = pk_pop(chain, &now.queues[0], bytes, len, &now.step);
         } while (again(status, status == PK_LOAD ? PK_LOAD : wanted));
-        len = now.step.len;
-        if (len > 0) memcpy(bytes, (const void *)now.step.at, len);
-    } while (status == PK_LOAD && now.step.at != end);
+        len = now.step.load_len;
+        if (len > 0) memcpy(bytes, (const void *)now.step.load_at, len);
+    } while (status == PK_LOAD && now.step.load_at != end);
 }
 
 static void walk(uint32_t wanted) { walk_to(0, wanted); }
@@ -380,10 +380,10 @@ static void ask(const struct row *row) {
         memcpy(request + have, (const void *)now.seen.request[k].at, now.seen.request[k].len);
     now.device.options = row->options;
     do begin(ASK);
-    while (again(pk_ask(chain, &now.device, request, first, &now.call), first < whole ? more : PK_DONE));
+    while (again(pk_decode(chain, &now.device, request, first, &now.call), first < whole ? more : PK_DONE));
     if (now.status == PK_MORE) {
         do begin(ASK);
-        while (again(pk_ask(chain, &now.device, request, have, &now.call), PK_DONE));
+        while (again(pk_decode(chain, &now.device, request, have, &now.call), PK_DONE));
     }
     tickets[chain - chains] = now.call.ticket;
     if (now.call.kind != row->kind || now.call.answer != row->answer)
@@ -441,14 +441,14 @@ static void scatter(const uint8_t *bytes, size_t len) {
 static void give_back(void) {
     uint16_t seen;
     do begin(RETURN);
-    while (again(pk_return(chain, &now.queues[0], now.front, sizeof now.front, &now.stores), PK_DONE));
+    while (again(pk_push(chain, &now.queues[0], now.front, sizeof now.front, &now.stores), PK_DONE));
     scatter(now.front, now.stores.front_len);
     memcpy((void *)now.stores.id_at, &now.stores.id, 4);
     memcpy((void *)now.stores.len_at, &now.stores.len, 4);
     memcpy((void *)now.stores.index_at, &now.stores.index, 2);
     memcpy(&seen, (const void *)now.stores.seen_at, 2);
     do begin(RETURNED);
-    while (again(pk_returned(chain, &now.queues[0], seen, &now.notify), PK_DONE));
+    while (again(pk_pushed(chain, &now.queues[0], seen, &now.notify), PK_DONE));
 }
 
 static void play(const struct row *row) {
@@ -456,12 +456,12 @@ static void play(const struct row *row) {
     row_name = row->name;
     if (row->is_wide) {
         walk_to((uintptr_t)at(BOUND), PK_LOAD); /* to the second part of what is split */
-        tell_memory(LOW_MOVED, BOUND, PK_CHAIN_OUT);
+        tell_memory(LOW_MOVED, BOUND, PK_CHAIN_IN_FLIGHT);
         drop();
     }
     walk(PK_DONE);
     if (row->slips) {
-        tell_memory(LOW_MOVED, BOUND, PK_CHAIN_OUT);
+        tell_memory(LOW_MOVED, BOUND, PK_CHAIN_IN_FLIGHT);
         drop();
         walk(PK_DONE);
     }
@@ -507,7 +507,7 @@ static void let_go(void) {
 static void ask_kicks(void) {
     struct pk_store store;
     do begin(KICKS);
-    while (again(pk_ask_kicks(chain, &now.queues[0], 1, &store), PK_DONE));
+    while (again(pk_set_notification(chain, &now.queues[0], 1, &store), PK_DONE));
 }
 
 static void save(size_t room, uint32_t wanted) {
@@ -522,8 +522,8 @@ static void restore(size_t room, uint32_t wanted) {
 
 /* A queue of a record is begun anew, so it isn't the same in all. */
 static bool is_alike(const struct pk_queue *a, const struct pk_queue *b) {
-    return a->desc == b->desc && a->avail == b->avail && a->used == b->used && a->size == b->size && a->position == b->position &&
-           a->returned == b->returned && a->stopped == b->stopped;
+    return a->desc == b->desc && a->avail == b->avail && a->used == b->used && a->size == b->size && a->next_avail == b->next_avail &&
+           a->next_used == b->next_used && a->stopped == b->stopped;
 }
 
 static void move(void) {
@@ -557,7 +557,7 @@ static void play_script(void) {
     hold();
     ask_kicks();
     for (size_t k = 0; k < sizeof rows / sizeof rows[0]; k++) play(&rows[k]);
-    save(sizeof now.record, PK_CHAIN_OUT);
+    save(sizeof now.record, PK_CHAIN_IN_FLIGHT);
     let_go();
     move();
     row_name = "other memory";
@@ -579,8 +579,8 @@ static bool run(uint64_t number, bool goes_on) {
     heap.goes_on = goes_on;
     now.low = LOW;
     now.device = now.moved = (struct pk_device)PK_DEVICE;
-    now.queues[0] = (struct pk_queue){.desc = DESC, .avail = AVAIL, .used = USED, .size = SIZE, .most_out = HANDLES};
-    now.queues[1] = (struct pk_queue){.used = 0x1000, .size = 8, .position = 7, .returned = 7, .stopped = PK_STOPPED};
+    now.queues[0] = (struct pk_queue){.desc = DESC, .avail = AVAIL, .used = USED, .size = SIZE, .max_in_flight = HANDLES};
+    now.queues[1] = (struct pk_queue){.used = 0x1000, .size = 8, .next_avail = 7, .next_used = 7, .stopped = PK_STOPPED};
     memset(chains, 0, sizeof chains);
     memset(tickets, 0, sizeof tickets);
     chain = chains;

@@ -7,7 +7,7 @@ use crate::marks::Log;
 use crate::memory::Table;
 use crate::migration::Migration;
 use crate::ring::{Ring, SIZE_MAX};
-use crate::serve::{Bench, Core, Served};
+use crate::serve::{QueueWorker, Core, ServedFs};
 use log::{debug, error, info};
 use std::fs::File;
 use std::io;
@@ -33,7 +33,7 @@ pub struct FrontEnd<F> {
     log: Option<Arc<Log>>,
     migration: Migration<F>,
     /// What rings are told with that stop.
-    bench: Bench<F>,
+    worker: QueueWorker<F>,
     /// The back-end's own channel. QEMU offers VIRTIO_F_ACCESS_PLATFORM to the guest only if there is one.
     channel: Option<Backend>,
 }
@@ -50,11 +50,11 @@ fn no_queue() -> Error {
     told(io::Error::other("no such queue"))
 }
 
-impl<F: Served> FrontEnd<F> {
+impl<F: ServedFs> FrontEnd<F> {
     /// `scratch` is state::scratch's.
     pub fn new(core: Arc<Core<F>>, tag: Option<String>, scratch: File) -> FrontEnd<F> {
-        let (migration, bench) = (Migration::new(core.clone(), scratch), Bench::new(core.clone(), 0));
-        FrontEnd { core, tag, features: 0, log: None, migration, bench, channel: None }
+        let (migration, worker) = (Migration::new(core.clone(), scratch), QueueWorker::new(core.clone(), 0));
+        FrontEnd { core, tag, features: 0, log: None, migration, worker, channel: None }
     }
 
     fn ring(&self, index: impl Into<u32>) -> Result<&Ring> {
@@ -64,7 +64,7 @@ impl<F: Served> FrontEnd<F> {
     /// Chains of all rings are served, or wait.
     fn enable_all(&mut self, enabled: bool) {
         let memory = self.core.memory();
-        self.core.rings.iter().for_each(|ring| ring.enable(enabled, &mut self.bench, &memory));
+        self.core.rings.iter().for_each(|ring| ring.enable(enabled, &mut self.worker, &memory));
     }
 
     fn logs(&self) -> bool {
@@ -90,7 +90,7 @@ impl<F: Served> FrontEnd<F> {
     }
 }
 
-impl<F: Served> VhostUserBackendReqHandlerMut for FrontEnd<F> {
+impl<F: ServedFs> VhostUserBackendReqHandlerMut for FrontEnd<F> {
     fn set_owner(&mut self) -> Result<()> {
         Ok(())
     }
@@ -101,7 +101,7 @@ impl<F: Served> VhostUserBackendReqHandlerMut for FrontEnd<F> {
 
     fn reset_device(&mut self) -> Result<()> {
         self.enable_all(false);
-        self.core.rings.iter().for_each(|ring| ring.lock().begin_anew());
+        self.core.rings.iter().for_each(|ring| ring.lock().reset());
         self.core.end_session();
         Ok(())
     }
@@ -181,16 +181,16 @@ impl<F: Served> VhostUserBackendReqHandlerMut for FrontEnd<F> {
     }
 
     fn set_vring_base(&mut self, index: u32, base: u32) -> Result<()> {
-        let position = u16::try_from(base).map_err(|_| told(io::Error::other("a base that no split queue has")))?;
-        self.ring(index)?.tell(|numbers| numbers.position = position);
+        let next_avail = u16::try_from(base).map_err(|_| told(io::Error::other("a base that no split queue has")))?;
+        self.ring(index)?.tell(|numbers| numbers.next_avail = next_avail);
         Ok(())
     }
 
     fn get_vring_base(&mut self, index: u32) -> Result<VhostUserVringState> {
         // It is answered by the base alone, so there is no telling of an error.
         let ring = self.core.rings.get(index as usize).ok_or(Error::InvalidParam)?;
-        let position = ring.stop(&mut self.bench, &self.core.memory());
-        Ok(VhostUserVringState::new(index, position.into()))
+        let next_avail = ring.stop(&mut self.worker, &self.core.memory());
+        Ok(VhostUserVringState::new(index, next_avail.into()))
     }
 
     fn set_vring_kick(&mut self, index: u8, kick: Option<File>) -> Result<()> {
@@ -244,7 +244,7 @@ impl<F: Served> VhostUserBackendReqHandlerMut for FrontEnd<F> {
             return Err(unsupported("SET_VRING_ENABLE without the protocol's features"));
         }
         let ring = self.core.rings.get(index as usize).ok_or_else(no_queue)?;
-        ring.enable(enable, &mut self.bench, &self.core.memory());
+        ring.enable(enable, &mut self.worker, &self.core.memory());
         Ok(())
     }
 

@@ -1,6 +1,6 @@
 //! A migration, from the daemon's side: virtiofsd's file system prepares while the guest runs, and its state comes or goes by a
 //! thread while the rings stand.
-use crate::serve::{Core, Served};
+use crate::serve::{Core, ServedFs};
 use crate::state;
 use log::warn;
 use std::fs::File;
@@ -27,7 +27,7 @@ fn joined<T>(thread: JoinHandle<T>) -> io::Result<T> {
     thread.join().map_err(|_| io::Error::other("a thread of the migration panicked"))
 }
 
-impl<F: Served> Migration<F> {
+impl<F: ServedFs> Migration<F> {
     /// None goes on.
     pub fn new(core: Arc<Core<F>>, scratch: File) -> Migration<F> {
         Migration { core, scratch: Arc::new(scratch), preparation: None, transfer: None }

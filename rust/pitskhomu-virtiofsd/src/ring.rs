@@ -38,7 +38,7 @@ pub struct Numbers {
     /// Its size, and where its parts stand in the guest.
     pub layout: QueueLayout,
     /// Where the next chain is taken. While none is out, it is where the ring stands.
-    pub position: u16,
+    pub next_avail: u16,
     /// The driver took VIRTIO_F_EVENT_IDX.
     pub has_event_index: bool,
 }
@@ -89,18 +89,18 @@ impl State {
 
     /// The queue for a record, if the front-end ever told its numbers.
     pub fn queue_if_begun(&self) -> Option<Queue> {
-        let Numbers { layout, position, .. } = self.numbers;
-        (layout.size != 0 && layout.descriptors != 0).then(|| Queue::new(layout, position))
+        let Numbers { layout, next_avail, .. } = self.numbers;
+        (layout.size != 0 && layout.descriptors != 0).then(|| Queue::new(layout, next_avail))
     }
 
     /// Whatever it was, its queue begins anew, by the numbers that it has then.
-    pub fn begin_anew(&mut self) {
+    pub fn reset(&mut self) {
         (self.is_new, self.is_refused) = (true, false);
     }
 
     fn begin(&mut self, threads: u16) -> Result<(), Status> {
-        let Numbers { layout, position, has_event_index } = self.numbers;
-        let anew = Queue::new(layout, position).with_most_out(threads.min(layout.size));
+        let Numbers { layout, next_avail, has_event_index } = self.numbers;
+        let anew = Queue::new(layout, next_avail).with_max_in_flight(threads.min(layout.size));
         self.queue.begin(anew.with_event_index(has_event_index))?;
         (self.is_new, self.told) = (false, None);
         Ok(())
@@ -109,12 +109,12 @@ impl State {
     /// Says to the driver whether its kicks are wanted, if it doesn't know. Whether it had to be
     /// told: then a chain may have come before. After an error it knows what it knew.
     fn want_kicks(&mut self, wanted: bool, server: &mut impl Server, memory: &Arc<Table>) -> Result<bool, Status> {
-        let Numbers { position, has_event_index, .. } = self.numbers;
-        let telling = Some((wanted, if wanted && has_event_index { position } else { 0 }));
+        let Numbers { next_avail, has_event_index, .. } = self.numbers;
+        let telling = Some((wanted, if wanted && has_event_index { next_avail } else { 0 }));
         if !self.is_live() || self.is_new || self.told == telling {
             return Ok(false);
         }
-        let is_stored = server.ask_kicks(&self.queue, wanted, memory)?;
+        let is_stored = server.set_notification(&self.queue, wanted, memory)?;
         self.told = telling;
         Ok(is_stored)
     }
@@ -126,7 +126,7 @@ impl State {
     /// Whether the driver has offered a chain that isn't taken: by the ring's own word, so it is a
     /// hint. The ring is asked only if its index, as it was loaded last, tells of none.
     fn has_more(&self, memory: &Table) -> bool {
-        self.queue.knows_more() || memory.available_index(self.numbers.layout.available) != Some(self.numbers.position)
+        self.queue.knows_more() || memory.available_index(self.numbers.layout.available) != Some(self.numbers.next_avail)
     }
 
     /// Interrupts the driver, as soon as it is known where.
@@ -174,7 +174,7 @@ pub trait Server {
 
     /// Says to the driver whether its kicks are wanted. Whether something had to be stored for
     /// that.
-    fn ask_kicks(&mut self, queue: &Queue, wanted: bool, memory: &Arc<Table>) -> Result<bool, Status>;
+    fn set_notification(&mut self, queue: &Queue, wanted: bool, memory: &Arc<Table>) -> Result<bool, Status>;
 }
 
 /// A queue, shared by its threads and the front-end's.
@@ -272,7 +272,7 @@ impl Ring {
         self.forget_kick(&mut state);
         state.call = None;
         (state.is_started, state.is_refused) = (false, false);
-        state.numbers.position
+        state.numbers.next_avail
     }
 
     /// The driver isn't listened to any more.
@@ -334,20 +334,20 @@ impl Ring {
     /// Takes the next chain, if one waits. With new numbers none is taken until those in flight are
     /// returned, by the old.
     fn take(&self, state: &mut State, server: &mut impl Server, memory: &Arc<Table>) -> Looked {
-        if !state.is_live() || (state.is_new && state.queue.out() > 0) {
+        if !state.is_live() || (state.is_new && state.queue.in_flight() > 0) {
             return Looked::Idle;
         }
         let begun = if state.is_new { state.begin(self.threads) } else { Ok(()) };
         match begun.and_then(|()| server.take(&mut state.queue, memory)) {
             Ok(taken) => {
-                state.numbers.position = state.queue.position();
+                state.numbers.next_avail = state.queue.next_avail();
                 if taken {
                     Looked::Taken
                 } else {
                     Looked::Idle
                 }
             }
-            Err(Status::ChainOut) => Looked::Idle, // who gives one back looks again
+            Err(Status::InFlight) => Looked::Idle, // who gives one back looks again
             Err(status) if status.is_out_of_memory() => {
                 warn!("queue {}: memory is wanting, and a chain waits", self.index);
                 Looked::Again
@@ -479,7 +479,7 @@ mod tests {
             Ok(false)
         }
 
-        fn ask_kicks(&mut self, _queue: &Queue, _wanted: bool, _memory: &Arc<Table>) -> Result<bool, Status> {
+        fn set_notification(&mut self, _queue: &Queue, _wanted: bool, _memory: &Arc<Table>) -> Result<bool, Status> {
             let failing = self.0 > 0;
             self.0 = self.0.saturating_sub(1);
             if failing {
@@ -515,7 +515,7 @@ mod tests {
             Ok(false)
         }
 
-        fn ask_kicks(&mut self, _queue: &Queue, _wanted: bool, _memory: &Arc<Table>) -> Result<bool, Status> {
+        fn set_notification(&mut self, _queue: &Queue, _wanted: bool, _memory: &Arc<Table>) -> Result<bool, Status> {
             Ok(false)
         }
     }

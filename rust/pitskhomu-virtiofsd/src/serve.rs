@@ -15,8 +15,8 @@ use std::time::{Duration, Instant};
 use virtiofsd::filesystem::{FileSystem, SerializableFileSystem};
 
 /// The file system's side, as all that is done here wants it.
-pub trait Served: FileSystem + SerializableFileSystem + Send + Sync + 'static {}
-impl<F: FileSystem + SerializableFileSystem + Send + Sync + 'static> Served for F {}
+pub trait ServedFs: FileSystem + SerializableFileSystem + Send + Sync + 'static {}
+impl<F: FileSystem + SerializableFileSystem + Send + Sync + 'static> ServedFs for F {}
 
 /// What all threads share.
 pub struct Core<F> {
@@ -47,7 +47,7 @@ pub struct Parts<F> {
     pub descriptors: Descriptors,
 }
 
-impl<F: Served> Core<F> {
+impl<F: ServedFs> Core<F> {
     /// A device without memory whose rings aren't started. Each request queue is served by so many
     /// threads.
     pub fn new(parts: Parts<F>) -> io::Result<Core<F>> {
@@ -100,7 +100,7 @@ impl<F: Served> Core<F> {
 }
 
 /// What a queue's thread works with.
-pub struct Bench<F> {
+pub struct QueueWorker<F> {
     core: Arc<Core<F>>,
     index: usize,
     worker: pitskhomu::Worker,
@@ -111,10 +111,10 @@ pub struct Bench<F> {
     memory: Option<Arc<Table>>,
 }
 
-impl<F: Served> Bench<F> {
+impl<F: ServedFs> QueueWorker<F> {
     /// A bench for the ring with this index.
-    pub fn new(core: Arc<Core<F>>, index: usize) -> Bench<F> {
-        Bench { core, index, worker: pitskhomu::Worker::new(), told: None, memory: None }
+    pub fn new(core: Arc<Core<F>>, index: usize) -> QueueWorker<F> {
+        QueueWorker { core, index, worker: pitskhomu::Worker::new(), told: None, memory: None }
     }
 
     fn work_over(&mut self, memory: &Table) -> Result<(), Status> {
@@ -136,7 +136,7 @@ impl<F: Served> Bench<F> {
     }
 }
 
-impl<F: Served> Server for Bench<F> {
+impl<F: ServedFs> Server for QueueWorker<F> {
     fn take(&mut self, queue: &mut Queue, memory: &Arc<Table>) -> Result<bool, Status> {
         self.work_over(memory)?;
         let taken = self.worker.take(queue, &**memory)?;
@@ -168,8 +168,8 @@ impl<F: Served> Server for Bench<F> {
         })
     }
 
-    fn ask_kicks(&mut self, queue: &Queue, wanted: bool, memory: &Arc<Table>) -> Result<bool, Status> {
+    fn set_notification(&mut self, queue: &Queue, wanted: bool, memory: &Arc<Table>) -> Result<bool, Status> {
         self.work_over(memory)?;
-        self.worker.ask_kicks(queue, wanted, &**memory)
+        self.worker.set_notification(queue, wanted, &**memory)
     }
 }

@@ -3,7 +3,7 @@ use crate::capabilities;
 use crate::front_end::FrontEnd;
 use crate::open_flags::{Descriptors, OpenFlags};
 use crate::options::Options;
-use crate::serve::{Bench, Core, Parts, Served};
+use crate::serve::{QueueWorker, Core, Parts, ServedFs};
 use crate::socket::Socket;
 use crate::state;
 use log::{debug, error, info, warn};
@@ -260,7 +260,7 @@ impl Serving {
         }
     }
 
-    fn serve<F: Served>(self, fs: F) -> Result<(), Failure> {
+    fn serve<F: ServedFs>(self, fs: F) -> Result<(), Failure> {
         let Serving { request_queues, threads, flags, descriptors, .. } = self;
         let core = Arc::new(Core::new(Parts { fs, request_queues, threads, flags, descriptors })?);
         capabilities::give_up(&self.capabilities)?;
@@ -289,8 +289,8 @@ impl Serving {
     }
 }
 
-fn start_thread<F: Served>(core: Arc<Core<F>>, index: usize) -> Result<(), Failure> {
-    let mut bench = Bench::new(core.clone(), index);
+fn start_thread<F: ServedFs>(core: Arc<Core<F>>, index: usize) -> Result<(), Failure> {
+    let mut worker = QueueWorker::new(core.clone(), index);
     thread::Builder::new().name(format!("queue {index}")).spawn(move || {
         // virtiofsd changes a thread's working directory for extended attributes.
         // SAFETY: no memory is touched.
@@ -298,13 +298,13 @@ fn start_thread<F: Served>(core: Arc<Core<F>>, index: usize) -> Result<(), Failu
             error!("queue {index} isn't served: unshare(CLONE_FS): {}", io::Error::last_os_error());
             return;
         }
-        core.rings[index].run(&mut bench, || core.memory());
+        core.rings[index].run(&mut worker, || core.memory());
     })?;
     Ok(())
 }
 
 /// Answers the front-end's messages until it is gone.
-fn answer<F: Served>(mut handler: BackendReqHandler<Mutex<FrontEnd<F>>>) -> Result<(), Failure> {
+fn answer<F: ServedFs>(mut handler: BackendReqHandler<Mutex<FrontEnd<F>>>) -> Result<(), Failure> {
     loop {
         match handler.handle_request() {
             Ok(()) => {}

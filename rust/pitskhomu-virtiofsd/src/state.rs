@@ -8,7 +8,7 @@
 //! longer than need be, and virtiofsd writes none so. A state that begins so is ours, and is taken
 //! only if it ends with the mark: so none that was cut short is. One that begins otherwise and has
 //! no mark is a plain virtiofsd's: then no options are known, as none are there.
-use crate::serve::{Core, Served};
+use crate::serve::{Core, ServedFs};
 use pitskhomu as p;
 use std::fs::File;
 use std::io::{self, Read, Seek, Write};
@@ -38,7 +38,7 @@ fn invalid(why: &str) -> io::Error {
 }
 
 /// Sends the state of a core whose rings stand.
-pub fn save<F: Served>(core: &Core<F>, scratch: &File, pipe: File) -> io::Result<()> {
+pub fn save<F: ServedFs>(core: &Core<F>, scratch: &File, pipe: File) -> io::Result<()> {
     // A ring that was never begun has no numbers to save.
     let queues = core.rings.iter().map(|ring| ring.lock().queue_if_begun());
     send(&core.fs, &core.device, &queues.flatten().collect::<Vec<_>>(), scratch, pipe)
@@ -67,7 +67,7 @@ fn send(
 }
 
 /// Takes a state over, from a daemon as this one or from virtiofsd.
-pub fn load<F: Served>(core: &Core<F>, scratch: &File, pipe: File) -> io::Result<()> {
+pub fn load<F: ServedFs>(core: &Core<F>, scratch: &File, pipe: File) -> io::Result<()> {
     let before = core.descriptors.open()?;
     receive(&core.fs, &core.device, scratch, pipe)?;
     core.descriptors.mend_since(&before, core.flags) // virtiofsd's own has the flags that the guest asked for

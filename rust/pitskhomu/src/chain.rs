@@ -13,7 +13,7 @@ use crate::sys::{self, status};
 use core::ptr;
 
 /// What a walk comes to.
-pub(crate) enum Walked {
+pub(crate) enum Popped {
     /// The step's bytes are to be loaded.
     Load,
     /// No chain waits.
@@ -23,7 +23,7 @@ pub(crate) enum Walked {
 }
 
 /// What a request comes to.
-pub(crate) enum Asked {
+pub(crate) enum Decoded {
     /// A call, or none.
     Call,
     /// So many bytes of the request are wanted, from its start.
@@ -81,15 +81,15 @@ impl Chain {
     }
 
     /// `loaded` has the bytes that the step before wanted; at first none.
-    pub fn walk(&mut self, queue: &mut Queue, loaded: &[u8], step: &mut sys::Step) -> Result<Walked, Status> {
+    pub fn pop(&mut self, queue: &mut Queue, loaded: &[u8], step: &mut sys::Pop) -> Result<Popped, Status> {
         // SAFETY: as the module says.
-        match unsafe { sys::pk_walk(&mut self.handle, queue.numbers_mut(), loaded.as_ptr(), loaded.len(), step) } {
+        match unsafe { sys::pk_pop(&mut self.handle, queue.numbers_mut(), loaded.as_ptr(), loaded.len(), step) } {
             status::DONE => {
                 self.ticket = step.ticket;
-                Ok(Walked::Out)
+                Ok(Popped::Out)
             }
-            status::IDLE => Ok(Walked::Idle),
-            status::LOAD => Ok(Walked::Load),
+            status::IDLE => Ok(Popped::Idle),
+            status::LOAD => Ok(Popped::Load),
             number => Err(Status::of(number)),
         }
     }
@@ -106,10 +106,10 @@ impl Chain {
     }
 
     /// What says to the driver whether its kicks are wanted.
-    pub fn ask_kicks(&mut self, queue: &Queue, wanted: bool) -> Result<sys::Store, Status> {
+    pub fn set_notification(&mut self, queue: &Queue, wanted: bool) -> Result<sys::Store, Status> {
         let mut store = sys::Store::default();
         // SAFETY: as the module says.
-        Status::check(unsafe { sys::pk_ask_kicks(&mut self.handle, queue.numbers(), wanted.into(), &mut store) })?;
+        Status::check(unsafe { sys::pk_set_notification(&mut self.handle, queue.numbers(), wanted.into(), &mut store) })?;
         Ok(store)
     }
 
@@ -120,23 +120,23 @@ impl Chain {
         windows.get(..count).unwrap_or_default()
     }
 
-    pub fn room_windows<'w>(&mut self, from: u64, len: u64, windows: &'w mut [Window]) -> &'w [Window] {
+    pub fn reply_windows<'w>(&mut self, from: u64, len: u64, windows: &'w mut [Window]) -> &'w [Window] {
         // SAFETY: as of `request_windows`.
-        let count = unsafe { sys::pk_room_windows(&mut self.handle, from, len, windows.as_mut_ptr(), windows.len()) };
+        let count = unsafe { sys::pk_reply_windows(&mut self.handle, from, len, windows.as_mut_ptr(), windows.len()) };
         windows.get(..count).unwrap_or_default()
     }
 
-    pub fn room_ranges<'r>(&mut self, from: u64, len: u64, ranges: &'r mut [GuestRange]) -> &'r [GuestRange] {
+    pub fn reply_ranges<'r>(&mut self, from: u64, len: u64, ranges: &'r mut [GuestRange]) -> &'r [GuestRange] {
         // SAFETY: as of `request_windows`.
-        let count = unsafe { sys::pk_room_ranges(&mut self.handle, from, len, ranges.as_mut_ptr(), ranges.len()) };
+        let count = unsafe { sys::pk_reply_ranges(&mut self.handle, from, len, ranges.as_mut_ptr(), ranges.len()) };
         ranges.get(..count).unwrap_or_default()
     }
 
-    pub fn ask(&mut self, device: &sys::Device, request: &[u8], call: &mut sys::Call) -> Result<Asked, Status> {
+    pub fn decode(&mut self, device: &sys::Device, request: &[u8], call: &mut sys::Call) -> Result<Decoded, Status> {
         // SAFETY: as the module says.
-        match unsafe { sys::pk_ask(&mut self.handle, device, request.as_ptr(), request.len(), call) } {
-            status::DONE => Ok(Asked::Call),
-            status::MORE => Ok(Asked::More(call.needed as usize)),
+        match unsafe { sys::pk_decode(&mut self.handle, device, request.as_ptr(), request.len(), call) } {
+            status::DONE => Ok(Decoded::Call),
+            status::MORE => Ok(Decoded::More(call.needed as usize)),
             number => Err(Status::of(number)),
         }
     }
@@ -233,20 +233,20 @@ impl Chain {
         Status::check(unsafe { sys::pk_reply_bytes(&mut self.handle, self.ticket, len) })
     }
 
-    pub fn begin_return(&mut self, queue: &mut Queue, front: &mut [u8]) -> Result<sys::Stores, Status> {
+    pub fn push(&mut self, queue: &mut Queue, front: &mut [u8]) -> Result<sys::Stores, Status> {
         let mut stores = sys::Stores::default();
         // SAFETY: as the module says.
         Status::check(unsafe {
-            sys::pk_return(&mut self.handle, queue.numbers_mut(), front.as_mut_ptr(), front.len(), &mut stores)
+            sys::pk_push(&mut self.handle, queue.numbers_mut(), front.as_mut_ptr(), front.len(), &mut stores)
         })?;
         Ok(stores)
     }
 
     /// Whether the driver wants to be told.
-    pub fn end_return(&mut self, queue: &mut Queue, seen: u16) -> Result<bool, Status> {
+    pub fn pushed(&mut self, queue: &mut Queue, seen: u16) -> Result<bool, Status> {
         let mut notify = 0;
         // SAFETY: as the module says.
-        Status::check(unsafe { sys::pk_returned(&mut self.handle, queue.numbers_mut(), seen, &mut notify) })?;
+        Status::check(unsafe { sys::pk_pushed(&mut self.handle, queue.numbers_mut(), seen, &mut notify) })?;
         Ok(notify != 0)
     }
 }

@@ -61,7 +61,7 @@ impl Device {
 
     /// The record of the device and its queues, 1 to `MOST_QUEUES` of them: positions, layouts, which are stopped, options, page size and
     /// limit, and no memory and no file. Errors: `BadArgument` (numbers of the device or of a queue that are none; options that aren't known),
-    /// `ChainOut` (of a queue), `OutOfMemory`.
+    /// `InFlight` (of a queue), `OutOfMemory`.
     pub fn save(&self, queues: &[Queue]) -> Result<Vec<u8>, Status> {
         let numbers = self.numbers();
         let mut places = [sys::Queue::default(); Device::MOST_QUEUES];

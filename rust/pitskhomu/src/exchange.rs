@@ -83,8 +83,8 @@ impl<'a> Exchange<'a> {
     }
 
     /// The windows of the room from one of its bytes on, as many as the slice takes. What was stored by them is told by `written_up_to`.
-    pub fn room_windows<'w>(&mut self, from: u64, windows: &'w mut [Window]) -> &'w [Window] {
-        self.chain.room_windows(from, u64::MAX - from, windows)
+    pub fn reply_windows<'w>(&mut self, from: u64, windows: &'w mut [Window]) -> &'w [Window] {
+        self.chain.reply_windows(from, u64::MAX - from, windows)
     }
 
     /// The room was written up to this byte of it, by its windows: for a migration's log, where the reply ends before.

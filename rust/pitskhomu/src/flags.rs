@@ -4,7 +4,9 @@ use core::ops::{BitAnd, BitOr, BitOrAssign, Sub};
 
 /// A set of flags over an integer, with a constant for each flag. Bits without a name stay in a set.
 macro_rules! flags {
-    ($(#[$about:meta])* $type:ident: $bits:ident { $($(#[$doc:meta])* $name:ident = $value:expr;)* }) => {
+    ($(#[$about:meta])* $type:ident: $bits:ident {
+        $($(#[$doc:meta])* $name:ident = $value:expr;)*
+    }) => {
         $(#[$about])*
         #[derive(Clone, Copy, Default, PartialEq, Eq, Hash)]
         pub struct $type($bits);

@@ -43,14 +43,14 @@ impl Queue {
             avail: available,
             used,
             size,
-            position,
-            returned: position,
-            most_out: 1,
+            next_avail: position,
+            next_used: position,
+            max_in_flight: 1,
             stopped: 0,
-            returning: 0,
+            pushing: 0,
             event_index: 0,
-            begun: 0,
-            taken: 0,
+            reset_count: 0,
+            pop_count: 0,
         })
     }
 
@@ -70,7 +70,7 @@ impl Queue {
     /// The available index as it was loaded last, over the memory of a worker of this telling, if it tells of a chain that wasn't taken yet. That
     /// load acquired, and who has the queue now comes behind it.
     pub(crate) fn seen_index(&self, told: usize) -> Option<u16> {
-        self.seen.filter(|seen| seen.told >= told && seen.index != self.position()).map(|seen| seen.index)
+        self.seen.filter(|seen| seen.told >= told && seen.index != self.next_avail()).map(|seen| seen.index)
     }
 
     /// The available index was loaded by a worker of this telling.
@@ -80,8 +80,8 @@ impl Queue {
     }
 
     /// The same with up to `most` chains out at a time, 1 to the queue's size: as many as workers serve it.
-    pub const fn with_most_out(mut self, most: u16) -> Queue {
-        self.numbers.most_out = most;
+    pub const fn with_max_in_flight(mut self, most: u16) -> Queue {
+        self.numbers.max_in_flight = most;
         self
     }
 
@@ -95,8 +95,8 @@ impl Queue {
     /// Begins anew, as another does: its walks and the chains that are out of it are refused from here on (`Status::OtherQueue`; their
     /// workers `abandon` them). Errors, after which it is as it was: `BadArgument`.
     pub fn begin(&mut self, anew: Queue) -> Result<(), Status> {
-        let mut numbers = sys::Queue { begun: self.numbers.begun, ..anew.numbers };
-        chain::begin(&mut numbers, anew.numbers.position)?;
+        let mut numbers = sys::Queue { reset_count: self.numbers.reset_count, ..anew.numbers };
+        chain::begin(&mut numbers, anew.numbers.next_avail)?;
         *self = Queue::of_numbers(numbers);
         Ok(())
     }
@@ -108,28 +108,28 @@ impl Queue {
     }
 
     /// Where the next chain is taken, modulo 2^16. While none is out it is where the queue stands.
-    pub const fn position(&self) -> u16 {
-        self.numbers.position
+    pub const fn next_avail(&self) -> u16 {
+        self.numbers.next_avail
     }
 
     /// How many chains went back, modulo 2^16, counted from where it began.
-    pub const fn returned(&self) -> u16 {
-        self.numbers.returned
+    pub const fn next_used(&self) -> u16 {
+        self.numbers.next_used
     }
 
     /// How many chains are out: of one worker between calls only after a panic.
-    pub const fn out(&self) -> u16 {
-        self.numbers.position.wrapping_sub(self.numbers.returned)
+    pub const fn in_flight(&self) -> u16 {
+        self.numbers.next_avail.wrapping_sub(self.numbers.next_used)
     }
 
     /// How many may be out.
-    pub const fn most_out(&self) -> u16 {
-        self.numbers.most_out
+    pub const fn max_in_flight(&self) -> u16 {
+        self.numbers.max_in_flight
     }
 
     /// Whether a chain waits by the available index as it was loaded last. If it tells of none, one may wait all the same: load it then.
     pub fn knows_more(&self) -> bool {
-        self.seen.map_or(false, |seen| seen.index != self.position())
+        self.seen.map_or(false, |seen| seen.index != self.next_avail())
     }
 
     /// Whether the driver took VIRTIO_F_EVENT_IDX.

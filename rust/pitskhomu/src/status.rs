@@ -75,11 +75,11 @@ numbered! {
         /// An answer of another kind than the call's.
         OtherKind = 75, "an answer of another kind than the call's";
         /// The queue has as many chains out as it may, or the worker's chain is walked or out.
-        ChainOut = 76, "a chain is out";
+        InFlight = 76, "a chain is out";
         /// What is to be loaded or stored has no place.
-        NoPlace = 77, "what is to be loaded or stored has no place";
+        NotMapped = 77, "what is to be loaded or stored has no place";
         /// Another chain of the queue is being returned.
-        Returning = 78, "another chain of the queue is being returned";
+        Pushing = 78, "another chain of the queue is being returned";
         /// The answer is of a call that is gone.
         OtherCall = 79, "an answer of a call that is gone";
         /// A record ends early.

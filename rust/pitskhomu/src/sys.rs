@@ -3,7 +3,7 @@
 use crate::memory::{GuestRange as Range, Region, Window};
 use core::ffi::c_void;
 
-pub const VERSION: u32 = 7;
+pub const VERSION: u32 = 8;
 pub const REGIONS_MAX: usize = 64;
 pub const QUEUES_MAX: usize = 64;
 pub const FIRST: usize = 80;
@@ -86,14 +86,14 @@ pub struct Queue {
     pub avail: u64,
     pub used: u64,
     pub size: u16,
-    pub position: u16,
-    pub returned: u16,
-    pub most_out: u16,
+    pub next_avail: u16,
+    pub next_used: u16,
+    pub max_in_flight: u16,
     pub stopped: u16,
-    pub returning: u8,
+    pub pushing: u8,
     pub event_index: u8,
-    pub begun: u32,
-    pub taken: u32,
+    pub reset_count: u32,
+    pub pop_count: u32,
 }
 
 #[repr(C)]
@@ -105,11 +105,11 @@ pub struct Chain {
 
 #[repr(C)]
 #[derive(Clone, Copy, Debug, Default)]
-pub struct Step {
-    pub at: usize,
-    pub len: usize,
+pub struct Pop {
+    pub load_at: usize,
+    pub load_len: usize,
     pub request_len: u64,
-    pub room_len: u64,
+    pub reply_len: u64,
     pub fault: u32,
     pub head: u16,
     pub ticket: u32,
@@ -244,16 +244,16 @@ extern "C" {
     pub fn pk_chain_set_memory(chain: &mut Chain, device: &Device, regions: *const Region, region_count: usize) -> u32;
     pub fn pk_chain_free(chain: &mut Chain);
     #[allow(dead_code)] // a worker's answers go to its own chain
-    pub fn pk_chain_number_from(chain: &mut Chain, first: u32) -> u32;
-    pub fn pk_walk(chain: &mut Chain, queue: &mut Queue, loaded: *const u8, loaded_len: usize, step: &mut Step) -> u32;
-    pub fn pk_queue_begin(queue: &mut Queue, position: u16) -> u32;
+    pub fn pk_chain_set_ticket(chain: &mut Chain, first: u32) -> u32;
+    pub fn pk_pop(chain: &mut Chain, queue: &mut Queue, loaded: *const u8, loaded_len: usize, pop: &mut Pop) -> u32;
+    pub fn pk_queue_begin(queue: &mut Queue, next_avail: u16) -> u32;
     pub fn pk_abandon(chain: &mut Chain);
-    pub fn pk_ask_kicks(chain: &mut Chain, queue: &Queue, wanted: u32, store: &mut Store) -> u32;
+    pub fn pk_set_notification(chain: &mut Chain, queue: &Queue, enabled: u32, store: &mut Store) -> u32;
     pub fn pk_drop(chain: &mut Chain, queue: &mut Queue) -> u32;
     pub fn pk_request_windows(chain: &mut Chain, from: u64, len: u64, windows: *mut Window, window_count: usize) -> usize;
-    pub fn pk_room_windows(chain: &mut Chain, from: u64, len: u64, windows: *mut Window, window_count: usize) -> usize;
-    pub fn pk_room_ranges(chain: &mut Chain, from: u64, len: u64, ranges: *mut Range, range_count: usize) -> usize;
-    pub fn pk_ask(chain: &mut Chain, device: &Device, request: *const u8, request_len: usize, call: &mut Call) -> u32;
+    pub fn pk_reply_windows(chain: &mut Chain, from: u64, len: u64, windows: *mut Window, window_count: usize) -> usize;
+    pub fn pk_reply_ranges(chain: &mut Chain, from: u64, len: u64, ranges: *mut Range, range_count: usize) -> usize;
+    pub fn pk_decode(chain: &mut Chain, device: &Device, request: *const u8, request_len: usize, call: &mut Call) -> u32;
     pub fn pk_reply_err(chain: &mut Chain, ticket: u32, error: u32) -> u32;
     pub fn pk_reply_entry(chain: &mut Chain, ticket: u32, entry: &Entry) -> u32;
     pub fn pk_reply_create(chain: &mut Chain, ticket: u32, entry: &Entry, handle: u64, open_flags: u32) -> u32;
@@ -271,8 +271,8 @@ extern "C" {
         name_len: usize, entry: &Entry, next_offset: u64) -> u32;
     pub fn pk_reply_entries(chain: &mut Chain, ticket: u32, len: &mut u64) -> u32;
     pub fn pk_reply_bytes(chain: &mut Chain, ticket: u32, len: u64) -> u32;
-    pub fn pk_return(chain: &mut Chain, queue: &mut Queue, front: *mut u8, front_len: usize, stores: &mut Stores) -> u32;
-    pub fn pk_returned(chain: &mut Chain, queue: &mut Queue, seen: u16, notify: &mut u8) -> u32;
+    pub fn pk_push(chain: &mut Chain, queue: &mut Queue, front: *mut u8, front_len: usize, stores: &mut Stores) -> u32;
+    pub fn pk_pushed(chain: &mut Chain, queue: &mut Queue, seen: u16, notify: &mut u8) -> u32;
     pub fn pk_save(device: &Device, queues: *const Queue, queue_count: usize, buffer: *mut u8, buffer_len: usize,
         len: &mut usize) -> u32;
     pub fn pk_restore(device: &mut Device, queues: *mut Queue, queue_count: usize, saved: *const u8, saved_len: usize,

@@ -1,7 +1,7 @@
 //! The worker: from a chain's walk to its return.
 mod answering;
 
-use crate::chain::{Asked, Chain, Replied, Walked};
+use crate::chain::{Decoded, Chain, Replied, Popped};
 use crate::data::{load_request, store_room};
 use crate::device::Device;
 use crate::errno::Errno;
@@ -74,7 +74,7 @@ pub struct Worker {
     /// What a listing, a link or an extended attribute answers.
     list: Vec<u8>,
     front: [u8; sys::FRONT_MAX],
-    step: sys::Step,
+    step: sys::Pop,
     call: sys::Call,
     replied: Replied,
     /// How many bytes of the room, from its front on, the file system may have written.
@@ -104,7 +104,7 @@ impl Worker {
             request: Vec::new(),
             list: Vec::new(),
             front: [0; sys::FRONT_MAX],
-            step: sys::Step::default(),
+            step: sys::Pop::default(),
             call: sys::Call::default(),
             replied: Replied::Whole,
             written: 0,
@@ -113,7 +113,7 @@ impl Worker {
 
     /// Over which memory the next chains go: at most `Device::MOST_REGIONS` regions that don't overlap, none empty, in any order. They are
     /// copied. Call it first, and after each change of the guest's memory. Errors, after which the regions stay as they were:
-    /// `BadArgument`, `OutOfMemory`, `ChainOut` (after a panic).
+    /// `BadArgument`, `OutOfMemory`, `InFlight` (after a panic).
     pub fn set_memory(&mut self, device: &Device, regions: &[Region]) -> Result<(), Status> {
         self.chain.set_memory(&device.numbers(), regions)?;
         self.told = memory::next_telling();
@@ -122,7 +122,7 @@ impl Worker {
 
     /// Serves the next chain of a queue, if one waits: takes it, asks the file system, and gives it back with the reply. Errors, after which
     /// this worker has no chain out: those of `Status::stops_queue`, `OutOfMemory` (the chain waits still; the driver doesn't notify again),
-    /// `BadArgument` (numbers of the queue or the device that are none), `WrongOrder` (no memory was told), `ChainOut` (as many are out by
+    /// `BadArgument` (numbers of the queue or the device that are none), `WrongOrder` (no memory was told), `InFlight` (as many are out by
     /// other workers as may be).
     ///
     /// After a panic of the file system, hand the same queue again: the call is answered EIO, and that chain is what was served. After
@@ -148,7 +148,7 @@ impl Worker {
     }
 
     /// Takes the next chain of a queue, if one waits: then `answer` it and `give_back`, in this order. Several workers may have a chain each
-    /// out of one queue, up to `Queue::most_out`: keep it behind a lock, and hold that for `take` and for `give_back`, and not for
+    /// out of one queue, up to `Queue::max_in_flight`: keep it behind a lock, and hold that for `take` and for `give_back`, and not for
     /// `answer`. Chains go back in any order. Errors, after which this worker has no chain but one that it had before: those of `serve`,
     /// and `WrongOrder` (it has one).
     pub fn take(&mut self, queue: &mut Queue, memory: &dyn GuestMemory) -> Result<bool, Status> {
@@ -282,15 +282,15 @@ impl Worker {
 
     /// Whether a chain is out.
     fn walk(&mut self, queue: &mut Queue, memory: &dyn GuestMemory) -> Result<bool, Status> {
-        self.step = sys::Step::default();
+        self.step = sys::Pop::default();
         let mut is_first = true;
         loop {
-            let loaded = &self.loaded[..self.step.len];
-            match self.chain.walk(queue, loaded, &mut self.step)? {
-                Walked::Out => return Ok(true),
-                Walked::Idle => return Ok(false),
-                Walked::Load if is_first => self.load_index(queue, memory)?,
-                Walked::Load => self.load(memory)?,
+            let loaded = &self.loaded[..self.step.load_len];
+            match self.chain.pop(queue, loaded, &mut self.step)? {
+                Popped::Out => return Ok(true),
+                Popped::Idle => return Ok(false),
+                Popped::Load if is_first => self.load_index(queue, memory)?,
+                Popped::Load => self.load(memory)?,
             }
             is_first = false;
         }
@@ -311,7 +311,7 @@ impl Worker {
     /// Loads what a walk wants. Two bytes are a ring's: index, entry or flags; or they are the part of a table on one side of a region's
     /// end, and so at an even place too. Of a table it wants up to 4,096 bytes at once.
     fn load(&mut self, memory: &dyn GuestMemory) -> Result<(), Status> {
-        let sys::Step { at, len, .. } = self.step;
+        let sys::Pop { load_at: at, load_len: len, .. } = self.step;
         grow(&mut self.loaded, len)?;
         match &mut self.loaded[..len] {
             bytes @ [_, _] => bytes.copy_from_slice(&memory.load_u16(at).to_le_bytes()),
@@ -330,7 +330,7 @@ impl Worker {
 
     /// The chain by its bytes, of which the first are loaded.
     fn by_bytes<'a>(&'a mut self, front: usize, memory: &'a dyn GuestMemory) -> Exchange<'a> {
-        let sys::Step { request_len, room_len, .. } = self.step;
+        let sys::Pop { request_len, reply_len: room_len, .. } = self.step;
         self.call.opcode = exchange::opcode(&self.request[..front]);
         self.call.unique = exchange::unique(&self.request[..front]);
         Exchange::new(&mut self.chain, memory, &self.request[..front], request_len, room_len)
@@ -367,10 +367,10 @@ impl Worker {
         let numbers = device.numbers();
         let mut have = front;
         loop {
-            let want = match self.chain.ask(&numbers, &self.request[..have], &mut self.call)? {
-                Asked::Call => return Ok(()),
-                Asked::More(needed) if needed > have => needed,
-                Asked::More(_) => return Err(Status::ShortBuffer),
+            let want = match self.chain.decode(&numbers, &self.request[..have], &mut self.call)? {
+                Decoded::Call => return Ok(()),
+                Decoded::More(needed) if needed > have => needed,
+                Decoded::More(_) => return Err(Status::ShortBuffer),
             };
             if want > sys::REQUEST_MAX || grow(&mut self.request, want).is_err() {
                 return self.reply_error(memory, Errno::ENOMEM);
@@ -394,14 +394,14 @@ impl Worker {
             }
             _ => return Err(Status::WrongOrder),
         }
-        match self.chain.begin_return(queue, &mut self.front) {
+        match self.chain.push(queue, &mut self.front) {
             Ok(stores) => {
                 self.phase = Phase::Returning;
                 let notify = self.store(queue, memory, &stores)?;
                 self.phase = Phase::Free;
                 Ok(self.served(stores.len, notify))
             }
-            Err(Status::Returning) => Err(Status::Returning),
+            Err(Status::Pushing) => Err(Status::Pushing),
             Err(status) => {
                 self.end_return(queue);
                 Err(status)
@@ -411,7 +411,7 @@ impl Worker {
 
     /// Ends a return whose stores weren't all made: whether the driver wants to be told isn't known.
     fn end_return(&mut self, queue: &mut Queue) {
-        let _ = self.chain.end_return(queue, 0);
+        let _ = self.chain.pushed(queue, 0);
         self.abandon();
     }
 
@@ -431,7 +431,7 @@ impl Worker {
         }
         // What the driver wants is read after it can see the index, or a notification is lost.
         fence(Ordering::SeqCst);
-        self.chain.end_return(queue, memory.load_u16(stores.seen_at))
+        self.chain.pushed(queue, memory.load_u16(stores.seen_at))
     }
 
     /// Says to the driver whether its kicks are wanted (VIRTIO 1.2, 2.7.10): they are before you sleep, and needn't be while a worker looks for
@@ -445,10 +445,10 @@ impl Worker {
     /// available, but never that none is. If one is, the worker wakes one that sleeps, or takes it. The
     /// driver notifies once for several chains, and with an event index for the next chain alone.
     ///
-    /// Errors: `WrongOrder` (no memory was told), `BadArgument` (the queue's numbers are none), `NoPlace`
+    /// Errors: `WrongOrder` (no memory was told), `BadArgument` (the queue's numbers are none), `NotMapped`
     /// (the flags, or avail_event, aren't in the memory).
-    pub fn ask_kicks(&mut self, queue: &Queue, wanted: bool, memory: &dyn GuestMemory) -> Result<bool, Status> {
-        let store = self.chain.ask_kicks(queue, wanted)?;
+    pub fn set_notification(&mut self, queue: &Queue, wanted: bool, memory: &dyn GuestMemory) -> Result<bool, Status> {
+        let store = self.chain.set_notification(queue, wanted)?;
         if store.len == 0 {
             return Ok(false);
         }
@@ -466,7 +466,7 @@ impl Worker {
         let mut ranges = [GuestRange::default(); 16];
         let mut done = 0;
         while done < written {
-            let found = self.chain.room_ranges(done, written - done, &mut ranges);
+            let found = self.chain.reply_ranges(done, written - done, &mut ranges);
             if found.is_empty() {
                 break;
             }
@@ -483,7 +483,7 @@ impl Worker {
         Served {
             head: self.step.head,
             request_len: self.step.request_len,
-            room_len: self.step.room_len,
+            room_len: self.step.reply_len,
             opcode: self.call.opcode,
             unique: self.call.unique,
             reply_len,

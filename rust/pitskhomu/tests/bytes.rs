@@ -80,7 +80,7 @@ fn a_reply_by_windows() {
             let mut windows = [Window::default(); 4];
             let request = exchange.request_windows(40, &mut windows).to_vec();
             assert_eq!(request, [Window { at: 0x7000_0000 + REQUEST as usize + 40, len: 24 }]);
-            let room = exchange.room_windows(16, &mut windows).to_vec();
+            let room = exchange.reply_windows(16, &mut windows).to_vec();
             assert_eq!(room, [Window { at: 0x7000_0000 + ROOM as usize + 0x1000, len: 8 }]);
             exchange.written_up_to(20);
             exchange.store_error(Errno::EAGAIN)

@@ -111,7 +111,7 @@ fn requests_and_rings_by_chance() {
                     guest.queue = Queue::new(layout(), guest.offered);
                 }
             }
-            assert_eq!(guest.queue.out(), 0);
+            assert_eq!(guest.queue.in_flight(), 0);
         }
     }
     assert!(served_well > 1000, "{served_well}");

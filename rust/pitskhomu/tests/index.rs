@@ -81,14 +81,14 @@ fn one_of_three() -> Guest {
     let mut guest = Guest::new();
     offer(&mut guest, 3);
     assert_eq!(serve(&mut guest, 1), 1);
-    write_index(&guest, guest.queue.position());
+    write_index(&guest, guest.queue.next_avail());
     guest
 }
 
 #[test]
 fn a_queue_that_begins_anew_is_loaded_anew() {
     let mut guest = one_of_three();
-    let position = guest.queue.position();
+    let position = guest.queue.next_avail();
     let bad = Queue::new(QueueLayout { size: 3, ..layout() }, position);
     assert_eq!(guest.queue.begin(bad), Err(Status::BadArgument));
     assert!(guest.queue.knows_more(), "it is as it was");
@@ -142,6 +142,6 @@ fn a_chain_that_is_given_up_is_taken_again() {
     let mut guest = one_of_three();
     let bad = Device::new(4095, Device::LEAST_LIMIT);
     let served = guest.worker.serve(&mut guest.queue, &bad, &Recorder::default(), &guest.memory);
-    assert_eq!((served, guest.queue.out()), (Err(Status::BadArgument), 0));
+    assert_eq!((served, guest.queue.in_flight()), (Err(Status::BadArgument), 0));
     assert_eq!((serve(&mut guest, 2), loads(&guest)), (0, 0));
 }

@@ -12,7 +12,7 @@ const USED_EVENT: u64 = AVAILABLE + 4 + 2 * SIZE as u64;
 const AVAIL_EVENT: u64 = USED + 4 + 8 * SIZE as u64;
 
 fn ask(guest: &mut Guest, wanted: bool) -> Result<bool, Status> {
-    guest.worker.ask_kicks(&guest.queue, wanted, &guest.memory)
+    guest.worker.set_notification(&guest.queue, wanted, &guest.memory)
 }
 
 fn number_at(guest: &Guest, at: u64) -> u16 {
@@ -34,7 +34,7 @@ fn by_flags() {
         assert_eq!((number_at(&guest, USED), number_at(&guest, AVAIL_EVENT)), (flags, 0));
         assert_eq!(guest.memory.marks.take(), [GuestRange { guest: USED, len: 2 }]);
     }
-    assert_eq!(guest.queue.out(), 0);
+    assert_eq!(guest.queue.in_flight(), 0);
 }
 
 #[test]
@@ -87,8 +87,8 @@ fn rings_that_do_not_reach_behind_their_ends() {
     let used = QueueLayout { used: LEN as u64 - 4 - 8 * u64::from(SIZE), ..layout() };
     assert_eq!(serve(&mut guest, used, false), Ok(true));
     assert_eq!(serve(&mut guest, used, true), Err(Status::UsedUnreachable));
-    assert_eq!(ask(&mut guest, true), Err(Status::NoPlace));
-    assert_eq!(Worker::new().ask_kicks(&guest.queue, true, &guest.memory), Err(Status::WrongOrder));
+    assert_eq!(ask(&mut guest, true), Err(Status::NotMapped));
+    assert_eq!(Worker::new().set_notification(&guest.queue, true, &guest.memory), Err(Status::WrongOrder));
     let bad = Queue::new(QueueLayout { size: 3, ..layout() }, 0);
-    assert_eq!(guest.worker.ask_kicks(&bad, true, &guest.memory), Err(Status::BadArgument));
+    assert_eq!(guest.worker.set_notification(&bad, true, &guest.memory), Err(Status::BadArgument));
 }

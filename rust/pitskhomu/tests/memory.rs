@@ -80,7 +80,7 @@ fn a_chain_waits_for_the_first_bytes() {
         let Guest { worker, queue, device, memory, .. } = &mut guest;
         let served = with_most(most, || worker.serve(queue, device, &recorder, memory));
         assert_eq!(served, Err(Status::OutOfMemory), "{most}");
-        assert!(Status::OutOfMemory.is_out_of_memory() && guest.queue.out() == 0);
+        assert!(Status::OutOfMemory.is_out_of_memory() && guest.queue.in_flight() == 0);
     }
     assert_eq!(guest.serve(&recorder).1.data().len(), 128);
     assert_eq!(recorder.taken().len(), 1);

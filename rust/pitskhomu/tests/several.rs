@@ -26,9 +26,9 @@ fn offer(guest: &mut Guest, k: u16) {
 }
 
 /// A guest whose queue lets so many chains out, and workers for them.
-fn several(most_out: u16) -> (Guest, Vec<Worker>) {
+fn several(max_in_flight: u16) -> (Guest, Vec<Worker>) {
     let mut guest = Guest::new();
-    guest.queue = Queue::new(layout(), guest.offered).with_most_out(most_out);
+    guest.queue = Queue::new(layout(), guest.offered).with_max_in_flight(max_in_flight);
     let region = Region { guest: 0, len: LEN as u64, host: guest.memory.host };
     let worker = || {
         let mut worker = Worker::new();
@@ -69,7 +69,7 @@ fn chains_go_back_in_any_order() {
     }
     for (k, worker) in (1..).zip(&mut workers) {
         assert_eq!(take(&mut guest, worker), Ok(true));
-        assert_eq!((guest.queue.out(), guest.queue.position()), (k, first.wrapping_add(k)));
+        assert_eq!((guest.queue.in_flight(), guest.queue.next_avail()), (k, first.wrapping_add(k)));
         assert!(worker.has_chain());
     }
     guest.memory.is_logging.set(true);
@@ -79,7 +79,7 @@ fn chains_go_back_in_any_order() {
         worker.answer(&guest.device, &recorder, &guest.memory).unwrap();
         let served = give_back(&mut guest, worker).unwrap();
         assert_eq!((served.head, served.unique, served.reply_len), (2 * k as u16, k as u64, 144));
-        assert_eq!((guest.queue.out(), guest.queue.returned()), (3 - turn, first.wrapping_add(turn + 1)));
+        assert_eq!((guest.queue.in_flight(), guest.queue.next_used()), (3 - turn, first.wrapping_add(turn + 1)));
         let element = USED + 4 + 8 * u64::from(first.wrapping_add(turn) % SIZE);
         assert!(guest.memory.marks.take().contains(&GuestRange { guest: element, len: 8 }));
         let (_, room) = places(k as u16);
@@ -91,17 +91,17 @@ fn chains_go_back_in_any_order() {
 
 #[test]
 fn no_more_are_out_than_may_be() {
-    for (most_out, may) in [(0, 1), (1, 1), (3, 3)] {
-        let (mut guest, mut workers) = several(most_out);
+    for (max_in_flight, may) in [(0, 1), (1, 1), (3, 3)] {
+        let (mut guest, mut workers) = several(max_in_flight);
         for k in 0..4 {
             offer(&mut guest, k);
         }
         for (k, worker) in workers.iter_mut().enumerate() {
-            let wanted = if k < may { Ok(true) } else { Err(Status::ChainOut) };
-            assert_eq!(take(&mut guest, worker), wanted, "{k} of {most_out}");
+            let wanted = if k < may { Ok(true) } else { Err(Status::InFlight) };
+            assert_eq!(take(&mut guest, worker), wanted, "{k} of {max_in_flight}");
         }
-        assert_eq!(usize::from(guest.queue.out()), may);
-        assert_eq!(guest.device.save(&[guest.queue]), Err(Status::ChainOut));
+        assert_eq!(usize::from(guest.queue.in_flight()), may);
+        assert_eq!(guest.device.save(&[guest.queue]), Err(Status::InFlight));
     }
     let (mut guest, mut workers) = several(SIZE + 1);
     assert_eq!(take(&mut guest, &mut workers[0]), Err(Status::BadArgument));
@@ -118,7 +118,7 @@ fn a_worker_has_one_chain_at_a_time() {
     assert_eq!(worker.answer(&guest.device, &recorder, &guest.memory), Ok(()), "there is none to answer");
     assert_eq!(take(&mut guest, worker), Ok(true));
     assert_eq!(take(&mut guest, worker), Err(Status::WrongOrder));
-    assert_eq!(worker.set_memory(&guest.device, &[]), Err(Status::ChainOut));
+    assert_eq!(worker.set_memory(&guest.device, &[]), Err(Status::InFlight));
     worker.answer(&guest.device, &recorder, &guest.memory).unwrap();
     worker.answer(&guest.device, &recorder, &guest.memory).unwrap();
     assert_eq!(recorder.taken().len(), 1, "nothing is asked twice");
@@ -127,7 +127,7 @@ fn a_worker_has_one_chain_at_a_time() {
     assert_eq!(next.map(|served| served.head), Some(2));
     assert_eq!(take(&mut guest, &mut workers[1]), Ok(false));
     assert_eq!(give_back(&mut guest, &mut workers[0]).map(|served| served.head), Ok(0));
-    assert_eq!(guest.queue.out(), 0);
+    assert_eq!(guest.queue.in_flight(), 0);
 }
 
 #[test]
@@ -135,20 +135,20 @@ fn a_queue_that_begins_anew_refuses_its_chains() {
     let (mut guest, mut workers) = several(4);
     let recorder = recorder();
     offer(&mut guest, 0);
-    let first = guest.queue.position();
+    let first = guest.queue.next_avail();
     assert_eq!(take(&mut guest, &mut workers[0]), Ok(true));
     workers[0].answer(&guest.device, &recorder, &guest.memory).unwrap();
     let bad = Queue::new(QueueLayout { size: 3, ..layout() }, first);
     assert_eq!(guest.queue.begin(bad), Err(Status::BadArgument));
-    assert_eq!(guest.queue.out(), 1);
+    assert_eq!(guest.queue.in_flight(), 1);
     // The same numbers, from the same position on.
-    guest.queue.begin(Queue::new(layout(), first).with_most_out(2)).unwrap();
-    assert_eq!((guest.queue.out(), guest.queue.position(), guest.queue.most_out()), (0, first, 2));
+    guest.queue.begin(Queue::new(layout(), first).with_max_in_flight(2)).unwrap();
+    assert_eq!((guest.queue.in_flight(), guest.queue.next_avail(), guest.queue.max_in_flight()), (0, first, 2));
     assert_eq!(give_back(&mut guest, &mut workers[0]), Err(Status::OtherQueue));
     assert!(!workers[0].has_chain());
     assert_eq!(take(&mut guest, &mut workers[0]), Ok(true));
     workers[0].abandon();
-    assert_eq!((workers[0].has_chain(), guest.queue.out()), (false, 1));
+    assert_eq!((workers[0].has_chain(), guest.queue.in_flight()), (false, 1));
     assert_eq!(take(&mut guest, &mut workers[1]), Ok(false), "nobody gives it back");
     assert_eq!(recorder.taken().len(), 1);
 }
@@ -219,7 +219,7 @@ fn threads_serve_one_queue() {
     let (mut guest, workers) = several(4);
     let (mut workers, chains) = (workers, SIZE / 2);
     for _ in 0..50 {
-        let first = guest.queue.position();
+        let first = guest.queue.next_avail();
         for k in 0..chains {
             offer(&mut guest, k);
         }
@@ -238,7 +238,7 @@ fn threads_serve_one_queue() {
         guest.memory = memory.0.into_inner().unwrap();
         let (index, mut heads) = used(&guest, first, chains);
         heads.sort_unstable();
-        assert_eq!((guest.queue.out(), index), (0, first.wrapping_add(chains)));
+        assert_eq!((guest.queue.in_flight(), index), (0, first.wrapping_add(chains)));
         assert_eq!(heads, (0..chains).map(|k| u64::from(2 * k)).collect::<Vec<_>>(), "each once");
     }
 }

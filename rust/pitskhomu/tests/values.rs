@@ -42,17 +42,17 @@ fn errors_of_std() {
     assert_eq!(io::Error::from(Errno::ENOENT).kind(), io::ErrorKind::NotFound);
     assert_eq!(io::Error::from(Status::OutOfMemory).kind(), io::ErrorKind::OutOfMemory);
     fn fails() -> Result<(), Box<dyn Error + Send + Sync>> {
-        Err(Status::ChainOut)?
+        Err(Status::InFlight)?
     }
     assert_eq!(fails().unwrap_err().to_string(), "a chain is out");
-    assert_eq!(io::Error::from(Status::ChainOut).to_string(), "a chain is out");
+    assert_eq!(io::Error::from(Status::InFlight).to_string(), "a chain is out");
 }
 
 #[test]
 fn statuses_and_faults() {
     assert_eq!((Status::OutOfMemory.number(), Status::RecordMismatch.number()), (9, 90));
     assert!(Status::Stopped.stops_queue() && Status::DescriptorUnreachable.stops_queue());
-    assert!(!Status::OutOfMemory.stops_queue() && !Status::ChainOut.stops_queue());
+    assert!(!Status::OutOfMemory.stops_queue() && !Status::InFlight.stops_queue());
     assert!(Status::RecordOutOfMemory.is_out_of_memory() && !Status::Stopped.is_out_of_memory());
     assert_eq!(
         (Status::Unknown(99).number(), Status::Unknown(99).to_string().as_str()),
@@ -137,7 +137,7 @@ fn a_device_is_saved_and_restored() {
     assert_eq!(target.options(), device.options());
     assert_eq!(restored.len(), 3);
     for (queue, saved) in restored.iter().zip(&queues()) {
-        assert_eq!((queue.layout(), queue.position(), queue.stopped()), (saved.layout(), saved.position(), None));
+        assert_eq!((queue.layout(), queue.next_avail(), queue.stopped()), (saved.layout(), saved.next_avail(), None));
     }
 }
 

@@ -35,8 +35,8 @@ fn types_go_from_thread_to_thread() {
 fn an_idle_queue() {
     let (mut guest, recorder) = (Guest::new(), Recorder::default());
     assert_eq!(serve(&mut guest, &recorder), Ok(None));
-    assert_eq!((guest.queue.layout(), guest.queue.position()), (layout(), u16::MAX - 2));
-    assert_eq!((guest.queue.stopped(), guest.queue.out()), (None, 0));
+    assert_eq!((guest.queue.layout(), guest.queue.next_avail()), (layout(), u16::MAX - 2));
+    assert_eq!((guest.queue.stopped(), guest.queue.in_flight()), (None, 0));
     assert_eq!((guest.device.page_size(), guest.device.limit()), (4096, Device::LEAST_LIMIT));
 }
 
@@ -62,7 +62,7 @@ fn positions_wrap() {
         let reply = guest.ask(&recorder, 1, 1, args().bytes(HELLO), 144);
         assert_eq!(reply.data().len(), 128);
     }
-    assert_eq!(guest.queue.position(), 37);
+    assert_eq!(guest.queue.next_avail(), 37);
 }
 
 #[test]
@@ -227,8 +227,10 @@ fn answers_without_room_are_taken_back() {
     let forget = format!("forget ({node:?}, 1)");
     let released = |kind: &str, node: Node| {
         let handle = opened().handle;
-        let release =
-            format!("Release {{ handle: {handle:?}, flags: 2, flush: false, unlock: false, lock_owner: None }}");
+        let release = format!(
+            "Release {{ handle: {handle:?}, flags: 2, flush: false, unlock: false, \
+             lock_owner: None }}"
+        );
         if kind == "release" {
             format!("release ({node:?}, {release})")
         } else {
@@ -284,8 +286,8 @@ fn a_call_that_panics_is_answered_eio() {
     for (call, opcode, args, room, wanted) in cases {
         guest.offer_request(&request(opcode, 5, &args.0), room);
         panics(&mut guest, &Panics(call));
-        assert_eq!(guest.queue.out(), 1);
-        assert_eq!(guest.worker.set_memory(&guest.device, &[]), Err(Status::ChainOut));
+        assert_eq!(guest.queue.in_flight(), 1);
+        assert_eq!(guest.worker.set_memory(&guest.device, &[]), Err(Status::InFlight));
         let (served, reply) = guest.serve(&recorder);
         assert_eq!((served.opcode, served.unique, served.notify, reply), (opcode, UNIQUE, true, wanted));
         assert!(guest.is_idle(&recorder));
@@ -306,7 +308,7 @@ fn a_memory_that_panics_loses_no_other_chain() {
             // In the walk: the chain waits still.
             0 | 1 => assert_eq!(guest.serve(&recorder).1.data().len(), 128),
             // At the flags, when all was stored: the chain went back, and whether the driver wants to be told isn't known.
-            _ => assert_eq!(guest.queue.out(), 1),
+            _ => assert_eq!(guest.queue.in_flight(), 1),
         }
         assert!(guest.is_idle(&recorder));
         assert_eq!(recorder.taken().len(), 1);
@@ -344,7 +346,7 @@ fn a_request_that_is_too_long_is_refused() {
 fn a_log_hears_what_was_written() {
     let (mut guest, recorder) = (Guest::new(), Recorder::default());
     guest.memory.is_logging.set(true);
-    let position = guest.queue.position();
+    let position = guest.queue.next_avail();
     guest.offer_request(&request(15, 1, &args().q(3).q(0).d(100).bytes(&[0; 20]).0), 116);
     guest.serve(&recorder);
     let element = USED + 4 + 8 * u64::from(position % SIZE);

@@ -35,7 +35,7 @@ impl Ring {
         let mut state = self.lock();
         loop {
             state.is_held = true;
-            let is_out = |state: &mut State| state.queue.out() > 0;
+            let is_out = |state: &mut State| state.queue.in_flight() > 0;
             let (held, is_long) = self.wait_a_while(state, HOLD, is_out);
             state = held;
             state.is_held = false;
@@ -53,7 +53,7 @@ impl Ring {
         message: &str,
     ) -> MutexGuard<'a, State> {
         let last = state.taken;
-        let is_out = |state: &mut State| state.queue.out() > 0 && self.doing.iter().any(|doing| doing.has_one_of(last));
+        let is_out = |state: &mut State| state.queue.in_flight() > 0 && self.doing.iter().any(|doing| doing.has_one_of(last));
         state.is_awaited = true;
         let (waited, is_long) = self.wait_a_while(state, SILENT, is_out);
         state = waited;
@@ -67,7 +67,7 @@ impl Ring {
 
     /// Whether a chain is in flight.
     pub fn has_in_flight(&self) -> bool {
-        self.lock().queue.out() > 0
+        self.lock().queue.in_flight() > 0
     }
 
     /// The log says which chains are in flight.
@@ -88,19 +88,19 @@ impl Ring {
     /// count: it is waited for anyway.
     pub(super) fn take_last(&self, memory: &Table, message: &str) {
         let mut state = self.lock();
-        let Numbers { layout, position: first, .. } = state.numbers;
+        let Numbers { layout, next_avail: first, .. } = state.numbers;
         let Some(end) = memory.available_index(layout.available).filter(|_| state.is_live()) else { return };
         state.is_awaited = true;
         self.look();
         let is_wanting =
-            |state: &mut State| state.is_live() && state.numbers.position.wrapping_sub(first) < end.wrapping_sub(first);
+            |state: &mut State| state.is_live() && state.numbers.next_avail.wrapping_sub(first) < end.wrapping_sub(first);
         let (mut idle, mut is_said) = (Duration::ZERO, false);
         loop {
             let (waited, is_long) = self.wait_a_while(state, SILENT, is_wanting);
             state = waited;
             if !is_long {
                 break;
-            } else if state.queue.out() == 0 {
+            } else if state.queue.in_flight() == 0 {
                 idle += SILENT;
             } else if !is_said {
                 self.say(&state, message);

@@ -225,12 +225,12 @@ impl Guest {
 
     /// Serves one chain, and looks at what came back by the used ring.
     pub fn serve(&mut self, file_system: &dyn FileSystem) -> (Served, Reply) {
-        let position = self.queue.returned();
+        let position = self.queue.next_used();
         let served = self.worker.serve(&mut self.queue, &self.device, file_system, &self.memory).unwrap();
         let served = served.expect("a chain waits");
-        assert_eq!(self.queue.returned(), position.wrapping_add(1));
+        assert_eq!(self.queue.next_used(), position.wrapping_add(1));
         let index = number(&self.memory.read(USED + 2, 2), 0, 2) as u16;
-        assert_eq!(index, self.queue.returned(), "the used index");
+        assert_eq!(index, self.queue.next_used(), "the used index");
         let element = self.memory.read(USED + 4 + 8 * u64::from(position % SIZE), 8);
         assert_eq!(number(&element, 0, 4), u64::from(served.head));
         assert_eq!(number(&element, 4, 4), u64::from(served.reply_len));

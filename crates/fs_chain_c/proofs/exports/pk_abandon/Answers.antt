@@ -1,7 +1,7 @@
 use Rattle.std.proofs.Common.{rules}
-use Rattle.fs_chain_c.proofs.HandleLemmas.{on_workbench}
+use Rattle.fs_chain_c.proofs.HandleLemmas.{on_handle}
 use Rattle.fs_chain_c.proofs.exports.pk_abandon.Goals as goal
 
 pub returns : goal.returns
 returns c =
-    on_workbench _ _ c.args.chain.now.value c.of_box.result.value c.deref_mut.result.now c.abandon.new.self (search rules) (search rules) c.abandon.ensures
+    on_handle _ _ c.args.chain.now.value c.of_box.result.value c.deref_mut.result.now c.abandon.new.self (search rules) (search rules) c.abandon.ensures

@@ -1,5 +1,5 @@
 use Rattle.std.proofs.Common.{◌≡◌, ◌≤◌, ◌+◌, ◌-◌, ◌^◌, ◌++◌, drop, length, List, min}
-use Rattle.fs_chain_c.specs.Ranges.{AreRanges, range_bytes}
+use Rattle.fs_chain_c.specs.Ranges.{AreReplyRanges, range_bytes}
 use Rattle.fs_chain_c.specs.declared.ranges.FsRange.{FsRange}
 use Rattle.fs_chain_c.proofs.ranges.fill_ranges.Given as goal
 
@@ -10,7 +10,7 @@ invariant-loop-k l = record {
   count : length found ≡ l.k;
   fits : l.k ≤ length l.ranges;
   put : l.ranges ≡ found ++ drop l.k l.initial.ranges;
-  are : AreRanges l.workbench l.from (min l.most (2 ^ 64 - 1 - l.from)) found;
+  are : AreReplyRanges l.handle l.from (min l.most (2 ^ 64 - 1 - l.from)) found;
   left : l.left + range_bytes found ≡ min l.most (2 ^ 64 - 1 - l.from);
   at : l.at ≡ l.from + range_bytes found;
 }

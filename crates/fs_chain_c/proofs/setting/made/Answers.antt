@@ -4,10 +4,10 @@ use Rattle.fs_chain_c.proofs.setting.made.Goals as goal
 
 pub returns-in-Ok-clause-ok : goal.returns-in-Ok-clause-ok
 returns-in-Ok-clause-ok c =
-    let b = c.new-workbench.result in
+    let b = c.new-handle.result in
     let set = c.in_ok-set_memory.ensures.set in (
       b,
       search rules,
-      goes_along b c.args.device.now c.args.regions.now c.set_memory.new.self c.in-Ok.workbench.value (search rules)
+      goes_along b c.args.device.now c.args.regions.now c.set_memory.new.self c.in-Ok.handle.value (search rules)
           (c.in_ok-set_memory.ensures.ok, search rules, search rules, search rules, set.1, set.2, set.3, set.4, set.5, set.6),
     )

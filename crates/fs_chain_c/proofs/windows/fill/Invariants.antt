@@ -11,8 +11,8 @@ invariant-loop-k l = record {
   count : length found ≡ l.k;
   fits : l.k ≤ length l.windows;
   put : l.windows ≡ found ++ drop l.k l.initial.windows;
-  are : AreStretches l.workbench l.write_only l.from (min l.most (2 ^ 64 - 1 - l.from)) found;
+  are : AreStretches l.handle l.write_only l.from (min l.most (2 ^ 64 - 1 - l.from)) found;
   left : l.left + covered found ≡ min l.most (2 ^ 64 - 1 - l.from);
   at : l.at ≡ l.from + covered found;
-  passed : HasPassed l.write_only l.workbench.descriptors.items l.passed;
+  passed : HasPassed l.write_only l.handle.descriptors.items l.passed;
 }

@@ -3,14 +3,14 @@ use Rattle.std.specs.Prelude.{min}
 use Rattle.std.proofs.lemmas.List.{length-take, take_min}
 use Rattle.fuse_fs.specs.Calls as call
 use Rattle.fuse_files.proofs.WholeReads.{all_comes, whole}
-use Rattle.fuse_files.specs.declared.directory.Contents.{Contents}
+use Rattle.fuse_files.specs.declared.directory.ContentsReader.{ContentsReader}
 use Rattle.fuse_files.proofs.ContentsLemmas.{goes_in, stays_out}
 use Rattle.fuse_files.proofs.directory.put_bytes.Goals as goal
 
 pub returns : goal.returns
 returns g c =
     let r = c.read_from_file_at.ensures in
-    let held = λ (f : Contents). f.bytes.now in
+    let held = λ (f : ContentsReader). f.bytes.now in
     let long = ap length c.rest.ensures in
     let there = drop c.args.offset c.args.contents.now in
     let room = g.W.ZeroCopyWriter.room c.args.w.now in

@@ -1,37 +1,37 @@
 use Rattle.std.proofs.Common.{◌≡◌, ℕ, true, [], ◌∷◌, List, Some, None, Ok, Result, IfOk, refl, subst, sym, ap, ◌∙◌}
 use Rattle.fs_queue.specs.Chain.{Descriptor}
-use Rattle.fs_regions.specs.declared.step.Step as comes
-use Rattle.fs_regions.specs.declared.step.Step.TheVariants as step
+use Rattle.fs_regions.specs.declared.step.CourseStep as comes
+use Rattle.fs_regions.specs.declared.step.CourseStep.TheVariants as step
 use Rattle.fs_chain.specs.Loads.{GoesSo}
 use Rattle.fs_chain.specs.Walks.{queue_after, told_of}
-use Rattle.fs_chain.specs.Whole.{BeginsBy, WantsBytes}
+use Rattle.fs_chain.specs.Whole.{BeginsPopBy, WantsBytes}
 use Rattle.fs_chain.specs.declared.error.ChainError.{ChainError}
-use Rattle.fs_chain.specs.declared.loads.Went.{Went}
-use Rattle.fs_chain.specs.declared.loads.Went as went
-use Rattle.fs_chain.specs.declared.loads.Went.TheVariants as wents
-use Rattle.fs_chain.specs.declared.queue.KeptQueue.{KeptQueue}
-use Rattle.fs_chain.specs.declared.walking.WalkOutcome as walked
-use Rattle.fs_chain.specs.declared.walking.WalkOutcome.TheVariants as says
-use Rattle.fs_chain.specs.declared.workbench.Workbench.{Workbench}
+use Rattle.fs_chain.specs.declared.loads.LoadOutcome.{LoadOutcome}
+use Rattle.fs_chain.specs.declared.loads.LoadOutcome as went
+use Rattle.fs_chain.specs.declared.loads.LoadOutcome.TheVariants as wents
+use Rattle.fs_chain.specs.declared.queue.QueueState.{QueueState}
+use Rattle.fs_chain.specs.declared.popping.PopOutcome as walked
+use Rattle.fs_chain.specs.declared.popping.PopOutcome.TheVariants as says
+use Rattle.fs_chain.specs.declared.chain_handle.ChainHandle.{ChainHandle}
 use Rattle.fs_chain.proofs.WholeWalks.{walk_comes}
 use Rattle.fs_live.specs.Among.{WalksAmong}
 use Rattle.fs_live.specs.Handles.{live_of}
 use Rattle.fs_live.specs.Live.{Walks, after_walk}
 use Rattle.worked_callers.proofs.among.look_after_refusal.Goals as goal
 
-abbrev IsALoad : walked.WalkOutcome → Type 0
+abbrev IsALoad : walked.PopOutcome → Type 0
 IsALoad (says.Load n) = Unit {0}
 IsALoad _ = ⊥
 
 -- a first call that wants bytes leaves the queue
-load_keeps : (before after : KeptQueue) (ds : List Descriptor) (came : comes.Step) (n : ℕ) → says.Load n ≡ told_of ds came → after ≡ queue_after before came → after ≡ before
+load_keeps : (before after : QueueState) (ds : List Descriptor) (came : comes.CourseStep) (n : ℕ) → says.Load n ≡ told_of ds came → after ≡ queue_after before came → after ≡ before
 load_keeps before after ds (step.Load walk) n told left = left
 load_keeps before after ds step.Idle n told left = absurd (subst IsALoad told tt)
 load_keeps before after ds (step.Refused e) n told left = absurd (subst IsALoad told tt)
 load_keeps before after ds (step.Chain head None) n told left = absurd (subst IsALoad told tt)
 load_keeps before after ds (step.Chain head (Some fault)) n told left = absurd (subst IsALoad told tt)
 
-keeps_queue : (old new : Workbench) (before after : KeptQueue) (told : went.Went) → before.stopped ≡ None → WantsBytes told → BeginsBy old new before after told → after ≡ before
+keeps_queue : (old new : ChainHandle) (before after : QueueState) (told : went.LoadOutcome) → before.stopped ≡ None → WantsBytes told → BeginsPopBy old new before after told → after ≡ before
 keeps_queue old new before after wents.Part goes wants by = by.1.5
 keeps_queue old new before after (wents.On (says.Load n)) goes wants by =
     let made = walk_comes [] old new before after (says.Load n) goes tt by in load_keeps before after new.descriptors.items made.2.0 n made.2.1.0 made.2.1.2
@@ -42,29 +42,29 @@ keeps_queue old new before after (wents.On (says.Faulty head fault)) goes wants 
 
 pub returns-in-Err : goal.returns-in-Err
 returns-in-Err g c =
-    let old = c.args.workbench.now in
-    let w = c.walk.new.self in
-    let v = c.walk-2.new.self in
-    let new = c.walk-in-Err.new.self in
+    let old = c.args.handle.now in
+    let w = c.pop.new.self in
+    let v = c.pop-2.new.self in
+    let new = c.pop-in-Err.new.self in
     let before = c.args.queue.now in
-    let left = c.walk.new.queue in
-    let now = c.walk-2.new.queue in
-    let after = c.walk-in-Err.new.queue in
+    let left = c.pop.new.queue in
+    let now = c.pop-2.new.queue in
+    let after = c.pop-in-Err.new.queue in
     let index = c.args.index.now in
     let told = c.in_ok-begun.begun in
-    let first : BeginsBy old w before left told = (c.requires.free, c.in_ok-begun.ensures.goes) in
+    let first : BeginsPopBy old w before left told = (c.requires.free, c.in_ok-begun.ensures.goes) in
     let yes : c.wants_bytes.result ≡ true = Prim.search in
     let wants : WantsBytes told = c.wants_bytes.ensures yes in
     let same : now ≡ before = c.in-Err.ensures.same.1 ∙ keeps_queue old w before left told c.requires.goes wants first in
-    let walks_so : (out : walked.WalkOutcome) → c.walk-in-Err.result ≡ Ok (wents.On out) → WalksAmong (index ∷ []) old new before now after (wents.On out) = λ out is.
+    let walks_so : (out : walked.PopOutcome) → c.pop-in-Err.result ≡ Ok (wents.On out) → WalksAmong (index ∷ []) old new before now after (wents.On out) = λ out is.
     let goes : GoesSo v now index (wents.On out) new after =
-    subst (λ (r : Result Went ChainError). IfOk r (λ went. GoesSo v now index went new after)) is c.walk-in-Err.ensures.goes in
+    subst (λ (r : Result LoadOutcome ChainError). IfOk r (λ went. GoesSo v now index went new after)) is c.pop-in-Err.ensures.goes in
     (w, v, before, left, told, (refl, first), wants, c.in-Err.ensures.same.0, goes) in
     record {
       idle = λ is s i there places limit.
           let walks = walks_so says.Idle is in
-          let law = c.law_handles.ensures.among s i (index ∷ []) old new before now after says.Idle (there ∙ ap (λ (q : KeptQueue). Some (live_of q)) (sym same)) places limit c.requires.goes
-          (ap (λ (q : KeptQueue). q.stopped) same ∙ c.requires.goes) (ap (λ (q : KeptQueue). q.event_index) same) tt walks tt in
+          let law = c.law_handles.ensures.among s i (index ∷ []) old new before now after says.Idle (there ∙ ap (λ (q : QueueState). Some (live_of q)) (sym same)) places limit c.requires.goes
+          (ap (λ (q : QueueState). q.stopped) same ∙ c.requires.goes) (ap (λ (q : QueueState). q.event_index) same) tt walks tt in
           let end = after_walk s i (live_of now) law.0 new.descriptors.items law.2 in
           (Walks i law.0 new.descriptors.items law.2 ∷ [], end, (end, law.4, refl), law.5);
       wants = λ n is lacks. c.law_handles.ensures.wanted_among (index ∷ []) old new before now after (wents.On (says.Load n)) c.requires.goes (walks_so (says.Load n) is) tt lacks;

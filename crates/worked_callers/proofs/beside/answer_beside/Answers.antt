@@ -9,7 +9,7 @@ use Rattle.worked_callers.proofs.beside.answer_beside.Goals as goal
 
 pub returns-in-Ok : goal.returns-in-Ok
 returns-in-Ok g c =
-    let old = c.args.workbench.now in
+    let old = c.args.handle.now in
     let new = c.answer.new.self in
     let a = c.args.answer in
     record {

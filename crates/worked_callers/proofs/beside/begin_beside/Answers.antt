@@ -6,9 +6,9 @@ use Rattle.worked_callers.proofs.beside.begin_beside.Goals as goal
 pub returns : goal.returns
 returns g c =
     let before = c.args.queue.now in
-    let after = c.begin_anew.new.self in
+    let after = c.reset.new.self in
     record {
       begins = λ s i there some few none.
-          let law = c.law_handles.ensures.begins s i before after c.args.layout c.args.position before.most_out before.event_index None there c.begin_anew.ensures some few c.ranges.position.fits none in
+          let law = c.law_handles.ensures.begins s i before after c.args.layout c.args.position before.max_in_flight before.event_index None there c.reset.ensures some few c.ranges.position.fits none in
           (after_beginning s i (live_of after), law.0, law.1);
     }

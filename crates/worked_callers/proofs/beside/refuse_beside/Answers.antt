@@ -1,9 +1,9 @@
 use Rattle.std.proofs.Common.{[], ◌∷◌, Result, IfOk, subst, refl}
 use Rattle.fs_chain.specs.Whole.{IsWalked}
 use Rattle.fs_chain.specs.declared.error.ChainError.{ChainError}
-use Rattle.fs_chain.specs.declared.loads.Went.TheVariants as wents
-use Rattle.fs_chain.specs.declared.walking.WalkOutcome as walked
-use Rattle.fs_chain.specs.declared.walking.WalkOutcome.TheVariants as says
+use Rattle.fs_chain.specs.declared.loads.LoadOutcome.TheVariants as wents
+use Rattle.fs_chain.specs.declared.popping.PopOutcome as walked
+use Rattle.fs_chain.specs.declared.popping.PopOutcome.TheVariants as says
 use Rattle.fs_live.specs.Handles.{live_of}
 use Rattle.fs_live.specs.Live.{Walks, after_walk}
 use Rattle.worked_callers.proofs.Served.{if_ok}
@@ -11,20 +11,20 @@ use Rattle.worked_callers.proofs.beside.refuse_beside.Goals as goal
 
 pub returns-clause-loaded : goal.returns-clause-loaded
 returns-clause-loaded g c e is s i there places limit events =
-    let old = c.args.workbench.now in
-    let new = c.walk_to_end.new.workbench in
+    let old = c.args.handle.now in
+    let new = c.walk_to_end.new.handle in
     let before = c.args.queue.now in
     let after = c.walk_to_end.new.queue in
     let walks : IsWalked old new before after (wents.On (says.Refused e)) =
-    subst (λ (r : Result walked.WalkOutcome ChainError). IfOk r (λ told. IsWalked old new before after (wents.On told))) is c.walk_to_end.ensures.walked in
+    subst (λ (r : Result walked.PopOutcome ChainError). IfOk r (λ told. IsWalked old new before after (wents.On told))) is c.walk_to_end.ensures.walked in
     let walk = c.law_handles.ensures.walks s i walks.0 old new before after (says.Refused e) there places limit c.requires.goes events walks.1 tt in
     let end = after_walk s i (live_of before) walk.0 new.descriptors.items walk.2 in
     (Walks i walk.0 new.descriptors.items walk.2 ∷ [], end, (end, walk.4, refl), walk.5)
 
 pub returns-clause-declined : goal.returns-clause-declined
 returns-clause-declined g c =
-    let old = c.args.workbench.now in
-    let new = c.walk_to_end.new.workbench in
+    let old = c.args.handle.now in
+    let new = c.walk_to_end.new.handle in
     let before = c.args.queue.now in
     let after = c.walk_to_end.new.queue in
     if_ok c.walk_to_end.result _ _

@@ -12,8 +12,8 @@ reply-requires-clause-taken g c =
     let n = c.in_ok-request_len.request_len in
     let test = c.if-request_len-request.false in
     let same : n ≡ length c.args.request.now = grind (arith, nat_tests, test) in
-    more_taken c.walk_chain.new.workbench.state _ _ (λ out is. is ∙ same)
-    (taken_so c.args.workbench.now c.walk_chain.new.workbench c.args.queue.now c.walk_chain.new.queue c.in_ok-request_len.field-0-0 n c.in_ok-request_len.field-0-2
+    more_taken c.walk_chain.new.handle.state _ _ (λ out is. is ∙ same)
+    (taken_so c.args.handle.now c.walk_chain.new.handle c.args.queue.now c.walk_chain.new.queue c.in_ok-request_len.field-0-0 n c.in_ok-request_len.field-0-2
     c.requires.goes c.in_ok-request_len.ensures.walked)
 
 pub returns : goal.returns
@@ -21,8 +21,8 @@ returns g c =
     let may = g.F.FileSystemBase.may in
     let handles = c.law_handles.ensures in
     let runs = c.law_runs.ensures in
-    let old = c.args.workbench.now in
-    let one = c.walk_chain.new.workbench in
+    let old = c.args.handle.now in
+    let one = c.walk_chain.new.handle in
     let before = c.args.queue.now in
     let after = c.walk_chain.new.queue in
     let walked = c.in_ok-request_len.ensures in
@@ -34,7 +34,7 @@ returns g c =
           (λ notice back s i files reached there places limit small session. (
             calls,
             λ files_run.
-                let so = served_beside may handles.walks handles.asks handles.calls handles.returns old one replied.1 c.reply.new.workbench before after
+                let so = served_beside may handles.walks handles.asks handles.calls handles.returns old one replied.1 c.reply.new.handle before after
                 c.in_ok-request_len.field-0-0 c.in_ok-request_len.request_len c.in_ok-request_len.field-0-2 c.args.session request replied.0 replied.2 notice c.requires.goes walked.walked
                 replied.3 replied.4 back s i files reached there places limit small session files_run in (
                   so.es,

@@ -1,11 +1,11 @@
-use Rattle.fs_chain.specs.declared.loads.Went.TheVariants as wents
+use Rattle.fs_chain.specs.declared.loads.LoadOutcome.TheVariants as wents
 use Rattle.worked_callers.proofs.Served.{if_ok}
 use Rattle.worked_callers.proofs.beside.walk_in_few_loads.Goals as goal
 
 pub returns : goal.returns
 returns g c =
-    let old = c.args.workbench.now in
-    let new = c.walk_to_end.new.workbench in
+    let old = c.args.handle.now in
+    let new = c.walk_to_end.new.handle in
     let before = c.args.queue.now in
     let after = c.walk_to_end.new.queue in
     record {

@@ -7,7 +7,7 @@ pub returns : goal.returns
 returns c =
     let first = c.in_ok-bring.ensures in
     let second = c.in_ok-bring-2.ensures in
-    let gathered = c.bring-2.new.workbench in
+    let gathered = c.bring-2.new.handle in
     let list = c.bring-2.new.list in
     if_ok c.end.result _ _
     (λ n ended. record {
@@ -15,7 +15,7 @@ returns c =
       first = c.args.list.now;
       list = list;
       gathered = gathered;
-      gathers = (c.bring.new.workbench, c.bring.new.list, first.brought, (gathered, list, second.brought, (refl, refl)));
+      gathers = (c.bring.new.handle, c.bring.new.list, first.brought, (gathered, list, second.brought, (refl, refl)));
       len = n;
       ends = ended;
       told = refl;

@@ -12,7 +12,7 @@ use Rattle.fs_device.specs.StepBy.{StepBy}
 use Rattle.fs_chain.specs.Walks.{course_of}
 use Rattle.fs_chain.specs.Whole.{ByEntries, ChainBy, after_chain, step_loads}
 use Rattle.fs_chain.specs.WholeListings.{EndsThere, listing_calls}
-use Rattle.fs_chain.specs.declared.asking.Told.TheVariants as asks
+use Rattle.fs_chain.specs.declared.decoding.Decoded.TheVariants as asks
 use Rattle.worked_callers.proofs.Served.{if_ok_so, more_taken, queue_stays, taken_so}
 use Rattle.worked_callers.proofs.listings.serve_two.Goals as goal
 
@@ -22,28 +22,28 @@ ask_call-requires g c =
     let test = c.if-request_len-request.false in
     let same : n ≡ length c.args.request.now = grind (arith, nat_tests, test) in
     record {
-      taken = more_taken c.walk_chain.new.workbench.state _ _ (λ out is. is ∙ same)
-          (taken_so c.args.workbench.now c.walk_chain.new.workbench c.args.queue.now c.walk_chain.new.queue c.in_ok-request_len.field-0-0 n c.in_ok-request_len.field-0-2
+      taken = more_taken c.walk_chain.new.handle.state _ _ (λ out is. is ∙ same)
+          (taken_so c.args.handle.now c.walk_chain.new.handle c.args.queue.now c.walk_chain.new.queue c.in_ok-request_len.field-0-0 n c.in_ok-request_len.field-0-2
           c.requires.goes c.in_ok-request_len.ensures.walked);
     }
 
 pub returns : goal.returns
 returns g c =
-    let old = c.args.workbench.now in
-    let walked_bench = c.walk_chain.new.workbench in
-    let new = c.list_two.new.workbench in
+    let old = c.args.handle.now in
+    let popped_handle = c.walk_chain.new.handle in
+    let new = c.list_two.new.handle in
     let before = c.args.queue.now in
     let request = c.args.request.now in
     let walked = c.in_ok-request_len.ensures.walked in
     let asked = c.in_ok-ask_call.ensures.asked in
     let head = c.in_ok-request_len.field-0-0 in
-    let room = addresses_of (writable walked_bench.descriptors.items) in
+    let room = addresses_of (writable popped_handle.descriptors.items) in
     let es : List Brought = (listed c.args.entries.now.first, c.args.nodes.0) ∷ (listed c.args.entries.now.second, c.args.nodes.1) ∷ [] in
     let bytes = take c.in_ok-_len._len c.list_two.new.list in
     let calls = listing_calls (call_of (drop 80 request) asked.0) true es EndsThere in
     let q = queue_of (course_of before old.limit) in
     let back_queue = c.walk_chain.new.queue in
-    let stays = queue_stays old walked_bench before back_queue head c.in_ok-request_len.request_len c.in_ok-request_len.field-0-2 c.requires.goes c.requires.by_flags walked in
+    let stays = queue_stays old popped_handle before back_queue head c.in_ok-request_len.request_len c.in_ok-request_len.field-0-2 c.requires.goes c.requires.by_flags walked in
     let in_order = stays.0 ∙ c.requires.none_out in
     record {
       step = if_ok_so c.give_back.result _ _ _
@@ -52,13 +52,13 @@ returns g c =
             λ files_run.
                 let goes = back room bytes in
                 let run : ChainBy walked.0 request calls goes.0 goes.1 head notice old new before c.args.session = record {
-                  walked_bench = walked_bench;
+                  popped_handle = popped_handle;
                   taken = c.walk_chain.new.queue;
                   lens = (c.in_ok-request_len.request_len, c.in_ok-request_len.field-0-2);
                   walks = walked.1;
                   front = request;
                   made = asks.Call asked.0;
-                  asked_bench = c.ask_call.new.workbench;
+                  decoded_handle = c.ask_call.new.handle;
                   is_asked = asked.1;
                   given = ByEntries true es EndsThere bytes;
                   replies = c.in_ok-_len.ensures;

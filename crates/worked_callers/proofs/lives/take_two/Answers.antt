@@ -1,12 +1,12 @@
 use Rattle.std.proofs.Common.{ℕ, List, [], ◌∷◌, ◌++◌, None, refl, subst, ap, ◌∙◌}
 use Rattle.std.specs.Prelude.{IsPermutation, map}
-use Rattle.fs_regions.specs.declared.step.Step as comes
-use Rattle.fs_regions.specs.declared.step.Step.TheVariants as step
-use Rattle.fs_chain.specs.declared.walking.WalkOutcome.TheVariants as says
+use Rattle.fs_regions.specs.declared.step.CourseStep as comes
+use Rattle.fs_regions.specs.declared.step.CourseStep.TheVariants as step
+use Rattle.fs_chain.specs.declared.popping.PopOutcome.TheVariants as says
 use Rattle.fs_live.specs.Handles.{live_of}
 use Rattle.fs_live.specs.Live.{Happens, LiveEvent, LiveRun, OutChain, Walks, after_walk}
 use Rattle.fs_live.specs.Runs.{events_on, tickets_on}
-use Rattle.fs_live.specs.Several.{Ticket, heads_taken}
+use Rattle.fs_live.specs.Several.{InFlightId, heads_taken}
 use Rattle.worked_callers.proofs.TakenTwo.{goes_still, took_so, two_takes}
 use Rattle.worked_callers.proofs.lives.take_two.Goals as goal
 
@@ -19,31 +19,31 @@ returns g c =
     let mid = c.walk_chain.new.queue in
     let first = c.in_ok-head.ensures in
     let second = c.in_ok-other.ensures in
-    let ds = c.walk_chain.new.workbench.descriptors.items in
-    let more = c.walk_chain-2.new.workbench.descriptors.items in
+    let ds = c.walk_chain.new.handle.descriptors.items in
+    let more = c.walk_chain-2.new.handle.descriptors.items in
     record {
       out = λ s i none there places places' limit limit'.
-          let one = c.law_handles.ensures.walks s i first.walked.0 c.args.first.now c.walk_chain.new.workbench before mid (says.Chain head c.in_ok-head.field-0-1 c.in_ok-head.field-0-2)
+          let one = c.law_handles.ensures.walks s i first.walked.0 c.args.first.now c.walk_chain.new.handle before mid (says.Chain head c.in_ok-head.field-0-1 c.in_ok-head.field-0-2)
           there places limit c.requires.goes tt first.walked.1 tt in
           let s₁ = after_walk s i (live_of before) one.0 ds one.2 in
           let took = took_so may s s₁ i one.0 ds one.2 head c.in_ok-head.field-0-1 c.in_ok-head.field-0-2 one.3 one.4 in
-          let goes = goes_still c.args.first.now c.walk_chain.new.workbench before mid head c.in_ok-head.field-0-1 c.in_ok-head.field-0-2 c.requires.goes first.walked in
-          let two = c.law_handles.ensures.walks s₁ i second.walked.0 c.args.second.now c.walk_chain-2.new.workbench mid c.walk_chain-2.new.queue
+          let goes = goes_still c.args.first.now c.walk_chain.new.handle before mid head c.in_ok-head.field-0-1 c.in_ok-head.field-0-2 c.requires.goes first.walked in
+          let two = c.law_handles.ensures.walks s₁ i second.walked.0 c.args.second.now c.walk_chain-2.new.handle mid c.walk_chain-2.new.queue
           (says.Chain other c.in_ok-other.field-0-1 c.in_ok-other.field-0-2) one.5 (took.1 ∙ places') (took.2 ∙ limit') goes tt second.walked.1 tt in
           let s₂ = after_walk s₁ i (live_of mid) two.0 more two.2 in
           let took' = took_so may s₁ s₂ i two.0 more two.2 other c.in_ok-other.field-0-1 c.in_ok-other.field-0-2 two.3 two.4 in
           let es : List LiveEvent = Walks i one.0 ds (step.Chain head None) ∷ Walks i two.0 more (step.Chain other None) ∷ [] in
           let run : LiveRun may s es s₂ = (
             s₁,
-            subst (λ (k : comes.Step). Happens may s (Walks i one.0 ds k) s₁) took.0 one.4,
-            (s₂, subst (λ (k : comes.Step). Happens may s₁ (Walks i two.0 more k) s₂) took'.0 two.4, refl),
+            subst (λ (k : comes.CourseStep). Happens may s (Walks i one.0 ds k) s₁) took.0 one.4,
+            (s₂, subst (λ (k : comes.CourseStep). Happens may s₁ (Walks i two.0 more k) s₂) took'.0 two.4, refl),
           ) in
           let once = c.law_runs.ensures.once s s₂ es i (live_of before) there (ap (λ (l : List OutChain). tickets_on i l) none) (tt, (tt, tt)) run in
           let heads = two_takes i head other one.0 two.0 ds more in (
             es,
             s₂,
             run,
-            subst (λ (taken : List ℕ). IsPermutation (map (λ (t : Ticket). t.1) (tickets_on i s₂.outs)) taken) heads.0
-                (subst (λ (back : List ℕ). IsPermutation (back ++ map (λ (t : Ticket). t.1) (tickets_on i s₂.outs)) (heads_taken (events_on i es))) heads.1 once),
+            subst (λ (taken : List ℕ). IsPermutation (map (λ (t : InFlightId). t.1) (tickets_on i s₂.outs)) taken) heads.0
+                (subst (λ (back : List ℕ). IsPermutation (back ++ map (λ (t : InFlightId). t.1) (tickets_on i s₂.outs)) (heads_taken (events_on i es))) heads.1 once),
           );
     }

@@ -1,6 +1,6 @@
 use Rattle.std.proofs.Common.{◌≡◌, ap, length, ◌∙◌, arith}
 use Rattle.std.proofs.lemmas.Bool.Decides.{nat_tests}
-use Rattle.fs_chain.specs.declared.workbench.Workbench.{Workbench}
+use Rattle.fs_chain.specs.declared.chain_handle.ChainHandle.{ChainHandle}
 use Rattle.worked_callers.proofs.LostAsked.{lost_asked}
 use Rattle.worked_callers.proofs.Served.{more_taken, taken_so}
 use Rattle.worked_callers.proofs.losses.lose_asked.Goals as goal
@@ -11,8 +11,8 @@ ask_call-requires g c =
     let test = c.if-request_len-request.false in
     let same : n ≡ length c.args.request.now = grind (arith, nat_tests, test) in
     record {
-      taken = more_taken c.walk_chain.new.workbench.state _ _ (λ out is. is ∙ same)
-          (taken_so c.args.workbench.now c.walk_chain.new.workbench c.args.queue.now c.walk_chain.new.queue c.in_ok-request_len.field-0-0 n c.in_ok-request_len.field-0-2
+      taken = more_taken c.walk_chain.new.handle.state _ _ (λ out is. is ∙ same)
+          (taken_so c.args.handle.now c.walk_chain.new.handle c.args.queue.now c.walk_chain.new.queue c.in_ok-request_len.field-0-0 n c.in_ok-request_len.field-0-2
           c.requires.goes c.in_ok-request_len.ensures.walked);
     }
 
@@ -22,9 +22,9 @@ returns-in-Err g c =
     let handles = c.law_handles.ensures in
     let asked = c.in_ok-ask_call.ensures.asked in
     record {
-      again = ap (λ (w : Workbench). w.state) c.in-Err.ensures.same ∙ c.abandon.ensures.0.3;
+      again = ap (λ (w : ChainHandle). w.state) c.in-Err.ensures.same ∙ c.abandon.ensures.0.3;
       run = λ s i reached there places limit small session.
-          let so = lost_asked may handles.walks handles.asks handles.abandons c.args.workbench.now c.walk_chain.new.workbench c.ask_call.new.workbench c.args.queue.now
+          let so = lost_asked may handles.walks handles.asks handles.abandons c.args.handle.now c.walk_chain.new.handle c.ask_call.new.handle c.args.queue.now
           c.walk_chain.new.queue c.in_ok-request_len.field-0-0 c.in_ok-request_len.request_len c.in_ok-request_len.field-0-2 c.args.session c.args.request.now asked.0
           c.requires.goes c.in_ok-request_len.ensures.walked asked.1 s i reached there places limit small session in
           (asked.0, so.0, so.1);

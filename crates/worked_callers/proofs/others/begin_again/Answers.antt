@@ -1,5 +1,5 @@
 use Rattle.std.proofs.Common.{◌≡◌, None, subst, sym, ap, ◌∙◌}
-use Rattle.fs_chain.specs.declared.queue.KeptQueue.{KeptQueue}
+use Rattle.fs_chain.specs.declared.queue.QueueState.{QueueState}
 use Rattle.fs_live.specs.Handles.{live_of}
 use Rattle.fs_live.specs.Live.{Begins, Happens, LiveState, after_beginning}
 use Rattle.fs_live.specs.Several.{LiveQueue}
@@ -10,12 +10,12 @@ pub returns : goal.returns
 returns g c =
     let may = g.F.FileSystemBase.may in
     let before = c.args.queue.now in
-    let after = c.begin_anew.new.self in
+    let after = c.reset.new.self in
     record {
       stands = λ start now es i none even run there out some few waits.
           let stood = c.law_runs.ensures.stands start now es i (live_of before) none even run there out in
-          let law = c.law_handles.ensures.begins now i before after before.layout before.position before.most_out before.event_index None there c.begin_anew.ensures some few stood.0.1 waits in
-          let same : live_of after ≡ live_of before = ap (λ (q : KeptQueue). live_of q) c.begin_anew.ensures ∙ begun_same before c.requires.goes stood.0.0 in
+          let law = c.law_handles.ensures.begins now i before after before.layout before.next_avail before.max_in_flight before.event_index None there c.reset.ensures some few stood.0.1 waits in
+          let same : live_of after ≡ live_of before = ap (λ (q : QueueState). live_of q) c.reset.ensures ∙ begun_same before c.requires.goes stood.0.0 in
           let begins : Happens may now (Begins i (live_of before)) (after_beginning now i (live_of before)) =
           subst (λ (w : LiveQueue). Happens may now (Begins i w) (after_beginning now i w)) same law.0 in
           let back = stood.1 (after_beginning now i (live_of before)) begins in

@@ -1,6 +1,6 @@
 use Rattle.std.proofs.Common.{ℕ, ap, ◌∙◌}
-use Rattle.fs_chain.specs.Queues.{begun_anew}
-use Rattle.fs_chain.specs.declared.queue.KeptQueue.{KeptQueue}
+use Rattle.fs_chain.specs.Queues.{reset_to}
+use Rattle.fs_chain.specs.declared.queue.QueueState.{QueueState}
 use Rattle.worked_callers.proofs.OthersBeside.{moved_by}
 use Rattle.worked_callers.proofs.others.begin_by_record.Goals as goal
 
@@ -10,10 +10,10 @@ returns g c =
     let before = c.args.queue.now in
     let layout = c.layout-layout.result in
     let stopped = c.stopped_by-stopped.result in
-    let begun = c.begin_anew.ensures ∙ ap (λ (p : ℕ). begun_anew before layout p) c.position-position.ensures in
+    let begun = c.reset.ensures ∙ ap (λ (p : ℕ). reset_to before layout p) c.position-position.ensures in
     record {
       moves = λ s here m bytes v v' options none queues made found.
-          moved_by may c.law_handles.ensures.moves before (record c.begin_anew.new.self { stopped = stopped }) layout c.args.read.now stopped c.layout-layout.ensures.size c.layout-layout.ensures.desc
-          c.layout-layout.ensures.avail c.layout-layout.ensures.used c.stopped_by-stopped.ensures (ap (λ (k : KeptQueue). record k { stopped = stopped }) begun) c.requires.some c.requires.few
+          moved_by may c.law_handles.ensures.moves before (record c.reset.new.self { stopped = stopped }) layout c.args.read.now stopped c.layout-layout.ensures.size c.layout-layout.ensures.desc
+          c.layout-layout.ensures.avail c.layout-layout.ensures.used c.stopped_by-stopped.ensures (ap (λ (k : QueueState). record k { stopped = stopped }) begun) c.requires.some c.requires.few
           s here m bytes v v' options none queues made found;
     }

@@ -2,7 +2,7 @@ use Rattle.std.proofs.Common.{ℕ, Bool, List, [], ◌∷◌, refl, sym, subst, 
 use Rattle.fs_device.specs.StepBy.{Act}
 use Rattle.fs_chain.specs.Events.{tells_of}
 use Rattle.fs_chain.specs.Queues.{gave}
-use Rattle.fs_chain.specs.declared.queue.KeptQueue.{KeptQueue}
+use Rattle.fs_chain.specs.declared.queue.QueueState.{QueueState}
 use Rattle.fs_live.specs.Others.{GoesBackOwn}
 use Rattle.worked_callers.proofs.OthersBeside.{own_goes_back}
 use Rattle.worked_callers.proofs.Served.{if_ok, on_ok_more}
@@ -10,14 +10,14 @@ use Rattle.worked_callers.proofs.others.give_own_back.Goals as goal
 
 pub returns : goal.returns
 returns c =
-    let st = c.args.workbench.now.state in
+    let st = c.args.handle.now.state in
     let q = c.args.queue.now in
-    let same = ap (λ (k : KeptQueue). tells_of k (0 ∷ 0 ∷ [])) c.in_ok-_stores.ensures.queue in
+    let same = ap (λ (k : QueueState). tells_of k (0 ∷ 0 ∷ [])) c.in_ok-_stores.ensures.queue in
     record {
-      back = if_ok c.end_return.result _ _
+      back = if_ok c.pushed.result _ _
           (λ notice told room reply last.
           subst (λ (n : Bool). (acts : List Act) × GoesBackOwn q room reply st acts last n) (sym (told ∙ same))
           (own_goes_back st q _ c.in_ok-_stores._stores (0 ∷ 0 ∷ []) room reply last c.in_ok-_stores.ensures.ok refl c.in_ok-_stores.ensures.stores))
-          c.end_return.ensures.tells;
-      queue = on_ok_more c.end_return.result _ _ (λ is. is ∙ ap gave c.in_ok-_stores.ensures.queue) c.end_return.ensures.queue;
+          c.pushed.ensures.tells;
+      queue = on_ok_more c.pushed.result _ _ (λ is. is ∙ ap gave c.in_ok-_stores.ensures.queue) c.pushed.ensures.queue;
     }

@@ -8,8 +8,8 @@ pub returns : goal.returns
 returns g c =
     let may = g.F.FileSystemBase.may in
     let handles = c.law_handles.ensures in
-    let old = c.args.workbench.now in
-    let one = c.walk_chain.new.workbench in
+    let old = c.args.handle.now in
+    let one = c.walk_chain.new.handle in
     let before = c.args.queue.now in
     let after = c.walk_chain.new.queue in
     let head = c.in_ok-request_len.field-0-0 in

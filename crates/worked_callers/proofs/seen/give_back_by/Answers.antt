@@ -2,18 +2,18 @@ use Rattle.std.proofs.Common.{◌≡◌, ℕ, Bool, List, length, sym, subst, ap
 use Rattle.fs_device.specs.StepBy.{Act}
 use Rattle.fs_chain.specs.Events.{tells_of}
 use Rattle.fs_chain.specs.Whole.{GoesBackBy}
-use Rattle.fs_chain.specs.declared.queue.KeptQueue.{KeptQueue}
+use Rattle.fs_chain.specs.declared.queue.QueueState.{QueueState}
 use Rattle.worked_callers.proofs.Served.{goes_back_by}
 use Rattle.worked_callers.proofs.seen.give_back_by.Goals as goal
 
 pub returns-in-Ok-clause-back : goal.returns-in-Ok-clause-back
 returns-in-Ok-clause-back c =
-    let st = c.args.workbench.now.state in
+    let st = c.args.handle.now.state in
     let q = c.args.queue.now in
     let seen = c.args.seen in
     let s = c.in_ok-stores.stores in
     let two : length seen ≡ 2 = Prim.search in
-    let same = ap (λ (k : KeptQueue). tells_of k seen) c.in_ok-stores.ensures.queue in
+    let same = ap (λ (k : QueueState). tells_of k seen) c.in_ok-stores.ensures.queue in
     λ room behind.
     subst (λ (n : Bool). (acts : List Act) × (last : ℕ) × (back : GoesBackBy q room behind st acts last n) × (back.flags ≡ seen) × (back.stores.seen_at ≡ s.seen_at))
     (sym (c.in-Ok.ensures.tells ∙ same))

@@ -6,28 +6,28 @@ use Rattle.fs_device.specs.StepBy.{StepBy}
 use Rattle.fs_chain.specs.Events.{tells_of}
 use Rattle.fs_chain.specs.Walks.{course_of}
 use Rattle.fs_chain.specs.Whole.{FaultyChainBy, after_chain, step_loads}
-use Rattle.fs_chain.specs.declared.walking.WalkOutcome.TheVariants as says
+use Rattle.fs_chain.specs.declared.popping.PopOutcome.TheVariants as says
 use Rattle.worked_callers.proofs.Served.{if_ok, queue_keeps, told_before}
 use Rattle.worked_callers.proofs.seen.serve_faulty.Goals as goal
 
 pub returns : goal.returns
 returns g c =
-    let old = c.args.workbench.now in
-    let walked_bench = c.walk_faulty.new.workbench in
+    let old = c.args.handle.now in
+    let popped_handle = c.walk_faulty.new.handle in
     let before = c.args.queue.now in
     let back_queue = c.walk_faulty.new.queue in
     let walked = c.in_ok-walk_faulty.ensures.walked in
     let head = c.in_ok-walk_faulty.field-0-0 in
     let fault = c.in_ok-walk_faulty.field-0-1 in
     let q = queue_of (course_of before old.limit) in
-    let keeps = queue_keeps old walked_bench before back_queue (says.Faulty head fault) c.requires.goes tt walked in
+    let keeps = queue_keeps old popped_handle before back_queue (says.Faulty head fault) c.requires.goes tt walked in
     let in_order = keeps.0 ∙ c.requires.none_out in
     record {
       told = if_ok c.give_back_by.result _ _
           (λ told back.
           let goes = back [] [] in
           let run : FaultyChainBy walked.0 fault goes.0 goes.1 head told.0 old before =
-          record { walked_bench = walked_bench; taken = back_queue; walks = walked.1; back = back_queue; returns = goes.2 } in
+          record { popped_handle = popped_handle; taken = back_queue; walks = walked.1; back = back_queue; returns = goes.2 } in
           let law = c.law_chains.ensures.told.of_faulty walked.0 fault goes.0 goes.1 head told.0 old before c.requires.goes run in
           let so = told_before before.layout before back_queue goes.2.stores goes.2.flags told.0 keeps.0 keeps.1 law in
           (subst (λ (bs : List ℕ). told.0 ≡ tells_of before bs) goes.3 so.0, sym goes.4 ∙ so.1))
@@ -36,7 +36,7 @@ returns g c =
           (λ told back i m first.
           let goes = back [] [] in
           let run : FaultyChainBy walked.0 fault goes.0 goes.1 head told.0 old before =
-          record { walked_bench = walked_bench; taken = back_queue; walks = walked.1; back = back_queue; returns = goes.2 } in
+          record { popped_handle = popped_handle; taken = back_queue; walks = walked.1; back = back_queue; returns = goes.2 } in
           let law = c.law_chains.ensures.faulty walked.0 fault goes.0 goes.1 head i told.0 old before m first run in_order in (
             step_loads law.0 law.2 [],
             law.4,

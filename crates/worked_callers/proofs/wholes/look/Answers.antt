@@ -1,38 +1,38 @@
 use Rattle.std.proofs.Common.{[], Result, IfOk, subst}
 use Rattle.fs_chain.specs.declared.error.ChainError.{ChainError}
-use Rattle.fs_chain.specs.declared.loads.Went.{Went}
-use Rattle.fs_chain.specs.declared.loads.Went.TheVariants as wents
-use Rattle.fs_chain.specs.declared.walking.WalkOutcome.TheVariants as says
+use Rattle.fs_chain.specs.declared.loads.LoadOutcome.{LoadOutcome}
+use Rattle.fs_chain.specs.declared.loads.LoadOutcome.TheVariants as wents
+use Rattle.fs_chain.specs.declared.popping.PopOutcome.TheVariants as says
 use Rattle.fs_chain.specs.Whole.{IsWalked, step_loads}
 use Rattle.worked_callers.proofs.Served.{if_ok}
 use Rattle.worked_callers.proofs.wholes.look.Goals as goal
 
 pub returns-clause-idle : goal.returns-clause-idle
 returns-clause-idle g c is i m first =
-    let old = c.args.workbench.now in
-    let new = c.walk_by.new.workbench in
+    let old = c.args.handle.now in
+    let new = c.walk_by.new.handle in
     let before = c.args.queue.now in
     let after = c.walk_by.new.queue in
     let walked : IsWalked old new before after (wents.On says.Idle) =
-    subst (λ (r : Result Went ChainError). IfOk r (λ told. IsWalked old new before after told)) is c.walk_by.ensures.walks in
+    subst (λ (r : Result LoadOutcome ChainError). IfOk r (λ told. IsWalked old new before after told)) is c.walk_by.ensures.walks in
     let idle = c.law_chains.ensures.idle walked.0 i old new before after m first walked.1 in
     (step_loads idle.0 idle.2 [], idle.4)
 
 pub returns-clause-refused : goal.returns-clause-refused
 returns-clause-refused g c e i m is first events =
-    let old = c.args.workbench.now in
-    let new = c.walk_by.new.workbench in
+    let old = c.args.handle.now in
+    let new = c.walk_by.new.handle in
     let before = c.args.queue.now in
     let after = c.walk_by.new.queue in
     let walked : IsWalked old new before after (wents.On (says.Refused e)) =
-    subst (λ (r : Result Went ChainError). IfOk r (λ told. IsWalked old new before after told)) is c.walk_by.ensures.walks in
+    subst (λ (r : Result LoadOutcome ChainError). IfOk r (λ told. IsWalked old new before after told)) is c.walk_by.ensures.walks in
     let refused = c.law_chains.ensures.refused walked.0 e i old new before after m first events walked.1 in
     (step_loads refused.0 refused.2 [], refused.4)
 
 pub returns-clause-unplaced : goal.returns-clause-unplaced
 returns-clause-unplaced g c =
-    let old = c.args.workbench.now in
-    let new = c.walk_by.new.workbench in
+    let old = c.args.handle.now in
+    let new = c.walk_by.new.handle in
     let before = c.args.queue.now in
     let after = c.walk_by.new.queue in
     if_ok c.walk_by.result _ _

@@ -16,25 +16,25 @@ reply-requires-clause-taken g c =
     let n = c.in_ok-request_len.request_len in
     let test = c.if-request_len-request.false in
     let same : n ≡ length c.args.request.now = grind (arith, nat_tests, test) in
-    more_taken c.walk_chain.new.workbench.state _ _ (λ out is. is ∙ same)
-    (taken_so c.args.workbench.now c.walk_chain.new.workbench c.args.queue.now c.walk_chain.new.queue c.in_ok-request_len.field-0-0 n c.in_ok-request_len.field-0-2
+    more_taken c.walk_chain.new.handle.state _ _ (λ out is. is ∙ same)
+    (taken_so c.args.handle.now c.walk_chain.new.handle c.args.queue.now c.walk_chain.new.queue c.in_ok-request_len.field-0-0 n c.in_ok-request_len.field-0-2
     c.requires.goes c.in_ok-request_len.ensures.walked)
 
 pub returns : goal.returns
 returns g c =
-    let old = c.args.workbench.now in
-    let walked_bench = c.walk_chain.new.workbench in
-    let new = c.reply.new.workbench in
+    let old = c.args.handle.now in
+    let popped_handle = c.walk_chain.new.handle in
+    let new = c.reply.new.handle in
     let before = c.args.queue.now in
     let request = c.args.request.now in
     let walked = c.in_ok-request_len.ensures.walked in
     let replied = c.in_ok-reply.ensures.replied in
     let head = c.in_ok-request_len.field-0-0 in
-    let room = addresses_of (writable walked_bench.descriptors.items) in
+    let room = addresses_of (writable popped_handle.descriptors.items) in
     let calls = file_calls (drop 80 request) replied.0 replied.2 in
     let q = queue_of (course_of before old.limit) in
     let back_queue = c.walk_chain.new.queue in
-    let stays = queue_stays old walked_bench before back_queue head c.in_ok-request_len.request_len c.in_ok-request_len.field-0-2 c.requires.goes c.requires.by_flags walked in
+    let stays = queue_stays old popped_handle before back_queue head c.in_ok-request_len.request_len c.in_ok-request_len.field-0-2 c.requires.goes c.requires.by_flags walked in
     let in_order = stays.0 ∙ c.requires.none_out in
     record {
       step = if_ok_so c.give_back.result _ _ _
@@ -43,13 +43,13 @@ returns g c =
             λ files_run.
                 let goes = back room (data_behind replied.2) in
                 let run : ChainBy walked.0 request calls goes.0 goes.1 head notice old new before c.args.session = record {
-                  walked_bench = walked_bench;
+                  popped_handle = popped_handle;
                   taken = c.walk_chain.new.queue;
                   lens = (c.in_ok-request_len.request_len, c.in_ok-request_len.field-0-2);
                   walks = walked.1;
                   front = request;
                   made = replied.0;
-                  asked_bench = replied.1;
+                  decoded_handle = replied.1;
                   is_asked = replied.3;
                   given = replied.2;
                   replies = replied.4;

@@ -1,6 +1,6 @@
 use Rattle.std.proofs.Common.{[], ◌∷◌, List, true, None, refl}
 use Rattle.fs_queue.specs.declared.fault.QueueError.TheVariants.{HeadOutOfTable}
-use Rattle.fs_regions.specs.declared.step.Step.TheVariants as step
+use Rattle.fs_regions.specs.declared.step.CourseStep.TheVariants as step
 use Rattle.fuse_fs.specs.Calls.{Done}
 use Rattle.virtiofsd_fuse.specs.Examples.{le16}
 use Rattle.fs_live.specs.Live.{Answers, Asks, LiveEvent, LiveRun, Walks}

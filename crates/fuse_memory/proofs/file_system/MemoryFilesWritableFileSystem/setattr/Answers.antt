@@ -3,7 +3,7 @@ use Rattle.fuse_fs.specs.Calls.{HasAttr}
 use Rattle.std.specs.Prelude.{map}
 use Rattle.fuse_memory.specs.Changes.{attributes_set}
 use Rattle.fuse_memory.specs.Files.{entry_of}
-use Rattle.fuse_memory.specs.Memory.{Answers}
+use Rattle.fuse_memory.specs.Memory.{AnswersGetattr}
 use Rattle.fuse_memory.proofs.FilesLemmas.{changes, file_after}
 use Rattle.fuse_memory.proofs.file_system.MemoryFilesWritableFileSystem.setattr.Goals as goal
 
@@ -18,7 +18,7 @@ returns-in_ok-told-in-Some-index_mut c =
       may = (
         changes nodes entries c.args.self.now.made c.args.self.now.most_nodes c.in-Some.place c.args.inode slot place.0 (omega (arith, place.1)) c.index_mut.ensures.value
             c.in-Some-index_mut.node c.set.new.self (attributes_set c.args.valid.0 c.args.attr) c.in-Some-index_mut.is arm.ensures.ok,
-        subst (λ f. Answers f (HasAttr arm.told c.second.result))
+        subst (λ f. AnswersGetattr f (HasAttr arm.told c.second.result))
             (sym (file_after nodes entries c.args.self.now.made c.args.self.now.most_nodes
             c.in-Some.place c.args.inode slot place.0 (omega (arith, place.1)) c.index_mut.ensures.value (Some c.set.new.self))) arm.ensures.told,
       );

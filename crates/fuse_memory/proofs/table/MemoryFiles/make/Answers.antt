@@ -4,7 +4,7 @@ use Rattle.std.proofs.lemmas.Grind.{common_steps}
 use Rattle.std.proofs.lemmas.List.{map-append}
 use Rattle.fuse_fs.specs.Answers.{numbered}
 use Rattle.fuse_memory.specs.Changes.{made_file}
-use Rattle.fuse_memory.specs.Files.{DirectoryEntry, File, Files, Tells, entry_of, file_at, file_of, files_of}
+use Rattle.fuse_memory.specs.Files.{DirectoryEntry, File, FileTree, HasAttrOf, entry_of, file_at, file_of, files_of}
 use Rattle.fuse_memory.specs.declared.nodes.Node.{Node}
 use Rattle.fuse_memory.proofs.EntriesLemmas.{free_before, makes_entry, makes_node}
 use Rattle.fuse_memory.proofs.FilesLemmas.{file_made}
@@ -23,7 +23,7 @@ returns c =
     let offset : c.in_ok-offset.offset ≡ m.made + 1 = grind (arith, common_steps) in
     let before = map entry_of m.names.items in
     let all : map entry_of n.names.items ≡ before = keeps.rest.entries ∙ ap (map entry_of) c.reserve.ensures.items in
-    let after : Files = record { file = file_at (set n.nodes.items node (Some new)); entries = map entry_of c.push_reserved.new.self.items; made = c.in_ok-offset.offset; most = n.most_nodes } in
+    let after : FileTree = record { file = file_at (set n.nodes.items node (Some new)); entries = map entry_of c.push_reserved.new.self.items; made = c.in_ok-offset.offset; most = n.most_nodes } in
     let entry = λ (name : List ℕ). let e : DirectoryEntry = record { directory = c.args.parent; name = name; node = node; kind = c.args.mode / 2 ^ 12 } in e in
     let entries : after.entries ≡ before ++ entry c.args.name.now ∷ [] =
     ap (map entry_of) c.push_reserved.ensures.items ∙ map-append entry_of n.names.items _ ∙ ap (λ l. l ++ entry c.in_ok-name.name.items ∷ []) all ∙ ap (λ (s : List ℕ). before ++ entry s ∷ []) c.in_ok-name.ensures.ok in
@@ -40,4 +40,4 @@ returns c =
       made = offset;
       most = keeps.rest.most;
     })
-    (subst (λ f. Tells f c.entry-entry.result.attr) file c.entry-entry.ensures.told))
+    (subst (λ f. HasAttrOf f c.entry-entry.result.attr) file c.entry-entry.ensures.told))

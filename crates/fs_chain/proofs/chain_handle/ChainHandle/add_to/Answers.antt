@@ -1,0 +1,18 @@
+use Rattle.std.proofs.Common.{◌∙◌, false, length, refl, ap}
+use Rattle.fuse_fs.specs.Answers.{listed}
+use Rattle.server_replies.specs.Entries.{no_node}
+use Rattle.fs_chain.specs.Listings.{told_added}
+use Rattle.fs_chain.proofs.Adding.{adds_by, plain_kind}
+use Rattle.fs_chain.proofs.chain_handle.ChainHandle.add_to.Goals as goal
+
+pub returns-clause-adds : goal.returns-clause-adds
+returns-clause-adds c =
+    let add = c.add-outcome.ensures in (
+      c.told_added-told.ensures ∙ ap told_added add.outcome,
+      (
+        _,
+        refl,
+        adds_by _ _ _ _ (listed c.args.entry.now, no_node (listed c.args.entry.now)) false _ _ add.outcome (plain_kind c.args.listing (length c.args.list.now) (length c.args.entry.now.name.now))
+            add.list add.holds add.full add.fails add.same add.stays,
+      ),
+    )

@@ -1,0 +1,35 @@
+-- How a chain goes back: its reply's front, and what is stored and loaded then (VIRTIO 1.2, 2.7.8 and 2.7.7).
+use Rattle.std.specs.Prelude.{◌≡◌, ℕ, ◌++◌, List, [], drop}
+use Rattle.fs_queue.specs.Returning.{stores_after_reply}
+use Rattle.fs_queue.specs.ReturningView.{stores_of}
+use Rattle.fs_chain.specs.declared.queue.QueueState.{QueueState}
+use Rattle.fs_chain.specs.declared.pushing.PushStores.{PushStores}
+use Rattle.fs_chain.specs.declared.state.InFlight.{InFlight}
+use Rattle.fs_chain.specs.declared.state.ChainReply.{ChainReply}
+use Rattle.fs_chain.specs.declared.state.ChainState as state
+use Rattle.fs_chain.specs.declared.state.ChainState.TheVariants as at
+use Rattle.fs_chain.specs.declared.chain_handle.ChainHandle.{ChainHandle}
+use Rattle.fs_chain.specs.Events.{seen_at}
+use Rattle.fs_chain.specs.Orders.{front_len, front_of, reply_len}
+use Rattle.fs_chain.specs.Queues.{at_return}
+use Rattle.fs_chain.specs.Serials.{freed}
+use Rattle.fs_chain.specs.Walks.{IsAllButPart}
+
+-- a reply's front over the first bytes of a buffer
+abbrev pub put_front : ChainReply → (buffer : List ℕ) → List ℕ
+put_front reply buffer = front_of reply ++ drop (front_len reply) buffer
+
+-- what is told of a chain's return with this reply, at the position where its queue's next one goes back
+abbrev pub PushesBy : QueueState → InFlight → ChainReply → PushStores → Type 0
+PushesBy q out reply s =
+    (s.front_len ≡ front_len reply) × (stores_of s.used ≡ stores_after_reply (at_return q out) out.head (reply_len out reply)) × (s.seen_at ≡ seen_at q.event_index out.course.layout)
+    × (s.used.flags ≡ out.course.layout.avail)
+
+-- of a chain whose reply is known
+abbrev pub IfHasReply : state.ChainState → (InFlight → ChainReply → Type 0) → Type 0
+IfHasReply (at.HasReply out reply) P = P out reply
+IfHasReply _ P = Unit {0}
+
+-- the handle is free, and nothing came of a load
+abbrev pub IsFreed : (old new : ChainHandle) → Type 0
+IsFreed old new = IsAllButPart (freed old) new × (new.part.items ≡ [])

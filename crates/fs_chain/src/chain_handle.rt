@@ -1,0 +1,163 @@
+//! The handle: a handle for one chain at a time.
+
+ghost use Rattle.std.specs.Prelude.{◌≡◌, ◌≤◌, [], Some, None, IfErr, IfSome, OnOk, OnErr, OnSome, true, false};
+ghost use Rattle.fs_queue.specs.Taking.{all_reach, total_len, access_of, of_direction};
+ghost use Rattle.fs_regions.specs.Places.{places_in, untranslated};
+ghost use Rattle.fs_regions.specs.Windows.{IsWindowFrom};
+ghost use Rattle.fs_chain.specs.Orders.{is_out, memory_error};
+ghost use Rattle.fs_chain.specs.Passing.{HasPassed};
+ghost use Rattle.fs_chain.specs.declared.state.ChainState.TheVariants as at;
+
+use crate::error::ChainError;
+use crate::window_cursor::WindowCursor;
+use crate::state::ChainState;
+use fs_queue::{Descriptors, MOST_LIMIT};
+use fs_regions::{GuestMap, window_from};
+use server_phases::Session;
+use std::alloc::Global;
+use virtiofsd_fuse::MAX_REQUEST_LEN;
+use vm_bitmaps::PAGE_SIZE;
+use vm_memory_core::VolatileSlice;
+
+/// A handle for one chain at a time: from the walk that finds it to the stores that give it back. It keeps the first bytes of the load that its walk
+/// asks for, if the load is made in parts, the session in which its chain was asked, and by which number an answer names that chain.
+#[derive(Drop)]
+pub struct ChainHandle {
+    pub(crate) alloc: Global,
+    pub(crate) regions: GuestMap,
+    pub(crate) limit: u32,
+    pub(crate) descriptors: Descriptors,
+    pub(crate) state: ChainState,
+    pub(crate) part: Vec<u8>,
+    pub(crate) session: Session,
+    /// The number of its chain.
+    pub(crate) serial: u32,
+    /// How long the list is that has the entries of a listing; 0 if it has none.
+    pub(crate) list_len: usize,
+}
+
+impl ChainHandle {
+    /// A handle over no memory.
+    pub fn new(alloc: Global) -> ChainHandle
+        ensures regions { result.regions ≡ untranslated [] }
+        ensures limit { result.limit ≡ 0x101000 }
+        ensures descriptors { result.descriptors.items ≡ [] }
+        ensures state { result.state ≡ at.Free }
+        ensures part { result.part.items ≡ [] }
+        ensures session { (result.session.page_size ≡ 4096) × (result.session.options.0 ≡ 0) }
+        ensures serial { result.serial ≡ 1 }
+        ensures list { result.list_len ≡ 0 }
+    {
+        ChainHandle {
+            alloc,
+            regions: GuestMap::none(alloc),
+            limit: MAX_REQUEST_LEN,
+            descriptors: Descriptors::new(alloc),
+            state: ChainState::Free,
+            part: Vec::new(alloc),
+            session: Session::new(PAGE_SIZE as u32),
+            serial: 1,
+            list_len: 0,
+        }
+    }
+
+    /// Over which memory the next walks go, and how many bytes a request or a room has at most: from 0x101000 to 2^31, else `BadArgument`.
+    /// `ChainInFlight` unless the handle is free.
+    pub fn set_memory(&mut self, regions: GuestMap, limit: u32) -> Result<(), ChainError>
+        ensures error { IfErr result (λ e. memory_error self.old.state limit ≡ Some e) }
+        ensures ok { OnOk result (memory_error self.old.state limit ≡ None) }
+        ensures same { OnErr result (self.new ≡ self.old) }
+        ensures set { OnOk result ((self.new.regions ≡ regions) × (self.new.limit ≡ limit) × (self.new.state ≡ self.old.state)
+            × (self.new.part ≡ self.old.part) × (self.new.session ≡ self.old.session) × (self.new.serial ≡ self.old.serial)
+            × (self.new.list_len ≡ self.old.list_len)) }
+    {
+        match self.state {
+            ChainState::Free => self.take_memory(regions, limit),
+            _ => Err(ChainError::ChainInFlight),
+        }
+    }
+
+    // Keeps memory and limit, if the limit is one.
+    fn take_memory(&mut self, regions: GuestMap, limit: u32) -> Result<(), ChainError>
+        ensures error { IfErr result (λ e. memory_error at.Free limit ≡ Some e) }
+        ensures ok { OnOk result (memory_error at.Free limit ≡ None) }
+        ensures same { OnErr result (self.new ≡ self.old) }
+        ensures set { OnOk result ((self.new.regions ≡ regions) × (self.new.limit ≡ limit) × (self.new.state ≡ self.old.state)
+            × (self.new.part ≡ self.old.part) × (self.new.session ≡ self.old.session) × (self.new.serial ≡ self.old.serial)
+            × (self.new.list_len ≡ self.old.list_len)) }
+    {
+        if limit < MAX_REQUEST_LEN || MOST_LIMIT < limit {
+            return Err(ChainError::BadArgument);
+        }
+        self.regions = regions;
+        self.limit = limit;
+        Ok(())
+    }
+
+    /// Whether a chain is out of its queue.
+    pub fn is_out(&self) -> bool
+        ensures { result ≡ is_out self.now.state }
+    {
+        !matches!(self.state, ChainState::Free | ChainState::Walking(_, _, _))
+    }
+
+    /// The longest window of one direction of a chain from a byte on, behind the descriptors that were passed; those before that byte are passed
+    /// then. None past the end of the direction's bytes, or if no chain is out. So all windows of a chain take time for its descriptors once.
+    pub fn next_window(
+        &self,
+        write_only: bool,
+        from: u64,
+        passed: &mut WindowCursor,
+    ) -> Option<VolatileSlice>
+        requires passed { HasPassed write_only self.now.descriptors.items passed.old }
+        ensures passed { HasPassed write_only self.now.descriptors.items passed.new }
+        ensures some { IfSome result (IsWindowFrom self.now.regions write_only self.now.descriptors.items from) }
+        ensures out { OnSome result (is_out self.now.state ≡ true) }
+        ensures none { result ≡ None → is_out self.now.state ≡ true
+            → all_reach (places_in self.now.regions) (access_of write_only) (of_direction write_only self.now.descriptors.items) ≡ true
+            → total_len (of_direction write_only self.now.descriptors.items) ≤ from }
+    {
+        if !self.is_out() {
+            return None;
+        }
+        passed.pass_to(&self.descriptors, write_only, from);
+        let left = passed.left(&self.descriptors);
+        window_from(&self.regions, left, write_only, from - passed.bytes)
+    }
+
+    // The longest window of one direction of the chain that is out, from a byte on.
+    fn window(&self, write_only: bool, from: u64) -> Option<VolatileSlice>
+        ensures some { IfSome result (IsWindowFrom self.now.regions write_only self.now.descriptors.items from) }
+        ensures out { OnSome result (is_out self.now.state ≡ true) }
+        ensures none { result ≡ None → is_out self.now.state ≡ true
+            → all_reach (places_in self.now.regions) (access_of write_only) (of_direction write_only self.now.descriptors.items) ≡ true
+            → total_len (of_direction write_only self.now.descriptors.items) ≤ from }
+    {
+        if !self.is_out() {
+            return None;
+        }
+        window_from(&self.regions, &self.descriptors, write_only, from)
+    }
+
+    /// The longest window of a chain's request from a byte on; none past its end, or if no chain is out.
+    pub fn request_window(&self, from: u64) -> Option<VolatileSlice>
+        ensures some { IfSome result (IsWindowFrom self.now.regions false self.now.descriptors.items from) }
+        ensures out { OnSome result (is_out self.now.state ≡ true) }
+        ensures none { result ≡ None → is_out self.now.state ≡ true
+            → all_reach (places_in self.now.regions) (access_of false) (of_direction false self.now.descriptors.items) ≡ true
+            → total_len (of_direction false self.now.descriptors.items) ≤ from }
+    {
+        self.window(false, from)
+    }
+
+    /// The longest window of a chain's room from a byte on; none past its end, or if no chain is out.
+    pub fn room_window(&self, from: u64) -> Option<VolatileSlice>
+        ensures some { IfSome result (IsWindowFrom self.now.regions true self.now.descriptors.items from) }
+        ensures out { OnSome result (is_out self.now.state ≡ true) }
+        ensures none { result ≡ None → is_out self.now.state ≡ true
+            → all_reach (places_in self.now.regions) (access_of true) (of_direction true self.now.descriptors.items) ≡ true
+            → total_len (of_direction true self.now.descriptors.items) ≤ from }
+    {
+        self.window(true, from)
+    }
+}

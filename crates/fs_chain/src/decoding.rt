@@ -1,0 +1,164 @@
+//! What a chain's request asks.
+
+ghost use Rattle.std.specs.Prelude.{◌≡◌, ℕ, List, Ok, Some, None, IfErr, IfOk, OnOk, OnErr, drop, length, if◌then◌else◌};
+ghost use Rattle.fuse_fs.specs.Answers.{context_of};
+ghost use Rattle.fuse_fs.specs.declared.answers.Context.{Context};
+ghost use Rattle.fuse_in.specs.Records.{in_header};
+ghost use Rattle.fuse_in.specs.declared.session.InHeader.{InHeader};
+ghost use Rattle.fuse_values.specs.declared.call.FileCall as value;
+ghost use Rattle.server_requests.specs.Reading.{reading_of};
+ghost use Rattle.virtiofsd_fuse.specs.Grammar.{Meaning, meaning};
+ghost use Rattle.virtiofsd_fuse.specs.Serving.{Setting, setting};
+ghost use Rattle.server_phases.specs.Asking.{AsksCall, HasAskerByFront, IsAskedBy, IsRequestFront, IsDecoded, IsToldByFront, is_told};
+ghost use Rattle.fs_chain.specs.Decoding.{IfUndecoded, IsKeptFor, KeepsCall, TellsMeaning, wanted, wanted_after, wanted_by};
+ghost use Rattle.fs_chain.specs.Orders.{ask_error};
+ghost use Rattle.fs_chain.specs.Walks.{IsAllBut, IsAllButPlace};
+ghost use Rattle.fs_chain.specs.declared.state.ChainState.TheVariants as at;
+
+use crate::error::ChainError;
+use crate::state::{InFlight, ChainReply, ChainState};
+use crate::chain_handle::ChainHandle;
+use fuse_values::FileCall;
+use server_phases::{DecodedRequest, AskedFront, Front, Listing, Session, Waiting};
+use server_segments::Error;
+use virtiofsd_fuse::REQUEST_FRONT;
+
+/// What a request asks.
+#[derive(Drop)]
+pub enum Decoded<'a> {
+    /// This call, whose answer is waited for. Its names and values stand in the request.
+    Call(FileCall<'a>),
+    /// So many bytes of the request are wanted, from its start.
+    More(usize),
+    /// No call: the reply is known, or there is none.
+    Nothing,
+    /// No call, and there is no reply: the fault.
+    Fault(Error),
+}
+
+// Where a chain is whose call waits: a listing gathers entries.
+fn waiting_state(out: InFlight, waiting: Waiting) -> ChainState
+    ensures keeps { (s : Setting) (m : Meaning) (bytes : List ℕ) (made : value.FileCall) → AsksCall s m bytes made waiting → KeepsCall s m bytes made out result }
+    ensures asker { IsKeptFor waiting.context result }
+{
+    match Listing::begin(waiting) {
+        Ok(listing) => ChainState::Lists(out, listing),
+        Err(refusal) => ChainState::Waits(out, refusal.waiting),
+    }
+}
+
+// Where a chain is that goes back with this reply, or with none.
+fn answered_state(out: InFlight, front: Option<Front>) -> ChainState
+    ensures { result ≡ at.HasReply out (record { front = front; behind = 0 }) }
+{
+    ChainState::HasReply(out, ChainReply { front, behind: 0 })
+}
+
+// How many bytes of a request are wanted after so many of them.
+fn wanted(len: usize, whole: usize) -> usize
+    ensures { result ≡ wanted len whole }
+{
+    if len < REQUEST_FRONT {
+        whole.min(REQUEST_FRONT)
+    } else {
+        whole
+    }
+}
+
+impl ChainHandle {
+    // Keeps what a request asks, and tells it.
+    fn keep_asked<'a>(&mut self, out: InFlight, asked: DecodedRequest<'a>) -> Decoded<'a>
+        ensures tells { (s : Setting) (m : Meaning) (bytes : List ℕ) → IsDecoded s m bytes asked.entry → TellsMeaning s m bytes out result self.new.state }
+        ensures asker { (who : Context) → IsAskedBy who asked.entry → IsKeptFor who self.new.state }
+        ensures told { wanted_by result ≡ None }
+        ensures same { IsAllButPlace self.old self.new }
+        ensures list { self.new.list_len ≡ self.old.list_len }
+    {
+        match asked {
+            DecodedRequest::Call(call, waiting) => {
+                self.state = waiting_state(out, waiting);
+                Decoded::Call(call)
+            }
+            DecodedRequest::Reply(front) => {
+                self.state = answered_state(out, Some(front));
+                Decoded::Nothing
+            }
+            DecodedRequest::Silence => {
+                self.state = answered_state(out, None);
+                Decoded::Nothing
+            }
+            DecodedRequest::Fault(error) => {
+                self.state = answered_state(out, None);
+                Decoded::Fault(error)
+            }
+        }
+    }
+
+    // Keeps what the first bytes of a request tell.
+    fn keep_front<'a>(&mut self, out: InFlight, len: usize, asked: AskedFront<'a>) -> Decoded<'a>
+        ensures tells { (s : Setting) (m : Meaning) (bytes : List ℕ) → IsToldByFront s m bytes asked.entry → TellsMeaning s m bytes out result self.new.state }
+        ensures asker { (request : List ℕ) → HasAskerByFront request asked.entry → (h : InHeader) (more : List ℕ) → reading_of in_header request ≡ Ok (h, more) → IsKeptFor (context_of h) self.new.state }
+        ensures wanted { wanted_by result ≡ (if is_told asked.entry then None else Some (wanted len out.request_len)) }
+        ensures same { IsAllButPlace self.old self.new }
+        ensures list { self.new.list_len ≡ self.old.list_len }
+    {
+        match asked {
+            AskedFront::Told(asked) => self.keep_asked(out, asked),
+            AskedFront::More => {
+                self.state = ChainState::Taken(out);
+                Decoded::More(wanted(len, out.request_len))
+            }
+        }
+    }
+
+    // Asks by some first bytes of a request.
+    fn ask_out<'a>(
+        &mut self,
+        session: Session,
+        out: InFlight,
+        request: &'a [u8],
+    ) -> Result<Decoded<'a>, ChainError>
+        requires { self.old.state ≡ at.Taken out }
+        ensures error { IfErr result (λ e. ask_error (at.Taken out) (length request.now) ≡ Some e) }
+        ensures ok { OnOk result (ask_error (at.Taken out) (length request.now) ≡ None) }
+        ensures tells { IfOk result (λ told. (whole : List ℕ) → out.request_len ≡ length whole → IsRequestFront request.now whole
+            → TellsMeaning (setting session.page_size session.options.0 out.room_len) (meaning session.options.0 whole out.room_len) (drop 80 whole) out told self.new.state) }
+        ensures asker { OnOk result ((whole : List ℕ) → out.request_len ≡ length whole → IsRequestFront request.now whole
+            → (h : InHeader) (more : List ℕ) → reading_of in_header whole ≡ Ok (h, more) → IsKeptFor (context_of h) self.new.state) }
+        ensures wanted { IfOk result (λ told. wanted_by told ≡ wanted_after request.now out.request_len) }
+        ensures same { IsAllBut self.old self.new × (self.new.descriptors ≡ self.old.descriptors) × (self.new.part ≡ self.old.part) }
+        ensures session { OnOk result (self.new.session ≡ session) }
+        ensures stays { OnErr result ((self.new.state ≡ at.Taken out) × (self.new.session ≡ self.old.session)) }
+    {
+        let len = out.request_len;
+        if len < request.len() {
+            return Err(ChainError::BadArgument);
+        }
+        let asked = session.ask_front(request, len, out.room_len);
+        self.session = session;
+        Ok(self.keep_front(out, request.len(), asked))
+    }
+
+    /// Tells what a chain's request asks, by its first bytes, in this session, which is kept. A call that is told waits
+    /// for its answer. No error of it is for want of memory.
+    pub fn decode<'a>(&mut self, session: Session, request: &'a [u8]) -> Result<Decoded<'a>, ChainError>
+        ensures error { IfErr result (λ e. ask_error self.old.state (length request.now) ≡ Some e) }
+        ensures ok { OnOk result (ask_error self.old.state (length request.now) ≡ None) }
+        ensures tells { IfOk result (λ told. IfUndecoded self.old.state (λ out. (whole : List ℕ) → out.request_len ≡ length whole → IsRequestFront request.now whole
+            → TellsMeaning (setting session.page_size session.options.0 out.room_len) (meaning session.options.0 whole out.room_len) (drop 80 whole) out told self.new.state)) }
+        ensures asker { OnOk result (IfUndecoded self.old.state (λ out. (whole : List ℕ) → out.request_len ≡ length whole → IsRequestFront request.now whole
+            → (h : InHeader) (more : List ℕ) → reading_of in_header whole ≡ Ok (h, more) → IsKeptFor (context_of h) self.new.state)) }
+        ensures wanted { IfOk result (λ told. IfUndecoded self.old.state (λ out. wanted_by told ≡ wanted_after request.now out.request_len)) }
+        ensures same { IsAllBut self.old self.new × (self.new.descriptors ≡ self.old.descriptors) × (self.new.part ≡ self.old.part) }
+        ensures session { OnOk result (self.new.session ≡ session) }
+        ensures stays { OnErr result ((self.new.state ≡ self.old.state) × (self.new.session ≡ self.old.session)) }
+    {
+        match &self.state {
+            ChainState::Taken(out) => {
+                let out = *out;
+                self.ask_out(session, out, request)
+            }
+            _ => Err(ChainError::WrongOrder),
+        }
+    }
+}

@@ -1,0 +1,142 @@
+//! How a chain goes back to its queue.
+
+ghost use Rattle.std.specs.Prelude.{◌≡◌, ◌<◌, true, nat_lt, IfSome, None, Some, false, Err, IfErr, IfOk, OnOk, OnErr, length};
+ghost use Rattle.fs_chain.specs.Events.{tells_of};
+ghost use Rattle.fs_chain.specs.Orders.{end_error, front_len, return_error};
+ghost use Rattle.fs_chain.specs.Queues.{gave};
+ghost use Rattle.fs_chain.specs.Pushes.{IfHasReply, PushesBy, put_front};
+ghost use Rattle.fs_chain.specs.Serials.{freed};
+ghost use Rattle.fs_chain.specs.declared.state.ChainState.TheVariants as at;
+
+use crate::error::ChainError;
+use crate::event_index::seen_at;
+use crate::queue::QueueState;
+use crate::state::{InFlight, ChainReply, ChainState};
+use crate::chain_handle::ChainHandle;
+use fs_queue::Return;
+
+/// What is stored for a return, and loaded after it.
+#[derive(Clone, Copy, Debug)]
+pub struct PushStores {
+    /// How many bytes of the front go over the room's first.
+    pub front_len: usize,
+    /// The used element, the used index, and where the available flags stand.
+    pub used: Return,
+    /// The guest address of the two bytes that are loaded then, behind a full barrier: whether the driver wants to be told.
+    pub seen_at: u64,
+}
+
+// Copies a reply's front over the first bytes of a buffer; its length, or none if the buffer is shorter.
+fn copy_front(reply: &ChainReply, front: &mut [u8]) -> Option<usize>
+    ensures short { result ≡ None → (nat_lt (length front.old) (front_len reply.now) ≡ true) × (front.new ≡ front.old) × (length front.old < 160) }
+    ensures copied { IfSome result (λ n. (nat_lt (length front.old) (front_len reply.now) ≡ false) × (n ≡ front_len reply.now) × (front.new ≡ put_front reply.now front.old)) }
+{
+    match &reply.front {
+        Some(bytes) => {
+            let bytes = bytes.bytes();
+            if front.len() < bytes.len() {
+                return None;
+            }
+            front[..bytes.len()].copy_from_slice(bytes);
+            Some(bytes.len())
+        }
+        None => Some(0),
+    }
+}
+
+// Tells how a chain goes back by its reply, whose front is copied over the first bytes of a buffer.
+fn stores_of(
+    queue: &QueueState,
+    out: &InFlight,
+    reply: &ChainReply,
+    front: &mut [u8],
+) -> Result<PushStores, ChainError>
+    ensures error { IfErr result (λ e. return_error (at.HasReply out.now reply.now) queue.now (length front.old) ≡ Some e) }
+    ensures ok { OnOk result (return_error (at.HasReply out.now reply.now) queue.now (length front.old) ≡ None) }
+    ensures short { result ≡ Err ChainError.ShortBuffer → length front.old < 160 }
+    ensures same { OnErr result (front.new ≡ front.old) }
+    ensures stores { IfOk result (λ s. PushesBy queue.now out.now reply.now s) }
+    ensures front { OnOk result (front.new ≡ put_front reply.now front.old) }
+{
+    if !queue.has_out(out) {
+        return Err(ChainError::OtherQueue);
+    }
+    if queue.pushing {
+        return Err(ChainError::Pushing);
+    }
+    let Some(front_len) = copy_front(reply, front) else {
+        return Err(ChainError::ShortBuffer);
+    };
+    let len = front_len.saturating_add(reply.behind).min(out.room_len);
+    let used = Return::new(
+        out.course.layout,
+        queue.next_used,
+        out.head,
+        len.min(u32::MAX as usize) as u32,
+    );
+    let seen_at = seen_at(queue.event_index, &out.course.layout);
+    Ok(PushStores {
+        front_len,
+        used,
+        seen_at,
+    })
+}
+
+impl ChainHandle {
+    /// Says how a chain goes back: its reply's front is copied over the first bytes of a buffer, for which 160 always do (else
+    /// `ShortBuffer`), and the stores are those of the position where the queue's next chain goes back. Until it is ended no other
+    /// chain of the queue goes back (`Pushing`).
+    pub fn push(
+        &mut self,
+        queue: &mut QueueState,
+        front: &mut [u8],
+    ) -> Result<PushStores, ChainError>
+        ensures error { IfErr result (λ e. return_error self.old.state queue.old (length front.old) ≡ Some e) }
+        ensures ok { OnOk result (return_error self.old.state queue.old (length front.old) ≡ None) }
+        ensures short { result ≡ Err ChainError.ShortBuffer → length front.old < 160 }
+        ensures same { OnErr result ((self.new ≡ self.old) × (front.new ≡ front.old) × (queue.new ≡ queue.old)) }
+        ensures pushing { OnOk result (IfHasReply self.old.state (λ out reply. self.new ≡ record self.old { state = at.Pushing out })) }
+        ensures queue { OnOk result (queue.new ≡ record queue.old { pushing = true }) }
+        ensures stores { IfOk result (λ s. IfHasReply self.old.state (λ out reply. PushesBy queue.old out reply s)) }
+        ensures front { OnOk result (IfHasReply self.old.state (λ out reply. front.new ≡ put_front reply front.old)) }
+    {
+        match &self.state {
+            ChainState::HasReply(out, reply) => {
+                let out = *out;
+                match stores_of(queue, &out, reply, front) {
+                    Ok(stores) => {
+                        self.state = ChainState::Pushing(out);
+                        queue.pushing = true;
+                        Ok(stores)
+                    }
+                    Err(error) => Err(error),
+                }
+            }
+            _ => Err(ChainError::WrongOrder),
+        }
+    }
+
+    /// The stores are made: the queue's next chain goes back at the next position, and the handle is free. Whether the driver wants to be told, by the
+    /// two bytes that were loaded. `WrongOrder` if no stores were told, `OtherQueue` if they were another queue's.
+    pub fn pushed(&mut self, queue: &mut QueueState, seen: [u8; 2]) -> Result<bool, ChainError>
+        ensures error { IfErr result (λ e. end_error self.old.state queue.old ≡ Some e) }
+        ensures ok { OnOk result (end_error self.old.state queue.old ≡ None) }
+        ensures same { OnErr result ((self.new ≡ self.old) × (queue.new ≡ queue.old)) }
+        ensures free { OnOk result (self.new ≡ freed self.old) }
+        ensures queue { OnOk result (queue.new ≡ gave queue.old) }
+        ensures tells { IfOk result (λ told. told ≡ tells_of queue.old seen) }
+    {
+        match &self.state {
+            ChainState::Pushing(out) => {
+                if !queue.has_out(out) || !queue.pushing {
+                    return Err(ChainError::OtherQueue);
+                }
+                let told = queue.tells(seen);
+                self.free();
+                queue.pushed();
+                Ok(told)
+            }
+            _ => Err(ChainError::WrongOrder),
+        }
+    }
+}

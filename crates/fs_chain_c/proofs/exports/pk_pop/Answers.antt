@@ -1,0 +1,7 @@
+use Rattle.std.proofs.Common.{rules}
+use Rattle.fs_chain_c.proofs.HandleLemmas.{on_handle}
+use Rattle.fs_chain_c.proofs.exports.pk_pop.Goals as goal
+
+pub returns : goal.returns
+returns c =
+    on_handle _ _ c.args.chain.now.value c.of_box.result.value c.deref_mut.result.now c.pop_handle-status.new.handle (search rules) (search rules) c.pop_handle-status.ensures

@@ -1,0 +1,111 @@
+-- What C is told of a request, and what comes of an answer.
+use Rattle.std.specs.Prelude.{◌≡◌, ◌⊎◌, ℕ, List, length, drop, bit_and, Option, Some, None, Result, Ok, Err, IfOk, IfErr, OnOk, OnErr, if◌then◌else◌}
+use Rattle.fuse_values.specs.declared.answer.FileAnswer.{FileAnswer}
+use Rattle.fuse_values.specs.declared.answer.FileAnswer.TheVariants as answer
+use Rattle.fuse_values.specs.declared.call.FileCall.{FileCall}
+use Rattle.fuse_values.specs.declared.call.FileCall.TheVariants as value
+use Rattle.server_phases.specs.Asking.{IsRequestFront}
+use Rattle.server_phases.specs.declared.session.Session.{Session}
+use Rattle.server_segments.specs.Errors.{error_number}
+use Rattle.virtiofsd_fuse.specs.Grammar.{known_options, meaning}
+use Rattle.virtiofsd_fuse.specs.Serving.{setting}
+use Rattle.fs_chain.specs.declared.answering.Replied.{Replied}
+use Rattle.fs_chain.specs.declared.decoding.Decoded as told
+use Rattle.fs_chain.specs.declared.decoding.Decoded.TheVariants as tells
+use Rattle.fs_chain.specs.declared.error.ChainError.{ChainError}
+use Rattle.fs_chain.specs.declared.error.ChainError.TheVariants.{BadArgument}
+use Rattle.fs_chain.specs.declared.chain_handle.ChainHandle.{ChainHandle}
+use Rattle.fs_chain.specs.Answers.{CanBeGiven, IfWaits, IsGiven, IsNotTaken, IsWaiting}
+use Rattle.fs_chain.specs.Decoding.{IfUndecoded, TellsMeaning, wanted_after, wanted_by}
+use Rattle.fs_chain.specs.Numbers.{chain_error_number}
+use Rattle.fs_chain.specs.Orders.{ask_error, room_len}
+use Rattle.fs_chain.specs.Walks.{IsAllBut, IsAllButPlace}
+use Rattle.fs_chain_c.specs.declared.call.FsCall.{FsCall}
+use Rattle.fs_chain_c.specs.declared.device.FsDevice.{FsDevice}
+use Rattle.fs_chain_c.specs.Calls.{call_fields, low, no_call, numbered}
+use Rattle.fs_chain_c.specs.Memory.{IsDevice}
+
+-- ---- an answer
+
+-- what comes of an answer with a ticket in the session in which a `ChainHandle`'s chain was asked: what is given of it, or why it is refused, and then nothing changes
+pub record AnswersTicket (w : ChainHandle) (ticket : ℕ) (a : FileAnswer) (told : Result Replied ChainError) (w' : ChainHandle) : Type 0 where
+  pub given : IfOk told (λ r. IfWaits w.state (λ out waiting.
+      IsGiven (setting w.session.page_size w.session.options.0 waiting.room) waiting a out w'.session.options.0 r w'.state))
+  pub mine : OnOk told (w.serial ≡ ticket)
+  pub taken : OnOk told (IsWaiting w.state × IfWaits w.state (λ out waiting. CanBeGiven waiting a))
+  pub refused : IfErr told (λ e. IsNotTaken w ticket a e)
+  pub same : OnErr told (w' ≡ w)
+  pub page_size : w'.session.page_size ≡ w.session.page_size
+  pub stays : IsAllBut w w' × (w'.descriptors ≡ w.descriptors) × (w'.part ≡ w.part)
+
+-- what is told of what comes of it: done, that the room holds no such reply (35), or why it is refused
+abbrev pub replied_status : Result Replied ChainError → ℕ
+replied_status (Ok r) = if r.has_room then 0 else 35
+replied_status (Err e) = chain_error_number e
+
+-- a `ChainHandle`'s call is answered, and a status tells what comes of it
+abbrev pub AnswersHandle : ChainHandle → (ticket : ℕ) → FileAnswer → (status : ℕ) → ChainHandle → Type 0
+AnswersHandle b ticket a status b' =
+    (told : Result Replied ChainError) × AnswersTicket b ticket a told b' × (status ≡ replied_status told)
+
+-- ---- a request
+
+-- the answer to a call that nobody waits for, or that no file system of C's has: ENOSYS, as by its default
+abbrev pub answer_unasked : FileCall → Option FileAnswer
+answer_unasked (value.Forget context node count) = Some answer.Done
+answer_unasked (value.BatchForget context counts) = Some answer.Done
+answer_unasked value.Getlk = Some (answer.Failed 38)
+answer_unasked value.Setlk = Some (answer.Failed 38)
+answer_unasked value.Setlkw = Some (answer.Failed 38)
+answer_unasked value.Bmap = Some (answer.Failed 38)
+answer_unasked value.Ioctl = Some (answer.Failed 38)
+answer_unasked value.Poll = Some (answer.Failed 38)
+answer_unasked value.NotifyReply = Some (answer.Failed 38)
+answer_unasked value.TmpFile = Some (answer.Failed 38)
+answer_unasked _ = None
+
+-- such a call is answered at once; others wait
+abbrev pub AnswersAtOnce : ChainHandle → Option FileAnswer → ChainHandle → Type 0
+AnswersAtOnce b None b' = b' ≡ b
+AnswersAtOnce b (Some a) b' = (status : ℕ) × AnswersHandle b b.serial a status b'
+
+-- a `ChainHandle` is asked in a session, which it keeps, by the first bytes of a request, and tells this: all requests that begin so, and are as long as its
+-- chain's, mean it
+pub record Decodes (w : ChainHandle) (s : Session) (request : List ℕ) (made : told.Decoded) (w' : ChainHandle) : Type 0 where
+  pub can : ask_error w.state (length request) ≡ None
+  pub tells : IfUndecoded w.state (λ out. (all : List ℕ) → out.request_len ≡ length all → IsRequestFront request all
+      → TellsMeaning (setting s.page_size s.options.0 out.room_len) (meaning s.options.0 all out.room_len) (drop 80 all) out made w'.state)
+  pub wanted : IfUndecoded w.state (λ out. wanted_by made ≡ wanted_after request out.request_len)
+  pub session : w'.session ≡ s
+  pub stays : IsAllBut w w' × (w'.descriptors ≡ w.descriptors) × (w'.part ≡ w.part)
+
+-- it can't be asked: it isn't where a request is asked, or more bytes came than the request has
+pub record CannotAsk (w : ChainHandle) (request : List ℕ) (e : ChainError) (w' : ChainHandle) : Type 0 where
+  pub why : ask_error w.state (length request) ≡ Some e
+  pub stays : IsAllButPlace w w' × (w'.state ≡ w.state)
+
+-- the session that goes on with a device's numbers; bits of no option are dropped
+abbrev pub IsDeviceSession : FsDevice → Session → Type 0
+IsDeviceSession d s = (s.page_size ≡ d.page_size) × (s.options.0 ≡ bit_and d.options known_options)
+
+-- what C is told of what a request asks: the call, how many bytes are wanted (34), nothing, or the fault
+abbrev pub TellsAsked : ChainHandle → (request : List ℕ) → told.Decoded → FsCall → (status : ℕ) → ChainHandle → Type 0
+TellsAsked b request (tells.Call made) call status b' =
+    (status ≡ 0) × (call ≡ call_fields request b.session.options.0 (room_len b.state) made) × AnswersAtOnce b (answer_unasked made) b'
+TellsAsked b request (tells.More n) call status b' = (status ≡ 34) × (call ≡ numbered request (record no_call { needed = low n })) × (b' ≡ b)
+TellsAsked b request tells.Nothing call status b' = (status ≡ 0) × (call ≡ numbered request no_call) × (b' ≡ b)
+TellsAsked b request (tells.Fault e) call status b' =
+    (status ≡ 0) × (call ≡ numbered request (record no_call { fault = error_number e })) × (b' ≡ b)
+
+-- a `ChainHandle` that was asked in the session of the device: the call, with the ticket of its chain
+abbrev pub DecodesSo : ChainHandle → FsDevice → (request : List ℕ) → FsCall → (status : ℕ) → ChainHandle → Type 0
+DecodesSo b d request call status b' =
+    (s : Session) × IsDeviceSession d s × (asked : ChainHandle) × (made : told.Decoded) × Decodes b s request made asked
+    × (fields : FsCall) × TellsAsked asked request made fields status b' × (call ≡ record fields { ticket = b.serial })
+
+-- a `ChainHandle` is asked by the first bytes of a request; a bad argument, if the device's numbers are none
+abbrev pub DecodesHandle : ChainHandle → FsDevice → (request : List ℕ) → FsCall → (status : ℕ) → ChainHandle → Type 0
+DecodesHandle b d request call status b' =
+    ((IsDevice d → ⊥) × (status ≡ chain_error_number BadArgument) × (call ≡ no_call) × (b' ≡ b))
+    ⊎ (IsDevice d × (e : ChainError) × CannotAsk b request e b' × (status ≡ chain_error_number e) × (call ≡ no_call))
+    ⊎ (IsDevice d × DecodesSo b d request call status b')

@@ -1,0 +1,38 @@
+-- What C stores to be told of new chains, or of none.
+use Rattle.std.specs.Prelude.{◌≡◌, ◌⊎◌, ℕ, not, ◌==◌, Option, Some, None}
+use Rattle.std.specs.Int.{w16, to_le_bytes}
+use Rattle.vm_iotlb.specs.declared.permissions.Permissions.TheVariants.{Write}
+use Rattle.fs_queue.specs.Returning.{Store}
+use Rattle.fs_regions.specs.Places.{Mapped}
+use Rattle.fs_chain.specs.declared.error.ChainError.TheVariants.{BadArgument, WrongOrder}
+use Rattle.fs_chain.specs.declared.queue.QueueState.{QueueState}
+use Rattle.fs_chain.specs.declared.chain_handle.ChainHandle.{ChainHandle}
+use Rattle.fs_chain.specs.Events.{notification_store}
+use Rattle.fs_chain.specs.Numbers.{chain_error_number}
+use Rattle.fs_chain_c.specs.declared.notifications.FsStore.{FsStore}
+use Rattle.fs_chain_c.specs.declared.queue.FsQueue.{FsQueue}
+use Rattle.fs_chain_c.specs.Handles.{OnHandle}
+use Rattle.fs_chain_c.specs.Queues.{IsQueueState, IsQueue}
+use Rattle.fs_chain_c.specs.Pushing.{IsNotHere, StandsHere}
+
+-- nothing is to be stored
+abbrev pub no_store : FsStore
+no_store = record { at = 0; value = 0; len = 0 }
+
+-- a store, told by where it is made here: two bytes; none, by length 0; if it has no place, that is told by 77
+abbrev pub TellsStore : Mapped → Option Store → FsStore → (status : ℕ) → Type 0
+TellsStore regions None told status = (status ≡ 0) × (told ≡ no_store)
+TellsStore regions (Some s) told status =
+    ((status ≡ 0) × StandsHere regions Write s.address 2 told.at × (s.bytes ≡ to_le_bytes w16 told.value) × (told.len ≡ 2))
+    ⊎ ((status ≡ 77) × IsNotHere regions Write s.address 2 × (told ≡ no_store))
+
+-- what is stored of a queue of C's; a bad argument, if its numbers are none
+abbrev pub SetsNotification : ChainHandle → FsQueue → (enabled : ℕ) → FsStore → (status : ℕ) → Type 0
+SetsNotification b q enabled told status =
+    ((IsQueue q → ⊥) × (status ≡ chain_error_number BadArgument) × (told ≡ no_store))
+    ⊎ (IsQueue q × (k : QueueState) × IsQueueState q k × TellsStore b.regions (notification_store k (not (enabled == 0))) told status)
+
+-- over a handle's regions; it stays as it was
+abbrev pub AsksKicks : Option ChainHandle → FsQueue → (enabled : ℕ) → (status : ℕ) → FsStore → Option ChainHandle → Type 0
+AsksKicks before q enabled status told after =
+    OnHandle (λ b b'. SetsNotification b q enabled told status × (b' ≡ b)) ((status ≡ chain_error_number WrongOrder) × (told ≡ no_store)) before after

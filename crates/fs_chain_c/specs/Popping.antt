@@ -1,0 +1,66 @@
+-- What C is told of a walk, by loads that it makes: in parts, where one goes over the end of a region.
+use Rattle.std.specs.Prelude.{◌≡◌, ◌+◌, ◌%◌, ◌^◌, ◌⊎◌, ℕ, List}
+use Rattle.vm_memory_core.specs.Window.{Window}
+use Rattle.fs_queue.specs.Numbers.{chain_fault_number, queue_number}
+use Rattle.fs_chain.specs.declared.error.ChainError.{ChainError}
+use Rattle.fs_chain.specs.declared.error.ChainError.TheVariants.{BadArgument}
+use Rattle.fs_chain.specs.declared.loads.LoadOutcome as went
+use Rattle.fs_chain.specs.declared.loads.LoadOutcome.TheVariants as goes
+use Rattle.fs_chain.specs.declared.queue.QueueState.{QueueState}
+use Rattle.fs_chain.specs.declared.popping.PopOutcome.TheVariants as comes
+use Rattle.fs_chain.specs.declared.chain_handle.ChainHandle.{ChainHandle}
+use Rattle.fs_chain.specs.Loads.{GoesSo, HasNoPlace, IsLoadWindow, IsSame, RefusesWalk, came}
+use Rattle.fs_chain.specs.Numbers.{chain_error_number}
+use Rattle.fs_chain_c.specs.declared.queue.FsQueue.{FsQueue}
+use Rattle.fs_chain_c.specs.declared.popping.FsPop.{FsPop}
+use Rattle.fs_chain_c.specs.Queues.{IsQueueState, IsQueue, put}
+
+-- where a window stands here: the number of its region, and its offset there
+abbrev pub host_at : Window → ℕ
+host_at v = (v.block + v.offset) % 2 ^ 64
+
+-- ---- what is told
+
+-- nothing is told
+abbrev pub no_step : FsPop
+no_step = record { load_at = 0; load_len = 0; request_len = 0; reply_len = 0; fault = 0; head = 0; ticket = 0 }
+
+-- a load: where it is made here
+abbrev pub load_step : Window → FsPop
+load_step v = record no_step { load_at = host_at v; load_len = v.len }
+
+-- the load that is still wanted; if it has no place, that is told by 77
+abbrev pub TellsLoad : ChainHandle → FsPop → (status : ℕ) → Type 0
+TellsLoad b step status =
+    ((v : Window) × IsLoadWindow b (came b) v × (status ≡ 32) × (step ≡ load_step v))
+    ⊎ (HasNoPlace b (came b) × (status ≡ 77) × (step ≡ no_step))
+
+-- the load that a walk still wants, where nothing was done; nothing, if it wants none, or it has no place
+abbrev pub TellsWanted : ChainHandle → FsPop → Type 0
+TellsWanted b step =
+    ((v : Window) × IsLoadWindow b (came b) v × (step ≡ load_step v)) ⊎ (HasNoPlace b (came b) × (step ≡ no_step))
+
+-- what is told of what a walk came to
+abbrev pub TellsWent : ChainHandle → went.LoadOutcome → FsPop → (status : ℕ) → Type 0
+TellsWent b goes.Part step status = TellsLoad b step status
+TellsWent b (goes.On (comes.Load n)) step status = TellsLoad b step status
+TellsWent b (goes.On comes.Idle) step status = (status ≡ 33) × (step ≡ no_step)
+TellsWent b (goes.On (comes.Refused e)) step status = (status ≡ queue_number e) × (step ≡ no_step)
+TellsWent b (goes.On (comes.Chain head request room)) step status =
+    (status ≡ 0) × (step ≡ record no_step { head = head; request_len = request; reply_len = room; ticket = b.serial })
+TellsWent b (goes.On (comes.Faulty head fault)) step status =
+    (status ≡ 0) × (step ≡ record no_step { head = head; fault = chain_fault_number fault })
+
+-- ---- a walk
+
+-- a walk over the core's queue
+abbrev pub WalksKept : ChainHandle → FsQueue → QueueState → (loaded : List ℕ) → FsPop → (status : ℕ) → ChainHandle → FsQueue → Type 0
+WalksKept b q k loaded step status b' q' =
+    ((told : went.LoadOutcome) × (k' : QueueState) × GoesSo b k loaded told b' k' × TellsWent b' told step status × (q' ≡ put q k'))
+    ⊎ ((e : ChainError) × RefusesWalk b k loaded e × (status ≡ chain_error_number e) × TellsWanted b' step × IsSame b b' × (q' ≡ q))
+
+-- a walk over a queue of C's; a bad argument, if its numbers are none
+abbrev pub PopsHandle : ChainHandle → FsQueue → (loaded : List ℕ) → FsPop → (status : ℕ) → ChainHandle → FsQueue → Type 0
+PopsHandle b q loaded step status b' q' =
+    ((IsQueue q → ⊥) × (status ≡ chain_error_number BadArgument) × (step ≡ no_step) × (b' ≡ b) × (q' ≡ q))
+    ⊎ (IsQueue q × (k : QueueState) × IsQueueState q k × WalksKept b q k loaded step status b' q')

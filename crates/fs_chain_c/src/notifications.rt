@@ -1,0 +1,81 @@
+//! What C stores to be told of new chains, or of none.
+
+ghost use Rattle.std.specs.Prelude.{◌≡◌};
+ghost use Rattle.fs_chain_c.specs.Notifications.{AsksKicks, SetsNotification, no_store};
+
+use crate::exports::wrong_order;
+use crate::handle::FsChain;
+use crate::queue::FsQueue;
+use crate::pushing::here;
+use crate::popping::NOT_MAPPED;
+use fs_chain::{ChainError, ChainHandle};
+use std::alloc::Global;
+use vm_memory_core::Permissions;
+
+/// A store of two bytes, or none.
+#[repr(C)]
+#[derive(Clone, Copy)]
+pub struct FsStore {
+    /// Where its bytes stand.
+    pub at: usize,
+    /// What is stored.
+    pub value: u16,
+    /// How many bytes it has: 2, or 0 if nothing is to be stored.
+    pub len: u8,
+}
+
+impl FsStore {
+    // Nothing is to be stored.
+    fn nothing() -> FsStore
+        ensures { result ≡ no_store }
+    {
+        FsStore {
+            at: 0,
+            value: 0,
+            len: 0,
+        }
+    }
+}
+
+// Tells what is stored of a queue of C's.
+fn set_notification(handle: &ChainHandle, queue: &FsQueue, enabled: u32) -> (FsStore, u32)
+    ensures { SetsNotification handle.now queue.now enabled result.0 result.1 }
+{
+    let Some(kept) = queue.kept() else {
+        return (
+            FsStore::nothing(),
+            u32::from(ChainError::BadArgument.number()),
+        );
+    };
+    let Some(store) = kept.notification_store(enabled != 0) else {
+        return (FsStore::nothing(), 0);
+    };
+    match here(handle, store.address, 2, Permissions::Write) {
+        Some(at) => {
+            let value = store.value;
+            (FsStore { at, value, len: 2 }, 0)
+        }
+        None => (FsStore::nothing(), NOT_MAPPED),
+    }
+}
+
+/// What is stored to be told of the next chain of a queue, or of none (0), over a handle's regions.
+#[unsafe(no_mangle)]
+pub extern "C" fn pk_set_notification(
+    alloc: Global,
+    chain: &mut FsChain,
+    queue: &FsQueue,
+    enabled: u32,
+    store: &mut FsStore,
+) -> u32
+    ensures { AsksKicks chain.old.value queue.now enabled result store.new chain.new.value }
+{
+    let Some(handle) = chain.take(alloc) else {
+        *store = FsStore::nothing();
+        return wrong_order();
+    };
+    let (told, status) = set_notification(&handle, queue, enabled);
+    *store = told;
+    *chain = FsChain::of_box(handle);
+    status
+}

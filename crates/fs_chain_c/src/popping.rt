@@ -1,0 +1,144 @@
+//! A walk through what waits in a queue, by loads that C makes: in parts, if one goes over the end of a region.
+
+ghost use Rattle.std.specs.Prelude.{◌≡◌};
+ghost use Rattle.fs_chain_c.specs.Popping.{TellsLoad, TellsWanted, TellsWent, PopsHandle, host_at, no_step};
+
+use crate::queue::FsQueue;
+use fs_chain::{ChainError, PopOutcome, LoadOutcome, ChainHandle};
+use vm_memory_core::VolatileSlice;
+
+/// Load these bytes, and call again with them.
+const LOAD: u32 = 32;
+
+/// No chain waits.
+const IDLE: u32 = 33;
+
+/// What is asked for has no place.
+pub const NOT_MAPPED: u32 = 77;
+
+/// What a walk says: a load, or a chain. Else all is 0.
+#[repr(C)]
+#[derive(Clone, Copy)]
+pub struct FsPop {
+    /// Where the load is made.
+    pub load_at: usize,
+    /// How many bytes it has.
+    pub load_len: usize,
+    /// How many bytes the chain's request has.
+    pub request_len: u64,
+    /// How many bytes of reply it has room for.
+    pub reply_len: u64,
+    /// Its fault's number, from 1 to 10 (0: none).
+    pub fault: u32,
+    /// The number of its first descriptor.
+    pub head: u16,
+    /// By which number an answer names the chain; a faulty chain has 0.
+    pub ticket: u32,
+}
+
+impl FsPop {
+    /// Nothing is told.
+    pub fn nothing() -> FsPop
+        ensures { result ≡ no_step }
+    {
+        FsPop {
+            load_at: 0,
+            load_len: 0,
+            request_len: 0,
+            reply_len: 0,
+            fault: 0,
+            head: 0,
+            ticket: 0,
+        }
+    }
+}
+
+/// Where a window stands here: behind the number of its region.
+pub fn host_at(window: &VolatileSlice) -> usize
+    ensures { result ≡ host_at window.now }
+{
+    window.block().wrapping_add(window.block_offset())
+}
+
+// Where the load is made that a walk still wants, if it wants one.
+fn still_wanted(handle: &ChainHandle) -> FsPop
+    ensures { TellsWanted handle.now result }
+{
+    let mut step = FsPop::nothing();
+    match handle.still_wanted() {
+        Some(window) => {
+            step.load_at = host_at(&window);
+            step.load_len = window.len();
+            step
+        }
+        None => step,
+    }
+}
+
+// Tells the load that is still wanted.
+fn told_load(handle: &ChainHandle) -> (FsPop, u32)
+    ensures { TellsLoad handle.now result.0 result.1 }
+{
+    let mut step = FsPop::nothing();
+    match handle.still_wanted() {
+        Some(window) => {
+            step.load_at = host_at(&window);
+            step.load_len = window.len();
+            (step, LOAD)
+        }
+        None => (step, NOT_MAPPED),
+    }
+}
+
+// Tells what a walk came to.
+fn told(handle: &ChainHandle, went: LoadOutcome) -> (FsPop, u32)
+    ensures { TellsWent handle.now went result.0 result.1 }
+{
+    let mut step = FsPop::nothing();
+    match went {
+        LoadOutcome::Part | LoadOutcome::On(PopOutcome::Load(_)) => told_load(handle),
+        LoadOutcome::On(PopOutcome::Idle) => (step, IDLE),
+        LoadOutcome::On(PopOutcome::Refused(error)) => (step, u32::from(error.number())),
+        LoadOutcome::On(
+            PopOutcome::Chain {
+                head,
+                request_len,
+                room_len,
+            },
+        ) => {
+            step.head = head;
+            step.request_len = request_len as u64;
+            step.reply_len = room_len as u64;
+            step.ticket = handle.serial();
+            (step, 0)
+        }
+        LoadOutcome::On(PopOutcome::Faulty { head, fault }) => {
+            step.head = head;
+            step.fault = u32::from(fault.number());
+            (step, 0)
+        }
+    }
+}
+
+/// Takes the next chain of a queue: at first without bytes, then with those of each load that was told.
+pub fn pop_handle(
+    handle: &mut ChainHandle,
+    queue: &mut FsQueue,
+    loaded: &[u8],
+) -> (FsPop, u32)
+    ensures { PopsHandle handle.old queue.old loaded.now result.0 result.1 handle.new queue.new }
+{
+    let Some(mut kept) = queue.kept() else {
+        return (
+            FsPop::nothing(),
+            u32::from(ChainError::BadArgument.number()),
+        );
+    };
+    match handle.pop(&mut kept, loaded) {
+        Ok(went) => {
+            queue.put(&kept);
+            told(handle, went)
+        }
+        Err(error) => (still_wanted(handle), u32::from(error.number())),
+    }
+}

@@ -1,0 +1,205 @@
+//! How a chain goes back to its queue, and how it is given up.
+
+ghost use Rattle.std.specs.Prelude.{◌≡◌, ◌<◌, None, IfSome};
+ghost use Rattle.fs_chain_c.specs.Pushing.{DropsHandleChain, DropsKept, EndsHandlePush, EndsKept, HaveNoPlaces, IsNotHere, PushesHandle, ReturnsKept, StandsHere, TellsStores, no_stores};
+
+use crate::queue::FsQueue;
+use crate::popping::{NOT_MAPPED, host_at};
+use fs_chain::{ChainError, QueueState, PushStores, ChainHandle};
+use vm_memory_core::Permissions;
+
+/// What is stored for a return, and loaded after it, in this order.
+#[repr(C)]
+#[derive(Clone, Copy)]
+pub struct FsStores {
+    /// How many bytes of the front go over the room's first.
+    pub front_len: usize,
+    /// Where the used element's first half stands: 4 bytes.
+    pub id_at: usize,
+    /// Where its second half stands: 4 bytes.
+    pub len_at: usize,
+    /// What is stored there: the chain's number.
+    pub id: u32,
+    /// How many bytes the reply has.
+    pub len: u32,
+    /// Where the used index stands: 2 bytes.
+    pub index_at: usize,
+    /// What is stored there, by a store that releases.
+    pub index: u16,
+    /// Where 2 bytes stand that are loaded after a full barrier: whether the driver wants to be told.
+    pub seen_at: usize,
+    /// The guest address of the used element's 8 bytes.
+    pub element_guest: u64,
+    /// The guest address of the used index's 2 bytes.
+    pub index_guest: u64,
+}
+
+impl FsStores {
+    /// Nothing is to be stored.
+    pub fn nothing() -> FsStores
+        ensures { result ≡ no_stores }
+    {
+        FsStores {
+            front_len: 0,
+            id_at: 0,
+            len_at: 0,
+            id: 0,
+            len: 0,
+            index_at: 0,
+            index: 0,
+            seen_at: 0,
+            element_guest: 0,
+            index_guest: 0,
+        }
+    }
+}
+
+// Where so many bytes from a guest address on stand here, for an access; None if they don't stand in one piece.
+pub(crate) fn here(
+    handle: &ChainHandle,
+    guest: u64,
+    len: usize,
+    access: Permissions,
+) -> Option<usize>
+    requires { 0 < len }
+    ensures some { IfSome result (StandsHere handle.now.regions access guest len) }
+    ensures none { result ≡ None → IsNotHere handle.now.regions access guest len }
+{
+    match handle.window_at(guest, len, access) {
+        Some(window) => {
+            if window.len() == len {
+                Some(host_at(&window))
+            } else {
+                None
+            }
+        }
+        None => None,
+    }
+}
+
+// The stores of a return, told by where they are made here; None if some have no places.
+fn told_stores(handle: &ChainHandle, stores: &PushStores) -> Option<FsStores>
+    ensures some { IfSome result (TellsStores handle.now.regions stores.now) }
+    ensures none { result ≡ None → HaveNoPlaces handle.now.regions stores.now }
+{
+    let used = &stores.used;
+    let Some(id_at) = here(handle, used.head.address, 4, Permissions::Write) else {
+        return None;
+    };
+    let Some(len_at) = here(handle, used.len.address, 4, Permissions::Write) else {
+        return None;
+    };
+    let Some(index_at) = here(handle, used.index.address, 2, Permissions::Write) else {
+        return None;
+    };
+    let Some(seen_at) = here(handle, stores.seen_at, 2, Permissions::Read) else {
+        return None;
+    };
+    Some(FsStores {
+        front_len: stores.front_len,
+        id_at,
+        len_at,
+        id: used.head.value,
+        len: used.len.value,
+        index_at,
+        index: used.index.value,
+        seen_at,
+        element_guest: used.head.address,
+        index_guest: used.index.address,
+    })
+}
+
+// Tells how a chain goes back to the core's queue.
+fn return_kept(
+    handle: &mut ChainHandle,
+    queue: &mut FsQueue,
+    mut kept: QueueState,
+    front: &mut [u8],
+) -> (FsStores, u32)
+    ensures { ReturnsKept handle.old queue.old kept front.old result.0 result.1 handle.new queue.new front.new }
+{
+    match handle.push(&mut kept, front) {
+        Ok(stores) => {
+            queue.put(&kept);
+            match told_stores(handle, &stores) {
+                Some(told) => (told, 0),
+                None => (FsStores::nothing(), NOT_MAPPED),
+            }
+        }
+        Err(error) => (FsStores::nothing(), u32::from(error.number())),
+    }
+}
+
+/// Tells how a chain goes back: the reply's front at the front of a buffer, and the stores.
+pub fn push_handle(
+    handle: &mut ChainHandle,
+    queue: &mut FsQueue,
+    front: &mut [u8],
+) -> (FsStores, u32)
+    ensures { PushesHandle handle.old queue.old front.old result.0 result.1 handle.new queue.new front.new }
+{
+    match queue.kept() {
+        Some(kept) => return_kept(handle, queue, kept, front),
+        None => (
+            FsStores::nothing(),
+            u32::from(ChainError::BadArgument.number()),
+        ),
+    }
+}
+
+// Ends the return of a chain of the core's queue.
+fn end_kept(
+    handle: &mut ChainHandle,
+    queue: &mut FsQueue,
+    mut kept: QueueState,
+    seen: u16,
+) -> (u8, u32)
+    ensures { EndsKept handle.old queue.old kept seen result.0 result.1 handle.new queue.new }
+{
+    match handle.pushed(&mut kept, seen.to_le_bytes()) {
+        Ok(told) => {
+            queue.put(&kept);
+            handle.abandon();
+            (u8::from(told), 0)
+        }
+        Err(error) => (0, u32::from(error.number())),
+    }
+}
+
+/// The stores are made: whether the driver wants to be told (1 or 0), and a status.
+pub fn end_handle_push(handle: &mut ChainHandle, queue: &mut FsQueue, seen: u16) -> (u8, u32)
+    ensures { EndsHandlePush handle.old queue.old seen result.0 result.1 handle.new queue.new }
+{
+    match queue.kept() {
+        Some(kept) => end_kept(handle, queue, kept, seen),
+        None => (0, u32::from(ChainError::BadArgument.number())),
+    }
+}
+
+// Gives up a chain, or a walk, over the core's queue.
+fn drop_kept(handle: &mut ChainHandle, queue: &mut FsQueue, mut kept: QueueState) -> u32
+    ensures { DropsKept handle.old queue.old kept result handle.new queue.new }
+{
+    match handle.give_up(&mut kept) {
+        Ok(()) => {
+            queue.put(&kept);
+            handle.abandon();
+            0
+        }
+        Err(error) => u32::from(error.number()),
+    }
+}
+
+/// Gives a chain up that wasn't asked; the queue hands it out again at its next walk. A walk ends, whatever the queue is.
+pub fn drop_handle_chain(handle: &mut ChainHandle, queue: &mut FsQueue) -> u32
+    ensures { DropsHandleChain handle.old queue.old result handle.new queue.new }
+{
+    if !handle.is_out() {
+        handle.abandon();
+        return 0;
+    }
+    match queue.kept() {
+        Some(kept) => drop_kept(handle, queue, kept),
+        None => u32::from(ChainError::BadArgument.number()),
+    }
+}
