@@ -14,13 +14,13 @@ use Rattle.fuse_fs.specs.Calls.{FileCall, FileAnswer, FileRun}
 use Rattle.virtiofsd_fuse.specs.Grammar.{meaning}
 use Rattle.server_segments.specs.declared.error.Error.{Error}
 use Rattle.virtiofsd_fuse.specs.Serving.{May, ServedMessage, served, setting}
-use Rattle.fs_device.specs.declared.error.DeviceError.{DeviceError}
-use Rattle.fs_device.specs.declared.exchange.Fault.{Fault}
-use Rattle.fs_device.specs.declared.refusal.Refusal.TheVariants as why
-use Rattle.fs_device.specs.Step.{State, Exchange, Calls, Exchanged, Exchanges, StepOf, served_fault, served_exchange}
-use Rattle.fs_device.specs.Run as run
-use Rattle.fs_device.specs.Run.{Command, Answer, Effect, Turn, Turns, shown, KickRun, Kicks, KickAnswer, Affects, ChangesTable, HasEffect, Does}
-use Rattle.fs_device.specs.Run.{IsDecided, Performs, RunTold, Run, effect, insert, insert_block, is_known, some_overlap, reset}
+use Rattle.plain_machine.specs.declared.error.DeviceError.{DeviceError}
+use Rattle.plain_machine.specs.declared.fault.Fault.{Fault}
+use Rattle.plain_machine.specs.declared.refusal.Refusal.TheVariants as why
+use Rattle.plain_machine.specs.Step.{State, Exchange, Calls, Exchanged, Exchanges, StepOf, served_fault, served_exchange}
+use Rattle.plain_machine.specs.Run as run
+use Rattle.plain_machine.specs.Run.{Command, Answer, Effect, Turn, Turns, shown, KickRun, Kicks, KickAnswer, Affects, ChangesTable, HasEffect, Does}
+use Rattle.plain_machine.specs.Run.{IsDecided, Performs, RunTold, Run, effect, insert, insert_block, is_known, some_overlap, reset}
 use Rattle.fs_device.proofs.BookLemmas.{all_suit}
 use Rattle.fs_device.proofs.TellingLemmas.{end_stays}
 use Rattle.call_log.specs.declared.log.LoggedCall.{LoggedCall}

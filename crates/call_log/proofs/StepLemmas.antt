@@ -2,8 +2,8 @@
 use Rattle.std.proofs.Common.{◌≡◌, ℕ, length, sym, subst}
 use Rattle.vm_memory.specs.Memory.{Memory}
 use Rattle.fs_queue.specs.Taking.{room_of}
-use Rattle.fs_device.specs.Step.{State, Exchange}
-use Rattle.fs_device.specs.UsedLength.{IsOffered, TellsLength}
+use Rattle.plain_machine.specs.Step.{State, Exchange}
+use Rattle.plain_machine.specs.UsedLength.{IsOffered, TellsLength}
 use Rattle.call_log.specs.Steps.{LeavesUsedLength}
 
 -- what is told of an exchange's reply is told of its length by another name

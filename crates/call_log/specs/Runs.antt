@@ -4,10 +4,10 @@ use Rattle.std.specs.Prelude.{◌≡◌, List, [], ◌∷◌, ◌++◌, map, fla
 use Rattle.fuse_fs.specs.Calls.{FileCall}
 use Rattle.virtiofsd_fuse.specs.Grammar.{meaning}
 use Rattle.virtiofsd_fuse.specs.Serving.{Setting, served}
-use Rattle.fs_device.specs.declared.exchange.Fault.{Fault}
-use Rattle.fs_device.specs.declared.exchange.Fault.TheVariants as fault
-use Rattle.fs_device.specs.Step.{Calls, Exchange, served_exchange, calls_alone, answers_alone, EachSuits}
-use Rattle.fs_device.specs.Run.{Answer, Done, Bytes, NewBlockIs, Served, Copied, Pages, IsRefused}
+use Rattle.plain_machine.specs.declared.fault.Fault.{Fault}
+use Rattle.plain_machine.specs.declared.fault.Fault.TheVariants as fault
+use Rattle.plain_machine.specs.Step.{Calls, Exchange, served_exchange, calls_alone, answers_alone, EachSuits}
+use Rattle.plain_machine.specs.Run.{Answer, Done, Bytes, NewBlockIs, Served, Copied, Pages, IsRefused}
 use Rattle.call_log.specs.declared.log.LoggedCall.{LoggedCall}
 use Rattle.call_log.specs.Log.{entries_for, with_calls, MayAnswerLogged}
 

@@ -2,9 +2,9 @@
 use Rattle.std.specs.Prelude.{◌≡◌, ℕ, length, Option, Some, None, Result, Ok, Err}
 use Rattle.vm_memory.specs.Memory.{Memory}
 use Rattle.fs_queue.specs.Taking.{room_of}
-use Rattle.fs_device.specs.declared.error.DeviceError.{DeviceError}
-use Rattle.fs_device.specs.Step.{State, Exchange, StepEnd, Idle, Refused, Exchanged, Calls, Step}
-use Rattle.fs_device.specs.UsedLength.{IsOffered, TellsLength}
+use Rattle.plain_machine.specs.declared.error.DeviceError.{DeviceError}
+use Rattle.plain_machine.specs.Step.{State, Exchange, StepEnd, Idle, Refused, Exchanged, Calls, Step}
+use Rattle.plain_machine.specs.UsedLength.{IsOffered, TellsLength}
 use Rattle.call_log.specs.declared.files.CallLog.{CallLog}
 use Rattle.call_log.specs.Log.{MayLog}
 

@@ -4,7 +4,7 @@ ghost use Rattle.std.specs.Prelude.{◌≡◌, ◌<◌, length, map, IfOk, OnErr
 ghost use Rattle.std.specs.List.{zip};
 ghost use Rattle.fs_device.specs.CommandView.{answer_of, command_of};
 ghost use Rattle.fs_device.specs.MachineView.{machine_of};
-ghost use Rattle.fs_device.specs.Run.{Run};
+ghost use Rattle.plain_machine.specs.Run.{Run};
 ghost use Rattle.fs_device.specs.Books.{BalancedRun};
 ghost use Rattle.call_log.specs.Log.{MayLog};
 ghost use Rattle.call_log.specs.Runs.{Grows};

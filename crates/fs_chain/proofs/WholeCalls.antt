@@ -27,8 +27,8 @@ use Rattle.fs_chain.specs.Walks.{no_reply}
 use Rattle.fs_chain.specs.Orders.{front_in, front_len, front_of, reply_len}
 use Rattle.fs_chain.specs.Queues.{at_return}
 use Rattle.fs_chain.specs.Pushes.{PushesBy}
-use Rattle.fs_device.specs.Step.{State, Exchange, Calls, ServesRequest, answers_alone, calls_alone, served_exchange}
-use Rattle.fs_device.specs.StepBy.{AnswersBy, Act}
+use Rattle.plain_machine.specs.Step.{State, Exchange, Calls, ServesRequest, answers_alone, calls_alone, served_exchange}
+use Rattle.plain_machine.specs.StepBy.{AnswersBy, Act}
 use Rattle.fs_chain.specs.Whole.{FromReplied, OneAnswer, acts_of, after_chain, file_calls, front_if}
 use Rattle.fs_chain.proofs.WholeSteps.{answers, serves_call, by_calls, by_options, by_reply, data_is, whole_len, isnt_cut}
 

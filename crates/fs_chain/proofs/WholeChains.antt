@@ -43,10 +43,10 @@ use Rattle.fs_chain.specs.Orders.{front_len}
 use Rattle.fs_chain.specs.Queues.{at_return, pop_id_of}
 use Rattle.fs_chain.specs.Pushes.{PushesBy}
 use Rattle.fs_chain.specs.Walks.{count, course_of, out_of, faulty_out, no_reply, told_of, state_after}
-use Rattle.fs_device.specs.declared.error.DeviceError.TheVariants as device
-use Rattle.fs_device.specs.Step.{State, Exchange, Idle, Refused, Exchanged, Calls, with_queue, faulty}
-use Rattle.fs_device.specs.StepBy as act
-use Rattle.fs_device.specs.StepBy.{Act, ActsBy, AnswersBy, ReturnsFaultyBy, return_acts, return_stores, Effects, StepOfBy, offered_by}
+use Rattle.plain_machine.specs.declared.error.DeviceError.TheVariants as device
+use Rattle.plain_machine.specs.Step.{State, Exchange, Idle, Refused, Exchanged, Calls, with_queue, faulty}
+use Rattle.plain_machine.specs.StepBy as act
+use Rattle.plain_machine.specs.StepBy.{Act, ActsBy, AnswersBy, ReturnsFaultyBy, return_acts, return_stores, Effects, StepOfBy, offered_by}
 use Rattle.fs_chain.specs.Whole.{
   ByEntries,
   ChainBy,

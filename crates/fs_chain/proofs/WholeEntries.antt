@@ -27,7 +27,7 @@ use Rattle.fs_chain.specs.declared.state.ChainState as state
 use Rattle.fs_chain.specs.declared.state.ChainState.TheVariants as at
 use Rattle.fs_chain.specs.declared.chain_handle.ChainHandle.{ChainHandle}
 use Rattle.fs_chain.specs.Listings.{Adds, AddsTo, IsFailedReply, IsListReply, told_added}
-use Rattle.fs_device.specs.Step.{Calls, answers_alone, calls_alone}
+use Rattle.plain_machine.specs.Step.{Calls, answers_alone, calls_alone}
 use Rattle.fs_chain.specs.WholeListings.{BringsEntry, Ending, EndsBy, EndsThere, FailsAt, FullAt, Gathers, IsListedBy, NotFound, Unreadable, all_looked_up, listing_calls, looked_up, node_back, unreadable_calls}
 
 -- ---- what was told of an entry

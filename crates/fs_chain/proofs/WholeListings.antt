@@ -36,8 +36,8 @@ use Rattle.fs_chain.specs.Queues.{at_return}
 use Rattle.fs_chain.specs.Pushes.{PushesBy}
 use Rattle.fs_chain.specs.Whole.{ByEntries, FromReplied, acts_of, after_chain, file_calls}
 use Rattle.fs_chain.specs.WholeListings.{Ending, EndsBy, EndsThere, FailsAt, FromLists, FullAt, IsListedBy, NotFound, Unreadable, failed_by, listing_calls}
-use Rattle.fs_device.specs.Step.{State, Calls, ServesRequest, answers_alone, calls_alone, served_exchange}
-use Rattle.fs_device.specs.StepBy.{AnswersBy, Act}
+use Rattle.plain_machine.specs.Step.{State, Calls, ServesRequest, answers_alone, calls_alone, served_exchange}
+use Rattle.plain_machine.specs.StepBy.{AnswersBy, Act}
 use Rattle.fs_chain.proofs.WholeCalls.{AnsweredSo}
 use Rattle.fs_chain.proofs.WholeEntries.{ServedBy, brought, ends_there, fails_at, full_at, gathered, not_found, outcome_of, stays_so, unreadable}
 use Rattle.fs_chain.proofs.WholeSteps.{answers, isnt_cut}

@@ -20,9 +20,9 @@ use Rattle.fs_chain.specs.declared.state.ChainState.TheVariants as at
 use Rattle.fs_chain.specs.Orders.{front_len}
 use Rattle.fs_chain.specs.Events.{tells_of, seen_at}
 use Rattle.fs_chain.specs.Walks.{course_of}
-use Rattle.fs_device.specs.Step.{State, Exchange, Exchanged, Calls, Step}
-use Rattle.fs_device.specs.StepBy.{Act, AnswersBy, AreStepLoadsOf, return_acts, return_stores, Effects, FindFlags, IsOfMemory, MayStoreLast, StepBy, StepOfBy, offered_by, after_stores, reply_stores, stores_among}
-use Rattle.fs_device.proofs.StepByLemmas.{step_by_is_step}
+use Rattle.plain_machine.specs.Step.{State, Exchange, Exchanged, Calls, Step}
+use Rattle.plain_machine.specs.StepBy.{Act, AnswersBy, AreStepLoadsOf, return_acts, return_stores, Effects, FindFlags, IsOfMemory, MayStoreLast, StepBy, StepOfBy, offered_by, after_stores, reply_stores, stores_among}
+use Rattle.plain_machine.proofs.StepByLemmas.{step_by_is_step}
 use Rattle.fs_chain.specs.Whole.{ChainIsStep, FromReplied, acts_of, after_chain, data_behind, step_loads, GoesBackBy, IsToldByMemory, reply_bytes}
 use Rattle.vm_memory.proofs.Places.{stored_all-append}
 use Rattle.fs_queue.proofs.ReadLemmas.{length-bytes}

@@ -29,8 +29,8 @@ use Rattle.fs_chain.specs.Orders.{front_len}
 use Rattle.fs_chain.specs.Queues.{pop_id_of}
 use Rattle.fs_chain.specs.Walks.{HasEvents, course_of, faulty_out, no_reply, out_of, state_after}
 use Rattle.fs_chain.specs.Whole.{ByEntries, ChainBy, FaultyChainBy, FromReplied, FromTaken, ChainAnswer, HasReply, IsByFlags, IsToldBySeen, NoAnswer, OneAnswer, ReturnsAreToldBySeen, acts_of, data_behind}
-use Rattle.fs_device.specs.Step.{Calls}
-use Rattle.fs_device.specs.StepBy.{Act}
+use Rattle.plain_machine.specs.Step.{Calls}
+use Rattle.plain_machine.specs.StepBy.{Act}
 use Rattle.fs_chain.proofs.WholeChains.{came_is, faulty_is}
 use Rattle.fs_chain.proofs.WholeListings.{listed_out}
 use Rattle.fs_chain.proofs.WholeWalks.{walk_comes}

@@ -26,9 +26,9 @@ use Rattle.fs_chain.specs.declared.state.InFlight.{InFlight}
 use Rattle.fs_chain.specs.declared.state.ChainReply.{ChainReply}
 use Rattle.fs_chain.specs.Answers.{data_len, reply_of, replied_of}
 use Rattle.fs_chain.specs.Orders.{front_len, reply_len}
-use Rattle.fs_device.specs.Step.{State, Calls, ServesRequest, calls_alone, answers_alone, served_exchange}
-use Rattle.fs_device.specs.StepBy.{AnswersBy, Act, reply_stores}
-use Rattle.fs_device.specs.StepBy as act
+use Rattle.plain_machine.specs.Step.{State, Calls, ServesRequest, calls_alone, answers_alone, served_exchange}
+use Rattle.plain_machine.specs.StepBy.{AnswersBy, Act, reply_stores}
+use Rattle.plain_machine.specs.StepBy as act
 use Rattle.fs_chain.specs.Whole.{OneAnswer, file_calls, front_if, acts_of, after_chain}
 
 -- one answer is enough, unless a directory is listed

@@ -49,10 +49,10 @@ use Rattle.fs_chain.specs.Pushes.{PushesBy}
 use Rattle.fs_chain.specs.Loads.{GoesSo, HasNoPlace, came, whole}
 use Rattle.fs_chain.specs.Walks.{HasEvents, IsAllButPart, course_of, told_of}
 use Rattle.fs_chain.specs.WholeListings.{Ending, IsListedBy, listing_calls}
-use Rattle.fs_device.specs.declared.error.DeviceError.TheVariants as device
-use Rattle.fs_device.specs.Step.{State, Exchange, Idle, Refused, Exchanged, Calls, Step, with_queue}
-use Rattle.fs_device.specs.StepBy as act
-use Rattle.fs_device.specs.StepBy.{AnswersBy, ReturnsFaultyBy, StepLoads, StepBy, Act, Effects, reply_stores, after_stores, stores_among, FindFlags, MayStoreLast}
+use Rattle.plain_machine.specs.declared.error.DeviceError.TheVariants as device
+use Rattle.plain_machine.specs.Step.{State, Exchange, Idle, Refused, Exchanged, Calls, Step, with_queue}
+use Rattle.plain_machine.specs.StepBy as act
+use Rattle.plain_machine.specs.StepBy.{AnswersBy, ReturnsFaultyBy, StepLoads, StepBy, Act, Effects, reply_stores, after_stores, stores_among, FindFlags, MayStoreLast}
 
 -- ---- the walk
 

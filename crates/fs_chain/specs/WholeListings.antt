@@ -12,7 +12,7 @@ use Rattle.fs_chain.specs.declared.state.ChainState.TheVariants as at
 use Rattle.fs_chain.specs.declared.chain_handle.ChainHandle.{ChainHandle}
 use Rattle.fs_chain.specs.Listings.{AddsTo, EndsByEntries, EndsByError}
 use Rattle.fs_chain.specs.Walks.{IsAllButPlace}
-use Rattle.fs_device.specs.Step.{Calls}
+use Rattle.plain_machine.specs.Step.{Calls}
 
 -- ---- by the calls of a handle
 

@@ -6,12 +6,12 @@ ghost use Rattle.fs_chain.specs.Answers.{AnswerFails, CanBeGiven, IfWaits, IsGiv
 ghost use Rattle.fs_chain.specs.Walks.{IsAllBut};
 ghost use Rattle.fs_chain.specs.declared.state.ChainState.TheVariants as at;
 
-use crate::error::ChainError;
-use crate::state::{InFlight, ChainReply, ChainState};
 use crate::chain_handle::ChainHandle;
+use crate::error::ChainError;
+use crate::state::{ChainReply, ChainState, InFlight};
 use fuse_fs::Context;
 use fuse_values::FileAnswer;
-use server_phases::{Answered, AnswerRefusal, Sent, Waiting};
+use server_phases::{AnswerRefusal, Answered, Sent, Waiting};
 use std::mem;
 
 /// What comes of an answer.

@@ -9,8 +9,8 @@ ghost use Rattle.fs_chain.specs.Passing.{HasPassed};
 ghost use Rattle.fs_chain.specs.declared.state.ChainState.TheVariants as at;
 
 use crate::error::ChainError;
-use crate::window_cursor::WindowCursor;
 use crate::state::ChainState;
+use crate::window_cursor::WindowCursor;
 use fs_queue::{Descriptors, MOST_LIMIT};
 use fs_regions::{GuestMap, window_from};
 use server_phases::Session;

@@ -15,11 +15,11 @@ ghost use Rattle.fs_chain.specs.Orders.{ask_error};
 ghost use Rattle.fs_chain.specs.Walks.{IsAllBut, IsAllButPlace};
 ghost use Rattle.fs_chain.specs.declared.state.ChainState.TheVariants as at;
 
-use crate::error::ChainError;
-use crate::state::{InFlight, ChainReply, ChainState};
 use crate::chain_handle::ChainHandle;
+use crate::error::ChainError;
+use crate::state::{ChainReply, ChainState, InFlight};
 use fuse_values::FileCall;
-use server_phases::{DecodedRequest, AskedFront, Front, Listing, Session, Waiting};
+use server_phases::{AskedFront, DecodedRequest, Front, Listing, Session, Waiting};
 use server_segments::Error;
 use virtiofsd_fuse::REQUEST_FRONT;
 
@@ -141,7 +141,11 @@ impl ChainHandle {
 
     /// Tells what a chain's request asks, by its first bytes, in this session, which is kept. A call that is told waits
     /// for its answer. No error of it is for want of memory.
-    pub fn decode<'a>(&mut self, session: Session, request: &'a [u8]) -> Result<Decoded<'a>, ChainError>
+    pub fn decode<'a>(
+        &mut self,
+        session: Session,
+        request: &'a [u8],
+    ) -> Result<Decoded<'a>, ChainError>
         ensures error { IfErr result (λ e. ask_error self.old.state (length request.now) ≡ Some e) }
         ensures ok { OnOk result (ask_error self.old.state (length request.now) ≡ None) }
         ensures tells { IfOk result (λ told. IfUndecoded self.old.state (λ out. (whole : List ℕ) → out.request_len ≡ length whole → IsRequestFront request.now whole

@@ -7,10 +7,10 @@ ghost use Rattle.fs_chain.specs.Pushes.{IsFreed};
 ghost use Rattle.fs_chain.specs.Serials.{freed};
 ghost use Rattle.fs_chain.specs.declared.state.ChainState.TheVariants as at;
 
+use crate::chain_handle::ChainHandle;
 use crate::error::ChainError;
 use crate::queue::QueueState;
-use crate::state::{InFlight, ChainState};
-use crate::chain_handle::ChainHandle;
+use crate::state::{ChainState, InFlight};
 
 impl ChainHandle {
     // A chain that wasn't asked is out of its queue no more; or it stays, of another queue, or since others were taken after it.

@@ -11,13 +11,13 @@ ghost use Rattle.fs_chain.specs.Orders.{begin_error, give_error, walk_error, ent
 ghost use Rattle.fs_chain.specs.Walks.{LacksRoom, WalksOn, IsAllBut};
 ghost use Rattle.fs_chain.specs.declared.state.ChainState.TheVariants as at;
 
+use crate::chain_handle::ChainHandle;
 use crate::error::ChainError;
+use crate::popping::PopOutcome;
 use crate::queue::QueueState;
 use crate::state::{ChainState, PopId};
-use crate::popping::PopOutcome;
-use crate::chain_handle::ChainHandle;
 use fs_queue::{QueueError, Walk};
-use fs_regions::{Course, GuestMap, QueueWalk, CourseStep};
+use fs_regions::{Course, CourseStep, GuestMap, QueueWalk};
 use memory_requests::reserve_small;
 use std::mem;
 use vm_memory_core::{Permissions, VolatileSlice};

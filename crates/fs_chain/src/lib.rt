@@ -2,6 +2,7 @@
 #![tactic(auto)]
 
 mod answering;
+mod chain_handle;
 mod decoding;
 mod error;
 mod event_index;
@@ -12,23 +13,22 @@ mod listing;
 mod loads;
 mod looking;
 mod own_reply;
-mod window_cursor;
-mod queue;
+mod popping;
 mod pushing;
+mod queue;
 mod serial;
 mod state;
-mod popping;
-mod chain_handle;
+mod window_cursor;
 
 pub use answering::Replied;
+pub use chain_handle::ChainHandle;
 pub use decoding::Decoded;
 pub use error::ChainError;
 pub use event_index::NotificationStore;
 pub use listing::Added;
 pub use loads::LoadOutcome;
-pub use window_cursor::WindowCursor;
-pub use queue::QueueState;
-pub use pushing::PushStores;
-pub use state::{InFlight, ChainReply, ChainState, PopId};
 pub use popping::PopOutcome;
-pub use chain_handle::ChainHandle;
+pub use pushing::PushStores;
+pub use queue::QueueState;
+pub use state::{ChainReply, ChainState, InFlight, PopId};
+pub use window_cursor::WindowCursor;

@@ -9,9 +9,9 @@ ghost use Rattle.fs_chain.specs.Serials.{UnlessRefused, serial_error};
 ghost use Rattle.fs_chain.specs.Walks.{IsAllButPlace};
 ghost use Rattle.fs_chain.specs.declared.state.ChainState.TheVariants as at;
 
-use crate::error::ChainError;
-use crate::state::{InFlight, ChainReply, ChainState};
 use crate::chain_handle::ChainHandle;
+use crate::error::ChainError;
+use crate::state::{ChainReply, ChainState, InFlight};
 use fuse_fs::{DirEntry, Entry};
 use fuse_wire::Errno;
 use server_phases::{Listing, ListingReply, NotAdded};

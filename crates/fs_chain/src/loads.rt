@@ -6,10 +6,10 @@ ghost use Rattle.fs_chain.specs.Loads.{AreDue, AreOthers, AreWanted, AreWhole, G
 ghost use Rattle.fs_chain.specs.Orders.{load_len, walk_error};
 ghost use Rattle.fs_chain.specs.Walks.{IsAllBut, IsAllButPart, LacksRoom, WalksOn};
 
-use crate::error::ChainError;
-use crate::queue::QueueState;
-use crate::popping::PopOutcome;
 use crate::chain_handle::ChainHandle;
+use crate::error::ChainError;
+use crate::popping::PopOutcome;
+use crate::queue::QueueState;
 use memory_requests::reserve;
 use std::mem;
 use vm_memory_core::VolatileSlice;
@@ -122,7 +122,11 @@ impl ChainHandle {
 
     // Gives the walk its whole load, or begins it: no part came before.
     #[inline(always)]
-    fn walk_whole(&mut self, queue: &mut QueueState, loaded: &[u8]) -> Result<LoadOutcome, ChainError>
+    fn walk_whole(
+        &mut self,
+        queue: &mut QueueState,
+        loaded: &[u8],
+    ) -> Result<LoadOutcome, ChainError>
         requires whole { whole self.old loaded.now ≡ loaded.now }
         requires due { AreDue self.old loaded.now }
         requires len { length loaded.now ≡ due_len self.old loaded.now }
@@ -141,7 +145,11 @@ impl ChainHandle {
 
     // Takes some bytes of the load that is asked for.
     #[tactic(auto, using(crate::proofs::LoadLemmas::fits))]
-    fn give_part(&mut self, queue: &mut QueueState, loaded: &[u8]) -> Result<LoadOutcome, ChainError>
+    fn give_part(
+        &mut self,
+        queue: &mut QueueState,
+        loaded: &[u8],
+    ) -> Result<LoadOutcome, ChainError>
         requires { 0 < load_len self.old.state }
         ensures goes { IfOk result (λ went. GoesSo self.old queue.old loaded.now went self.new queue.new) }
         ensures error { IfErr result (RefusesWalk self.old queue.old loaded.now) }

@@ -9,8 +9,8 @@ ghost use Rattle.fs_regions.specs.Walks.{asked_len};
 ghost use Rattle.fs_regions.specs.Windows.{IsRangeFrom};
 ghost use Rattle.fs_chain.specs.Orders.{is_free, is_listing, is_out, load_len, room_len};
 
-use crate::state::ChainState;
 use crate::chain_handle::ChainHandle;
+use crate::state::ChainState;
 use fs_regions::range_from;
 use server_phases::Session;
 use vm_memory_core::{Permissions, VolatileSlice};

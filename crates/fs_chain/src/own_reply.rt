@@ -5,9 +5,9 @@ ghost use Rattle.fs_chain.specs.OwnReplies.{IfUnanswered, own_error, own_len_err
 ghost use Rattle.fs_chain.specs.Orders.{front_len, reply_len};
 ghost use Rattle.fs_chain.specs.declared.state.ChainState.TheVariants as at;
 
-use crate::error::ChainError;
-use crate::state::{InFlight, ChainReply, ChainState};
 use crate::chain_handle::ChainHandle;
+use crate::error::ChainError;
+use crate::state::{ChainReply, ChainState, InFlight};
 
 impl ChainHandle {
     // Keeps a reply of so many bytes of a chain that has none yet.

@@ -6,12 +6,12 @@ ghost use Rattle.fs_chain.specs.Queues.{pop_id_of, took};
 ghost use Rattle.fs_chain.specs.Walks.{course_of, told_of, state_after, queue_after, left_of, BeginsPop, BeginsOn, IsAllBut};
 ghost use Rattle.fs_chain.specs.declared.state.ChainState.TheVariants as at;
 
+use crate::chain_handle::ChainHandle;
 use crate::error::ChainError;
 use crate::queue::QueueState;
-use crate::state::{InFlight, ChainReply, ChainState, PopId};
-use crate::chain_handle::ChainHandle;
+use crate::state::{ChainReply, ChainState, InFlight, PopId};
 use fs_queue::{ChainFault, QueueError, count_bytes};
-use fs_regions::{Course, QueueWalk, CourseStep};
+use fs_regions::{Course, CourseStep, QueueWalk};
 use std::mem;
 
 /// What a walk comes to.

@@ -8,11 +8,11 @@ ghost use Rattle.fs_chain.specs.Pushes.{IfHasReply, PushesBy, put_front};
 ghost use Rattle.fs_chain.specs.Serials.{freed};
 ghost use Rattle.fs_chain.specs.declared.state.ChainState.TheVariants as at;
 
+use crate::chain_handle::ChainHandle;
 use crate::error::ChainError;
 use crate::event_index::seen_at;
 use crate::queue::QueueState;
-use crate::state::{InFlight, ChainReply, ChainState};
-use crate::chain_handle::ChainHandle;
+use crate::state::{ChainReply, ChainState, InFlight};
 use fs_queue::Return;
 
 /// What is stored for a return, and loaded after it.

@@ -4,9 +4,9 @@ ghost use Rattle.std.specs.Prelude.{◌≡◌, true, false, IfErr, OnErr, OnOk};
 ghost use Rattle.fs_chain.specs.Orders.{is_free};
 ghost use Rattle.fs_chain.specs.Serials.{freed, number_error, serial_error};
 
+use crate::chain_handle::ChainHandle;
 use crate::error::ChainError;
 use crate::state::ChainState;
-use crate::chain_handle::ChainHandle;
 
 // Whether an answer's number is that of the chain; why not.
 pub(crate) fn number_error(mine: u32, serial: u32) -> Option<ChainError>

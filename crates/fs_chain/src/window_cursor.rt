@@ -25,7 +25,12 @@ impl WindowCursor {
     }
 
     // The next descriptor is passed too, unless a byte stands in it.
-    fn pass_next(self, descriptors: &[Descriptor], write_only: bool, from: u64) -> Option<WindowCursor>
+    fn pass_next(
+        self,
+        descriptors: &[Descriptor],
+        write_only: bool,
+        from: u64,
+    ) -> Option<WindowCursor>
         requires passed { HasPassed write_only descriptors.now self }
         requires below { self.bytes ≤ from }
         requires more { self.index < length descriptors.now }

@@ -7,7 +7,7 @@ use crate::call::FsCall;
 use crate::device::FsDevice;
 use crate::fields::{call_fields, number};
 use bitflags::Flags;
-use fs_chain::{ChainError, Decoded, ChainHandle};
+use fs_chain::{ChainError, ChainHandle, Decoded};
 use fuse_base::{Errno, FsOptions};
 use fuse_values::{FileAnswer, FileCall};
 use server_phases::Session;

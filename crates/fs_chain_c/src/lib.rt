@@ -3,37 +3,37 @@
 
 mod answer_kind;
 mod answers;
-mod decoding;
 mod call;
 mod call_table;
+mod decoding;
 mod device;
 mod exports;
 mod fields;
 mod handle;
-mod notifications;
 pub mod laws;
 mod listing;
 mod memory;
 mod names;
+mod notifications;
 mod parts;
+mod popping;
+mod pushing;
 mod queue;
 mod ranges;
 mod record;
 mod record_place;
 mod replies;
-mod pushing;
 mod saved_bytes;
 mod setting;
-mod popping;
 mod windows;
 
 pub use exports::{
-    pk_abandon, pk_chain_free, pk_chain_set_ticket, pk_chain_set_memory, pk_drop, pk_queue_begin,
-    pk_request_windows, pk_push, pk_pushed, pk_reply_windows, pk_version, pk_pop,
+    pk_abandon, pk_chain_free, pk_chain_set_memory, pk_chain_set_ticket, pk_drop, pk_pop, pk_push,
+    pk_pushed, pk_queue_begin, pk_reply_windows, pk_request_windows, pk_version,
 };
-pub use notifications::pk_set_notification;
 pub use listing::{pk_add_direntry, pk_add_direntry_plus, pk_reply_entries, pk_reply_err};
 pub use names::pk_is_name;
+pub use notifications::pk_set_notification;
 pub use ranges::pk_reply_ranges;
 pub use record::{pk_restore, pk_save};
 pub use replies::{

@@ -5,9 +5,9 @@ ghost use Rattle.fs_chain_c.specs.Notifications.{AsksKicks, SetsNotification, no
 
 use crate::exports::wrong_order;
 use crate::handle::FsChain;
-use crate::queue::FsQueue;
-use crate::pushing::here;
 use crate::popping::NOT_MAPPED;
+use crate::pushing::here;
+use crate::queue::FsQueue;
 use fs_chain::{ChainError, ChainHandle};
 use std::alloc::Global;
 use vm_memory_core::Permissions;

@@ -4,7 +4,7 @@ ghost use Rattle.std.specs.Prelude.{◌≡◌};
 ghost use Rattle.fs_chain_c.specs.Popping.{TellsLoad, TellsWanted, TellsWent, PopsHandle, host_at, no_step};
 
 use crate::queue::FsQueue;
-use fs_chain::{ChainError, PopOutcome, LoadOutcome, ChainHandle};
+use fs_chain::{ChainError, ChainHandle, LoadOutcome, PopOutcome};
 use vm_memory_core::VolatileSlice;
 
 /// Load these bytes, and call again with them.
@@ -121,11 +121,7 @@ fn told(handle: &ChainHandle, went: LoadOutcome) -> (FsPop, u32)
 }
 
 /// Takes the next chain of a queue: at first without bytes, then with those of each load that was told.
-pub fn pop_handle(
-    handle: &mut ChainHandle,
-    queue: &mut FsQueue,
-    loaded: &[u8],
-) -> (FsPop, u32)
+pub fn pop_handle(handle: &mut ChainHandle, queue: &mut FsQueue, loaded: &[u8]) -> (FsPop, u32)
     ensures { PopsHandle handle.old queue.old loaded.now result.0 result.1 handle.new queue.new }
 {
     let Some(mut kept) = queue.kept() else {

@@ -3,9 +3,9 @@
 ghost use Rattle.std.specs.Prelude.{◌≡◌, ◌<◌, None, IfSome};
 ghost use Rattle.fs_chain_c.specs.Pushing.{DropsHandleChain, DropsKept, EndsHandlePush, EndsKept, HaveNoPlaces, IsNotHere, PushesHandle, ReturnsKept, StandsHere, TellsStores, no_stores};
 
-use crate::queue::FsQueue;
 use crate::popping::{NOT_MAPPED, host_at};
-use fs_chain::{ChainError, QueueState, PushStores, ChainHandle};
+use crate::queue::FsQueue;
+use fs_chain::{ChainError, ChainHandle, PushStores, QueueState};
 use vm_memory_core::Permissions;
 
 /// What is stored for a return, and loaded after it, in this order.

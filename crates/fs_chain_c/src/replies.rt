@@ -8,8 +8,8 @@ use crate::answers::{
     FsEntry, FsStatfs, attr_said, create_said, entry_of, entry_said, open_said, statfs_said,
     wish_said,
 };
-use crate::decoding::{NO_ROOM, answer_handle, decode_handle};
 use crate::call::{FsAttr, FsCall};
+use crate::decoding::{NO_ROOM, answer_handle, decode_handle};
 use crate::device::FsDevice;
 use crate::exports::wrong_order;
 use crate::handle::FsChain;

@@ -5,7 +5,7 @@ ghost use Rattle.fs_chain.specs.Passing.{HasPassed};
 ghost use Rattle.fs_chain_c.specs.Windows.{FillsWindows, HasNoMore, IsStretch};
 
 use crate::popping::host_at;
-use fs_chain::{WindowCursor, ChainHandle};
+use fs_chain::{ChainHandle, WindowCursor};
 
 /// A stretch of memory here, laid out as `struct iovec` is.
 #[repr(C)]

@@ -4,7 +4,7 @@ use Rattle.fs_queue.specs.Queue.{Queue}
 use Rattle.fs_queue.specs.Returning.{returned}
 use Rattle.fs_queue.specs.Taking.{IsRequest, Offer, Offers}
 use Rattle.virtiofsd_fuse.specs.Serving.{May, ServedMessage}
-use Rattle.fs_device.specs.Step.{State, Exchange, Exchanged, Exchanges, StepOf, served_exchange}
+use Rattle.plain_machine.specs.Step.{State, Exchange, Exchanged, Exchanges, StepOf, served_exchange}
 use Rattle.fs_confinement.specs.Answered.{AnswersAreSeen}
 
 pub answers_are_seen : {F : Type 0} (may : May F) → AnswersAreSeen may

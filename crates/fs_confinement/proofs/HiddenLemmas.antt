@@ -16,13 +16,13 @@ use Rattle.fs_queue.specs.Queue.{Queue, fresh}
 use Rattle.fs_queue.specs.Taking.{Offer, IsRequest, CannotFetch, Refuses, Offers, offer}
 use Rattle.fs_queue.specs.Taking as taking
 use Rattle.virtiofsd_fuse.specs.Serving.{May}
-use Rattle.fs_device.specs.declared.error.DeviceError.{DeviceError}
-use Rattle.fs_device.specs.declared.error.DeviceError.TheVariants as device
-use Rattle.fs_device.specs.declared.refusal.Refusal.TheVariants as why
-use Rattle.fs_device.specs.Step.{State, Exchange, Calls, Idle, Refused, Exchanged, Exchanges, StepOf, StepEnd}
-use Rattle.fs_device.specs.Run as run
-use Rattle.fs_device.specs.Run.{Turns, Command, Answer, Effect, KickEnds, KickRun, Kicks, KickAnswer, HasEffect, Does, Performs, Run, RunTold, Affects, IsDecided, effect}
-use Rattle.fs_device.specs.Run.{insert, insert_block, is_known, some_overlap, reset}
+use Rattle.plain_machine.specs.declared.error.DeviceError.{DeviceError}
+use Rattle.plain_machine.specs.declared.error.DeviceError.TheVariants as device
+use Rattle.plain_machine.specs.declared.refusal.Refusal.TheVariants as why
+use Rattle.plain_machine.specs.Step.{State, Exchange, Calls, Idle, Refused, Exchanged, Exchanges, StepOf, StepEnd}
+use Rattle.plain_machine.specs.Run as run
+use Rattle.plain_machine.specs.Run.{Turns, Command, Answer, Effect, KickEnds, KickRun, Kicks, KickAnswer, HasEffect, Does, Performs, Run, RunTold, Affects, IsDecided, effect}
+use Rattle.plain_machine.specs.Run.{insert, insert_block, is_known, some_overlap, reset}
 use Rattle.fs_confinement.specs.ReadSet.{place_if, places_for, is_at, is_among, Touched, nothing, and_then, step_touches}
 use Rattle.fs_confinement.specs.ReadSet.{end_touches, kick_touches, kicks_touch, guest_reads, guest_writes, plain_touches, command_touches, run_touches}
 use Rattle.fs_confinement.specs.Confinement.{copies, copies_nothing, AgreeOn}

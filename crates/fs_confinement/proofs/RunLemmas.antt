@@ -17,13 +17,13 @@ use Rattle.vm_memory.specs.Memory.{Memory, addresses, byte, reach, physical, tab
 use Rattle.vm_memory.proofs.Places.{length-addresses}
 use Rattle.fs_queue.specs.Queue.{Queue, fresh}
 use Rattle.virtiofsd_fuse.specs.Serving.{May}
-use Rattle.fs_device.specs.declared.refusal.Refusal.{Refusal}
-use Rattle.fs_device.specs.declared.refusal.Refusal.TheVariants as why
-use Rattle.fs_device.specs.Step.{State, with_queue}
-use Rattle.fs_device.specs.Run as run
-use Rattle.fs_device.specs.Run.{Turns, Command, Answer, Effect, Affects, ChangesTable, HasEffect, Does, IsDecided, Performs, LacksMemory, RunTold, effect}
-use Rattle.fs_device.specs.Run.{guest_written, insert, insert_block, remove_region, set_layout, is_known}
-use Rattle.fs_device.specs.Run.{has_len, some_overlap, reset, with_host, with_layout, with_ranges, goes_in, block_goes_in, command_takes_memory, ends_fit, no}
+use Rattle.plain_machine.specs.declared.refusal.Refusal.{Refusal}
+use Rattle.plain_machine.specs.declared.refusal.Refusal.TheVariants as why
+use Rattle.plain_machine.specs.Step.{State, with_queue}
+use Rattle.plain_machine.specs.Run as run
+use Rattle.plain_machine.specs.Run.{Turns, Command, Answer, Effect, Affects, ChangesTable, HasEffect, Does, IsDecided, Performs, LacksMemory, RunTold, effect}
+use Rattle.plain_machine.specs.Run.{guest_written, insert, insert_block, remove_region, set_layout, is_known}
+use Rattle.plain_machine.specs.Run.{has_len, some_overlap, reset, with_host, with_layout, with_ranges, goes_in, block_goes_in, command_takes_memory, ends_fit, no}
 use Rattle.fs_confinement.specs.ReadSet.{places_for, Touched, nothing, guest_reads, guest_writes, plain_touches, command_touches, run_touches}
 use Rattle.fs_confinement.specs.Confinement.{zeroed, without_bytes, without_its_bytes, SameButBytes, AgreeOn, KeepDifference, copies, copies_nothing, AllowsToo}
 use Rattle.fs_confinement.proofs.HostLemmas.{bare, nothing_differs, keep_both, agree_front, agree_back, agree_later, stores_aside, stores_keep, block_keeps, block_aside}

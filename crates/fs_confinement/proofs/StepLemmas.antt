@@ -10,11 +10,11 @@ use Rattle.fs_queue.specs.Returning.{writes, wants_notice}
 use Rattle.fs_queue.specs.Taking.{Offer, IsRequest, CannotFetch, Refuses, Offers, offer, after_refusal}
 use Rattle.fs_queue.specs.Taking as taking
 use Rattle.virtiofsd_fuse.specs.Serving.{May}
-use Rattle.fs_device.specs.declared.error.DeviceError.{DeviceError}
-use Rattle.fs_device.specs.declared.error.DeviceError.TheVariants as device
-use Rattle.fs_device.specs.MarkedPages.{returned_addresses}
-use Rattle.fs_device.specs.Step.{State, Exchange, Calls, StepEnd, Idle, Refused, Exchanged, Exchanges, ServesRequest, Acts, StepOf, Step, Returns, after_return, faulty, served_exchange, with_queue}
-use Rattle.fs_device.specs.Run.{Turns, KickEnds, KickRun, Kicks, KickAnswer, with_host}
+use Rattle.plain_machine.specs.declared.error.DeviceError.{DeviceError}
+use Rattle.plain_machine.specs.declared.error.DeviceError.TheVariants as device
+use Rattle.plain_machine.specs.MarkedPages.{returned_addresses}
+use Rattle.plain_machine.specs.Step.{State, Exchange, Calls, StepEnd, Idle, Refused, Exchanged, Exchanges, ServesRequest, Acts, StepOf, Step, Returns, after_return, faulty, served_exchange, with_queue}
+use Rattle.plain_machine.specs.Run.{Turns, KickEnds, KickRun, Kicks, KickAnswer, with_host}
 use Rattle.fs_confinement.specs.ReadSet.{places_for, offer_reads, flag_reads, room_in, step_writes, Touched, and_then, step_touches, end_touches, kick_touches, kicks_touch}
 use Rattle.fs_confinement.specs.Confinement.{without_bytes, without_its_bytes, SameButBytes, AgreeOn, KeepDifference}
 use Rattle.fs_confinement.proofs.HostLemmas.{bare, same_hosts, nothing_differs, keep_both, agree_front, agree_back, agree_later, agree_stored, stores_aside, stores_keep}

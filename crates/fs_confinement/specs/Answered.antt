@@ -5,7 +5,7 @@ use Rattle.fs_queue.specs.Returning.{returned}
 use Rattle.fs_queue.specs.Taking.{IsRequest, Offers, offer}
 use Rattle.virtiofsd_fuse.specs.Serving.{May, ServedMessage, served, setting}
 use Rattle.virtiofsd_fuse.specs.Grammar.{meaning}
-use Rattle.fs_device.specs.Step.{State, Exchange, Exchanged, Calls, Step, answers_alone, calls_alone, served_exchange}
+use Rattle.plain_machine.specs.Step.{State, Exchange, Exchanged, Calls, Step, answers_alone, calls_alone, served_exchange}
 
 -- a queue of a state offers this request with a room of these addresses
 pub record OffersRequest {F : Type 0} (s : State F) (i : ℕ) (q : Queue) (head : ℕ) (request room : List ℕ) : Type 0 where

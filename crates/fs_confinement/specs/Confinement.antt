@@ -3,9 +3,9 @@ use Rattle.std.specs.Prelude.{◌≡◌, ℕ, Bool, true, false, not, IsTrue, Li
 use Rattle.std.specs.List.{list_all}
 use Rattle.vm_memory_core.specs.Host.{Host, Block, Place, with_blocks}
 use Rattle.virtiofsd_fuse.specs.Serving.{May}
-use Rattle.fs_device.specs.Step.{State}
-use Rattle.fs_device.specs.Run as run
-use Rattle.fs_device.specs.Run.{Command, Answer, Turns, RunTold, with_host}
+use Rattle.plain_machine.specs.Step.{State}
+use Rattle.plain_machine.specs.Run as run
+use Rattle.plain_machine.specs.Run.{Command, Answer, Turns, RunTold, with_host}
 use Rattle.fs_confinement.specs.ReadSet.{is_among, byte_of, run_touches, read_set, written_set}
 
 -- a block of as many zeros, with its marks

@@ -10,12 +10,12 @@ use Rattle.fs_queue.specs.Queue.{with_stop}
 use Rattle.fs_queue.specs.Chain.{path, found}
 use Rattle.fs_queue.specs.Taking.{offer}
 use Rattle.virtiofsd_fuse.specs.Examples.{le16}
-use Rattle.fs_device.specs.Step.{State, Exchanged}
-use Rattle.fs_device.specs.declared.error.DeviceError.TheVariants as device_error
-use Rattle.fs_device.specs.declared.refusal.Refusal.TheVariants as why
-use Rattle.fs_device.specs.Run as run
-use Rattle.fs_device.specs.Run.{Command, Answer, Turn, KickRun, RunTold, effect}
-use Rattle.fs_device.specs.Examples.{blank, queue, put, descriptor_bytes, with_one_request, with_descriptors, Nothing, may, device, unknown_exchange, after_reply, one_step}
+use Rattle.plain_machine.specs.Step.{State, Exchanged}
+use Rattle.plain_machine.specs.declared.error.DeviceError.TheVariants as device_error
+use Rattle.plain_machine.specs.declared.refusal.Refusal.TheVariants as why
+use Rattle.plain_machine.specs.Run as run
+use Rattle.plain_machine.specs.Run.{Command, Answer, Turn, KickRun, RunTold, effect}
+use Rattle.plain_machine.specs.Examples.{blank, queue, put, descriptor_bytes, with_one_request, with_descriptors, Nothing, may, device, unknown_exchange, after_reply, one_step}
 use Rattle.fs_confinement.specs.ReadSet.{is_among, offer_reads, flag_reads, places_for, nothing, kick_touches, run_touches}
 use Rattle.fs_confinement.specs.Hidden.{hides, leaves_hidden}
 

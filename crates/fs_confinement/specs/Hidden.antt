@@ -3,9 +3,9 @@ use Rattle.std.specs.Prelude.{◌≡◌, ◌≢◌, ◌==◌, ℕ, Bool, false, 
 use Rattle.std.specs.List.{list_all, list_any}
 use Rattle.vm_memory.specs.Layout.{Region}
 use Rattle.virtiofsd_fuse.specs.Serving.{May}
-use Rattle.fs_device.specs.Step.{State}
-use Rattle.fs_device.specs.Run as run
-use Rattle.fs_device.specs.Run.{Command, Answer, Turns, Run, RunTold}
+use Rattle.plain_machine.specs.Step.{State}
+use Rattle.plain_machine.specs.Run as run
+use Rattle.plain_machine.specs.Run.{Command, Answer, Turns, Run, RunTold}
 use Rattle.fs_confinement.specs.ReadSet.{is_among, byte_of, read_set, written_set}
 use Rattle.fs_confinement.specs.Confinement.{copies, SameButBytes, AllowsToo}
 

@@ -15,12 +15,12 @@ use Rattle.fs_queue.specs.Chain.{Visit, entry_address, Found, IsChain, HasFault,
 use Rattle.fs_queue.specs.Loads.{reads_entry}
 use Rattle.fs_queue.specs.Taking.{Offer, Idle, Refuses, Offers, IsRequest, CannotFetch, readable, room_of, offer, addresses_of}
 use Rattle.virtiofsd_fuse.specs.Serving.{May}
-use Rattle.fs_device.specs.declared.error.DeviceError.{DeviceError}
-use Rattle.fs_device.specs.MarkedPages.{returned_addresses}
-use Rattle.fs_device.specs.Step as step
-use Rattle.fs_device.specs.Step.{State, Exchange, StepEnd, Refused, Exchanged}
-use Rattle.fs_device.specs.Run as run
-use Rattle.fs_device.specs.Run.{Command, Answer, Turns, KickRun, Kicks, KickAnswer, Performs, RunTold}
+use Rattle.plain_machine.specs.declared.error.DeviceError.{DeviceError}
+use Rattle.plain_machine.specs.MarkedPages.{returned_addresses}
+use Rattle.plain_machine.specs.Step as step
+use Rattle.plain_machine.specs.Step.{State, Exchange, StepEnd, Refused, Exchanged}
+use Rattle.plain_machine.specs.Run as run
+use Rattle.plain_machine.specs.Run.{Command, Answer, Turns, KickRun, Kicks, KickAnswer, Performs, RunTold}
 
 -- ---- places
 

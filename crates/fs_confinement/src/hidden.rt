@@ -3,7 +3,7 @@
 ghost use Rattle.std.specs.Prelude.{◌≡◌, ◌<◌, ℕ, length, map, zip, IfOk, OnErr};
 ghost use Rattle.fs_device.specs.CommandView.{answer_of, command_of};
 ghost use Rattle.fs_device.specs.MachineView.{machine_of};
-ghost use Rattle.fs_device.specs.Run.{Run};
+ghost use Rattle.plain_machine.specs.Run.{Run};
 ghost use Rattle.fs_confinement.specs.Hidden.{IsHidden, KeepsSecret};
 
 use crate::laws::law_hidden_blocks;

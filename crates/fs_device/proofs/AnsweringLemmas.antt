@@ -11,7 +11,7 @@ use Rattle.virtiofsd_fuse.specs.Serving.{May}
 use Rattle.fs_device.specs.declared.returned.Returned.{Returned}
 use Rattle.fs_device.specs.DeviceView.{request_of}
 use Rattle.fs_device.specs.Returned.{StepTold, told_exchange}
-use Rattle.fs_device.specs.Step.{State, Exchange, Exchanged, Calls, Step}
+use Rattle.plain_machine.specs.Step.{State, Exchange, Exchanged, Calls, Step}
 
 -- a chain's windows hold the request's bytes
 pub request_held : (m : Memory) (h : Host) (fetched : RequestAndRoom) (c : Chain) → m.host ≡ h → HoldsChain m fetched (Ok c) →

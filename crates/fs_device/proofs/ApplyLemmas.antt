@@ -14,7 +14,7 @@ use Rattle.vm_memory_core.proofs.Stores.{changed_at-set, set_all-span, set_in, w
 use Rattle.fs_device.specs.declared.applying.ApplyError.{ApplyError}
 use Rattle.fs_device.specs.declared.applying.ApplyError.TheVariants.{OutOfRange}
 use Rattle.fs_device.specs.declared.harvested.HarvestedPage.{HarvestedPage}
-use Rattle.fs_device.specs.Harvested.{Page}
+use Rattle.plain_machine.specs.Harvested.{Page}
 use Rattle.fs_device.specs.PageView.{page_view}
 use Rattle.fs_device.specs.Applying.{applied, first_refused, or_later, page_put, pages_put, refused_by, with_page}
 

@@ -20,11 +20,11 @@ use Rattle.virtiofsd_fuse.specs.Grammar as grammar
 use Rattle.virtiofsd_fuse.specs.Listings.{ListRequest, list_entries, readdir_call}
 use Rattle.virtiofsd_fuse.specs.Serving.{May, ServedMessage, Setting, setting, served, no_reply, answer_bytes, start_options, start_answered, list_ended}
 use Rattle.server_replies.proofs.ReplyLemmas.{length_reply, length_error}
-use Rattle.fs_device.specs.declared.error.DeviceError.{DeviceError}
-use Rattle.fs_device.specs.declared.refusal.Refusal.TheVariants as why
-use Rattle.fs_device.specs.Step.{State, Exchange, Calls, Exchanged, Exchanges, StepOf, faulty, served_exchange, EachSuits, calls_alone, answers_alone}
-use Rattle.fs_device.specs.Run as run
-use Rattle.fs_device.specs.Run.{Turn, Turns, Command, Answer, KickRun, Kicks, KickAnswer, Does, Performs, RunTold}
+use Rattle.plain_machine.specs.declared.error.DeviceError.{DeviceError}
+use Rattle.plain_machine.specs.declared.refusal.Refusal.TheVariants as why
+use Rattle.plain_machine.specs.Step.{State, Exchange, Calls, Exchanged, Exchanges, StepOf, faulty, served_exchange, EachSuits, calls_alone, answers_alone}
+use Rattle.plain_machine.specs.Run as run
+use Rattle.plain_machine.specs.Run.{Turn, Turns, Command, Answer, KickRun, Kicks, KickAnswer, Does, Performs, RunTold}
 use Rattle.fs_device.specs.Books.{answered, sent, written, accepted, nodes_in, nodes_listed, opcode_in, entry_count, forget_count, forgets_meant, IsBalanced}
 use Rattle.fs_device.proofs.NodeLemmas.{drop_reply, drop_error, none_in_nothing, not_zero}
 use Rattle.fs_device.proofs.MeaningLemmas.{has_entry, no_entry, not_true, CallFits, MeaningFits, ListFits, meaning_fits}

@@ -5,7 +5,7 @@ use Rattle.std.specs.Prelude.{slice_range, if◌then◌else◌}
 use Rattle.std.proofs.lemmas.List.{ext_get_or, length-take, get_or_append_left, get_or-append_right, get_or-take, get_or-drop, length_push}
 use Rattle.std.proofs.lemmas.Bool.{cases_lt}
 use Rattle.vm_memory_core.specs.Host.{Block, Host, changed_at, page_count, with_blocks}
-use Rattle.fs_device.specs.Harvested.{Page, block_pages, host_pages, harvested}
+use Rattle.plain_machine.specs.Harvested.{Page, block_pages, host_pages, harvested}
 use Rattle.fs_device.specs.Applying.{page_put, pages_put, with_page}
 
 -- ---- one page

@@ -11,7 +11,7 @@ use Rattle.fs_queue.proofs.TakeLemmas.{length-addresses_of}
 use Rattle.fs_queue.proofs.OfferedLemmas.{offered_fetches}
 use Rattle.virtiofsd_fuse.specs.Serving.{May}
 use Rattle.fs_device.specs.Laws.{joined_request, CutsDoNotMatter, OffersAreServedAlike}
-use Rattle.fs_device.specs.Step.{ServesRequest}
+use Rattle.plain_machine.specs.Step.{ServesRequest}
 
 three : (a b c : Bool) (x y z : ChainFault) (request room bytes places : List ℕ) →
     (if a then CannotFetch x else if b then CannotFetch y else if c then CannotFetch z else IsRequest bytes places) ≡ IsRequest request room → (request ≡ bytes) × (room ≡ places)

@@ -9,8 +9,8 @@ use Rattle.fuse_fs.proofs.Lengths.{sum-cons}
 use Rattle.vm_memory_core.specs.Host.{Host, Place, shape}
 use Rattle.vm_memory_core.specs.Window.{Stores, put_all}
 use Rattle.fs_device.specs.Behind.{RoomLeft}
-use Rattle.fs_device.specs.Fills.{Fills}
-use Rattle.fs_device.specs.FillsProof.{zip-front}
+use Rattle.plain_machine.specs.Fills.{Fills}
+use Rattle.plain_machine.specs.FillsProof.{zip-front}
 
 abbrev pub filling : List ℕ → RoomLeft → Filling
 filling got r = record { put = got; room = length r.places; rooms = r.rooms }

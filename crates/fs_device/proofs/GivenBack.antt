@@ -5,7 +5,7 @@ use Rattle.fuse_fs.specs.declared.answers.Context.{Context}
 use Rattle.fuse_fs.specs.Calls.{FileCall, FileAnswer, suits, kind_of}
 use Rattle.fuse_fs.specs.Calls as call
 use Rattle.server_calls.specs.Requests.{entry_node, give_back, given_back}
-use Rattle.fs_device.specs.Step.{Calls, EachSuits, calls_alone}
+use Rattle.plain_machine.specs.Step.{Calls, EachSuits, calls_alone}
 use Rattle.fs_device.specs.Books.{entry_count, forget_count}
 use Rattle.fs_device.proofs.MeaningLemmas.{no_entry, has_entry}
 use Rattle.fs_device.proofs.ListBooks.{entries_in, counts_in, entries_more, counts_more, no_step, one_step}

@@ -12,7 +12,7 @@ use Rattle.vm_memory_core.specs.Window.{put_byte}
 use Rattle.vm_memory.specs.Layout.{Region, place}
 use Rattle.vm_memory.specs.Memory.{Memory, memory_of, memory_behind, addresses, circular, reached, reach, byte, bytes, stored_all, stored_at}
 use Rattle.vm_memory.proofs.Places.{circular-is, length-circular, length-addresses, list_all-reached}
-use Rattle.fs_device.specs.Run.{guest_written}
+use Rattle.plain_machine.specs.Run.{guest_written}
 
 below : (n : ℕ) → n < 2 ^ 64 → nat_lt n (2 ^ 64) ≡ true
 below n h = grind (arith, nat_tests)

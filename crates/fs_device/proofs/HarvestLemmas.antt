@@ -8,7 +8,7 @@ use Rattle.std.proofs.lemmas.List.{drop_more, drop_all, get_or_past}
 use Rattle.std.proofs.lemmas.Option.{slice_get-get_or, unwrap_or-slice_get}
 use Rattle.vm_bitmaps.specs.Pages.{IsNextMarked, mark_of}
 use Rattle.vm_memory_core.specs.Host.{Block, Host, Shape, changed_at, cleared, shape, unmarked, with_blocks}
-use Rattle.fs_device.specs.Harvested.{Page, block_pages, host_pages, page_copied}
+use Rattle.plain_machine.specs.Harvested.{Page, block_pages, host_pages, page_copied}
 
 mark_is : (marks : List Bool) (p : ℕ) → p < length marks → unwrap_or (slice_get marks p) false ≡ get_or marks p false
 mark_is marks p h = ap (λ (o : Option Bool). unwrap_or o false) (slice_get-get_or marks p false h)

@@ -7,10 +7,10 @@ use Rattle.vm_memory.specs.Memory.{Memory}
 use Rattle.fs_queue.specs.declared.fault.QueueError.TheVariants as stop
 use Rattle.fs_queue.specs.Queue.{Queue}
 use Rattle.virtiofsd_fuse.specs.Serving.{May}
-use Rattle.fs_device.specs.declared.error.DeviceError.{DeviceError}
-use Rattle.fs_device.specs.declared.error.DeviceError.TheVariants as device
-use Rattle.fs_device.specs.Step.{State, Exchange, Calls, Idle, Refused, Exchanged, StepOf, Step}
-use Rattle.fs_device.specs.Run.{Turn, KickRun, Done, reset, is_open}
+use Rattle.plain_machine.specs.declared.error.DeviceError.{DeviceError}
+use Rattle.plain_machine.specs.declared.error.DeviceError.TheVariants as device
+use Rattle.plain_machine.specs.Step.{State, Exchange, Calls, Idle, Refused, Exchanged, StepOf, Step}
+use Rattle.plain_machine.specs.Run.{Turn, KickRun, Done, reset, is_open}
 use Rattle.fs_device.specs.CommandView.{KickLists}
 use Rattle.fs_queue.specs.Taking.{Refuses, offer}
 use Rattle.fs_device.proofs.StepLemmas.{Fixed, state, refuses, unchanged}

@@ -16,9 +16,9 @@ use Rattle.vm_bitmaps.specs.Pages.{pages_of}
 use Rattle.vm_memory_core.specs.Host.{page_count}
 use Rattle.vm_memory.specs.Layout.{Backing}
 use Rattle.vm_memory.specs.Making.{backing_at, region_over}
-use Rattle.fs_device.specs.declared.refusal.Refusal.TheVariants as why
-use Rattle.fs_device.specs.Step.{State}
-use Rattle.fs_device.specs.Run.{is_known, has_len, some_overlap, goes_in, block_goes_in, insert_block, insert, no}
+use Rattle.plain_machine.specs.declared.refusal.Refusal.TheVariants as why
+use Rattle.plain_machine.specs.Step.{State}
+use Rattle.plain_machine.specs.Run.{is_known, has_len, some_overlap, goes_in, block_goes_in, insert_block, insert, no}
 use Rattle.vm_memory.proofs.ChangeLemmas.{above_all}
 use Rattle.vm_memory.proofs.LayoutLemmas.{HasBlock}
 

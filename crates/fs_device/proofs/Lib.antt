@@ -11,9 +11,6 @@ pub mod MappingLemmas
 pub mod CutLemmas
 pub mod NodeLemmas
 pub mod MeaningLemmas
-pub mod HeaderLemmas
-pub mod UsedLemmas
-pub mod StepByLemmas
 pub mod ListBooks
 pub mod GivenBack
 pub mod BookLemmas
@@ -21,11 +18,9 @@ pub mod TellingLemmas
 pub mod MarkLemmas
 pub mod MarkedRuns
 pub mod MoveLemmas
-pub mod PageLemmas
 pub mod PageRuns
 pub mod MigrateLemmas
 pub mod FillLemmas
-pub mod ApartLemmas
 pub mod BehindLemmas
 pub mod LentLemmas
 pub mod HarvestLemmas

@@ -10,7 +10,7 @@ use Rattle.fuse_fs.specs.Calls.{FileCall, FileAnswer, Listed, suits}
 use Rattle.fuse_fs.specs.Calls as call
 use Rattle.server_replies.specs.Entries.{Fit, GoesIn, IsFull, IsWrong, fit_of, entry_len, entry_bytes, no_node, is_dot}
 use Rattle.virtiofsd_fuse.specs.Listings.{ListRequest, ListingResult, Next, placed, undo_call, with_entry, after_call, looked_up, list_entry, list_entries}
-use Rattle.fs_device.specs.Step.{Calls, EachSuits, calls_alone, answers_alone}
+use Rattle.plain_machine.specs.Step.{Calls, EachSuits, calls_alone, answers_alone}
 use Rattle.fs_device.specs.Books.{entry_count, forget_count, nodes_listed}
 use Rattle.fs_device.proofs.NodeLemmas.{goes_in_fits, length_entry, nodes_more}
 use Rattle.fs_device.proofs.MeaningLemmas.{no_entry, not_true}

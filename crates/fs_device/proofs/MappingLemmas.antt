@@ -11,9 +11,9 @@ use Rattle.vm_memory_core.specs.Host.{Host, with_block}
 use Rattle.vm_memory_core.specs.Lending.{with_table_at}
 use Rattle.vm_memory.specs.Layout.{Region}
 use Rattle.vm_memory.specs.Translated.{HoldsBehind, ranges_in}
-use Rattle.fs_device.specs.declared.refusal.Refusal.TheVariants as why
-use Rattle.fs_device.specs.Step.{State}
-use Rattle.fs_device.specs.Run.{IsRefused, ChangesTable, ends_fit}
+use Rattle.plain_machine.specs.declared.refusal.Refusal.TheVariants as why
+use Rattle.plain_machine.specs.Step.{State}
+use Rattle.plain_machine.specs.Run.{IsRefused, ChangesTable, ends_fit}
 use Rattle.fs_device.proofs.LayoutLemmas.{kept}
 
 -- ---- ends

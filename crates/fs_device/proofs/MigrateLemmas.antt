@@ -10,7 +10,7 @@ use Rattle.vm_memory_core.specs.Host.{Host, Block, Shape, lengths, page_count, s
 use Rattle.fs_device.specs.declared.applying.ApplyError.{ApplyError}
 use Rattle.fs_device.specs.declared.applying.ApplyError.TheVariants.{OutOfRange}
 use Rattle.fs_device.specs.declared.harvested.HarvestedPage.{HarvestedPage}
-use Rattle.fs_device.specs.Harvested.{Page}
+use Rattle.plain_machine.specs.Harvested.{Page}
 use Rattle.fs_device.specs.PageView.{page_view}
 use Rattle.fs_device.specs.Applying.{applied, first_refused, pages_put, refused_by}
 use Rattle.fs_device.proofs.CatchUpLemmas.{pages_put-append}
@@ -24,9 +24,9 @@ use Rattle.fs_record.specs.Streams.{GoesOut}
 use Rattle.virtiofsd_fuse.specs.Serving.{May}
 use Rattle.fs_device.specs.declared.command.Answer as told
 use Rattle.fs_device.specs.declared.command.Command as fetched
-use Rattle.fs_device.specs.Step.{State}
-use Rattle.fs_device.specs.Run as run
-use Rattle.fs_device.specs.Run.{Command, Answer, Turns, Performs, RunTold, Run, with_host}
+use Rattle.plain_machine.specs.Step.{State}
+use Rattle.plain_machine.specs.Run as run
+use Rattle.plain_machine.specs.Run.{Command, Answer, Turns, Performs, RunTold, Run, with_host}
 use Rattle.fs_device.specs.CommandView.{answer_of, command_of}
 use Rattle.fs_device.specs.Moving.{CanMoveAgain, HasItsMarks, ImageCatchesUp, RunsFromImage, follows_image, pages_answered, pages_of_answer}
 use Rattle.fs_device.proofs.LayoutLemmas.{page_count-is}

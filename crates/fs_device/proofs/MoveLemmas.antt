@@ -13,19 +13,20 @@ use Rattle.fs_queue.specs.declared.fault.QueueError.TheVariants as stop
 use Rattle.fs_queue.specs.Queue.{Queue, fresh}
 use Rattle.fs_queue.specs.Taking.{Offer, IsRequest, CannotFetch, Refuses, Offers}
 use Rattle.fs_queue.specs.Taking as taking
-use Rattle.fs_device.specs.Harvested.{Page, harvested}
+use Rattle.plain_machine.proofs.PlainPlaces.{IsPlain, plain_place}
+use Rattle.plain_machine.specs.Harvested.{Page, harvested}
 use Rattle.fs_device.specs.Applying.{first_refused, pages_put}
 use Rattle.fs_device.proofs.CatchUpLemmas.{Tracks, pages_put-append}
 use Rattle.fs_device.proofs.TrackLemmas.{HavePlaces, harvest_is_host, harvest_placed, harvest-lengths, places-append, stale_marked, tracks_copy, tracks_harvest, tracks_store, tracks-sized}
 use Rattle.fs_record.proofs.ReadingLemmas.{one_reading}
 use Rattle.virtiofsd_fuse.specs.Serving.{May}
-use Rattle.fs_device.specs.declared.error.DeviceError.{DeviceError}
-use Rattle.fs_device.specs.declared.error.DeviceError.TheVariants as device
-use Rattle.fs_device.specs.declared.refusal.Refusal.TheVariants as why
-use Rattle.fs_device.specs.Step.{State, Exchange, Calls, Idle, Refused, Exchanged, Exchanges, StepOf}
-use Rattle.fs_device.specs.Run as run
-use Rattle.fs_device.specs.Run.{Turns, Command, Answer, Effect, KickEnds, KickRun, Kicks, KickAnswer, HasEffect, Does, Performs, RunTold, Affects, effect, insert}
-use Rattle.fs_device.specs.Run.{insert_block, is_known, some_overlap, reset}
+use Rattle.plain_machine.specs.declared.error.DeviceError.{DeviceError}
+use Rattle.plain_machine.specs.declared.error.DeviceError.TheVariants as device
+use Rattle.plain_machine.specs.declared.refusal.Refusal.TheVariants as why
+use Rattle.plain_machine.specs.Step.{State, Exchange, Calls, Idle, Refused, Exchanged, Exchanges, StepOf}
+use Rattle.plain_machine.specs.Run as run
+use Rattle.plain_machine.specs.Run.{Turns, Command, Answer, Effect, KickEnds, KickRun, Kicks, KickAnswer, HasEffect, Does, Performs, RunTold, Affects, effect, insert}
+use Rattle.plain_machine.specs.Run.{insert_block, is_known, some_overlap, reset}
 use Rattle.fs_device.specs.Moving.{follows_image, made_over, pages_of_answer, pages_answered, HasItsMarks, IsStale, MovedIsLast, page_mark, RunsFromImage}
 
 -- ---- stores
@@ -33,19 +34,6 @@ use Rattle.fs_device.specs.Moving.{follows_image, made_over, pages_of_answer, pa
 -- no table is used, and what of an image differs lies on a marked page
 abbrev TracksOn : Host → Memory → Type 0
 TracksOn image m = (m.translates ≡ false) × Tracks image m.host
-
--- a write there marks the page of the place itself
-abbrev pub IsPlain : Option Place → Type 0
-IsPlain o = IfSome o (λ p. p.io ≡ None)
-
-plain_or : (b : Bool) (p : Place) (o : Option Place) → p.io ≡ None → IsPlain o → IsPlain (option_or (if b then Some p else None) o)
-plain_or true p o here later = here
-plain_or false p o here later = later
-
-pub plain_place : (layout : List Region) (a : ℕ) → IsPlain (place layout a)
-unfolding place
-plain_place [] a = tt
-plain_place (r ∷ layout) a = plain_or (is_within r.start r.size a) _ (place layout a) refl (plain_place layout a)
 
 placed_held : (image : Host) (m : Memory) (byte : ℕ) (o : Option Place) → IsPlain o → TracksOn image m → TracksOn image (stored_at m byte o)
 placed_held image m byte None plain h = h

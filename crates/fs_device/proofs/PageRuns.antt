@@ -13,16 +13,16 @@ use Rattle.fs_queue.specs.Queue.{Queue, fresh}
 use Rattle.fs_queue.specs.Taking.{room_of}
 use Rattle.fs_queue.specs.Returning.{writes}
 use Rattle.virtiofsd_fuse.specs.Serving.{May}
-use Rattle.fs_device.specs.declared.error.DeviceError.{DeviceError}
-use Rattle.fs_device.specs.declared.refusal.Refusal.TheVariants as why
-use Rattle.fs_device.specs.Step.{State}
-use Rattle.fs_device.specs.Run as run
-use Rattle.fs_device.specs.Run.{Turns, Command, Answer, Effect, ChangesTable, KickEnds, KickRun, Kicks, KickAnswer, HasEffect, Does, Performs, Affects, effect, insert}
-use Rattle.fs_device.specs.Run.{insert_block, is_known, some_overlap, reset}
-use Rattle.fs_device.specs.MarkedPages.{Marks, KickWrites, ClearsMarks, KeepsMarks, DoneMarks, AnswerMarks, CommandsMark}
+use Rattle.plain_machine.specs.declared.error.DeviceError.{DeviceError}
+use Rattle.plain_machine.specs.declared.refusal.Refusal.TheVariants as why
+use Rattle.plain_machine.specs.Step.{State}
+use Rattle.plain_machine.specs.Run as run
+use Rattle.plain_machine.specs.Run.{Turns, Command, Answer, Effect, ChangesTable, KickEnds, KickRun, Kicks, KickAnswer, HasEffect, Does, Performs, Affects, effect, insert}
+use Rattle.plain_machine.specs.Run.{insert_block, is_known, some_overlap, reset}
+use Rattle.plain_machine.specs.MarkedPages.{Marks, KickWrites, ClearsMarks, KeepsMarks, DoneMarks, AnswerMarks, CommandsMark}
 use Rattle.fs_device.proofs.TellingLemmas.{end_keeps}
-use Rattle.fs_device.proofs.UsedLemmas.{exchange_returns, step_offers}
-use Rattle.fs_device.proofs.PageLemmas.{marks_join, none_written, ways, ways_stay, writes_mark}
+use Rattle.plain_machine.proofs.UsedLemmas.{exchange_returns, step_offers}
+use Rattle.plain_machine.proofs.PageLemmas.{marks_join, none_written, ways, ways_stay, writes_mark}
 
 -- ---- marks that stay, and marks that go
 

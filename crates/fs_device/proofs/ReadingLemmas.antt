@@ -13,10 +13,10 @@ use Rattle.fs_queue.specs.Queue.{Queue}
 use Rattle.fs_queue.specs.Taking.{RequestAndRoom}
 use Rattle.fs_queue.specs.Returning.{PutFrontLast}
 use Rattle.fs_queue.specs.Windows.{HoldsChain, IsTaken, chain_places}
-use Rattle.fs_device.specs.Apart.{Apart}
+use Rattle.plain_machine.specs.Apart.{Apart}
 use Rattle.fs_device.specs.Behind.{HasBehind}
-use Rattle.fs_device.specs.Fills.{Fills}
-use Rattle.fs_device.proofs.ApartLemmas.{front_last}
+use Rattle.plain_machine.specs.Fills.{Fills}
+use Rattle.plain_machine.proofs.ApartLemmas.{front_last}
 use Rattle.virtiofsd_fuse.specs.declared.reads.ReadReply.{ReadReply}
 use Rattle.virtiofsd_fuse.specs.declared.reads.ReadRequest.{ReadRequest}
 use Rattle.virtiofsd_fuse.specs.declared.server.Server.{Server}
@@ -29,7 +29,7 @@ use Rattle.fuse_wire.specs.Opcodes.{opcode_of}
 use Rattle.server_segments.specs.declared.error.Error.TheVariants.{DecodeMessage}
 use Rattle.server_requests.specs.Reading.{Read, Reading, Faults, and_then, give, needs, reading_of, ◌>>=◌, ◌>>◌}
 use Rattle.virtiofsd_fuse.specs.Serving.{May, Handles, ServerHandles, setting}
-use Rattle.fs_device.specs.Step.{Calls}
+use Rattle.plain_machine.specs.Step.{Calls}
 use Rattle.fs_device.specs.DeviceView.{AnswersRequest, ServesChain, request_of, server_state, state_of}
 use Rattle.fs_device.specs.ReplyFront.{AnswersAt, AnswersFront, front_bytes}
 use Rattle.fs_device.specs.declared.reply_front.PreparedReply.{PreparedReply}
@@ -37,7 +37,7 @@ use Rattle.fs_device.specs.declared.reply_front.ReplyFront.TheVariants.{Header}
 use Rattle.fs_device.specs.declared.returned.Returned.{Returned}
 use Rattle.fs_device.specs.DevicePartsView.{DeviceParts}
 use Rattle.fs_device.specs.Returned.{StepTold}
-use Rattle.fs_device.specs.Step.{Exchange}
+use Rattle.plain_machine.specs.Step.{Exchange}
 use Rattle.fs_queue.specs.Returning.{advanced, returned, wants_notice}
 use Rattle.fs_queue.specs.Taking.{room_of}
 use Rattle.fs_device.specs.Phases.{HasTaken}

@@ -1,8 +1,8 @@
 -- a run goes on by one command
 use Rattle.std.proofs.Common.{◌≡◌, suc, List, [], ◌∷◌, ◌++◌, length, map, zip, append_assoc, append-nil, ◌∙◌, arith, sym, refl, ap, subst}
 use Rattle.virtiofsd_fuse.specs.Serving.{May}
-use Rattle.fs_device.specs.Step.{State}
-use Rattle.fs_device.specs.Run.{Command, Answer, Turns, Performs, RunTold, Run}
+use Rattle.plain_machine.specs.Step.{State}
+use Rattle.plain_machine.specs.Run.{Command, Answer, Turns, Performs, RunTold, Run}
 
 -- one more of each
 zip_more : {X Y A B : Type 0} (f : X → A) (g : Y → B) (xs : List X) (ys : List Y) (x : X) (y : Y) → length ys ≡ length xs →

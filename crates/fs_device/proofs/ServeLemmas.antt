@@ -11,9 +11,9 @@ use Rattle.server_segments.specs.declared.error.Error.{Error}
 use Rattle.virtiofsd_fuse.specs.Grammar.{meaning}
 use Rattle.virtiofsd_fuse.specs.Serving.{May, ServedMessage, setting, served_of, Handles, is_memory}
 use Rattle.virtiofsd_fuse.specs.Serving as server
-use Rattle.fs_device.specs.declared.exchange.Fault.{Fault}
-use Rattle.fs_device.specs.declared.exchange.Fault.TheVariants as fault
-use Rattle.fs_device.specs.Step.{Exchange, Calls, ServesRequest}
+use Rattle.plain_machine.specs.declared.fault.Fault.{Fault}
+use Rattle.plain_machine.specs.declared.fault.Fault.TheVariants as fault
+use Rattle.plain_machine.specs.Step.{Exchange, Calls, ServesRequest}
 use Rattle.fs_device.specs.DeviceView.{request_of, ServesChain, AnswersRequest}
 
 -- a reply that was written whole

@@ -9,7 +9,7 @@ use Rattle.std.proofs.lemmas.Option.{slice_get-get_or, slice_get_past}
 use Rattle.vm_memory_core.specs.Host.{Block, Host, Shape, Place, IoAddress, byte_at, changed_at, cleared, lengths, marked, page_count, unmarked, with_byte, with_mark_by}
 use Rattle.vm_memory_core.specs.Window.{put_byte}
 use Rattle.fs_device.specs.declared.applying.ApplyError.{ApplyError}
-use Rattle.fs_device.specs.Harvested.{Page, block_pages, host_pages, harvested}
+use Rattle.plain_machine.specs.Harvested.{Page, block_pages, host_pages, harvested}
 use Rattle.fs_device.specs.Applying.{first_refused, or_later, pages_put, refused_by}
 use Rattle.fs_device.proofs.HarvestLemmas.{shape-cleared}
 use Rattle.fs_device.proofs.CatchUpLemmas.{BlockTracks, BlocksTrack, Tracks, harvest_restores, caught_up}

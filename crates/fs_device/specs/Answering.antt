@@ -3,7 +3,7 @@ use Rattle.std.specs.Prelude.{◌≡◌, ◌≤◌, ℕ, List, length, Option, S
 use Rattle.virtiofsd_fuse.specs.declared.server.Server.{Server}
 use Rattle.virtiofsd_fuse.specs.Serving.{May}
 use Rattle.fs_device.specs.declared.answer_by_copy.CopiedReply.{CopiedReply}
-use Rattle.fs_device.specs.Step.{Calls}
+use Rattle.plain_machine.specs.Step.{Calls}
 use Rattle.fs_device.specs.DeviceView.{server_state, AnswersRequest}
 
 -- a request is answered into a room, by a reply that fits or a fault; or an allocation failed, and nothing changed

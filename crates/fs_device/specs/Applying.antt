@@ -3,7 +3,7 @@ use Rattle.std.specs.Prelude.{ℕ, ◌+◌, nat_le, List, [], ◌∷◌, ◌++�
 use Rattle.vm_memory_core.specs.Host.{Host, changed_at, with_blocks}
 use Rattle.fs_device.specs.declared.applying.ApplyError.{ApplyError}
 use Rattle.fs_device.specs.declared.applying.ApplyError.TheVariants.{UnknownBlock, OutOfRange}
-use Rattle.fs_device.specs.Harvested.{Page}
+use Rattle.plain_machine.specs.Harvested.{Page}
 
 -- the bytes of a block, with those of a page from an offset on
 abbrev pub with_page : List ℕ → (offset : ℕ) → (page : List ℕ) → List ℕ

@@ -3,7 +3,7 @@ use Rattle.std.specs.Prelude.{◌≡◌, ◌≤◌, ◌<◌, ℕ, List, length, 
 use Rattle.fuse_fs.specs.Lengths.{first}
 use Rattle.vm_memory_core.specs.Host.{Place}
 use Rattle.vm_memory_core.specs.Window.{Window, places_of}
-use Rattle.fs_device.specs.Apart.{Apart}
+use Rattle.plain_machine.specs.Apart.{Apart}
 
 -- a room has n places, and none of them is a byte that is behind them too
 pub record HasBehind (room : List Place) (n : ℕ) : Type 0 where

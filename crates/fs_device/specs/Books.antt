@@ -8,8 +8,8 @@ use Rattle.fuse_fs.specs.Calls.{FileCall, FileAnswer, Forget, BatchForget, HasEn
 use Rattle.server_replies.specs.Entries.{entry_len}
 use Rattle.virtiofsd_fuse.specs.Grammar.{Meaning, Asks, One, meaning}
 use Rattle.virtiofsd_fuse.specs.Serving.{May}
-use Rattle.fs_device.specs.Step.{State}
-use Rattle.fs_device.specs.Run.{Turn, Turns, Command, Answer, RunTold}
+use Rattle.plain_machine.specs.Step.{State}
+use Rattle.plain_machine.specs.Run.{Turn, Turns, Command, Answer, RunTold}
 
 -- ---- what the file system was asked, and what it answered
 

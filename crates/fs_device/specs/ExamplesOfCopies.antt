@@ -2,7 +2,7 @@
 use Rattle.std.specs.Prelude.{◌≡◌, ℕ, true, false, List, [], ◌∷◌, refl, Some, None}
 use Rattle.vm_memory_core.specs.Host.{Host, cleared, lengths}
 use Rattle.fs_device.specs.declared.applying.ApplyError.TheVariants.{UnknownBlock, OutOfRange}
-use Rattle.fs_device.specs.Harvested.{Page, block_pages, host_pages, harvested}
+use Rattle.plain_machine.specs.Harvested.{Page, block_pages, host_pages, harvested}
 use Rattle.fs_device.specs.Applying.{first_refused, pages_put}
 
 -- a host of two blocks with these bytes, of which the first alone is marked

@@ -8,8 +8,8 @@ use Rattle.vm_memory.specs.Layout.{place}
 use Rattle.vm_memory.specs.Memory.{Memory, memory_behind, stored_all}
 use Rattle.vm_values.specs.Fields as fields
 use Rattle.server_replies.specs.WholeReplies.{reply_bytes, error_bytes}
-use Rattle.fs_device.specs.UsedLength.{header_length}
-use Rattle.fs_device.specs.MarkedPages.{block_mark, io_mark}
+use Rattle.plain_machine.specs.UsedLength.{header_length}
+use Rattle.plain_machine.specs.MarkedPages.{block_mark, io_mark}
 
 -- ---- the length in a header
 

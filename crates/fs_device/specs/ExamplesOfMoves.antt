@@ -3,12 +3,12 @@ use Rattle.std.specs.Prelude.{◌≡◌, ℕ, Bool, true, false, List, [], ◌�
 use Rattle.vm_memory_core.specs.Host.{Host, Place, byte_at, lengths}
 use Rattle.vm_memory.specs.Layout.{place}
 use Rattle.vm_memory.specs.Memory.{memory_of, addresses, stored_all}
-use Rattle.fs_device.specs.Harvested.{block_pages, host_pages}
+use Rattle.plain_machine.specs.Harvested.{block_pages, host_pages}
 use Rattle.fs_device.specs.Applying.{first_refused, pages_put}
-use Rattle.fs_device.specs.Step.{State}
-use Rattle.fs_device.specs.Run as run
-use Rattle.fs_device.specs.Run.{Command, Answer, RunTold, effect}
-use Rattle.fs_device.specs.Examples.{queue, Nothing, may, device}
+use Rattle.plain_machine.specs.Step.{State}
+use Rattle.plain_machine.specs.Run as run
+use Rattle.plain_machine.specs.Run.{Command, Answer, RunTold, effect}
+use Rattle.plain_machine.specs.Examples.{queue, Nothing, may, device}
 use Rattle.fs_device.specs.Moving.{RunsFromImage, page_mark, pages_answered}
 use Rattle.fs_device.specs.Migrating.{IsMoved}
 

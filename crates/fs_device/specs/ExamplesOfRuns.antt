@@ -28,16 +28,16 @@ use Rattle.virtiofsd_fuse.specs.Examples.{le16, le32, le64, zeros, nobody, in_he
 use Rattle.virtiofsd_fuse.specs.Grammar.{meaning, meant, row}
 use Rattle.virtiofsd_fuse.specs.Listings.{list_entries}
 use Rattle.virtiofsd_fuse.specs.Serving.{May, ServedMessage, served, setting}
-use Rattle.fs_device.specs.declared.error.DeviceError.TheVariants as device_error
-use Rattle.fs_device.specs.declared.exchange.Fault.TheVariants as fault
-use Rattle.fs_device.specs.declared.refusal.Refusal.TheVariants as why
-use Rattle.fs_device.specs.Step.{State, Exchange, Exchanged, Step, after_return}
-use Rattle.fs_device.specs.Harvested.{block_pages, host_pages, harvested}
-use Rattle.fs_device.specs.Run as run
-use Rattle.fs_device.specs.Run.{Command, Answer, Turn, Affects, Run, RunTold, KickRun, command_takes_memory, effect, with_ranges}
+use Rattle.plain_machine.specs.declared.error.DeviceError.TheVariants as device_error
+use Rattle.plain_machine.specs.declared.fault.Fault.TheVariants as fault
+use Rattle.plain_machine.specs.declared.refusal.Refusal.TheVariants as why
+use Rattle.plain_machine.specs.Step.{State, Exchange, Exchanged, Step, after_return}
+use Rattle.plain_machine.specs.Harvested.{block_pages, host_pages, harvested}
+use Rattle.plain_machine.specs.Run as run
+use Rattle.plain_machine.specs.Run.{Command, Answer, Turn, Affects, Run, RunTold, KickRun, command_takes_memory, effect, with_ranges}
 use Rattle.fs_device.specs.Marks.{SameButMarks, SameEvents}
 use Rattle.fs_device.specs.Books.{answered, sent, written, accepted, nodes_listed}
-use Rattle.fs_device.specs.Examples.{blank, queue, put, descriptor_bytes, request, with_one_request, Nothing, may, device, unknown_reply, unknown_exchange, after_reply, one_step}
+use Rattle.plain_machine.specs.Examples.{blank, queue, put, descriptor_bytes, request, with_one_request, Nothing, may, device, unknown_reply, unknown_exchange, after_reply, one_step}
 
 -- ---- kicks
 

@@ -5,7 +5,7 @@ use Rattle.fs_queue.specs.Queue.{Queue}
 use Rattle.fs_queue.specs.Chain.{Descriptor, IsChain, chain}
 use Rattle.fs_queue.specs.Taking.{readable, writable, total_len, IsRequest, request_and_room, Offers, offer}
 use Rattle.virtiofsd_fuse.specs.Serving.{May, ServedMessage}
-use Rattle.fs_device.specs.Step.{Calls, ServesRequest}
+use Rattle.plain_machine.specs.Step.{Calls, ServesRequest}
 
 -- the flat bytes of a chain's request
 abbrev pub joined_request : Memory → List Descriptor → List ℕ

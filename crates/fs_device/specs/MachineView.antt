@@ -1,6 +1,6 @@
 -- A machine, as the plain one.
 use Rattle.fs_device.specs.declared.machine.Machine.{Machine}
-use Rattle.fs_device.specs.Step.{State}
+use Rattle.plain_machine.specs.Step.{State}
 use Rattle.vm_memory.specs.Memory.{memory_behind}
 use Rattle.fs_device.specs.DeviceView.{state_of}
 

@@ -2,8 +2,8 @@
 use Rattle.std.specs.Prelude.{◌≡◌, Bool, false, List, [], ◌∷◌, map}
 use Rattle.vm_memory_core.specs.Host.{Host, unmarked}
 use Rattle.virtiofsd_fuse.specs.Serving.{May}
-use Rattle.fs_device.specs.Step.{State}
-use Rattle.fs_device.specs.Run.{Command, Answer, Done, Bytes, NewBlockIs, Served, Copied, Pages, IsRefused, Turns, RunTold, with_host}
+use Rattle.plain_machine.specs.Step.{State}
+use Rattle.plain_machine.specs.Run.{Command, Answer, Done, Bytes, NewBlockIs, Served, Copied, Pages, IsRefused, Turns, RunTold, with_host}
 
 -- as many pages, none of which is marked
 abbrev pub none_marked : List Bool → List Bool

@@ -1,13 +1,13 @@
 -- A machine that is moved: as it goes on there, it would have gone on here.
 use Rattle.std.specs.Prelude.{◌≡◌, ◌⊎◌, ◌++◌, List, [], ◌∷◌, length, map, zip}
 use Rattle.std.specs.List.{flat_map}
-use Rattle.fs_device.specs.Harvested.{Page}
+use Rattle.plain_machine.specs.Harvested.{Page}
 use Rattle.fs_device.specs.Applying.{pages_put}
 use Rattle.vm_memory_core.specs.Host.{Host}
 use Rattle.virtiofsd_fuse.specs.Serving.{May}
 use Rattle.fs_device.specs.declared.command.Answer as told
-use Rattle.fs_device.specs.Step.{State}
-use Rattle.fs_device.specs.Run.{Command, Image, Harvest, Answer, Copied, Pages, Turns, Run, RunTold, with_host}
+use Rattle.plain_machine.specs.Step.{State}
+use Rattle.plain_machine.specs.Run.{Command, Image, Harvest, Answer, Copied, Pages, Turns, Run, RunTold, with_host}
 use Rattle.fs_device.specs.CommandView.{answer_of}
 use Rattle.fs_device.specs.Moving.{RunsFromImage, pages_answered, pages_of_answer}
 

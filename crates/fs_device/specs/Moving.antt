@@ -5,11 +5,11 @@ use Rattle.vm_memory_core.specs.Host.{Host, Place, byte_at, lengths, page_count}
 use Rattle.vm_memory.specs.Memory.{memory_behind}
 use Rattle.fs_queue.specs.Queue.{Queue}
 use Rattle.fs_record.specs.Record.{Version, IsRecord}
-use Rattle.fs_device.specs.Harvested.{Page}
+use Rattle.plain_machine.specs.Harvested.{Page}
 use Rattle.fs_device.specs.Applying.{first_refused, pages_put}
 use Rattle.virtiofsd_fuse.specs.Serving.{May}
-use Rattle.fs_device.specs.Step.{State}
-use Rattle.fs_device.specs.Run.{Command, NewBlock, Map, Unmap, UnmapAll, SetIommu, Image, Harvest, Answer, Copied, Pages, Run}
+use Rattle.plain_machine.specs.Step.{State}
+use Rattle.plain_machine.specs.Run.{Command, NewBlock, Map, Unmap, UnmapAll, SetIommu, Image, Harvest, Answer, Copied, Pages, Run}
 
 -- a place where an image, with pages put in, differs from the host
 abbrev pub IsStale : (image : Host) → List Page → (host : Host) → Place → Type 0

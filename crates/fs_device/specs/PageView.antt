@@ -1,6 +1,6 @@
 -- A harvested page, in the terms of the definitions.
 use Rattle.fs_device.specs.declared.harvested.HarvestedPage.{HarvestedPage}
-use Rattle.fs_device.specs.Harvested.{Page}
+use Rattle.plain_machine.specs.Harvested.{Page}
 
 -- a harvested page
 abbrev pub page_view : HarvestedPage → Page

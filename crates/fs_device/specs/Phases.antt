@@ -12,9 +12,9 @@ use Rattle.server_segments.specs.ReaderAndWriterView.{ReaderView}
 use Rattle.fuse_fs.specs.Lengths.{filled}
 use Rattle.virtiofsd_fuse.specs.WantOfMemory.{may_take_memory}
 use Rattle.virtiofsd_fuse.specs.Serving.{May}
-use Rattle.fs_device.specs.declared.error.DeviceError.{DeviceError}
-use Rattle.fs_device.specs.Step.{State, Exchange, Idle, Refused, Calls, Step, after_return}
-use Rattle.fs_device.specs.declared.exchange.Fault.TheVariants as fault
+use Rattle.plain_machine.specs.declared.error.DeviceError.{DeviceError}
+use Rattle.plain_machine.specs.Step.{State, Exchange, Idle, Refused, Calls, Step, after_return}
+use Rattle.plain_machine.specs.declared.fault.Fault.TheVariants as fault
 use Rattle.fs_device.specs.DeviceView.{AnswersRequest, ServesChain, request_of}
 
 -- a chain was taken from queue i: over this memory, with this limit, the queue offers it, and the place has its windows

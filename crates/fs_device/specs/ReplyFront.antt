@@ -8,12 +8,12 @@ use Rattle.fs_queue.specs.Returning.{PutFrontLast}
 use Rattle.fs_queue.specs.Windows.{chain_places}
 use Rattle.virtiofsd_fuse.specs.declared.server.Server.{Server}
 use Rattle.virtiofsd_fuse.specs.Serving.{May}
-use Rattle.fs_device.specs.declared.exchange.Fault.{Fault}
+use Rattle.plain_machine.specs.declared.fault.Fault.{Fault}
 use Rattle.fs_device.specs.declared.reply_front.PreparedReply.{PreparedReply}
 use Rattle.fs_device.specs.declared.reply_front.ReplyFront.{ReplyFront}
 use Rattle.fs_device.specs.declared.reply_front.ReplyFront.TheVariants as front
 use Rattle.fs_device.specs.declared.answer_by_copy.CopiedReply.{CopiedReply}
-use Rattle.fs_device.specs.Step.{Calls, Exchange}
+use Rattle.plain_machine.specs.Step.{Calls, Exchange}
 use Rattle.fs_device.specs.DeviceView.{AnswersRequest, ServesChain, request_of, server_state}
 
 -- the bytes that are yet to be written

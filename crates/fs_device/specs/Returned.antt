@@ -1,9 +1,9 @@
 -- What is told of a step by lengths alone.
 use Rattle.std.specs.Prelude.{◌≡◌, ℕ, Bool, length, Option, Some, None, Result, Ok, Err}
 use Rattle.virtiofsd_fuse.specs.Serving.{May}
-use Rattle.fs_device.specs.declared.error.DeviceError.{DeviceError}
+use Rattle.plain_machine.specs.declared.error.DeviceError.{DeviceError}
 use Rattle.fs_device.specs.declared.returned.Returned.{Returned}
-use Rattle.fs_device.specs.Step.{State, Exchange, StepEnd, Idle, Refused, Exchanged, Calls, Step}
+use Rattle.plain_machine.specs.Step.{State, Exchange, StepEnd, Idle, Refused, Exchanged, Calls, Step}
 
 -- an exchange: its head, the lengths of its request and its reply in bytes, its fault, and whether the driver is told (VIRTIO 1.2, 2.7.7 and 2.7.8)
 abbrev pub told_exchange : Exchange → (notice : Bool) → Returned

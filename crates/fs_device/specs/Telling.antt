@@ -4,10 +4,10 @@ use Rattle.std.specs.List.{AllByRecursion}
 use Rattle.fuse_fs.specs.Calls.{FileRun}
 use Rattle.virtiofsd_fuse.specs.Grammar.{meaning}
 use Rattle.virtiofsd_fuse.specs.Serving.{May, Setting, served}
-use Rattle.fs_device.specs.declared.exchange.Fault.{Fault}
-use Rattle.fs_device.specs.declared.exchange.Fault.TheVariants as fault
-use Rattle.fs_device.specs.Step.{State, Calls, served_exchange, calls_alone, answers_alone}
-use Rattle.fs_device.specs.Run.{Turn, Turns, Command, Answer, RunTold}
+use Rattle.plain_machine.specs.declared.fault.Fault.{Fault}
+use Rattle.plain_machine.specs.declared.fault.Fault.TheVariants as fault
+use Rattle.plain_machine.specs.Step.{State, Calls, served_exchange, calls_alone, answers_alone}
+use Rattle.plain_machine.specs.Run.{Turn, Turns, Command, Answer, RunTold}
 
 -- the calls of a kick, in their order
 abbrev pub calls_of : Turns → Calls

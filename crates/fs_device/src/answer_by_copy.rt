@@ -3,10 +3,11 @@
 ghost use Rattle.std.specs.Prelude.{◌≡◌, ◌≤◌, ◌<◌, ◌^◌, [], false, length, IfOk, IsSome, OnErr};
 ghost use Rattle.fs_queue.specs.Windows.{room_places};
 
-use crate::exchange::{Exchange, Fault};
+use crate::exchange::Exchange;
 use crate::fetched_request::FetchedRequest;
 use fs_queue::Taken;
 use fuse_fs::FileSystem;
+use plain_machine::Fault;
 use std::alloc::{AllocError, Global};
 use virtiofsd_fuse::{Error, Reader, Server, Writer};
 

@@ -14,12 +14,12 @@ ghost use Rattle.fs_device.specs.ReplyFront.{AnswersAt, AnswersFront, front_byte
 ghost use Rattle.fs_device.specs.ShortWay.{IsFetchedFront, ReadsInPlace};
 
 use crate::answer_by_copy::{CopiedReply, answer};
-use crate::exchange::Fault;
 use crate::reply_front::{PreparedReply, ReplyFront};
 use crate::request_windows::{copy_front, segments_behind};
 use crate::short_way::read_in_place;
 use fs_queue::{Chain, Taken};
 use fuse_fs::FileSystem;
+use plain_machine::Fault;
 use std::alloc::{AllocError, Global};
 use virtiofsd_fuse::{REQUEST_FRONT, Reader, Server, Writer, writes_data};
 use vm_memory_core::HostBlocks;

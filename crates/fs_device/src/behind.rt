@@ -3,7 +3,7 @@
 ghost use Rattle.std.specs.Prelude.{◌≡◌, ◌↔◌, ℕ, ◌<◌, ◌≤◌, ◌+◌, ◌∷◌, List, IfSome, IsSome, IsTrue, drop, length, map, sum, take};
 ghost use Rattle.fuse_fs.specs.Lengths.{filled, past};
 ghost use Rattle.vm_memory_core.specs.Window.{AllLieIn, LiesIn, Window, places, places_of};
-ghost use Rattle.fs_device.specs.Apart.{Apart, are_apart};
+ghost use Rattle.plain_machine.specs.Apart.{Apart, are_apart};
 ghost use Rattle.fs_device.specs.Behind.{IsFrontWindow, HasBehind};
 
 use crate::room_left::RoomLeft;

@@ -6,8 +6,8 @@ ghost use Rattle.fs_device.specs.Moving.{follows_image};
 
 use crate::harvested::HarvestedPage;
 use crate::queues::QueueRun;
-use crate::refusal::Refusal;
 use fs_queue::QueueLayout;
+use plain_machine::Refusal;
 use vm_memory::GuestMemoryMmap;
 use vm_memory_core::{HostMemory, PageBitmap, Permissions};
 

@@ -1,14 +1,14 @@
 //! What a machine copies of its host.
 
 ghost use Rattle.std.specs.Prelude.{◌≡◌, []};
-ghost use Rattle.fs_device.specs.Run.{Harvest, Image, Performs};
+ghost use Rattle.plain_machine.specs.Run.{Harvest, Image, Performs};
 ghost use Rattle.fs_device.specs.CommandView.{answer_of};
 ghost use Rattle.fs_device.specs.MachineView.{machine_of};
 
 use crate::command::Answer;
 use crate::machine::Machine;
-use crate::refusal::Refusal;
 use fuse_fs::FileSystem;
+use plain_machine::Refusal;
 use std::alloc::Global;
 use vm_memory::Iommu;
 

@@ -5,12 +5,12 @@ ghost use Rattle.vm_memory_core.specs.Host.{shape};
 ghost use Rattle.fs_record.specs.Record.{IsSavable};
 
 use crate::answer_by_copy::serve;
-use crate::error::DeviceError;
 use crate::exchange::Exchange;
 use crate::fetched_request::FetchedRequest;
 use fs_queue::{Queue, QueueLayout, Taken};
 use fuse_fs::FileSystem;
 use fuse_wire::FsOptions;
+use plain_machine::DeviceError;
 use std::alloc::Global;
 use std::marker::Model;
 use virtiofsd_fuse::{MAX_REQUEST_LEN, Server};
@@ -50,9 +50,9 @@ impl<F> Model for Device<F> {
 }
 
 ghost use Rattle.fs_queue.specs.Queue.{fresh};
-ghost use Rattle.fs_device.specs.Step.{Calls, Step};
+ghost use Rattle.plain_machine.specs.Step.{Calls, Step};
 ghost use Rattle.fs_device.specs.DeviceView.{outcome_of, state_of};
-ghost use Rattle.fs_device.specs.declared.error.DeviceError.TheVariants.{NoSuchQueue};
+ghost use Rattle.plain_machine.specs.declared.error.DeviceError.TheVariants.{NoSuchQueue};
 
 impl<F: FileSystem> Device<F> {
     /// A device of a server and its queues, each as it was made or resumed; the limit is in bytes.

@@ -1,15 +1,6 @@
 //! What was exchanged with the driver.
 
-use fs_queue::ChainFault;
-use virtiofsd_fuse::Error;
-
-/// Why a chain was returned without a reply: the chain is faulty (VIRTIO 1.2, 2.7), or the server has a fault of its
-/// request (virtiofsd's `Error`).
-#[derive(Clone, Copy, Debug, PartialEq, Eq)]
-pub enum Fault {
-    Chain(ChainFault),
-    Served(Error),
-}
+use plain_machine::Fault;
 
 /// A chain that was taken and returned (VIRTIO 1.2, 2.7): the index of its head in the descriptor table, the bytes of its
 /// request (linux/fuse.h, from `fuse_in_header` on; none of a faulty chain), the bytes of the reply that was written (from

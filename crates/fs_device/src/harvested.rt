@@ -3,7 +3,7 @@
 ghost use Rattle.std.specs.Prelude.{◌≡◌, ◌*◌, ◌<◌, ◌++◌, map, length, OnOk, OnErr, IfOk};
 ghost use Rattle.vm_bitmaps.specs.Pages.{pages_of};
 ghost use Rattle.vm_memory_core.specs.Host.{cleared, shape};
-ghost use Rattle.fs_device.specs.Harvested.{block_pages, harvested, page_copied};
+ghost use Rattle.plain_machine.specs.Harvested.{block_pages, harvested, page_copied};
 ghost use Rattle.fs_device.specs.PageView.{page_view};
 
 use std::alloc::{AllocError, Global};

@@ -3,11 +3,11 @@
 ghost use Rattle.fs_device.specs.Books.{Balances};
 ghost use Rattle.fs_device.specs.Laws.{CutsDoNotMatter, OffersAreServedAlike};
 ghost use Rattle.fs_device.specs.Marks.{MarksDoNotMatter};
-ghost use Rattle.fs_device.specs.MarkedPages.{CommandsMark, StepsMark, WritesMark};
+ghost use Rattle.plain_machine.specs.MarkedPages.{CommandsMark, StepsMark, WritesMark};
 ghost use Rattle.fs_device.specs.Moving.{CanMoveAgain, HasItsMarks, ImageCatchesUp, MovedIsLast, PagesHavePlaces, StaleIsMarked};
-ghost use Rattle.fs_device.specs.StepBy.{StepByIsStep, StepIsStepBy, StoresOnlyThere};
+ghost use Rattle.plain_machine.specs.StepBy.{StepByIsStep, StepIsStepBy, StoresOnlyThere};
 ghost use Rattle.fs_device.specs.Telling.{CallsAreTold};
-ghost use Rattle.fs_device.specs.UsedLength.{LengthsAreTold};
+ghost use Rattle.plain_machine.specs.UsedLength.{LengthsAreTold};
 
 use fuse_fs::FileSystem;
 use vm_memory_core::{HostMemory, PageBitmap};

@@ -3,14 +3,14 @@
 ghost use Rattle.std.specs.Prelude.{◌≡◌, []};
 ghost use Rattle.std.specs.List.{list_any};
 ghost use Rattle.vm_memory.specs.Layout.{overlap};
-ghost use Rattle.fs_device.specs.Run.{Performs, NewBlock, InsertRegion, RemoveRegion, SetLayout};
+ghost use Rattle.plain_machine.specs.Run.{Performs, NewBlock, InsertRegion, RemoveRegion, SetLayout};
 ghost use Rattle.fs_device.specs.CommandView.{answer_of};
 ghost use Rattle.fs_device.specs.MachineView.{machine_of};
 
 use crate::command::Answer;
 use crate::machine::Machine;
-use crate::refusal::Refusal;
 use fuse_fs::FileSystem;
+use plain_machine::Refusal;
 use std::alloc::Global;
 use std::sync::Arc;
 use vm_memory::{

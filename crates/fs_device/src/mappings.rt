@@ -7,14 +7,14 @@ ghost use Rattle.vm_iotlb.specs.Ranges.{AreRanges};
 ghost use Rattle.vm_memory_core.specs.Host.{shape};
 ghost use Rattle.vm_memory_core.specs.Lending.{with_table_at};
 ghost use Rattle.vm_memory.specs.Translated.{ranges_in};
-ghost use Rattle.fs_device.specs.Run.{Performs, Map, SetIommu, Unmap, UnmapAll};
+ghost use Rattle.plain_machine.specs.Run.{Performs, Map, SetIommu, Unmap, UnmapAll};
 ghost use Rattle.fs_device.specs.CommandView.{answer_of};
 ghost use Rattle.fs_device.specs.MachineView.{machine_of};
 
 use crate::command::Answer;
 use crate::machine::Machine;
-use crate::refusal::Refusal;
 use fuse_fs::FileSystem;
+use plain_machine::Refusal;
 use vm_memory::Iommu;
 use vm_memory_core::{GuestAddress, HostMemory, IommuError, Iotlb, PageBitmap, Permissions};
 

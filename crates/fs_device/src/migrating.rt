@@ -7,7 +7,7 @@ ghost use Rattle.fs_device.specs.Applying.{first_refused, pages_put};
 ghost use Rattle.fs_device.specs.PageView.{page_view};
 ghost use Rattle.fs_record.specs.Record.{IsSavable};
 ghost use Rattle.fs_device.specs.DevicePartsView.{device_bytes};
-ghost use Rattle.fs_device.specs.Run.{with_host};
+ghost use Rattle.plain_machine.specs.Run.{with_host};
 ghost use Rattle.fs_device.specs.CommandView.{answer_of, command_of};
 ghost use Rattle.fs_device.specs.MachineView.{machine_of};
 ghost use Rattle.fs_device.specs.Moving.{RunsFromImage, follows_image};

@@ -14,11 +14,11 @@ ghost use Rattle.fs_device.specs.Phases.{GoesBack, IfTaken, IsEmptyUnlessDeviceT
 
 use crate::answer_by_copy::serve;
 use crate::device::Device;
-use crate::error::DeviceError;
 use crate::exchange::Exchange;
 use crate::fetched_request::FetchedRequest;
 use fs_queue::{Queue, Taken};
 use fuse_fs::FileSystem;
+use plain_machine::DeviceError;
 use std::alloc::{AllocError, Global};
 use vm_memory::GuestMemory;
 use vm_memory_core::HostBlocks;

@@ -4,10 +4,10 @@ ghost use Rattle.std.specs.Prelude.{◌≡◌, ◌<◌, ◌≤◌, [], None, Som
 ghost use Rattle.vm_memory_core.specs.Host.{shape};
 
 use crate::device::Device;
-use crate::error::DeviceError;
 use crate::exchange::Exchange;
 use fs_queue::QueueError;
 use fuse_fs::FileSystem;
+use plain_machine::DeviceError;
 use std::alloc::{AllocError, Global};
 use vm_memory::GuestMemory;
 use vm_memory_core::HostBlocks;

@@ -3,7 +3,7 @@
 ghost use Rattle.std.specs.Prelude.{◌≡◌};
 
 use crate::answer_by_copy::CopiedReply;
-use crate::exchange::Fault;
+use plain_machine::Fault;
 use virtiofsd_fuse::REPLY_FRONT;
 
 /// What is yet to be written of a reply: all of it, or what stands before its data, which is in its place.

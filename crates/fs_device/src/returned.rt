@@ -5,9 +5,8 @@ ghost use Rattle.vm_memory_core.specs.Host.{shape};
 
 use crate::answer_by_front::{answer_front, request_len};
 use crate::device::Device;
-use crate::error::DeviceError;
-use crate::exchange::Fault;
 use fuse_fs::FileSystem;
+use plain_machine::{DeviceError, Fault};
 use std::alloc::Global;
 use vm_memory::GuestMemory;
 use vm_memory_core::HostBlocks;

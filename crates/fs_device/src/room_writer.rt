@@ -6,7 +6,7 @@ ghost use Rattle.fuse_fs.specs.Lengths.{first, past};
 ghost use Rattle.fuse_fs.specs.Transfers.{ReadsOnce};
 ghost use Rattle.vm_memory_core.specs.Host.{lengths};
 ghost use Rattle.vm_memory_core.specs.Window.{LiesIn};
-ghost use Rattle.fs_device.specs.Fills.{Fills};
+ghost use Rattle.plain_machine.specs.Fills.{Fills};
 
 use crate::room_left::RoomLeft;
 use crate::source::read_to_window;
@@ -66,7 +66,7 @@ impl<'a, 'b, 'c, H: HostBlocks> RoomWriter<'a, 'b, 'c, H> {
 impl<'a, 'b, 'c, H: HostBlocks> ZeroCopyWriter for RoomWriter<'a, 'b, 'c, H> {
     ghost use Rattle.std.specs.Prelude.{refl, length};
     ghost use Rattle.std.proofs.Common.{◌∙◌};
-    ghost use Rattle.fs_device.specs.FillsProof.{fills_more, fills_none};
+    ghost use Rattle.plain_machine.specs.FillsProof.{fills_more, fills_none};
 
     ghost Puts = { λ old bytes new. Fills (H.host old.host.now) old.room.now.places bytes (H.host new.host.now) new.room.now.places
         × (new.host.ghost_name ≡ old.host.ghost_name) };

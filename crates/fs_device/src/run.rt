@@ -3,17 +3,16 @@
 ghost use Rattle.std.specs.Prelude.{◌≡◌, ◌<◌, [], IfOk, OnErr, true, length, map, zip};
 ghost use Rattle.vm_iotlb.specs.declared.permissions.Permissions.TheVariants.{Read, Write};
 ghost use Rattle.vm_memory.specs.Memory.{physical, reach, bytes};
-ghost use Rattle.fs_device.specs.Run.{Run, Performs, Turns, GuestRead, GuestWrite, Kick, ResetQueue, guest_written};
+ghost use Rattle.plain_machine.specs.Run.{Run, Performs, Turns, GuestRead, GuestWrite, Kick, ResetQueue, guest_written};
 ghost use Rattle.fs_device.specs.CommandView.{answer_of, command_of};
 ghost use Rattle.fs_device.specs.MachineView.{machine_of};
 
 use crate::command::{Answer, Command};
-use crate::error::DeviceError;
 use crate::machine::Machine;
 use crate::queues::QueueRun;
-use crate::refusal::Refusal;
 use fs_queue::QueueLayout;
 use fuse_fs::FileSystem;
+use plain_machine::{DeviceError, Refusal};
 use std::alloc::{AllocError, Global};
 use vm_memory::Iommu;
 use vm_memory_core::{GuestAddress, Permissions};

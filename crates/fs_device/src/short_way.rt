@@ -5,7 +5,7 @@ ghost use Rattle.vm_memory_core.specs.Host.{Place, lengths, shape};
 ghost use Rattle.vm_memory_core.specs.Window.{AllLieIn, places};
 ghost use Rattle.virtiofsd_fuse.specs.ReadApart.{read_meaning};
 ghost use Rattle.virtiofsd_fuse.specs.Serving.{ServerHandles};
-ghost use Rattle.fs_device.specs.Fills.{Fills};
+ghost use Rattle.plain_machine.specs.Fills.{Fills};
 ghost use Rattle.fs_device.specs.ReplyFront.{AnswersAt, front_bytes, is_header};
 ghost use Rattle.fs_device.specs.ShortWay.{IsFetchedFront, ReadsInPlace};
 

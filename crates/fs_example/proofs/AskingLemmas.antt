@@ -9,7 +9,7 @@ use Rattle.fuse_wire.specs.Records.{entry_out}
 use Rattle.fuse_wire.specs.declared.replies.EntryOut.{EntryOut}
 use Rattle.server_replies.specs.WholeReplies.{reply_bytes}
 use Rattle.guest_driver.specs.Requests.{good_header, read_bytes}
-use Rattle.fs_device.specs.Step.{State, Exchange, Exchanged}
+use Rattle.plain_machine.specs.Step.{State, Exchange, Exchanged}
 use Rattle.fs_example.specs.Driver.{offered, reply_at}
 use Rattle.fuse_files.specs.Directory.{Directory}
 use Rattle.fs_example.specs.Reading.{ReadingStep}

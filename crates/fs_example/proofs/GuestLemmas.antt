@@ -15,11 +15,11 @@ use Rattle.fs_queue.specs.Returning.{next_position, returned, writes}
 use Rattle.fuse_wire.specs.Records.{out_header}
 use Rattle.server_replies.proofs.ReplyLemmas.{length_header}
 use Rattle.virtiofsd_fuse.specs.Grammar.{reply_bytes}
-use Rattle.fs_device.specs.declared.refusal.Refusal.{Refusal}
-use Rattle.fs_device.specs.declared.refusal.Refusal.TheVariants.{NoPlace}
-use Rattle.fs_device.specs.Step.{State, Exchanged, Step}
-use Rattle.fs_device.specs.Run as run
-use Rattle.fs_device.specs.Run.{Turn, Turns, Command, Answer, KickAnswer, Kicks, KickRun, Run, RunTold, Effect, IsDecided, effect}
+use Rattle.plain_machine.specs.declared.refusal.Refusal.{Refusal}
+use Rattle.plain_machine.specs.declared.refusal.Refusal.TheVariants.{NoPlace}
+use Rattle.plain_machine.specs.Step.{State, Exchanged, Step}
+use Rattle.plain_machine.specs.Run as run
+use Rattle.plain_machine.specs.Run.{Turn, Turns, Command, Answer, KickAnswer, Kicks, KickRun, Run, RunTold, Effect, IsDecided, effect}
 use Rattle.fuse_files.specs.Directory.{Directory, DirectoryAnswers}
 use Rattle.fs_example.specs.Reading.{read_reply, wanted}
 use Rattle.fs_example.specs.GuestGets.{laid_over, GetsFile, KickGivesFile, kick_and_look, GuestGetsTheFile}

@@ -17,12 +17,12 @@ use Rattle.fs_queue.specs.Taking.{Offer, IsRequest, CannotFetch, Refuses, Offers
 use Rattle.fs_queue.specs.Taking as taking
 use Rattle.fs_queue.specs.Returning.{writes}
 use Rattle.virtiofsd_fuse.specs.Serving.{May}
-use Rattle.fs_device.specs.declared.error.DeviceError.{DeviceError}
-use Rattle.fs_device.specs.declared.refusal.Refusal.TheVariants as why
-use Rattle.fs_device.specs.Step.{State, Exchange, Calls, Exchanged, Exchanges, StepOf}
-use Rattle.fs_device.specs.Run as run
-use Rattle.fs_device.specs.Run.{Turns, Command, Answer, Effect, KickRun, Kicks, KickAnswer, Affects, ChangesTable, HasEffect, Does, Performs, RunTold}
-use Rattle.fs_device.specs.Run.{effect, IsDecided, insert, insert_block, is_known, has_len, some_overlap, reset}
+use Rattle.plain_machine.specs.declared.error.DeviceError.{DeviceError}
+use Rattle.plain_machine.specs.declared.refusal.Refusal.TheVariants as why
+use Rattle.plain_machine.specs.Step.{State, Exchange, Calls, Exchanged, Exchanges, StepOf}
+use Rattle.plain_machine.specs.Run as run
+use Rattle.plain_machine.specs.Run.{Turns, Command, Answer, Effect, KickRun, Kicks, KickAnswer, Affects, ChangesTable, HasEffect, Does, Performs, RunTold}
+use Rattle.plain_machine.specs.Run.{effect, IsDecided, insert, insert_block, is_known, has_len, some_overlap, reset}
 use Rattle.fs_device.proofs.TellingLemmas.{end_keeps}
 use Rattle.fs_device.proofs.LayoutLemmas.{held_grown, held_with, held_without, block_there}
 use Rattle.fs_example.proofs.StoreLemmas.{all_keep}

@@ -15,10 +15,10 @@ use Rattle.server_replies.proofs.ReplyLemmas.{length_reply, length_error}
 use Rattle.fuse_files.specs.Files.{ByOwn, is_own, default_answer}
 use Rattle.virtiofsd_fuse.specs.Grammar.{Meaning, Asks, One, IsFault, meaning, reply_bytes, error_bytes}
 use Rattle.virtiofsd_fuse.specs.Serving.{Setting, ServedMessage, served, setting, no_reply, replied, answer_bytes}
-use Rattle.fs_device.specs.declared.exchange.Fault.{Fault}
-use Rattle.fs_device.specs.Step as step
-use Rattle.fs_device.specs.Step.{State, Calls, Exchange, StepEnd, Idle, Refused, Exchanged, Step, StepOf, Exchanges, served_fault, calls_alone, answers_alone}
-use Rattle.fs_device.specs.Run.{Turn, Turns, Command, Answer, RunTold}
+use Rattle.plain_machine.specs.declared.fault.Fault.{Fault}
+use Rattle.plain_machine.specs.Step as step
+use Rattle.plain_machine.specs.Step.{State, Calls, Exchange, StepEnd, Idle, Refused, Exchanged, Step, StepOf, Exchanges, served_fault, calls_alone, answers_alone}
+use Rattle.plain_machine.specs.Run.{Turn, Turns, Command, Answer, RunTold}
 use Rattle.fs_device.specs.Telling.{calls_of, calls_told, IsMeant, IsServedBy, IsServed}
 use Rattle.fuse_files.specs.declared.owned_table.OwnedFile.{OwnedFile}
 use Rattle.fuse_files.specs.OwnedTable.{files_of}

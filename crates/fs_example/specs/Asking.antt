@@ -10,7 +10,7 @@ use Rattle.fuse_wire.specs.declared.replies.EntryOut.{EntryOut}
 use Rattle.virtiofsd_fuse.specs.Grammar.{reply_bytes}
 use Rattle.guest_driver.specs.Requests.{lookup_bytes, read_bytes}
 use Rattle.fs_device.specs.DeviceView.{state_of}
-use Rattle.fs_device.specs.Step.{State, Exchange, Exchanged}
+use Rattle.plain_machine.specs.Step.{State, Exchange, Exchanged}
 use Rattle.fs_example.specs.declared.monitor.Monitor.{Monitor}
 use Rattle.fuse_files.specs.declared.owned_table.OwnedFile.{OwnedFile}
 use Rattle.fuse_files.specs.OwnedTable.{files_of}

@@ -20,7 +20,7 @@ use Rattle.server_requests.specs.Reading.{Faults, and_then, reading_of}
 use Rattle.server_replies.specs.WholeReplies.{error_bytes, reply_bytes}
 use Rattle.virtiofsd_fuse.specs.Examples.{nobody, zeros, le16, le32, le64, in_header_bytes}
 use Rattle.virtiofsd_fuse.specs.Grammar.{Asks, IsFault, One, ended, meaning, meant, row}
-use Rattle.fs_device.specs.Examples.{blank, descriptor_bytes, put, queue}
+use Rattle.plain_machine.specs.Examples.{blank, descriptor_bytes, put, queue}
 use Rattle.fs_example.specs.GuestGets.{bare, device_place, is_one_byte, WritesApart, LooksAtRoom, GetsFile}
 use Rattle.fs_example.specs.Reading.{IsRead, read_reply}
 

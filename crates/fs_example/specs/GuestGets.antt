@@ -8,9 +8,9 @@ use Rattle.vm_memory.specs.Memory.{Memory, addresses, bytes, location, physical}
 use Rattle.fs_queue.specs.Queue.{Queue, element_at, index_at}
 use Rattle.fs_queue.specs.Taking as taking
 use Rattle.fs_queue.specs.Taking.{Offers, offer}
-use Rattle.fs_device.specs.Step.{State}
-use Rattle.fs_device.specs.Run as run
-use Rattle.fs_device.specs.Run.{Command, Answer, KickAnswer, Kick, Served, GuestRead, Run}
+use Rattle.plain_machine.specs.Step.{State}
+use Rattle.plain_machine.specs.Run as run
+use Rattle.plain_machine.specs.Run.{Command, Answer, KickAnswer, Kick, Served, GuestRead, Run}
 use Rattle.fuse_files.specs.declared.owned_table.OwnedFile.{OwnedFile}
 use Rattle.fuse_files.specs.OwnedTable.{files_of}
 use Rattle.fuse_files.specs.Directory.{Directory, DirectoryAnswers, file_at}

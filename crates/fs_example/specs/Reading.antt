@@ -10,8 +10,8 @@ use Rattle.fuse_fs.specs.Calls.{FileCall, Read}
 use Rattle.server_segments.specs.declared.error.Error.TheVariants.{EncodeMessage}
 use Rattle.server_replies.specs.Entries.{EIO}
 use Rattle.virtiofsd_fuse.specs.Grammar.{Meaning, IsFault, Asks, One, meaning, reply_bytes, error_bytes}
-use Rattle.fs_device.specs.Step.{State, StepEnd, Idle, Refused, Exchanged, Calls, Step}
-use Rattle.fs_device.specs.Run.{Turn, Turns, Command, Answer, RunTold}
+use Rattle.plain_machine.specs.Step.{State, StepEnd, Idle, Refused, Exchanged, Calls, Step}
+use Rattle.plain_machine.specs.Run.{Turn, Turns, Command, Answer, RunTold}
 use Rattle.fuse_files.specs.declared.owned_table.OwnedFile.{OwnedFile}
 use Rattle.fuse_files.specs.OwnedTable.{files_of}
 use Rattle.fuse_files.specs.Directory.{Directory, file_at, DirectoryAnswers}

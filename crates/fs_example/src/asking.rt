@@ -3,7 +3,7 @@
 ghost use Rattle.std.specs.Prelude.{◌≡◌, ◌+◌, ◌%◌, ◌<◌, ◌^◌, true, length, IfOk};
 ghost use Rattle.vm_memory_core.specs.Host.{shape};
 ghost use Rattle.virtiofsd_fuse.specs.Grammar.{reply_bytes};
-ghost use Rattle.fs_device.specs.Step.{State};
+ghost use Rattle.plain_machine.specs.Step.{State};
 ghost use Rattle.fs_example.specs.Asking.{IsAsked, IsNew, ReadsFile, chains_of, layout_of, machine_of_monitor};
 ghost use Rattle.fuse_files.specs.Directory.{Directory};
 

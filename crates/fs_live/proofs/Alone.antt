@@ -18,8 +18,8 @@ use Rattle.fs_regions.specs.declared.step.CourseStep.TheVariants as step
 use Rattle.fs_regions.specs.Walks.{Loaded, FetchesBy, OffersBy, RingIsAsked, IsLost}
 use Rattle.fuse_fs.specs.Calls.{FileRun}
 use Rattle.virtiofsd_fuse.specs.Serving.{May}
-use Rattle.fs_device.specs.Step.{State, Exchange, Exchanged, Calls}
-use Rattle.fs_device.specs.StepBy.{StepOfBy, ExchangesBy, Effects, AnswersBy, ReturnsFaultyBy, return_acts, return_stores, reply_stores, offered_by}
+use Rattle.plain_machine.specs.Step.{State, Exchange, Exchanged, Calls}
+use Rattle.plain_machine.specs.StepBy.{StepOfBy, ExchangesBy, Effects, AnswersBy, ReturnsFaultyBy, return_acts, return_stores, reply_stores, offered_by}
 use Rattle.fs_live.specs.Several.{LiveQueue}
 use Rattle.fs_live.specs.Live.{Phase, Faulty, Fetched, Asked, Own, Lost, OutChain, LiveState, LiveEvent, Walks, Declines, Asks, Answers, Returns}
 use Rattle.fs_live.specs.Live.{Sleeps, Begins, Fills, Drops, Abandons, Replies, Maps, Moves, Happens, IsUnreplied, LiveRun, WalksIn, GoesBackWith, lost_chain, new_chain, fault_of, own_exchange, room_in, room_of, calls_in, serving}

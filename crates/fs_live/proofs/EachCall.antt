@@ -12,7 +12,7 @@ use Rattle.server_replies.specs.WholeReplies.{error_bytes, listing_bytes}
 use Rattle.virtiofsd_fuse.specs.Grammar.{Meaning, IsFault, Replies, IsSilent, Asks, One, Starts, Lists}
 use Rattle.virtiofsd_fuse.specs.Listings.{ListRequest, Next, ListingResult, after_call, list_entries, looked_up, placed, readdir_call, undo_call, with_entry}
 use Rattle.virtiofsd_fuse.specs.Serving.{Setting, answer_bytes, list_answered, replied, served, start_answered, start_options, undone}
-use Rattle.fs_device.specs.Step.{Calls, answers_alone, calls_alone}
+use Rattle.plain_machine.specs.Step.{Calls, answers_alone, calls_alone}
 
 -- ---- lists
 

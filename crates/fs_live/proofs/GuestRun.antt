@@ -3,9 +3,9 @@ use Rattle.std.proofs.Common.{◌≡◌, ℕ, [], ◌∷◌, ◌++◌, map, flat
 use Rattle.vm_memory.specs.Memory.{Memory, stored_all}
 use Rattle.fs_queue.specs.Returning.{writes_of}
 use Rattle.virtiofsd_fuse.specs.Serving.{May}
-use Rattle.fs_device.specs.MarkedPages.{Marks}
-use Rattle.fs_device.specs.StepBy.{after_stores, stores_among}
-use Rattle.fs_device.proofs.PageLemmas.{marks_join, none_written, ways_stay, writes_mark}
+use Rattle.plain_machine.specs.MarkedPages.{Marks}
+use Rattle.plain_machine.specs.StepBy.{after_stores, stores_among}
+use Rattle.plain_machine.proofs.PageLemmas.{marks_join, none_written, ways_stay, writes_mark}
 use Rattle.fs_live.specs.Guest.{Device, PagesOfRun, StaysThere, Writes, after_moments, over_places, told_through}
 use Rattle.fs_live.specs.Live.{Abandons, Answers, Asks, Begins, Declines, Drops, Fills, LiveEvent, Maps, Moves, Replies, Returns, Sleeps, Walks, acts_of}
 use Rattle.fs_live.specs.Runs.{told_by}

@@ -57,9 +57,9 @@ use Rattle.fs_chain.proofs.WholeChains.{told_so}
 use Rattle.fs_chain.proofs.WholeOffers.{fits_limit}
 use Rattle.fs_chain.proofs.WholeWalks.{event_fault_refuses, walk_comes}
 use Rattle.fs_chain.specs.Queues.{at_return, pop_id_of}
-use Rattle.fs_device.specs.Step.{Calls, EachSuits, Exchange, State, answers_alone, calls_alone, faulty, served_exchange}
-use Rattle.fs_device.specs.StepBy as act
-use Rattle.fs_device.specs.StepBy.{Act, reply_stores, return_acts}
+use Rattle.plain_machine.specs.Step.{Calls, EachSuits, Exchange, State, answers_alone, calls_alone, faulty, served_exchange}
+use Rattle.plain_machine.specs.StepBy as act
+use Rattle.plain_machine.specs.StepBy.{Act, reply_stores, return_acts}
 use Rattle.fs_live.specs.Several.{LiveQueue, may_take, returning, seen_at}
 use Rattle.fs_live.specs.Several as several
 use Rattle.fs_live.specs.Live.{LiveState, Phase, WalksIn, after_walk, fault_of, room_in, room_of, why_declined, with_live, GoesBackWith}

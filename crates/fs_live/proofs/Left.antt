@@ -26,7 +26,7 @@ use Rattle.fs_chain.specs.Events as events
 use Rattle.fs_chain.proofs.WholeEntries.{listed_session}
 use Rattle.fs_chain.proofs.WholeListings.{listed_out}
 use Rattle.fs_chain.proofs.WholeSteps.{by_options, serves_call}
-use Rattle.fs_device.specs.Step.{Calls, answers_alone, calls_alone}
+use Rattle.plain_machine.specs.Step.{Calls, answers_alone, calls_alone}
 use Rattle.fs_live.proofs.Listed.{from_lists, list_command}
 use Rattle.fs_live.proofs.Options.{leaves_none, lists_leave}
 

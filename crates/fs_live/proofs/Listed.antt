@@ -30,7 +30,7 @@ use Rattle.fs_chain.specs.declared.state.ChainState.TheVariants as at
 use Rattle.fs_chain.specs.declared.chain_handle.ChainHandle.{ChainHandle}
 use Rattle.fs_chain.proofs.WholeEntries.{ServedBy, brought, ends_there, fails_at, full_at, gathered, not_found, outcome_of, stays_so, unreadable}
 use Rattle.fs_chain.proofs.WholeSteps.{by_calls, serves_call}
-use Rattle.fs_device.specs.Step.{Calls, answers_alone, calls_alone}
+use Rattle.plain_machine.specs.Step.{Calls, answers_alone, calls_alone}
 
 -- these calls, with their answers, are all that is served of a meaning
 abbrev pub AreServed : Setting → Meaning → Calls → Type 0

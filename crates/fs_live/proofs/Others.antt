@@ -27,8 +27,8 @@ use Rattle.fs_chain.specs.declared.state.InFlight.{InFlight}
 use Rattle.fs_chain.specs.declared.state.ChainState as state
 use Rattle.fs_chain.specs.declared.state.ChainState.TheVariants as at
 use Rattle.fs_chain.proofs.WholeOffers.{fits_limit}
-use Rattle.fs_device.specs.Step.{Exchange}
-use Rattle.fs_device.specs.StepBy.{reply_stores, return_acts}
+use Rattle.plain_machine.specs.Step.{Exchange}
+use Rattle.plain_machine.specs.StepBy.{reply_stores, return_acts}
 use Rattle.fs_live.specs.Several.{LiveQueue, returning, seen_at}
 use Rattle.fs_live.specs.Several as several
 use Rattle.fs_live.specs.Live.{GoesBackWith, IsUnreplied, KeepsQueue, OutChain, Own, Phase, fault_of, own_exchange, room_in, room_of}

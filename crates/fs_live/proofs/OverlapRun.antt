@@ -15,7 +15,7 @@ use Rattle.server_requests.specs.Reading.{reading_of}
 use Rattle.virtiofsd_fuse.specs.Examples.{le16}
 use Rattle.virtiofsd_fuse.specs.Grammar.{meaning, meant, row}
 use Rattle.virtiofsd_fuse.specs.Serving.{May}
-use Rattle.fs_device.specs.Examples.{blank, queue}
+use Rattle.plain_machine.specs.Examples.{blank, queue}
 use Rattle.fs_live.specs.Live.{AsksSo, AnswersSo, ReturnsSo, WalksSo}
 use Rattle.fs_live.specs.Overlap.{
   Overlap,

@@ -13,11 +13,11 @@ use Rattle.fs_queue.specs.Queue.{Queue, element_at, index_at}
 use Rattle.fs_queue.specs.Returning.{Store, next_position, stores_after_reply, writes_of}
 use Rattle.fs_queue.proofs.ReturnLemmas.{returns_by_stores}
 use Rattle.virtiofsd_fuse.specs.Serving.{May}
-use Rattle.fs_device.specs.MarkedPages.{block_mark, io_mark, marks_block, marks_io, returned_addresses}
-use Rattle.fs_device.specs.Step.{Exchange}
-use Rattle.fs_device.specs.StepBy.{reply_stores, stores_among}
-use Rattle.fs_device.proofs.PageLemmas.{writes_mark}
-use Rattle.fs_device.proofs.StepByLemmas.{reply_writes}
+use Rattle.plain_machine.specs.MarkedPages.{block_mark, io_mark, marks_block, marks_io, returned_addresses}
+use Rattle.plain_machine.specs.Step.{Exchange}
+use Rattle.plain_machine.specs.StepBy.{reply_stores, stores_among}
+use Rattle.plain_machine.proofs.PageLemmas.{writes_mark}
+use Rattle.plain_machine.proofs.StepByLemmas.{reply_writes}
 use Rattle.fs_live.specs.Several.{LiveQueue, avail_event_at, returning, sleep_store}
 use Rattle.fs_live.specs.Live.{
   Abandons,

@@ -16,7 +16,7 @@ use Rattle.server_requests.specs.Reading.{reading_of}
 use Rattle.virtiofsd_fuse.specs.Examples.{le16}
 use Rattle.virtiofsd_fuse.specs.Grammar.{meaning, meant, row}
 use Rattle.virtiofsd_fuse.specs.Serving.{May}
-use Rattle.fs_device.specs.Examples.{blank}
+use Rattle.plain_machine.specs.Examples.{blank}
 use Rattle.fs_live.specs.Live.{AsksSo, AnswersSo, ReturnsSo, WalksSo}
 use Rattle.fs_live.specs.Overlap.{state}
 use Rattle.fs_live.specs.Rewritten.{Rewritten, at_positions, exchange, first, first_answered, first_asked, first_loads, forget, queue, second_loads, stopped_at, table, told, used}

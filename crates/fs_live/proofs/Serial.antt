@@ -20,10 +20,10 @@ use Rattle.fs_regions.specs.Walks.{Loaded, IsLost, FetchesBy}
 use Rattle.fuse_fs.specs.Calls.{FileCall, FileAnswer, FileRun, suits}
 use Rattle.virtiofsd_fuse.specs.Grammar.{meaning}
 use Rattle.virtiofsd_fuse.specs.Serving.{May, served, setting}
-use Rattle.fs_device.specs.Run.{KickRun}
-use Rattle.fs_device.specs.Step.{State, Exchange, Exchanged, Step, Calls, answers_alone}
-use Rattle.fs_device.specs.StepBy.{Act, Effects, StepBy, StepOfBy, ExchangesBy, AreStepLoadsOf, IsOfMemory, FindFlags, MayStoreLast, after_stores, stores_among, offered_by, reply_stores, return_acts}
-use Rattle.fs_device.proofs.StepByLemmas.{step_by_is_step}
+use Rattle.plain_machine.specs.Run.{KickRun}
+use Rattle.plain_machine.specs.Step.{State, Exchange, Exchanged, Step, Calls, answers_alone}
+use Rattle.plain_machine.specs.StepBy.{Act, Effects, StepBy, StepOfBy, ExchangesBy, AreStepLoadsOf, IsOfMemory, FindFlags, MayStoreLast, after_stores, stores_among, offered_by, reply_stores, return_acts}
+use Rattle.plain_machine.proofs.StepByLemmas.{step_by_is_step}
 use Rattle.fs_live.specs.Live.{Phase, Faulty, Fetched, Asked, OutChain, LiveState, LiveEvent, Walks, Declines, Asks, Answers, Returns, Sleeps, Begins, Fills, Drops, Abandons, Replies, Maps, Moves, Happens, LiveRun}
 use Rattle.fs_live.specs.Live.{WalksSo, AsksSo, AnswersSo, ReturnsSo, calls_in, fault_of, new_chain, after_take, room_of, serving, acts_of, GoesBackWith}
 use Rattle.fs_live.specs.Runs.{IsAskedIn, IsServedPhase, options_left, after_alone, chain_loads, request_in}

@@ -10,8 +10,8 @@ use Rattle.fs_queue.specs.Queue.{Queue, element_at, index_at}
 use Rattle.fs_queue.specs.Returning.{Store, writes_of, stores_after_reply}
 use Rattle.fs_queue.proofs.ReturnLemmas.{returns_by_stores}
 use Rattle.virtiofsd_fuse.specs.Serving.{May}
-use Rattle.fs_device.specs.StepBy.{Stores, reply_stores, return_acts, stores_among}
-use Rattle.fs_device.proofs.StepByLemmas.{reply_writes}
+use Rattle.plain_machine.specs.StepBy.{Stores, reply_stores, return_acts, stores_among}
+use Rattle.plain_machine.proofs.StepByLemmas.{reply_writes}
 use Rattle.fs_live.specs.Several.{LiveQueue, avail_event_at, returning, sleep_store}
 use Rattle.fs_live.specs.Live.{OutChain, LiveState, LiveEvent, Walks, Declines, Asks, Answers, Returns, Sleeps, Begins, Fills, Drops, Abandons, Replies, Maps, Moves, FillsSo, Happens, IsStoredIn, ReturnsSo, SleepsSo, acts_of, room_of}
 use Rattle.fs_live.specs.Runs.{StoresStayThere, StoresThere, queue_addresses, sleep_addresses}

@@ -3,8 +3,8 @@ use Rattle.std.specs.Prelude.{ℕ, List, [], ◌∷◌, ◌++◌, map}
 use Rattle.std.specs.List.{AllByRecursion}
 use Rattle.vm_memory.specs.Memory.{Memory, stored_all}
 use Rattle.virtiofsd_fuse.specs.Serving.{May}
-use Rattle.fs_device.specs.MarkedPages.{Marks}
-use Rattle.fs_device.specs.StepBy.{after_stores, stores_among}
+use Rattle.plain_machine.specs.MarkedPages.{Marks}
+use Rattle.plain_machine.specs.StepBy.{after_stores, stores_among}
 use Rattle.fs_live.specs.Live.{LiveEvent, LiveRun, LiveState, Maps, Moves, acts_of}
 use Rattle.fs_live.specs.Runs.{told_by}
 

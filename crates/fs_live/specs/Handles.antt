@@ -39,8 +39,8 @@ use Rattle.fs_chain.specs.declared.state.PopId.{PopId}
 use Rattle.fs_chain.specs.declared.popping.PopOutcome as walked
 use Rattle.fs_chain.specs.declared.popping.PopOutcome.TheVariants as says
 use Rattle.fs_chain.specs.declared.chain_handle.ChainHandle.{ChainHandle}
-use Rattle.fs_device.specs.Step.{Calls, EachSuits, Exchange}
-use Rattle.fs_device.specs.StepBy.{Act}
+use Rattle.plain_machine.specs.Step.{Calls, EachSuits, Exchange}
+use Rattle.plain_machine.specs.StepBy.{Act}
 use Rattle.fs_live.specs.Several.{LiveQueue, seen_at}
 use Rattle.fs_live.specs.Live.{Answers, Asked, Asks, Begins, Declines, Faulty, Fetched, LiveEvent, LiveRun, LiveState, OutChain, Returns, Sleeps, Walks}
 use Rattle.fs_live.specs.Live.{Happens, HasPlace, NoneWaits, acts_of, after_answer, after_asking, after_beginning, after_giving, after_walk, asked_chain, new_chain, room_of, serving, why_declined}

@@ -17,8 +17,8 @@ use Rattle.fs_regions.specs.Walks.{Loaded, FetchesBy, OffersBy}
 use Rattle.fuse_fs.specs.Calls.{FileCall, FileAnswer, suits}
 use Rattle.virtiofsd_fuse.specs.Grammar.{meaning}
 use Rattle.virtiofsd_fuse.specs.Serving.{May, ServedMessage, served, setting}
-use Rattle.fs_device.specs.Step.{Exchange, Calls, answers_alone, calls_alone, faulty, served_exchange}
-use Rattle.fs_device.specs.StepBy.{Act, Stores, reply_stores, return_acts}
+use Rattle.plain_machine.specs.Step.{Exchange, Calls, answers_alone, calls_alone, faulty, served_exchange}
+use Rattle.plain_machine.specs.StepBy.{Act, Stores, reply_stores, return_acts}
 use Rattle.fs_live.specs.Several.{LiveQueue, avail_event_at, gave, may_take, returning, sleep_store, took, untook, used_event_at, wants}
 
 -- ---- states

@@ -22,8 +22,8 @@ use Rattle.fs_chain.specs.declared.state.InFlight.{InFlight}
 use Rattle.fs_chain.specs.declared.state.ChainState as state
 use Rattle.fs_chain.specs.declared.state.ChainState.TheVariants as at
 use Rattle.fs_chain.specs.declared.chain_handle.ChainHandle.{ChainHandle}
-use Rattle.fs_device.specs.Step.{Calls}
-use Rattle.fs_device.specs.StepBy.{Act, reply_stores, return_acts}
+use Rattle.plain_machine.specs.Step.{Calls}
+use Rattle.plain_machine.specs.StepBy.{Act, reply_stores, return_acts}
 use Rattle.fs_live.specs.Live.{Abandons, Asked, Drops, Fetched, KeepsQueue, LiveState, Maps, MayBeOut, Moves, OutChain, Own, Replies, Happens, after_drop, after_loss, after_own, room_of}
 use Rattle.fs_live.specs.Runs.{IsEven}
 use Rattle.fs_live.specs.Handles.{IsKept, IsOut, IsReached, IsReturn, live_of}

@@ -8,8 +8,8 @@ use Rattle.fs_regions.specs.Walks.{Loaded}
 use Rattle.fuse_fs.specs.Calls.{Destroy, Done}
 use Rattle.virtiofsd_fuse.specs.Examples.{le16, le32, in_header_bytes, zeros}
 use Rattle.virtiofsd_fuse.specs.Serving.{May}
-use Rattle.fs_device.specs.Examples.{blank, descriptor_bytes, queue}
-use Rattle.fs_device.specs.Step.{Exchange}
+use Rattle.plain_machine.specs.Examples.{blank, descriptor_bytes, queue}
+use Rattle.plain_machine.specs.Step.{Exchange}
 use Rattle.fs_live.specs.Several.{LiveQueue}
 use Rattle.fs_live.specs.Live.{Fetched, Asked, OutChain, LiveState, Walks, Asks, Answers, Returns, LiveRun}
 

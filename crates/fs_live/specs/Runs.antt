@@ -11,10 +11,10 @@ use Rattle.fs_queue.specs.Taking.{IsRequest, Offers}
 use Rattle.fs_regions.specs.declared.step.CourseStep.TheVariants as step
 use Rattle.fuse_fs.specs.Calls.{FileRun}
 use Rattle.virtiofsd_fuse.specs.Serving.{May}
-use Rattle.fs_device.specs.MarkedPages.{Marks, returned_addresses}
-use Rattle.fs_device.specs.Step.{State, Exchange, Exchanged}
+use Rattle.plain_machine.specs.MarkedPages.{Marks, returned_addresses}
+use Rattle.plain_machine.specs.Step.{State, Exchange, Exchanged}
 use Rattle.fs_regions.specs.Walks.{OffersBy}
-use Rattle.fs_device.specs.StepBy.{Act, StepLoads, StepBy, ReturnsBy, after_stores, return_acts, return_stores, stores_among}
+use Rattle.plain_machine.specs.StepBy.{Act, StepLoads, StepBy, ReturnsBy, after_stores, return_acts, return_stores, stores_among}
 use Rattle.fs_live.specs.Several.{LiveQueue, InFlightId, QueueEvent, RunsOver, UsedFrom, heads_taken, heads_ended, returns_among, returning, avail_event_at, seen_at, used_event_at}
 use Rattle.fs_live.specs.Several as several
 pub use Rattle.fs_live.specs.Live.{IsEven}

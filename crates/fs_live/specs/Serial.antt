@@ -9,9 +9,9 @@ use Rattle.fs_regions.specs.declared.step.CourseStep.TheVariants as step
 use Rattle.fs_regions.specs.Laws.{HasLoaded}
 use Rattle.fs_regions.specs.Walks.{Loaded}
 use Rattle.virtiofsd_fuse.specs.Serving.{May}
-use Rattle.fs_device.specs.Run.{KickRun, Turn}
-use Rattle.fs_device.specs.Step.{State, Exchange, Exchanged, Step}
-use Rattle.fs_device.specs.StepBy.{FindFlags, MayStoreLast, after_stores, stores_among}
+use Rattle.plain_machine.specs.Run.{KickRun, Turn}
+use Rattle.plain_machine.specs.Step.{State, Exchange, Exchanged, Step}
+use Rattle.plain_machine.specs.StepBy.{FindFlags, MayStoreLast, after_stores, stores_among}
 use Rattle.fs_live.specs.Several.{LiveQueue}
 use Rattle.fs_live.specs.Live.{OutChain, LiveState, LiveEvent, Walks, Asks, Answers, Returns, LiveRun, acts_of, calls_in, room_of}
 use Rattle.fs_live.specs.Runs.{request_in}

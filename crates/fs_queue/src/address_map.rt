@@ -42,7 +42,11 @@ impl<'a, M: GuestMemory, H: HostBlocks> AddressMap for HostAddressMap<'a, M, H> 
 }
 
 /// Why a chain at a position of a queue can't go back: `UsedUnreachable` or `AvailFlagsUnreachable`; none if it can (VIRTIO 1.2, 2.7.8 and 2.7.7).
-pub fn return_fault<P: AddressMap>(places: &P, layout: QueueLayout, position: u16) -> Option<QueueError>
+pub fn return_fault<P: AddressMap>(
+    places: &P,
+    layout: QueueLayout,
+    position: u16,
+) -> Option<QueueError>
     ensures { result ≡ return_fault (P.places places.now) (at_position layout position) }
 {
     let element = layout.used() + 4 + 8 * u64::from(position % layout.size());

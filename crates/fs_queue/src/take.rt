@@ -19,13 +19,13 @@ ghost use Rattle.fs_queue.specs.Loads.{ahead_at};
 ghost use Rattle.fs_queue.specs.SteppingView.{ahead_of, IfWants};
 
 use crate::access::add_windows;
+use crate::address_map::{HostAddressMap, access_of, chain_fault, count_bytes, return_fault};
 use crate::by_loads::{walk_chain, walk_ring};
 use crate::chain::{Chain, ReturnWindows, Taken};
 use crate::chain_walk::{Progress, WalkEnd};
 use crate::descriptor::{Descriptor, Descriptors};
 use crate::fault::{ChainFault, QueueError};
 use crate::layout::QueueLayout;
-use crate::address_map::{HostAddressMap, access_of, chain_fault, count_bytes, return_fault};
 use crate::walk::Walk;
 use std::alloc::{AllocError, Global};
 use vm_memory::GuestMemory;

@@ -252,7 +252,10 @@ impl Course {
         match walked {
             WalkEnd::Stopped => CourseStep::Refused(QueueError::DescriptorUnreachable),
             WalkEnd::Faulty(fault) => CourseStep::Chain(head, Some(fault)),
-            WalkEnd::Chain => CourseStep::Chain(head, chain_fault(regions, self.limit, descriptors)),
+            WalkEnd::Chain => CourseStep::Chain(
+                head,
+                chain_fault(regions, self.limit, descriptors),
+            ),
         }
     }
 }

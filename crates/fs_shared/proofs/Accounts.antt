@@ -12,7 +12,7 @@ use Rattle.vm_atomic_bitmaps.proofs.PassTotals.{length-each_tally}
 use Rattle.fs_shared.proofs.Since.{is_set}
 use Rattle.vm_memory_core.specs.Host.{Host, lengths}
 use Rattle.fs_shared.specs.Pages.{page_of}
-use Rattle.fs_device.specs.Step.{State}
+use Rattle.plain_machine.specs.Step.{State}
 use Rattle.vm_bitmaps.specs.Words.{page_bit}
 use Rattle.fs_shared.specs.declared.entry.JournalEntry.{JournalEntry}
 use Rattle.fs_shared.specs.declared.entry.Receipt.{Receipt}

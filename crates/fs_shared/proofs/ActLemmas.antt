@@ -7,10 +7,10 @@ use Rattle.vm_memory_core.specs.Host.{lengths}
 use Rattle.vm_memory.specs.Layout.{Region, fits, AreHeld, IsLayout}
 use Rattle.vm_memory.specs.Memory.{addresses, physical, reach}
 use Rattle.virtiofsd_fuse.specs.Serving.{May}
-use Rattle.fs_device.specs.declared.refusal.Refusal.TheVariants as why
-use Rattle.fs_device.specs.Step.{State}
-use Rattle.fs_device.specs.Run.{GuestWrite, SetLayout, Affects, Answer, Done, Bytes, NewBlockIs, Served, Copied, Pages, IsRefused}
-use Rattle.fs_device.specs.Run.{Effect, Performs, effect, guest_written, is_known, no, set_layout, some_overlap, with_layout}
+use Rattle.plain_machine.specs.declared.refusal.Refusal.TheVariants as why
+use Rattle.plain_machine.specs.Step.{State}
+use Rattle.plain_machine.specs.Run.{GuestWrite, SetLayout, Affects, Answer, Done, Bytes, NewBlockIs, Served, Copied, Pages, IsRefused}
+use Rattle.plain_machine.specs.Run.{Effect, Performs, effect, guest_written, is_known, no, set_layout, some_overlap, with_layout}
 use Rattle.fs_device.proofs.LayoutLemmas.{all_apart, all_fit, all_known, not_known}
 use Rattle.fs_device.specs.CommandView.{command_of}
 use Rattle.fs_shared.specs.declared.kept.Kept.{Kept}

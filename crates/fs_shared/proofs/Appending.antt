@@ -13,12 +13,12 @@ use Rattle.fs_queue.specs.Taking.{Offer, IsRequest, CannotFetch, Refuses, Offers
 use Rattle.fs_queue.specs.Taking as taking
 use Rattle.fs_queue.specs.Returning.{writes}
 use Rattle.virtiofsd_fuse.specs.Serving.{May}
-use Rattle.fs_device.specs.declared.error.DeviceError.TheVariants as device
-use Rattle.fs_device.specs.declared.refusal.Refusal.TheVariants as why
-use Rattle.fs_device.specs.Step as step
-use Rattle.fs_device.specs.Step.{State, Exchange, Calls, Idle, Refused, Exchanged, Unchanged, Returns, Exchanges, Acts, StepOf, Step, with_queue}
-use Rattle.fs_device.specs.Run as run
-use Rattle.fs_device.specs.Run.{Command, Answer, Effect, GuestWrite, SetLayout, Kick, IsDecided, is_known, some_overlap, with_layout, guest_written, no, effect}
+use Rattle.plain_machine.specs.declared.error.DeviceError.TheVariants as device
+use Rattle.plain_machine.specs.declared.refusal.Refusal.TheVariants as why
+use Rattle.plain_machine.specs.Step as step
+use Rattle.plain_machine.specs.Step.{State, Exchange, Calls, Idle, Refused, Exchanged, Unchanged, Returns, Exchanges, Acts, StepOf, Step, with_queue}
+use Rattle.plain_machine.specs.Run as run
+use Rattle.plain_machine.specs.Run.{Command, Answer, Effect, GuestWrite, SetLayout, Kick, IsDecided, is_known, some_overlap, with_layout, guest_written, no, effect}
 use Rattle.fs_device.specs.CommandView.{command_of}
 use Rattle.fs_shared.specs.declared.entry.JournalEntry.{JournalEntry}
 use Rattle.fs_shared.specs.Replay.{Anything, ReplayEntry, forget, Served, Stopped, Done, ReplaysKick, Plays, Replays}

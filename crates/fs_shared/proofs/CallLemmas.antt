@@ -2,12 +2,12 @@
 use Rattle.std.proofs.Common.{◌≡◌, ℕ, List, ap, sym, subst, Ok, Err, Result}
 use Rattle.fs_queue.specs.declared.fault.QueueError.TheVariants as stop
 use Rattle.virtiofsd_fuse.specs.Serving.{May}
-use Rattle.fs_device.specs.declared.error.DeviceError.{DeviceError}
-use Rattle.fs_device.specs.declared.error.DeviceError.TheVariants as device
-use Rattle.fs_device.specs.declared.refusal.Refusal.{Refusal}
-use Rattle.fs_device.specs.declared.refusal.Refusal.TheVariants as why
-use Rattle.fs_device.specs.Step.{State}
-use Rattle.fs_device.specs.Run.{Command, Kick}
+use Rattle.plain_machine.specs.declared.error.DeviceError.{DeviceError}
+use Rattle.plain_machine.specs.declared.error.DeviceError.TheVariants as device
+use Rattle.plain_machine.specs.declared.refusal.Refusal.{Refusal}
+use Rattle.plain_machine.specs.declared.refusal.Refusal.TheVariants as why
+use Rattle.plain_machine.specs.Step.{State}
+use Rattle.plain_machine.specs.Run.{Command, Kick}
 use Rattle.fs_shared.specs.declared.entry.Kicked as kicked
 use Rattle.fs_shared.specs.declared.entry.Receipt.{Receipt}
 use Rattle.fs_shared.specs.declared.entry.Start.{Start}

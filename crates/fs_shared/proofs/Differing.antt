@@ -13,15 +13,15 @@ use Rattle.fs_queue.specs.Returning.{writes}
 use Rattle.fs_queue.specs.Taking.{Offer, Offers, RequestAndRoom, offer, room_of}
 use Rattle.virtiofsd_fuse.specs.Serving.{May}
 use Rattle.fs_shared.specs.Pages.{page_of}
-use Rattle.fs_device.specs.declared.error.DeviceError.{DeviceError}
-use Rattle.fs_device.specs.declared.error.DeviceError.TheVariants as device
-use Rattle.fs_device.specs.declared.refusal.Refusal.TheVariants as why
-use Rattle.fs_device.specs.Step as step
-use Rattle.fs_device.specs.Step.{State, Exchange, Calls, Acts, Step, StepOf}
-use Rattle.fs_device.specs.Run as run
-use Rattle.fs_device.specs.Run.{Command, Effect, GuestWrite, SetLayout, Kick, IsDecided, effect, guest_written, is_known, no, some_overlap, with_layout}
-use Rattle.fs_device.specs.UsedLength.{IsOffered}
-use Rattle.fs_device.proofs.UsedLemmas.{exchange_returns, step_offers}
+use Rattle.plain_machine.specs.declared.error.DeviceError.{DeviceError}
+use Rattle.plain_machine.specs.declared.error.DeviceError.TheVariants as device
+use Rattle.plain_machine.specs.declared.refusal.Refusal.TheVariants as why
+use Rattle.plain_machine.specs.Step as step
+use Rattle.plain_machine.specs.Step.{State, Exchange, Calls, Acts, Step, StepOf}
+use Rattle.plain_machine.specs.Run as run
+use Rattle.plain_machine.specs.Run.{Command, Effect, GuestWrite, SetLayout, Kick, IsDecided, effect, guest_written, is_known, no, some_overlap, with_layout}
+use Rattle.plain_machine.specs.UsedLength.{IsOffered}
+use Rattle.plain_machine.proofs.UsedLemmas.{exchange_returns, step_offers}
 use Rattle.fs_shared.specs.JournalPages.{JournalsTellPages, joined_pages}
 use Rattle.fs_shared.specs.Replay.{Anything, Done, ReplayEntry, ExchangesPages, ReplaysKick, Plays, Replays, Served, Stopped, WritesPages}
 use Rattle.fs_shared.specs.Replay as replay

@@ -11,11 +11,11 @@ use Rattle.fs_queue.specs.Taking.{Offer, IsRequest, CannotFetch, Refuses, Offers
 use Rattle.fs_queue.specs.Taking as taking
 use Rattle.fuse_fs.specs.Calls.{FileRun}
 use Rattle.virtiofsd_fuse.specs.Serving.{May}
-use Rattle.fs_device.specs.declared.error.DeviceError.TheVariants as device
-use Rattle.fs_device.specs.declared.refusal.Refusal.TheVariants as why
-use Rattle.fs_device.specs.Step.{State, Exchange, Calls, StepEnd, Idle, Refused, Exchanged, Unchanged, Returns, Exchanges, Acts, StepOf, Step}
-use Rattle.fs_device.specs.Run as run
-use Rattle.fs_device.specs.Run.{Command, Answer, Effect, GuestWrite, SetLayout, Kick, IsDecided, is_known, some_overlap, set_layout, guest_write, with_layout, guest_written, no, effect}
+use Rattle.plain_machine.specs.declared.error.DeviceError.TheVariants as device
+use Rattle.plain_machine.specs.declared.refusal.Refusal.TheVariants as why
+use Rattle.plain_machine.specs.Step.{State, Exchange, Calls, StepEnd, Idle, Refused, Exchanged, Unchanged, Returns, Exchanges, Acts, StepOf, Step}
+use Rattle.plain_machine.specs.Run as run
+use Rattle.plain_machine.specs.Run.{Command, Answer, Effect, GuestWrite, SetLayout, Kick, IsDecided, is_known, some_overlap, set_layout, guest_write, with_layout, guest_written, no, effect}
 use Rattle.fs_shared.specs.Replay.{Anything, forget, Served, Stopped, Done, ReplaysKick, Plays, ExchangesPages}
 use Rattle.fs_shared.specs.Replay as replay
 

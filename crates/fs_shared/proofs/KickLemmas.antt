@@ -11,16 +11,16 @@ use Rattle.fs_queue.specs.Taking.{Offer, RequestAndRoom, IsRequest, CannotFetch,
 use Rattle.fs_queue.specs.Taking as taking
 use Rattle.fs_queue.specs.Windows.{IsTaken, Taken}
 use Rattle.virtiofsd_fuse.specs.Serving.{May}
-use Rattle.fs_device.specs.declared.error.DeviceError.{DeviceError}
-use Rattle.fs_device.specs.declared.error.DeviceError.TheVariants as device
-use Rattle.fs_device.specs.Step.{State, Exchange, Calls, Idle, Refused, Exchanged, Exchanges, StepOf, Step}
-use Rattle.fs_device.specs.Run.{Kick}
+use Rattle.plain_machine.specs.declared.error.DeviceError.{DeviceError}
+use Rattle.plain_machine.specs.declared.error.DeviceError.TheVariants as device
+use Rattle.plain_machine.specs.Step.{State, Exchange, Calls, Idle, Refused, Exchanged, Exchanges, StepOf, Step}
+use Rattle.plain_machine.specs.Run.{Kick}
 use Rattle.fs_device.specs.CommandView.{command_of}
 use Rattle.fs_device.specs.DeviceView.{request_of}
 use Rattle.fs_device.specs.Phases.{HasTaken}
-use Rattle.fs_device.specs.UsedLength.{IsOffered}
+use Rattle.plain_machine.specs.UsedLength.{IsOffered}
 use Rattle.fs_device.proofs.StepLemmas.{set-same}
-use Rattle.fs_device.proofs.UsedLemmas.{step_offers}
+use Rattle.plain_machine.proofs.UsedLemmas.{step_offers}
 use Rattle.fs_shared.specs.declared.kept.Kept.{Kept}
 use Rattle.fs_shared.specs.declared.kicking.ReplyRoom.{ReplyRoom}
 use Rattle.fs_shared.specs.Held.{HasOpenQueue, HasWaiting, came_of}

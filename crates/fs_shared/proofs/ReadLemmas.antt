@@ -6,10 +6,10 @@ use Rattle.vm_iotlb.specs.declared.permissions.Permissions.TheVariants.{Read}
 use Rattle.vm_memory.specs.Memory.{bytes, physical, reach}
 use Rattle.virtiofsd_fuse.specs.Serving.{May}
 use Rattle.fs_device.specs.declared.command.Answer as told
-use Rattle.fs_device.specs.declared.refusal.Refusal.{Refusal}
-use Rattle.fs_device.specs.declared.refusal.Refusal.TheVariants as why
-use Rattle.fs_device.specs.Step.{State}
-use Rattle.fs_device.specs.Run.{GuestRead, Affects, Answer, Done, Bytes, NewBlockIs, IsRefused, Effect, Performs, effect, no}
+use Rattle.plain_machine.specs.declared.refusal.Refusal.{Refusal}
+use Rattle.plain_machine.specs.declared.refusal.Refusal.TheVariants as why
+use Rattle.plain_machine.specs.Step.{State}
+use Rattle.plain_machine.specs.Run.{GuestRead, Affects, Answer, Done, Bytes, NewBlockIs, IsRefused, Effect, Performs, effect, no}
 use Rattle.fs_device.specs.CommandView.{answer_of}
 
 -- bytes or a refusal

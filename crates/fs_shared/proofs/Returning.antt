@@ -16,7 +16,7 @@ use Rattle.fs_queue.specs.Queue.{Queue, element_at, index_at}
 use Rattle.fs_queue.specs.Returning.{next_position}
 use Rattle.fs_queue.specs.Taking.{RequestAndRoom, IsRequest, CannotFetch, room_of}
 use Rattle.fs_queue.specs.Windows.{HoldsChain, IsTaken, chain_places, used_addresses}
-use Rattle.fs_device.specs.MarkedPages.{returned_addresses}
+use Rattle.plain_machine.specs.MarkedPages.{returned_addresses}
 use Rattle.fs_shared.specs.Replay.{written_places}
 
 firsts : (a b : List ℕ) → map (λ (w : ℕ × ℕ). w.0) (zip a b) ≡ take (length b) a

@@ -11,7 +11,7 @@ use Rattle.fs_shared.specs.Portion.{MarksPages, kept_pass, new_pass}
 use Rattle.fs_shared.proofs.Marking.{none_by_new}
 use Rattle.vm_memory_core.specs.Host.{Host, lengths}
 use Rattle.fs_shared.specs.Pages.{page_of}
-use Rattle.fs_device.specs.Step.{State}
+use Rattle.plain_machine.specs.Step.{State}
 use Rattle.fs_shared.specs.declared.entry.JournalEntry.{JournalEntry}
 use Rattle.fs_shared.specs.declared.entry.Receipt.{Receipt}
 use Rattle.fs_shared.specs.Audit.{AreAllReceipts}

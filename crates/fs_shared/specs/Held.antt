@@ -1,9 +1,9 @@
 -- What lies under the lock, and what its journal says.
 use Rattle.std.specs.Prelude.{◌≡◌, ℕ, Bool, false, List, map, IsSomeAnd, slice_get}
 use Rattle.fs_queue.specs.Taking.{is_idle, offer}
-use Rattle.fs_device.specs.Step.{State}
-use Rattle.fs_device.specs.Run as run
-use Rattle.fs_device.specs.Run.{Command, Affects}
+use Rattle.plain_machine.specs.Step.{State}
+use Rattle.plain_machine.specs.Run as run
+use Rattle.plain_machine.specs.Run.{Command, Affects}
 use Rattle.fs_device.specs.CommandView.{command_of}
 use Rattle.fs_device.specs.DeviceView.{exchange_of}
 use Rattle.fs_shared.specs.declared.entry.Outcome as told

@@ -3,7 +3,7 @@ use Rattle.std.specs.Prelude.{◌≡◌, ◌≢◌, ℕ, List, drop, flat_map, t
 use Rattle.std.specs.List.{Contains}
 use Rattle.vm_memory_core.specs.Host.{Host, Place, byte_at, lengths}
 use Rattle.fs_shared.specs.Pages.{page_of}
-use Rattle.fs_device.specs.Step.{State}
+use Rattle.plain_machine.specs.Step.{State}
 use Rattle.fs_shared.specs.Replay.{ReplayEntry, Replays}
 
 -- the pages of all entries

@@ -3,11 +3,11 @@ use Rattle.std.specs.Prelude.{◌≡◌, ◌≤◌, ◌+◌, ℕ, List, [], leng
 use Rattle.fs_queue.specs.declared.fault.QueueError.TheVariants as stop
 use Rattle.fs_queue.specs.Windows.{Taken, room_places}
 use Rattle.virtiofsd_fuse.specs.Serving.{May}
-use Rattle.fs_device.specs.declared.error.DeviceError.{DeviceError}
-use Rattle.fs_device.specs.declared.error.DeviceError.TheVariants as device
-use Rattle.fs_device.specs.Step as step
-use Rattle.fs_device.specs.Step.{State, Step}
-use Rattle.fs_device.specs.Run.{Command, Kick}
+use Rattle.plain_machine.specs.declared.error.DeviceError.{DeviceError}
+use Rattle.plain_machine.specs.declared.error.DeviceError.TheVariants as device
+use Rattle.plain_machine.specs.Step as step
+use Rattle.plain_machine.specs.Step.{State, Step}
+use Rattle.plain_machine.specs.Run.{Command, Kick}
 use Rattle.fs_device.specs.CommandView.{command_of}
 use Rattle.fs_shared.specs.declared.kept.Kept.{Kept}
 use Rattle.fs_shared.specs.declared.kicking.ReplyRoom.{ReplyRoom}

@@ -5,10 +5,10 @@ use Rattle.vm_atomic_bitmaps.specs.declared.counts.Tally.{Tally}
 use Rattle.vm_atomic_bitmaps.specs.Counts.{both_passes, cleared_by, first_pass, in_word, joined_with, kept_half, met_with, new_half, IsWhole}
 use Rattle.fs_shared.specs.Portion.{HasSeen, MarksPages}
 use Rattle.virtiofsd_fuse.specs.Serving.{May}
-use Rattle.fs_device.specs.Step.{State, Calls, StepEnd, Step}
-use Rattle.fs_device.specs.Run.{Command}
-use Rattle.fs_device.specs.declared.error.DeviceError.{DeviceError}
-use Rattle.fs_device.specs.declared.refusal.Refusal.{Refusal}
+use Rattle.plain_machine.specs.Step.{State, Calls, StepEnd, Step}
+use Rattle.plain_machine.specs.Run.{Command}
+use Rattle.plain_machine.specs.declared.error.DeviceError.{DeviceError}
+use Rattle.plain_machine.specs.declared.refusal.Refusal.{Refusal}
 use Rattle.fs_shared.specs.declared.entry.Kicked.{Kicked}
 use Rattle.fs_shared.specs.declared.entry.Receipt.{Receipt}
 use Rattle.fs_shared.specs.Calls.{JournalsOrRefuses, KicksBy}

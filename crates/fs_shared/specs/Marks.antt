@@ -8,9 +8,9 @@ use Rattle.vm_atomic_bitmaps.specs.Passes.{Pass, SharedPages}
 use Rattle.fs_shared.specs.Portion.{IsMarkedSince}
 use Rattle.vm_memory_core.specs.Host.{Host, Place, byte_at, lengths}
 use Rattle.fs_shared.specs.Pages.{first_page, page_of}
-use Rattle.fs_device.specs.declared.error.DeviceError.{DeviceError}
-use Rattle.fs_device.specs.declared.refusal.Refusal.{Refusal}
-use Rattle.fs_device.specs.Step.{State}
+use Rattle.plain_machine.specs.declared.error.DeviceError.{DeviceError}
+use Rattle.plain_machine.specs.declared.refusal.Refusal.{Refusal}
+use Rattle.plain_machine.specs.Step.{State}
 use Rattle.fs_shared.specs.declared.entry.JournalEntry.{JournalEntry}
 use Rattle.fs_shared.specs.declared.entry.Kicked as kicked
 use Rattle.fs_shared.specs.declared.entry.Receipt.{Receipt}

@@ -6,14 +6,14 @@ use Rattle.vm_memory_core.specs.Host.{Place, lengths}
 use Rattle.vm_memory.specs.Memory.{Memory, addresses, location, physical}
 use Rattle.fs_queue.specs.Taking.{room_of, stops_queue}
 use Rattle.virtiofsd_fuse.specs.Serving.{May}
-use Rattle.fs_device.specs.declared.error.DeviceError.{DeviceError}
-use Rattle.fs_device.specs.declared.error.DeviceError.TheVariants as device
-use Rattle.fs_device.specs.Step as step
-use Rattle.fs_device.specs.Step.{State, Exchange, Calls, Step}
-use Rattle.fs_device.specs.Run as run
-use Rattle.fs_device.specs.Run.{Command, GuestWrite, SetLayout, Kick, Affects}
-use Rattle.fs_device.specs.MarkedPages.{returned_addresses}
-use Rattle.fs_device.specs.UsedLength.{IsOffered}
+use Rattle.plain_machine.specs.declared.error.DeviceError.{DeviceError}
+use Rattle.plain_machine.specs.declared.error.DeviceError.TheVariants as device
+use Rattle.plain_machine.specs.Step as step
+use Rattle.plain_machine.specs.Step.{State, Exchange, Calls, Step}
+use Rattle.plain_machine.specs.Run as run
+use Rattle.plain_machine.specs.Run.{Command, GuestWrite, SetLayout, Kick, Affects}
+use Rattle.plain_machine.specs.MarkedPages.{returned_addresses}
+use Rattle.plain_machine.specs.UsedLength.{IsOffered}
 use Rattle.fs_shared.specs.Pages.{ArePagesOf}
 
 -- what came of an event: it was done, a chain was exchanged, with whether the driver was told, or a refusal stopped the queue

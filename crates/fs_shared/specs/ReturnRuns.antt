@@ -9,7 +9,7 @@ use Rattle.fs_queue.specs.Windows.{IsTaken, chain_places}
 use Rattle.fs_queue.specs.Windows.{Taken}
 use Rattle.fs_shared.specs.Pages.{page_of}
 use Rattle.fs_shared.specs.Runs.{AreRuns}
-use Rattle.fs_device.specs.MarkedPages.{returned_addresses}
+use Rattle.plain_machine.specs.MarkedPages.{returned_addresses}
 use Rattle.fs_shared.specs.Replay.{WritesPages}
 use Rattle.fs_shared.specs.declared.return_pages.ReturnRuns.{ReturnRuns}
 

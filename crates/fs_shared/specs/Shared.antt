@@ -2,9 +2,9 @@
 use Rattle.std.specs.Prelude.{ℕ, Result, Vec}
 use Rattle.std.specs.Global.{Global}
 use Rattle.virtiofsd_fuse.specs.Serving.{May}
-use Rattle.fs_device.specs.declared.error.DeviceError.{DeviceError}
-use Rattle.fs_device.specs.declared.refusal.Refusal.{Refusal}
-use Rattle.fs_device.specs.Run.{Command}
+use Rattle.plain_machine.specs.declared.error.DeviceError.{DeviceError}
+use Rattle.plain_machine.specs.declared.refusal.Refusal.{Refusal}
+use Rattle.plain_machine.specs.Run.{Command}
 use Rattle.fs_shared.specs.declared.entry.Kicked as kicked
 use Rattle.fs_shared.specs.declared.entry.Receipt.{Receipt}
 use Rattle.fs_shared.specs.Held.{Held}

@@ -3,7 +3,7 @@
 ghost use Rattle.std.specs.Prelude.{◌≡◌, [], true, IfOk, OnErr, length};
 ghost use Rattle.vm_iotlb.specs.declared.permissions.Permissions.TheVariants.{Write};
 ghost use Rattle.vm_memory.specs.Memory.{addresses, memory_of, physical, reach};
-ghost use Rattle.fs_device.specs.Run.{GuestWrite, SetLayout};
+ghost use Rattle.plain_machine.specs.Run.{GuestWrite, SetLayout};
 ghost use Rattle.fs_device.specs.CommandView.{command_of};
 ghost use Rattle.fs_device.specs.MachineView.{machine_of};
 ghost use Rattle.fs_shared.specs.Held.{WouldDo, came_of};

@@ -3,8 +3,8 @@
 ghost use Rattle.std.specs.Prelude.{◌≡◌, IfErr, List, OnOk, Err, false, vec_len};
 ghost use Rattle.fs_shared.specs.Portion.{counted};
 ghost use Rattle.fs_device.specs.MachineView.{machine_of};
-ghost use Rattle.fs_device.specs.Run.{GuestWrite, SetLayout};
-ghost use Rattle.fs_device.specs.Step.{State};
+ghost use Rattle.plain_machine.specs.Run.{GuestWrite, SetLayout};
+ghost use Rattle.plain_machine.specs.Step.{State};
 ghost use Rattle.fs_shared.specs.Calls.{JournalsOrRefuses, KicksBy, ReadsBy, did, did_kick};
 ghost use Rattle.fs_shared.specs.Held.{HasOpenQueue, journal_of};
 ghost use Rattle.fs_shared.specs.Keeping.{KickKeeps};

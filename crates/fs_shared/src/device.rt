@@ -9,7 +9,7 @@ ghost use Rattle.vm_atomic_bitmaps.specs.Steps.{SettlesAll};
 ghost use Rattle.fs_shared.specs.Portion.{HasSeen, IsShareOf, MarksPages, counted, joined, kept_pass, new_pass};
 ghost use Rattle.fs_device.specs.CommandView.{command_of};
 ghost use Rattle.fs_device.specs.MachineView.{machine_of};
-ghost use Rattle.fs_device.specs.Run.{GuestWrite, Kick, SetLayout};
+ghost use Rattle.plain_machine.specs.Run.{GuestWrite, Kick, SetLayout};
 ghost use Rattle.fs_shared.specs.Calls.{did, did_kick};
 ghost use Rattle.fs_shared.specs.Held.{fixed_of, journal_of, start_of};
 ghost use Rattle.fs_shared.specs.JournalPages.{DiffersWithin, joined_pages};

@@ -3,7 +3,7 @@
 ghost use Rattle.std.specs.Prelude.{◌≡◌, ◌≤◌, ◌<◌, ◌+◌, [], false, IsTrue, IfOk, IfErr, OnErr, length, vec_len, vec_capacity};
 ghost use Rattle.vm_memory_core.specs.Host.{lengths};
 ghost use Rattle.fs_queue.specs.Windows.{TakenLiesIn, room_places};
-ghost use Rattle.fs_device.specs.Run.{Kick};
+ghost use Rattle.plain_machine.specs.Run.{Kick};
 ghost use Rattle.fs_device.specs.CommandView.{command_of};
 ghost use Rattle.fs_device.specs.DeviceView.{exchange_of};
 ghost use Rattle.fs_device.specs.MachineView.{machine_of};

@@ -2,8 +2,8 @@
 
 ghost use Rattle.std.specs.Prelude.{◌≡◌, ◌↔◌, IsTrue};
 ghost use Rattle.fs_device.specs.CommandView.{command_of};
-ghost use Rattle.fs_device.specs.Run.{GuestRead, GuestWrite, Harvest, Image, InsertRegion, Kick, Map};
-ghost use Rattle.fs_device.specs.Run.{NewBlock, RemoveRegion, ResetQueue, SetIommu, SetLayout, Unmap, UnmapAll};
+ghost use Rattle.plain_machine.specs.Run.{GuestRead, GuestWrite, Harvest, Image, InsertRegion, Kick, Map};
+ghost use Rattle.plain_machine.specs.Run.{NewBlock, RemoveRegion, ResetQueue, SetIommu, SetLayout, Unmap, UnmapAll};
 
 use crate::same_layout::same_layout;
 use fs_device::Command;

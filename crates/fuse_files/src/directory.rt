@@ -5,7 +5,7 @@ ghost use Rattle.fuse_fs.specs.Answers.{data_answer, entry_answer, listed};
 ghost use Rattle.fuse_files.specs.OwnedTable.{listed_files};
 ghost use Rattle.fuse_files.specs.Directory.{EROFS, attr_of, bytes_in, file_entry, file_at, found_from, listing_from, MayAnswer};
 
-use crate::owned_table::{TableEntries, OwnedFile, OwnedTable};
+use crate::owned_table::{OwnedFile, OwnedTable, TableEntries};
 use crate::readable::ReadableFileSystem;
 use fuse_fs::{
     Context, DirEntry, DirectoryIterator, Entry, PositionedFile, Timeout, WritevFlags,

@@ -12,6 +12,6 @@ mod writable;
 pub use access_kinds::{ReadOnly, Writable};
 pub use adapter::{Files, Kind};
 pub use bitflags::Flags;
-pub use owned_table::{TableEntries, OwnedFile, OwnedTable};
+pub use owned_table::{OwnedFile, OwnedTable, TableEntries};
 pub use readable::ReadableFileSystem;
 pub use writable::WritableFileSystem;

@@ -145,7 +145,12 @@ pub(crate) fn entries_asked<'a>(
 }
 
 // WRITE, by its record; so many bytes of data stand behind it.
-fn write_asked<'a>(head: &InHeader, request: &WriteIn, len: usize, room: usize) -> DecodedRequest<'a>
+fn write_asked<'a>(
+    head: &InHeader,
+    request: &WriteIn,
+    len: usize,
+    room: usize,
+) -> DecodedRequest<'a>
     ensures told { (page_size options : ℕ) (bytes : List ℕ) → len ≡ length bytes
         → IsDecoded (setting page_size options room) (Asks (One head.now.unique (write_call head.now request.now bytes))) bytes result }
     ensures asker { IsAskedBy (context_of head.now) result }
@@ -287,7 +292,12 @@ pub(crate) fn ask_write_front<'a>(front: &'a [u8], len: usize, room: usize) -> D
 }
 
 // WRITE: its header is read.
-fn ask_write_head<'a>(head: &InHeader, len: usize, room: usize, source: Flat<'a>) -> DecodedRequest<'a>
+fn ask_write_head<'a>(
+    head: &InHeader,
+    len: usize,
+    room: usize,
+    source: Flat<'a>,
+) -> DecodedRequest<'a>
     requires { is_write (opcode_of head.now.opcode) ≡ true }
     ensures told { (page_size options : ℕ) (bytes : List ℕ) → BeginsRecord source.entry.bytes.now bytes → len ≡ length (drop 40 bytes)
         → IsDecoded (setting page_size options room) (meant (given head.now options room) bytes) (drop 40 bytes) result }

@@ -38,7 +38,12 @@ impl Session {
     }
 
     /// What a request asks whose header was read.
-    pub(crate) fn ask_head<'a>(&self, head: &InHeader, room: usize, source: Flat<'a>) -> DecodedRequest<'a>
+    pub(crate) fn ask_head<'a>(
+        &self,
+        head: &InHeader,
+        room: usize,
+        source: Flat<'a>,
+    ) -> DecodedRequest<'a>
         ensures told { IsDecoded (setting self.now.page_size self.now.options.0 room)
             (meant (given head.now self.now.options.0 room) source.entry.bytes.now) (drop 40 source.entry.bytes.now) result }
         ensures asker { IsAskedBy (context_of head.now) result }

@@ -9,7 +9,7 @@ ghost use Rattle.server_phases.specs.Answering.{Gives, TellsBytes, takes, forget
 ghost use Rattle.server_phases.specs.Waiting.{WaitsFor, first_call};
 
 use crate::answering::{
-    Answered, AnswerRefusal, RefusedAnswer, answered_without_data, data_answered, is_too_long,
+    AnswerRefusal, Answered, RefusedAnswer, answered_without_data, data_answered, is_too_long,
     placed_alone, suits,
 };
 use crate::session::Session;

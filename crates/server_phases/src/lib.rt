@@ -12,8 +12,8 @@ mod rows;
 mod session;
 mod waiting;
 
-pub use answering::{Answered, AnswerRefusal, RefusedAnswer, Sent};
-pub use asking::{DecodedRequest, AskedFront};
+pub use answering::{AnswerRefusal, Answered, RefusedAnswer, Sent};
+pub use asking::{AskedFront, DecodedRequest};
 pub use listing::{Listing, ListingReply, NotAdded};
 pub use server_replies::fronts::Front;
 pub use session::Session;

@@ -8,8 +8,8 @@ ghost use Rattle.virtiofsd_fuse.specs.Serving.{setting};
 ghost use Rattle.server_phases.specs.Asking.{IsAskedBy, IsRowTold, IsDecoded};
 
 use crate::asking::{
-    DecodedRequest, WRITE_IN_LEN, ask_write_row, called, entries_asked, init_asked, pairs_asked, read_asked,
-    refused, replied,
+    DecodedRequest, WRITE_IN_LEN, ask_write_row, called, entries_asked, init_asked, pairs_asked,
+    read_asked, refused, replied,
 };
 use crate::session::Session;
 use fuse_in::InHeader;
@@ -44,7 +44,13 @@ impl Session {
     }
 
     // BATCH_FORGET, by how many pairs it says.
-    fn ask_pairs<'a>(&self, head: &InHeader, count: u32, room: usize, source: Flat<'a>) -> DecodedRequest<'a>
+    fn ask_pairs<'a>(
+        &self,
+        head: &InHeader,
+        count: u32,
+        room: usize,
+        source: Flat<'a>,
+    ) -> DecodedRequest<'a>
         requires { count ≤ 65536 }
         ensures told { (bytes : List ℕ) → IsDecoded (setting self.now.page_size self.now.options.0 room)
             (ended head.now.unique (forgets_asked count (given head.now self.now.options.0 room) source.entry.bytes.now)) bytes result }
@@ -75,7 +81,12 @@ impl Session {
     }
 
     /// READ.
-    pub(crate) fn ask_read<'a>(&self, head: &InHeader, room: usize, source: Flat<'a>) -> DecodedRequest<'a>
+    pub(crate) fn ask_read<'a>(
+        &self,
+        head: &InHeader,
+        room: usize,
+        source: Flat<'a>,
+    ) -> DecodedRequest<'a>
         ensures told { IsRowTold self.now.page_size self.now.options.0 head.now room read_row source.entry.bytes.now result }
         ensures asker { IsAskedBy (context_of head.now) result }
     {
@@ -104,7 +115,12 @@ impl Session {
     }
 
     /// INIT.
-    pub(crate) fn ask_init<'a>(&self, head: &InHeader, room: usize, source: Flat<'a>) -> DecodedRequest<'a>
+    pub(crate) fn ask_init<'a>(
+        &self,
+        head: &InHeader,
+        room: usize,
+        source: Flat<'a>,
+    ) -> DecodedRequest<'a>
         ensures told { IsRowTold self.now.page_size self.now.options.0 head.now room init_row source.entry.bytes.now result }
         ensures asker { IsAskedBy (context_of head.now) result }
     {
@@ -117,7 +133,12 @@ impl Session {
     }
 
     /// WRITE, whose data stands behind its record.
-    pub(crate) fn ask_write<'a>(&self, head: &InHeader, room: usize, source: Flat<'a>) -> DecodedRequest<'a>
+    pub(crate) fn ask_write<'a>(
+        &self,
+        head: &InHeader,
+        room: usize,
+        source: Flat<'a>,
+    ) -> DecodedRequest<'a>
         ensures told { IsRowTold self.now.page_size self.now.options.0 head.now room write_row source.entry.bytes.now result }
         ensures asker { IsAskedBy (context_of head.now) result }
     {

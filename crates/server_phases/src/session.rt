@@ -6,7 +6,7 @@ ghost use Rattle.virtiofsd_fuse.specs.Grammar.{meaning, known_options};
 ghost use Rattle.virtiofsd_fuse.specs.Serving.{setting};
 ghost use Rattle.server_phases.specs.Asking.{IsDecoded, HasAsker, HasAskerByFront, IsRequestFront, IsToldByFront, front_tells, is_told};
 
-use crate::asking::{DecodedRequest, AskedFront, ask_write_front, begins_a_write};
+use crate::asking::{AskedFront, DecodedRequest, ask_write_front, begins_a_write};
 use bitflags::Flags;
 use fuse_in::InHeader;
 use fuse_wire::FsOptions;

@@ -15,8 +15,8 @@ use Rattle.server_requests.specs.Reading.{reading_of}
 use Rattle.virtiofsd_fuse.specs.Examples.{le16}
 use Rattle.virtiofsd_fuse.specs.Grammar.{meaning, meant, row}
 use Rattle.virtiofsd_fuse.specs.Serving.{May}
-use Rattle.fs_device.specs.Examples.{queue}
-use Rattle.fs_device.specs.StepBy.{FindFlags}
+use Rattle.plain_machine.specs.Examples.{queue}
+use Rattle.plain_machine.specs.StepBy.{FindFlags}
 use Rattle.fs_live.specs.Live.{AsksSo, AnswersSo, ReturnsSo, WalksSo, acts_of}
 use Rattle.fs_live.specs.Overlap.{at_positions, destroy, first, first_loads, first_table, second, second_loads, second_table, state, unknown}
 use Rattle.fs_live.specs.Serial.{FoundIn, SerialRun, return_in}

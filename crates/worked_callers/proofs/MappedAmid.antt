@@ -14,7 +14,7 @@ use Rattle.fs_chain.specs.declared.queue.QueueState.{QueueState}
 use Rattle.fs_chain.specs.declared.state.ChainState.TheVariants as at
 use Rattle.fs_chain.specs.declared.popping.PopOutcome.TheVariants as says
 use Rattle.fs_chain.specs.declared.chain_handle.ChainHandle.{ChainHandle}
-use Rattle.fs_device.specs.StepBy.{Act}
+use Rattle.plain_machine.specs.StepBy.{Act}
 use Rattle.fs_live.specs.Handles.{HandleWalks, IsHeld, IsOut, IsReached, live_of}
 use Rattle.fs_live.specs.Live.{Happens, IfKeepsReturns, KeepsQueue, KeepsReturns, LiveEvent, LiveRun, LiveState, Maps, OutChain, Own, Replies, Returns, Walks, after_giving, after_own, after_walk, calls_among, new_chain, room_of}
 use Rattle.fs_live.specs.Others.{GoesBackOwn, HandleMaps, HandleReplies, HandleReturnsOwn, IsOwn}

@@ -27,7 +27,7 @@ use Rattle.fs_chain.specs.declared.state.ChainState as state
 use Rattle.fs_chain.specs.declared.state.ChainState.TheVariants as at
 use Rattle.fs_chain.specs.declared.popping.PopOutcome.TheVariants as says
 use Rattle.fs_chain.specs.declared.chain_handle.ChainHandle.{ChainHandle}
-use Rattle.fs_device.specs.StepBy.{Act, reply_stores, return_acts}
+use Rattle.plain_machine.specs.StepBy.{Act, reply_stores, return_acts}
 use Rattle.fs_live.specs.Handles.{HandleWalks, IsHeld, IsOut, IsReached, live_of}
 use Rattle.fs_live.specs.Live.{Abandons, Drops, Happens, IsEven, LiveEvent, LiveRun, LiveState, MayBeOut, Moves, OutChain, Own, Replies, Returns, Walks, after_drop, after_giving, after_loss, after_own, after_walk, calls_among, new_chain, room_of}
 use Rattle.fs_live.specs.Others.{AreBegunBy, GoesBackOwn, HandleAbandons, HandleDrops, HandleMoves, HandleReplies, HandleReturnsOwn, IfOut, IsOwn, recorded}

@@ -27,8 +27,8 @@ use Rattle.fs_chain.specs.declared.queue.QueueState.{QueueState}
 use Rattle.fs_chain.specs.declared.popping.PopOutcome as walked
 use Rattle.fs_chain.specs.declared.popping.PopOutcome.TheVariants as says
 use Rattle.fs_chain.specs.declared.chain_handle.ChainHandle.{ChainHandle}
-use Rattle.fs_device.specs.Step.{Calls, EachSuits}
-use Rattle.fs_device.specs.StepBy.{Act}
+use Rattle.plain_machine.specs.Step.{Calls, EachSuits}
+use Rattle.plain_machine.specs.StepBy.{Act}
 use Rattle.fs_live.specs.Handles.{HandleAsks, HandleCalls, HandleFaulty, HandleReturns, HandleSleeps, HandleWalks, IsFaultyOut, IsHeld, IsKept, IsOut, IsReached, IsSessionOf, IsDecodedWhole, calls_told, live_of}
 use Rattle.fs_live.specs.Live.{
   Answers,

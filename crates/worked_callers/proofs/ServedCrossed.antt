@@ -17,8 +17,8 @@ use Rattle.fs_chain.specs.declared.loads.LoadOutcome.TheVariants as wents
 use Rattle.fs_chain.specs.declared.queue.QueueState.{QueueState}
 use Rattle.fs_chain.specs.declared.popping.PopOutcome.TheVariants as says
 use Rattle.fs_chain.specs.declared.chain_handle.ChainHandle.{ChainHandle}
-use Rattle.fs_device.specs.Step.{Calls}
-use Rattle.fs_device.specs.StepBy.{Act}
+use Rattle.plain_machine.specs.Step.{Calls}
+use Rattle.plain_machine.specs.StepBy.{Act}
 use Rattle.fs_live.specs.Handles.{HandleAsks, HandleCalls, HandleReturns, HandleWalks, IsHeld, IsKept, IsOut, IsReached, IsSessionOf, calls_told, live_of}
 use Rattle.fs_live.specs.Live.{Asks, Happens, LiveEvent, LiveRun, LiveState, OutChain, Returns, Walks, after_asking, after_giving, after_walk, asked_chain, calls_among, new_chain, room_of}
 use Rattle.fs_live.specs.Several.{LiveQueue, took}

@@ -4,9 +4,9 @@ use Rattle.vm_memory.specs.Memory.{Memory}
 use Rattle.fs_queue.specs.Returning.{Store}
 use Rattle.fuse_fs.specs.Calls.{Destroy, Done}
 use Rattle.virtiofsd_fuse.specs.Examples.{le16, le32, zeros}
-use Rattle.fs_device.specs.Examples.{blank, descriptor_bytes, put}
-use Rattle.fs_device.specs.Step.{Exchange}
-use Rattle.fs_device.specs.StepBy.{after_stores, stores_among}
+use Rattle.plain_machine.specs.Examples.{blank, descriptor_bytes, put}
+use Rattle.plain_machine.specs.Step.{Exchange}
+use Rattle.plain_machine.specs.StepBy.{after_stores, stores_among}
 use Rattle.fs_live.specs.Live.{Answers, Asked, Asks, OutChain, acts_of}
 use Rattle.fs_live.specs.Overlap.{destroy, first, first_loads, first_table, second, second_loads, second_table, unknown}
 use Rattle.fs_live.specs.Serial.{Single, return_in}

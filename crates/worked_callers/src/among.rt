@@ -11,7 +11,7 @@ ghost use Rattle.fs_live.specs.Handles.{live_of};
 ghost use Rattle.fs_live.specs.Live.{Declines, Happens, LiveEvent, LiveRun, LiveState};
 
 use crate::wholes::{walk_by, wants_bytes};
-use fs_chain::{ChainError, QueueState, PopOutcome, LoadOutcome, ChainHandle};
+use fs_chain::{ChainError, ChainHandle, LoadOutcome, PopOutcome, QueueState};
 use fs_live::law_handles;
 use fs_queue::QueueError;
 use fuse_fs::FileSystem;

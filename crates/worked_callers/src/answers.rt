@@ -10,13 +10,13 @@ ghost use Rattle.fs_chain.specs.Whole.{IsAnsweredBy};
 ghost use Rattle.fs_chain.specs.WholeListings.{EndsThere, listing_calls};
 ghost use Rattle.fs_chain.specs.declared.answering.Replied.{Replied};
 ghost use Rattle.fs_chain.specs.declared.state.ChainState.TheVariants as at;
-ghost use Rattle.fs_device.specs.Step.{Calls};
+ghost use Rattle.plain_machine.specs.Step.{Calls};
 ghost use Rattle.fs_live.specs.Handles.{IsReached, IsSessionOf, live_of};
 ghost use Rattle.fs_live.specs.Live.{LiveEvent, LiveRun, LiveState, calls_among};
 
 use crate::listings::{Pair, ask_call, list_two};
 use crate::wholes::{give_back, walk_chain};
-use fs_chain::{ChainError, QueueState, ChainHandle};
+use fs_chain::{ChainError, ChainHandle, QueueState};
 use fs_live::law_handles;
 use fuse_fs::{Entry, FileSystem};
 use fuse_values::FileAnswer;

@@ -15,14 +15,14 @@ ghost use Rattle.fs_chain.specs.Walks.{HasEvents};
 ghost use Rattle.fs_chain.specs.Whole.{IsWalked, WalksBy};
 ghost use Rattle.fs_chain.specs.declared.decoding.Decoded.TheVariants as asks;
 ghost use Rattle.fs_chain.specs.declared.state.ChainState.TheVariants as at;
-ghost use Rattle.fs_device.specs.Step.{Calls};
+ghost use Rattle.plain_machine.specs.Step.{Calls};
 ghost use Rattle.fs_live.specs.Handles.{IsKept, IsReached, IsSessionOf, changes_options, live_of, load_count};
 ghost use Rattle.fs_live.specs.Live.{Answers, Asked, Begins, Declines, Happens, HasPlace, LiveEvent, LiveRun, LiveState, NoneWaits, OutChain, Sleeps, calls_among, room_of, why_declined};
 ghost use Rattle.fs_live.specs.Runs.{EachStoresThere, events_on, going, tickets_on};
 ghost use Rattle.fs_live.specs.Several.{LiveQueue, RunsOver, UsedFrom, returns_among};
 
 use crate::wholes::{give_back, reply, walk_by, walk_chain};
-use fs_chain::{ChainError, QueueState, NotificationStore, PopOutcome, LoadOutcome, ChainHandle};
+use fs_chain::{ChainError, ChainHandle, LoadOutcome, NotificationStore, PopOutcome, QueueState};
 use fs_live::{law_handles, law_runs};
 use fs_queue::{ChainFault, QueueError, QueueLayout};
 use fuse_fs::FileSystem;

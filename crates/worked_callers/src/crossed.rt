@@ -7,14 +7,14 @@ ghost use Rattle.fuse_fs.specs.Calls.{Bytes, FileRun};
 ghost use Rattle.fuse_values.specs.Values.{call_of};
 ghost use Rattle.fuse_values.specs.declared.call.FileCall as value;
 ghost use Rattle.fs_chain.specs.declared.state.ChainState.TheVariants as at;
-ghost use Rattle.fs_device.specs.Step.{Calls};
+ghost use Rattle.plain_machine.specs.Step.{Calls};
 ghost use Rattle.fs_live.specs.Handles.{IsReached, IsSessionOf, live_of};
 ghost use Rattle.fs_live.specs.Live.{LiveEvent, LiveRun, LiveState, calls_among};
 
 use crate::answers::give_data;
 use crate::listings::ask_call;
 use crate::wholes::{give_back, walk_chain};
-use fs_chain::{ChainError, QueueState, ChainHandle};
+use fs_chain::{ChainError, ChainHandle, QueueState};
 use fs_live::law_handles;
 use fuse_fs::FileSystem;
 use server_phases::Session;

@@ -14,7 +14,7 @@ ghost use Rattle.fs_chain.specs.declared.state.ChainState.TheVariants as at;
 ghost use Rattle.fs_chain.specs.declared.state.PopId.{PopId};
 
 use fs_chain::laws::law_walks;
-use fs_chain::{ChainError, QueueState, PopOutcome, LoadOutcome, ChainHandle};
+use fs_chain::{ChainError, ChainHandle, LoadOutcome, PopOutcome, QueueState};
 
 /// Begins a walk: what it tells is what each memory offers that has no load of it yet.
 pub fn begin(

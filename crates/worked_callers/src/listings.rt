@@ -5,8 +5,8 @@ ghost use Rattle.fuse_fs.specs.Answers.{listed};
 ghost use Rattle.fuse_fs.specs.Calls.{FileRun};
 ghost use Rattle.fuse_values.specs.Values.{call_of};
 ghost use Rattle.fuse_values.specs.declared.call.FileCall as value;
-ghost use Rattle.fs_device.specs.Step.{Exchange, Exchanged, State};
-ghost use Rattle.fs_device.specs.StepBy.{Effects, StepBy, StepLoads};
+ghost use Rattle.plain_machine.specs.Step.{Exchange, Exchanged, State};
+ghost use Rattle.plain_machine.specs.StepBy.{Effects, StepBy, StepLoads};
 ghost use Rattle.fs_regions.specs.Walks.{queue_of};
 ghost use Rattle.fs_chain.specs.Walks.{course_of};
 ghost use Rattle.fs_chain.specs.Whole.{FromTaken, IsDecodedBy, IsMachineBefore, IsSession, after_chain};
@@ -16,7 +16,7 @@ ghost use Rattle.fs_chain.specs.declared.state.ChainState.TheVariants as at;
 
 use crate::wholes::{give_back, walk_chain};
 use fs_chain::laws::law_chains;
-use fs_chain::{Added, ChainError, QueueState, Decoded, ChainHandle};
+use fs_chain::{Added, ChainError, ChainHandle, Decoded, QueueState};
 use fuse_fs::{DirEntry, Entry, FileSystem};
 use server_phases::Session;
 

@@ -3,7 +3,7 @@
 ghost use Rattle.std.specs.Prelude.{◌≡◌, ◌<◌, ◌^◌, ℕ, [], ◌∷◌, List, Some, None, slice_get};
 ghost use Rattle.vm_memory.specs.Memory.{Memory};
 ghost use Rattle.fs_queue.specs.Returning.{Store, next_position};
-ghost use Rattle.fs_device.specs.Run.{KickRun};
+ghost use Rattle.plain_machine.specs.Run.{KickRun};
 ghost use Rattle.fs_live.specs.Live.{LiveState};
 ghost use Rattle.fs_live.specs.Overlap.{at_positions, state};
 ghost use Rattle.fs_live.specs.Serial.{IsAtRest, SerialRun, Single, plain, turn_of};

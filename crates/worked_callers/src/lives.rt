@@ -8,7 +8,7 @@ ghost use Rattle.fs_live.specs.Live.{LiveEvent, LiveRun, LiveState};
 ghost use Rattle.fs_live.specs.Runs.{tickets_on};
 
 use crate::wholes::walk_chain;
-use fs_chain::{ChainError, QueueState, ChainHandle};
+use fs_chain::{ChainError, ChainHandle, QueueState};
 use fs_live::{law_handles, law_runs};
 use fuse_fs::FileSystem;
 

@@ -11,7 +11,7 @@ ghost use Rattle.fs_live.specs.Live.{LiveEvent, LiveRun, LiveState, calls_among}
 
 use crate::listings::ask_call;
 use crate::wholes::walk_chain;
-use fs_chain::{ChainError, QueueState, ChainHandle};
+use fs_chain::{ChainError, ChainHandle, QueueState};
 use fs_live::law_handles;
 use fuse_fs::FileSystem;
 use fuse_values::FileAnswer;

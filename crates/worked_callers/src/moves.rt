@@ -11,7 +11,7 @@ ghost use Rattle.fs_live.specs.Others.{recorded};
 
 use crate::crossed::Asked;
 use crate::others::{begin_by_record, reply_beside};
-use fs_chain::{ChainError, QueueState, ChainHandle};
+use fs_chain::{ChainError, ChainHandle, QueueState};
 use fs_queue::Queue;
 use fs_record::{RecordSink, RecordSource, restore_record, save_record};
 use fuse_base::FsOptions;

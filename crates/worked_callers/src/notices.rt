@@ -7,7 +7,7 @@ ghost use Rattle.fs_live.specs.Handles.{live_of};
 ghost use Rattle.fs_live.specs.Several.{passes, returning};
 
 use crate::seen::give_back_by;
-use fs_chain::{ChainError, QueueState, ChainHandle};
+use fs_chain::{ChainError, ChainHandle, QueueState};
 use fs_live::law_queues;
 
 /// Returns a chain whose reply is known, while used_event has this value. The driver is notified just if the

@@ -8,14 +8,14 @@ ghost use Rattle.fs_record.specs.Record.{IsRecord, Version};
 ghost use Rattle.fs_regions.specs.Places.{places_in};
 ghost use Rattle.fs_chain.specs.Queues.{gave};
 ghost use Rattle.fs_chain.specs.declared.state.ChainState.TheVariants as at;
-ghost use Rattle.fs_device.specs.StepBy.{Act};
+ghost use Rattle.plain_machine.specs.StepBy.{Act};
 ghost use Rattle.fs_live.specs.Handles.{IsReached, live_of};
 ghost use Rattle.fs_live.specs.Live.{Begins, Happens, LiveEvent, LiveRun, LiveState, Maps, Moves, NoneWaits, calls_among};
 ghost use Rattle.fs_live.specs.Others.{GoesBackOwn, recorded};
 ghost use Rattle.fs_live.specs.Runs.{IsEven, tickets_on};
 
 use crate::wholes::walk_chain;
-use fs_chain::{ChainError, QueueState, ChainHandle};
+use fs_chain::{ChainError, ChainHandle, QueueState};
 use fs_live::{law_handles, law_runs};
 use fs_queue::{Queue, QueueError};
 use fs_regions::GuestMap;

@@ -9,7 +9,7 @@ ghost use Rattle.fs_live.specs.Live.{KeepsReturns, LiveEvent, LiveRun, LiveState
 
 use crate::others::give_own_back;
 use crate::wholes::walk_chain;
-use fs_chain::{ChainError, QueueState, ChainHandle};
+use fs_chain::{ChainError, ChainHandle, QueueState};
 use fs_live::law_handles;
 use fs_regions::GuestMap;
 use fuse_fs::FileSystem;

@@ -4,8 +4,8 @@
 ghost use Rattle.std.specs.Prelude.{◌≡◌, ℕ, List, [], length, None, Some, Ok, IfOk, OnOk, true};
 ghost use Rattle.fuse_fs.specs.Calls.{FileRun};
 ghost use Rattle.server_phases.specs.Answering.{TellsBytes};
-ghost use Rattle.fs_device.specs.Step.{Calls, Exchange, Exchanged, State};
-ghost use Rattle.fs_device.specs.StepBy.{Act, Effects, StepBy, StepLoads};
+ghost use Rattle.plain_machine.specs.Step.{Calls, Exchange, Exchanged, State};
+ghost use Rattle.plain_machine.specs.StepBy.{Act, Effects, StepBy, StepLoads};
 ghost use Rattle.fs_queue.specs.Returning.{tells};
 ghost use Rattle.fs_regions.specs.Walks.{queue_of};
 ghost use Rattle.fs_chain.specs.Events.{seen_at, tells_of};
@@ -15,7 +15,7 @@ ghost use Rattle.fs_chain.specs.declared.state.ChainState.TheVariants as at;
 
 use crate::wholes::{reply, walk_by, walk_chain};
 use fs_chain::laws::law_chains;
-use fs_chain::{ChainError, QueueState, PopOutcome, LoadOutcome, ChainHandle};
+use fs_chain::{ChainError, ChainHandle, LoadOutcome, PopOutcome, QueueState};
 use fs_queue::ChainFault;
 use fuse_fs::FileSystem;
 use fuse_values::FileAnswer;

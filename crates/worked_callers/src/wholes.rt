@@ -3,9 +3,9 @@
 ghost use Rattle.std.specs.Prelude.{◌≡◌, ℕ, List, [], length, None, Some, Ok, IfOk, OnOk, false, true};
 ghost use Rattle.fuse_fs.specs.Calls.{FileRun};
 ghost use Rattle.server_phases.specs.Answering.{TellsBytes};
-ghost use Rattle.fs_device.specs.Step.{Calls, Exchange, Exchanged, State, Idle, Refused, with_queue};
-ghost use Rattle.fs_device.specs.StepBy.{Act, Effects, StepBy, StepLoads};
-ghost use Rattle.fs_device.specs.declared.error.DeviceError.TheVariants as device;
+ghost use Rattle.plain_machine.specs.Step.{Calls, Exchange, Exchanged, State, Idle, Refused, with_queue};
+ghost use Rattle.plain_machine.specs.StepBy.{Act, Effects, StepBy, StepLoads};
+ghost use Rattle.plain_machine.specs.declared.error.DeviceError.TheVariants as device;
 ghost use Rattle.fs_queue.specs.Taking.{after_refusal};
 ghost use Rattle.fs_queue.specs.declared.fault.QueueError.{QueueError};
 ghost use Rattle.fs_regions.specs.Places.{places_in};
@@ -18,7 +18,7 @@ ghost use Rattle.fs_chain.specs.declared.decoding.Decoded as told;
 ghost use Rattle.fs_chain.specs.declared.state.ChainState.TheVariants as at;
 
 use fs_chain::laws::law_chains;
-use fs_chain::{ChainError, QueueState, Decoded, PopOutcome, LoadOutcome, ChainHandle};
+use fs_chain::{ChainError, ChainHandle, Decoded, LoadOutcome, PopOutcome, QueueState};
 use fuse_fs::FileSystem;
 use fuse_values::FileAnswer;
 use server_phases::Session;
@@ -27,7 +27,10 @@ use server_phases::Session;
 pub fn wants_bytes(told: &LoadOutcome) -> bool
     ensures { result ≡ true → WantsBytes told.now }
 {
-    matches!(told, LoadOutcome::Part | LoadOutcome::On(PopOutcome::Load(_)))
+    matches!(
+        told,
+        LoadOutcome::Part | LoadOutcome::On(PopOutcome::Load(_))
+    )
 }
 
 /// A walk by these bytes, a call for each, as long as it wants some.

@@ -3,9 +3,9 @@
 ghost use Rattle.std.specs.Prelude.{◌≡◌, [], ◌∷◌, ◌++◌, List, Some, slice_get, true};
 ghost use Rattle.fs_queue.specs.Loads.{Load};
 ghost use Rattle.fuse_fs.specs.Calls.{Destroy, Done, Failed, FileRun, Wants};
-ghost use Rattle.fs_device.specs.Examples.{blank};
-ghost use Rattle.fs_device.specs.Step.{Exchanged, State};
-ghost use Rattle.fs_device.specs.StepBy.{Effects, StepBy};
+ghost use Rattle.plain_machine.specs.Examples.{blank};
+ghost use Rattle.plain_machine.specs.Step.{Exchanged, State};
+ghost use Rattle.plain_machine.specs.StepBy.{Effects, StepBy};
 ghost use Rattle.fs_live.specs.InitBeside as init;
 ghost use Rattle.fs_live.specs.Live.{LiveEvent, LiveRun, LiveState, Moves};
 ghost use Rattle.fs_live.specs.Overlap.{at_positions, first_answered, first_exchange, state};

@@ -1,6 +1,6 @@
 use Rattle.std.proofs.Common.{◌≡◌, ℕ, length, Some, Ok, ap, refl, arith}
 use Rattle.fs_device.specs.DeviceView.{exchange_of}
-use Rattle.fs_device.specs.Step.{Idle, Refused, Exchanged}
+use Rattle.plain_machine.specs.Step.{Idle, Refused, Exchanged}
 use Rattle.call_log.proofs.StepLemmas.{leaves}
 use Rattle.call_log.proofs.step.used_length.Goals as goal
 

@@ -3,9 +3,9 @@ use Rattle.std.proofs.lemmas.List.{length-drop}
 use Rattle.std.specs.Prelude.{◌↔◌, ℕ}
 use Rattle.vm_memory_core.specs.Host.{Place}
 use Rattle.vm_memory_core.specs.Window.{places, places_of}
-use Rattle.fs_device.specs.Apart.{Apart}
+use Rattle.plain_machine.specs.Apart.{Apart}
 use Rattle.fs_device.specs.Behind.{RoomLeft}
-use Rattle.fs_device.proofs.ApartLemmas.{front_decides, front_denies}
+use Rattle.plain_machine.proofs.ApartLemmas.{front_decides, front_denies}
 use Rattle.fs_device.proofs.behind.front_is_apart.Goals as goal
 
 pub returns-then-not-is_apart : goal.returns-then-not-is_apart

@@ -1,7 +1,7 @@
 use Rattle.std.proofs.Common.{◌≤◌, length, drop, take}
 use Rattle.std.specs.Prelude.{◌↔◌}
 use Rattle.vm_memory_core.specs.Window.{places}
-use Rattle.fs_device.specs.Apart.{Apart}
+use Rattle.plain_machine.specs.Apart.{Apart}
 use Rattle.fs_device.proofs.behind.front_is_apart.Given as goal
 
 abbrev pub invariant-loop-left : goal.invariant-loop-left

@@ -2,9 +2,9 @@ use Rattle.std.proofs.Common.{◌≡◌, ◌<◌, ◌∙◌, false, true, List, 
 use Rattle.std.specs.Prelude.{◌↔◌}
 use Rattle.vm_memory_core.specs.Host.{Place}
 use Rattle.vm_memory_core.specs.Window.{places, places_of}
-use Rattle.fs_device.specs.Apart.{Apart, are_apart}
+use Rattle.plain_machine.specs.Apart.{Apart, are_apart}
 use Rattle.fs_device.specs.Behind.{RoomLeft}
-use Rattle.fs_device.proofs.ApartLemmas.{nothing_left, part_denies, rest_decides, windows_decide}
+use Rattle.plain_machine.proofs.ApartLemmas.{nothing_left, part_denies, rest_decides, windows_decide}
 use Rattle.fs_device.proofs.behind.is_apart.Goals as goal
 
 pub returns-then-not-are_apart : goal.returns-then-not-are_apart

@@ -1,5 +1,5 @@
 use Rattle.std.proofs.Common.{◌≡◌, ◌++◌, map, drop}
-use Rattle.fs_device.specs.Harvested.{host_pages, harvested}
+use Rattle.plain_machine.specs.Harvested.{host_pages, harvested}
 use Rattle.fs_device.specs.PageView.{page_view}
 use Rattle.fs_device.proofs.harvested.copy_marked.Given as goal
 

@@ -1,5 +1,5 @@
 use Rattle.std.proofs.Common.{◌≡◌, ◌-◌, ◌++◌, length, map, drop}
-use Rattle.fs_device.specs.Harvested.{block_pages}
+use Rattle.plain_machine.specs.Harvested.{block_pages}
 use Rattle.fs_device.specs.PageView.{page_view}
 use Rattle.fs_device.proofs.harvested.harvest_block.Given as goal
 

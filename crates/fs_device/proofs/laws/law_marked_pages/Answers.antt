@@ -1,4 +1,4 @@
-use Rattle.fs_device.proofs.PageLemmas.{steps_mark, writes_mark}
+use Rattle.plain_machine.proofs.PageLemmas.{steps_mark, writes_mark}
 use Rattle.fs_device.proofs.PageRuns.{commands_mark}
 use Rattle.fs_device.proofs.laws.law_marked_pages.Goals as goal
 

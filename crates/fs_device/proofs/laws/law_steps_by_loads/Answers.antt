@@ -1,4 +1,4 @@
-use Rattle.fs_device.proofs.StepByLemmas.{step_by_is_step, step_is_step_by, stores_only_there}
+use Rattle.plain_machine.proofs.StepByLemmas.{step_by_is_step, step_is_step_by, stores_only_there}
 use Rattle.fs_device.proofs.laws.law_steps_by_loads.Goals as goal
 
 pub returns-clause-is_step : goal.returns-clause-is_step

@@ -1,4 +1,4 @@
-use Rattle.fs_device.proofs.UsedLemmas.{lengths_are_told}
+use Rattle.plain_machine.proofs.UsedLemmas.{lengths_are_told}
 use Rattle.fs_device.proofs.laws.law_used_length.Goals as goal
 
 pub returns : goal.returns

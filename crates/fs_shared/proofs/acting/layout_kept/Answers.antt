@@ -1,7 +1,7 @@
 use Rattle.std.proofs.Common.{ap, ◌∙◌}
 use Rattle.fs_device.specs.CommandView.{answer_of}
 use Rattle.fs_device.specs.MachineView.{machine_of}
-use Rattle.fs_device.specs.Run.{SetLayout}
+use Rattle.plain_machine.specs.Run.{SetLayout}
 use Rattle.fs_shared.proofs.ActLemmas.{layout_keeps, layout_performed}
 use Rattle.fs_shared.proofs.acting.layout_kept.Goals as goal
 

@@ -4,7 +4,7 @@ use Rattle.std.proofs.lemmas.Bool.Decides.{nat_tests}
 use Rattle.fuse_fs.specs.Calls.{Done, FileCall}
 use Rattle.fuse_values.specs.declared.answer.FileAnswer.TheVariants as value
 use Rattle.server_phases.specs.Answering.{forget_call}
-use Rattle.fs_device.specs.StepBy.{Act}
+use Rattle.plain_machine.specs.StepBy.{Act}
 use Rattle.fs_chain.specs.Whole.{GoesBackBy, OneAnswer}
 use Rattle.fs_chain.specs.declared.decoding.Decoded.TheVariants as asks
 use Rattle.fs_chain.specs.declared.queue.QueueState.{QueueState}

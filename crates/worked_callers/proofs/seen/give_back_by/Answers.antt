@@ -1,5 +1,5 @@
 use Rattle.std.proofs.Common.{◌≡◌, ℕ, Bool, List, length, sym, subst, ap, ◌∙◌}
-use Rattle.fs_device.specs.StepBy.{Act}
+use Rattle.plain_machine.specs.StepBy.{Act}
 use Rattle.fs_chain.specs.Events.{tells_of}
 use Rattle.fs_chain.specs.Whole.{GoesBackBy}
 use Rattle.fs_chain.specs.declared.queue.QueueState.{QueueState}

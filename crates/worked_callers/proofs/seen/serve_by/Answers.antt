@@ -5,8 +5,8 @@ use Rattle.fs_queue.specs.Returning.{tells}
 use Rattle.fs_queue.specs.Taking.{addresses_of, writable}
 use Rattle.fs_regions.specs.Walks.{queue_of}
 use Rattle.server_phases.specs.declared.session.Session.{Session}
-use Rattle.fs_device.specs.Step.{Exchanged}
-use Rattle.fs_device.specs.StepBy.{StepBy}
+use Rattle.plain_machine.specs.Step.{Exchanged}
+use Rattle.plain_machine.specs.StepBy.{StepBy}
 use Rattle.fs_chain.specs.Events.{tells_of}
 use Rattle.fs_chain.specs.Walks.{course_of}
 use Rattle.fs_chain.specs.Whole.{ChainBy, after_chain, data_behind, file_calls, step_loads}

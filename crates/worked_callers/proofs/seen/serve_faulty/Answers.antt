@@ -1,8 +1,8 @@
 use Rattle.std.proofs.Common.{◌≡◌, ℕ, List, [], sym, subst, ◌∙◌}
 use Rattle.fs_queue.specs.Returning.{tells}
 use Rattle.fs_regions.specs.Walks.{queue_of}
-use Rattle.fs_device.specs.Step.{Exchanged}
-use Rattle.fs_device.specs.StepBy.{StepBy}
+use Rattle.plain_machine.specs.Step.{Exchanged}
+use Rattle.plain_machine.specs.StepBy.{StepBy}
 use Rattle.fs_chain.specs.Events.{tells_of}
 use Rattle.fs_chain.specs.Walks.{course_of}
 use Rattle.fs_chain.specs.Whole.{FaultyChainBy, after_chain, step_loads}

@@ -1,5 +1,5 @@
 use Rattle.std.proofs.Common.{ℕ, Bool, List, [], ◌∷◌, refl, sym, subst, ap, ◌∙◌}
-use Rattle.fs_device.specs.StepBy.{Act}
+use Rattle.plain_machine.specs.StepBy.{Act}
 use Rattle.fs_chain.specs.Events.{tells_of}
 use Rattle.fs_chain.specs.Queues.{gave}
 use Rattle.fs_chain.specs.Whole.{GoesBackBy}

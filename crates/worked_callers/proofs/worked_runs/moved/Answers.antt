@@ -2,7 +2,7 @@ use Rattle.std.proofs.Common.{arith, [], ◌∷◌, List, true, None, refl}
 use Rattle.fs_regions.specs.declared.step.CourseStep.TheVariants as step
 use Rattle.fuse_fs.specs.Calls.{Destroy, Done}
 use Rattle.virtiofsd_fuse.specs.Examples.{le16}
-use Rattle.fs_device.specs.Examples.{blank}
+use Rattle.plain_machine.specs.Examples.{blank}
 use Rattle.fs_live.specs.Live.{Answers, Asks, Happens, LiveEvent, LiveRun, Moves, Returns, Walks}
 use Rattle.fs_live.specs.Overlap.{at_positions, destroy, first, first_answered, first_asked, first_exchange, first_loads, first_table, first_used}
 use Rattle.fs_live.specs.Overlap.{second, second_asked, second_exchange, second_loads, second_table, second_used, state, unknown}

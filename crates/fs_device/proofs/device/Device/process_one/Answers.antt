@@ -2,9 +2,9 @@ use Rattle.std.proofs.Common.{◌≡◌, Err, [], ap, length, refl, rules}
 use Rattle.std.proofs.lemmas.Option.{slice_get_read}
 use Rattle.vm_memory.specs.Memory.{Memory}
 use Rattle.fs_queue.specs.declared.fault.QueueError.TheVariants as stop
-use Rattle.fs_device.specs.declared.error.DeviceError.TheVariants as device
+use Rattle.plain_machine.specs.declared.error.DeviceError.TheVariants as device
 use Rattle.fs_device.specs.DeviceView.{exchange_of, server_state}
-use Rattle.fs_device.specs.Step.{State}
+use Rattle.plain_machine.specs.Step.{State}
 use Rattle.fs_device.proofs.StepLemmas.{Fixed, exchanges, lacks_taken}
 use Rattle.fs_device.proofs.device.Device.process_one.Goals as goal
 

@@ -1,7 +1,7 @@
 use Rattle.std.proofs.Common.{◌≡◌, ◌≤◌, ◌-◌, ◌++◌, Bool, List, length, map, Option, vec_capacity}
 use Rattle.vm_memory_core.specs.Host.{shape}
-use Rattle.fs_device.specs.declared.error.DeviceError.{DeviceError}
-use Rattle.fs_device.specs.Step.{State, Exchange}
+use Rattle.plain_machine.specs.declared.error.DeviceError.{DeviceError}
+use Rattle.plain_machine.specs.Step.{State, Exchange}
 use Rattle.fs_device.specs.DeviceView.{state_of}
 use Rattle.fs_device.specs.CommandView.{exchanged_of, KickLists}
 use Rattle.fs_device.proofs.device.Device.process_queue.Given as goal

@@ -5,9 +5,9 @@ use Rattle.vm_memory.specs.Memory.{Memory}
 use Rattle.fs_queue.specs.Returning.{PutFrontLast}
 use Rattle.fs_queue.specs.Windows.{chain_places}
 use Rattle.fs_queue.specs.declared.fault.QueueError.TheVariants as stop
-use Rattle.fs_device.specs.declared.error.DeviceError.TheVariants as device
+use Rattle.plain_machine.specs.declared.error.DeviceError.TheVariants as device
 use Rattle.fs_device.specs.DeviceView.{server_state}
-use Rattle.fs_device.specs.Step.{Idle, Refused, State}
+use Rattle.plain_machine.specs.Step.{Idle, Refused, State}
 use Rattle.fs_device.specs.ReplyFront.{front_bytes, replied}
 use Rattle.fs_device.proofs.ReadingLemmas.{told_return}
 use Rattle.fs_device.proofs.StepLemmas.{Fixed, lacks_taken}

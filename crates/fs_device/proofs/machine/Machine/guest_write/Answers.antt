@@ -1,5 +1,5 @@
 use Rattle.std.proofs.Common.{◌∙◌, sym, refl}
-use Rattle.fs_device.specs.Run.{effect}
+use Rattle.plain_machine.specs.Run.{effect}
 use Rattle.fs_device.proofs.machine.Machine.guest_write.Goals as goal
 
 pub returns-then-not-reaches : goal.returns-then-not-reaches

@@ -1,5 +1,5 @@
 use Rattle.std.proofs.Common.{refl}
-use Rattle.fs_device.specs.Run.{effect}
+use Rattle.plain_machine.specs.Run.{effect}
 use Rattle.fs_device.proofs.machine.Machine.image.Goals as goal
 
 pub returns-in-Ok : goal.returns-in-Ok

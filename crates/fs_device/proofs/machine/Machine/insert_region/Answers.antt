@@ -2,7 +2,7 @@ use Rattle.std.proofs.Common.{◌≡◌, ◌∙◌, List, false, sym, refl, subs
 use Rattle.std.specs.List.{list_any}
 use Rattle.vm_memory_core.specs.Host.{lengths}
 use Rattle.vm_memory.specs.Layout.{Region, overlap}
-use Rattle.fs_device.specs.Run.{effect}
+use Rattle.plain_machine.specs.Run.{effect}
 use Rattle.fs_device.specs.MachineView.{machine_of}
 use Rattle.fs_device.proofs.LayoutLemmas.{held_with, unknown, known, past_end, within, goes, has_block}
 use Rattle.fs_device.proofs.machine.Machine.insert_region.Goals as goal

@@ -1,9 +1,9 @@
 use Rattle.std.proofs.Common.{◌≡◌, List, None, ap, map, subst, sym, zip, ◌∙◌}
 use Rattle.vm_memory_core.specs.Host.{lengths}
 use Rattle.fs_device.specs.Applying.{first_refused, pages_put}
-use Rattle.fs_device.specs.Harvested.{Page}
+use Rattle.plain_machine.specs.Harvested.{Page}
 use Rattle.fs_device.specs.PageView.{page_view}
-use Rattle.fs_device.specs.Step.{State}
+use Rattle.plain_machine.specs.Step.{State}
 use Rattle.fs_device.specs.CommandView.{answer_of, command_of}
 use Rattle.fs_device.specs.MachineView.{machine_of}
 use Rattle.fs_device.specs.Migrating.{IsMoved, StaysHere}

@@ -1,6 +1,6 @@
 use Rattle.std.proofs.Common.{refl}
 use Rattle.vm_bitmaps.specs.Pages.{pages_of}
-use Rattle.fs_device.specs.Run.{effect}
+use Rattle.plain_machine.specs.Run.{effect}
 use Rattle.fs_device.proofs.LayoutLemmas.{no_bytes, page_count-is}
 use Rattle.fs_device.proofs.MappingLemmas.{kept_behind}
 use Rattle.fs_device.proofs.machine.Machine.new_block.Goals as goal

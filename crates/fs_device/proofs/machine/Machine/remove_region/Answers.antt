@@ -2,7 +2,7 @@ use Rattle.std.proofs.Common.{List, Err, refl, subst}
 use Rattle.vm_memory_core.specs.Host.{lengths}
 use Rattle.vm_memory.specs.Collecting.{Removes}
 use Rattle.vm_memory.specs.Layout.{Region, is_region}
-use Rattle.fs_device.specs.Run.{effect}
+use Rattle.plain_machine.specs.Run.{effect}
 use Rattle.fs_device.proofs.LayoutLemmas.{held_without, found_any, has_none, lacks_room}
 use Rattle.fs_device.proofs.machine.Machine.remove_region.Goals as goal
 

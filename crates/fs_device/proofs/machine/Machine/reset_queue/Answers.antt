@@ -1,7 +1,7 @@
 use Rattle.std.proofs.Common.{refl}
 use Rattle.vm_memory.specs.Memory.{memory_behind}
 use Rattle.fs_queue.specs.Queue.{fresh}
-use Rattle.fs_device.specs.Run.{effect}
+use Rattle.plain_machine.specs.Run.{effect}
 use Rattle.fs_device.proofs.KickLemmas.{reset_there}
 use Rattle.fs_device.proofs.machine.Machine.reset_queue.Goals as goal
 

@@ -1,7 +1,7 @@
 use Rattle.std.proofs.Common.{◌≡◌, ◌≤◌, ◌++◌, List, length, map, zip, vec_capacity}
 use Rattle.std.specs.Vec.Iter.{into_iter_items, into_iter_len}
-use Rattle.fs_device.specs.Step.{State}
-use Rattle.fs_device.specs.Run.{Command, Answer, Run}
+use Rattle.plain_machine.specs.Step.{State}
+use Rattle.plain_machine.specs.Run.{Command, Answer, Run}
 use Rattle.fs_device.specs.CommandView.{answer_of, command_of}
 use Rattle.fs_device.specs.MachineView.{machine_of}
 use Rattle.fs_device.proofs.machine.Machine.run.Given as goal

@@ -1,6 +1,6 @@
 use Rattle.std.proofs.Common.{ap, map, subst, sym, ◌∙◌}
 use Rattle.fs_device.specs.PageView.{page_view}
-use Rattle.fs_device.specs.Step.{State}
+use Rattle.plain_machine.specs.Step.{State}
 use Rattle.fs_device.specs.CommandView.{answer_of, command_of}
 use Rattle.fs_device.specs.MachineView.{machine_of}
 use Rattle.fs_device.specs.Migrating.{StaysHere}

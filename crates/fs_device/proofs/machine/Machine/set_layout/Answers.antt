@@ -1,5 +1,5 @@
 use Rattle.std.proofs.Common.{refl}
-use Rattle.fs_device.specs.Run.{effect}
+use Rattle.plain_machine.specs.Run.{effect}
 use Rattle.fs_device.proofs.LayoutLemmas.{all_known, not_known, all_fit, all_apart}
 use Rattle.fs_device.proofs.machine.Machine.set_layout.Goals as goal
 

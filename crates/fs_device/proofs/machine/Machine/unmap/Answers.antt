@@ -1,7 +1,7 @@
 use Rattle.std.proofs.Common.{ap}
 use Rattle.vm_memory_core.specs.Host.{Host}
 use Rattle.vm_memory.specs.Memory.{table_of}
-use Rattle.fs_device.specs.Run.{with_host}
+use Rattle.plain_machine.specs.Run.{with_host}
 use Rattle.fs_device.specs.MachineView.{machine_of}
 use Rattle.fs_device.proofs.MappingLemmas.{fits_not, left_same, refused, wanted_to_unmap}
 use Rattle.fs_device.proofs.machine.Machine.unmap.Goals as goal

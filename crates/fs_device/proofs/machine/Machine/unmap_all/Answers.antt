@@ -1,7 +1,7 @@
 use Rattle.std.proofs.Common.{[], ap, refl}
 use Rattle.vm_iotlb.specs.Ranges.{table_kept}
 use Rattle.vm_memory_core.specs.Host.{Host}
-use Rattle.fs_device.specs.Run.{with_host}
+use Rattle.plain_machine.specs.Run.{with_host}
 use Rattle.fs_device.specs.MachineView.{machine_of}
 use Rattle.fs_device.proofs.machine.Machine.unmap_all.Goals as goal
 

@@ -5,7 +5,7 @@ use Rattle.std.proofs.lemmas.List.{nil_from_length}
 use Rattle.vm_memory_core.specs.Host.{lengths}
 use Rattle.vm_memory_core.specs.Window.{AllLieIn}
 use Rattle.fs_device.specs.Behind.{RoomLeft}
-use Rattle.fs_device.specs.FillsProof.{fills_none}
+use Rattle.plain_machine.specs.FillsProof.{fills_none}
 use Rattle.fs_device.proofs.FillLemmas.{fills_front, first_within}
 use Rattle.fs_device.proofs.room_writer.RoomWriter.read_once.Goals as goal
 

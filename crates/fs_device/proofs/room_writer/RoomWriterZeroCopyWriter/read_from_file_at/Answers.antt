@@ -1,6 +1,6 @@
 use Rattle.std.proofs.Common.{◌≡◌, ◌++◌, [], Err, refl, ◌∙◌, arith, rules}
 use Rattle.fuse_fs.proofs.SegmentReads.{so_far_none, so_far_whole, so_far_past, so_far_stops, so_far_goes, so_far_fails}
-use Rattle.fs_device.specs.FillsProof.{fills_more, fills_none}
+use Rattle.plain_machine.specs.FillsProof.{fills_more, fills_none}
 use Rattle.fs_device.proofs.FillLemmas.{added, all_filled, filling, offered}
 use Rattle.fs_device.proofs.room_writer.RoomWriterZeroCopyWriter.read_from_file_at.Goals as goal
 

@@ -1,6 +1,6 @@
 use Rattle.std.proofs.Common.{◌≡◌, ◌-◌, ℕ, List, []}
 use Rattle.fuse_fs.proofs.SegmentReads.{Offered, SoFar}
-use Rattle.fs_device.specs.Fills.{Fills}
+use Rattle.plain_machine.specs.Fills.{Fills}
 use Rattle.fs_device.proofs.FillLemmas.{filling}
 use Rattle.fs_device.proofs.room_writer.RoomWriterZeroCopyWriter.read_from_file_at.Given as goal
 

@@ -1,5 +1,5 @@
 use Rattle.fs_device.specs.MachineView.{machine_of}
-use Rattle.fs_device.specs.Run.{GuestWrite}
+use Rattle.plain_machine.specs.Run.{GuestWrite}
 use Rattle.fs_shared.specs.Held.{journal_of}
 use Rattle.fs_shared.proofs.CallLemmas.{act_replays, act_starts}
 use Rattle.fs_shared.proofs.state.SharedState.guest_write.Goals as goal

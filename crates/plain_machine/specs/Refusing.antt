@@ -1,10 +1,10 @@
 -- The numbers that tell refusals apart.
 use Rattle.std.specs.Prelude.{ℕ}
 use Rattle.fs_queue.specs.Numbers.{queue_number}
-use Rattle.fs_device.specs.declared.error.DeviceError.{DeviceError}
-use Rattle.fs_device.specs.declared.error.DeviceError.TheVariants as device
-use Rattle.fs_device.specs.declared.refusal.Refusal.{Refusal}
-use Rattle.fs_device.specs.declared.refusal.Refusal.TheVariants as why
+use Rattle.plain_machine.specs.declared.error.DeviceError.{DeviceError}
+use Rattle.plain_machine.specs.declared.error.DeviceError.TheVariants as device
+use Rattle.plain_machine.specs.declared.refusal.Refusal.{Refusal}
+use Rattle.plain_machine.specs.declared.refusal.Refusal.TheVariants as why
 
 -- a step's refusals: a queue's, and 10 for a missing queue
 abbrev pub refusal_number : DeviceError → ℕ

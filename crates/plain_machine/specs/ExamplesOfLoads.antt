@@ -14,10 +14,10 @@ use Rattle.virtiofsd_fuse.specs.Examples.{le16, le32}
 use Rattle.vm_values.specs.Fields as fields
 use Rattle.server_requests.specs.Reading.{reading_of}
 use Rattle.virtiofsd_fuse.specs.Grammar.{meaning, meant}
-use Rattle.fs_device.specs.declared.error.DeviceError.TheVariants as device_error
-use Rattle.fs_device.specs.Step.{Exchanged, Refused}
-use Rattle.fs_device.specs.Examples.{blank, descriptor_bytes, device, may, queue, request, unknown_exchange, unknown_reply}
-use Rattle.fs_device.specs.StepBy.{StepBy, StepLoads, Effects, offered_by, byte_store, return_stores, Stores, LoadsFlags, return_acts, FindFlags, MayStoreLast, return_addresses, stores_among}
+use Rattle.plain_machine.specs.declared.error.DeviceError.TheVariants as device_error
+use Rattle.plain_machine.specs.Step.{Exchanged, Refused}
+use Rattle.plain_machine.specs.Examples.{blank, descriptor_bytes, device, may, queue, request, unknown_exchange, unknown_reply}
+use Rattle.plain_machine.specs.StepBy.{StepBy, StepLoads, Effects, offered_by, byte_store, return_stores, Stores, LoadsFlags, return_acts, FindFlags, MayStoreLast, return_addresses, stores_among}
 
 -- an entry of the table at 0
 abbrev entry : (index : ℕ) → List ℕ → Load

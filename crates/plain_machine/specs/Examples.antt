@@ -16,8 +16,8 @@ use Rattle.server_replies.specs.WholeReplies.{error_bytes}
 use Rattle.virtiofsd_fuse.specs.Examples.{zeros, le16, le32, le64, in_header_bytes}
 use Rattle.virtiofsd_fuse.specs.Grammar.{IsFault, Replies, meaning, meant}
 use Rattle.virtiofsd_fuse.specs.Serving.{May}
-use Rattle.fs_device.specs.declared.error.DeviceError.TheVariants as device_error
-use Rattle.fs_device.specs.Step.{State, Exchange, Refused, Exchanged, Step, after_return}
+use Rattle.plain_machine.specs.declared.error.DeviceError.TheVariants as device_error
+use Rattle.plain_machine.specs.Step.{State, Exchange, Refused, Exchanged, Step, after_return}
 
 -- 64 KiB of zeros from address 0 on
 abbrev pub blank : Memory

@@ -12,10 +12,10 @@ use Rattle.fuse_fs.specs.Calls.{FileCall, FileAnswer, FileRun, suits}
 use Rattle.server_segments.specs.declared.error.Error.{Error}
 use Rattle.virtiofsd_fuse.specs.Grammar.{meaning}
 use Rattle.virtiofsd_fuse.specs.Serving.{May, ServedMessage, served, setting}
-use Rattle.fs_device.specs.declared.error.DeviceError.{DeviceError}
-use Rattle.fs_device.specs.declared.error.DeviceError.TheVariants as device
-use Rattle.fs_device.specs.declared.exchange.Fault.{Fault}
-use Rattle.fs_device.specs.declared.exchange.Fault.TheVariants as fault
+use Rattle.plain_machine.specs.declared.error.DeviceError.{DeviceError}
+use Rattle.plain_machine.specs.declared.error.DeviceError.TheVariants as device
+use Rattle.plain_machine.specs.declared.fault.Fault.{Fault}
+use Rattle.plain_machine.specs.declared.fault.Fault.TheVariants as fault
 
 -- the plain machine: its memory, its queues, the options that client and server agreed on, and the file system; limit and page size never change
 pub record State (F : Type 0) : Type 0 where

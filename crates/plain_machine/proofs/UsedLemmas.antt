@@ -7,9 +7,9 @@ use Rattle.fs_queue.specs.Taking.{RequestAndRoom, IsRequest, CannotFetch, Offer,
 use Rattle.fs_queue.specs.Taking as taking
 use Rattle.fs_queue.specs.Returning.{returned, writes}
 use Rattle.virtiofsd_fuse.specs.Serving.{May, setting}
-use Rattle.fs_device.specs.Step.{State, Exchange, Exchanged, Calls, Exchanges, StepOf, Step, answers_alone}
-use Rattle.fs_device.specs.UsedLength.{IsOffered, TellsLength, LengthsAreTold, reply_writes, ring_writes}
-use Rattle.fs_device.proofs.HeaderLemmas.{IsHeaded, reply_told}
+use Rattle.plain_machine.specs.Step.{State, Exchange, Exchanged, Calls, Exchanges, StepOf, Step, answers_alone}
+use Rattle.plain_machine.specs.UsedLength.{IsOffered, TellsLength, LengthsAreTold, reply_writes, ring_writes}
+use Rattle.plain_machine.proofs.HeaderLemmas.{IsHeaded, reply_told}
 
 -- ---- what is told
 

@@ -10,9 +10,9 @@ use Rattle.fs_queue.specs.Queue.{Queue}
 use Rattle.fs_queue.specs.Taking.{room_of}
 use Rattle.fs_queue.specs.Returning.{writes}
 use Rattle.virtiofsd_fuse.specs.Serving.{May}
-use Rattle.fs_device.specs.Step.{State, Exchange, Exchanged, Calls, Step}
-use Rattle.fs_device.specs.UsedLength.{IsOffered}
-use Rattle.fs_device.specs.Run.{Command, GuestWrite, Kick, Answer, Done, Served, Copied, Pages, Turns, Performs}
+use Rattle.plain_machine.specs.Step.{State, Exchange, Exchanged, Calls, Step}
+use Rattle.plain_machine.specs.UsedLength.{IsOffered}
+use Rattle.plain_machine.specs.Run.{Command, GuestWrite, Kick, Answer, Done, Served, Copied, Pages, Turns, Performs}
 
 -- the mark of a page of a block, if there is such a page
 abbrev pub block_mark : Host → (block page : ℕ) → Option Bool

@@ -13,9 +13,9 @@ use Rattle.vm_memory.specs.Memory.{Memory, for_io, location, place_behind, store
 use Rattle.fs_queue.specs.Taking.{room_of}
 use Rattle.fs_queue.specs.Returning.{writes}
 use Rattle.virtiofsd_fuse.specs.Serving.{May}
-use Rattle.fs_device.specs.MarkedPages.{block_mark, io_mark, is_in_page, marks_block, marks_io, marked_by, returned_addresses, Marks, StepsMark, WritesMark}
-use Rattle.fs_device.proofs.MoveLemmas.{IsPlain, plain_place}
-use Rattle.fs_device.proofs.UsedLemmas.{exchange_returns, step_offers}
+use Rattle.plain_machine.specs.MarkedPages.{block_mark, io_mark, is_in_page, marks_block, marks_io, marked_by, returned_addresses, Marks, StepsMark, WritesMark}
+use Rattle.plain_machine.proofs.PlainPlaces.{IsPlain, plain_place}
+use Rattle.plain_machine.proofs.UsedLemmas.{exchange_returns, step_offers}
 
 -- ---- lists
 

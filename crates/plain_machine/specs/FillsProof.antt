@@ -5,7 +5,7 @@ use Rattle.std.proofs.lemmas.List.{take_at, drop_at, drop-drop, length-drop, len
 use Rattle.vm_memory_core.specs.Host.{Host, Place}
 use Rattle.vm_memory_core.specs.Window.{put_all}
 use Rattle.vm_memory_core.proofs.WindowLemmas.{put_all-append, zip-append}
-use Rattle.fs_device.specs.Fills.{Fills}
+use Rattle.plain_machine.specs.Fills.{Fills}
 
 zip_nothing : (ps : List Place) → zip {X = ℕ} ps [] ≡ []
 zip_nothing [] = refl

@@ -13,12 +13,12 @@ use Rattle.vm_memory.specs.Layout.{Region, fits, overlap, with_region, is_region
 use Rattle.vm_memory.specs.Memory.{Memory, addresses, reach, bytes, stored_all, physical, table_of}
 use Rattle.fs_queue.specs.Queue.{Queue, fresh}
 use Rattle.virtiofsd_fuse.specs.Serving.{May}
-use Rattle.fs_device.specs.Harvested.{Page, harvested}
-use Rattle.fs_device.specs.declared.error.DeviceError.{DeviceError}
-use Rattle.fs_device.specs.declared.error.DeviceError.TheVariants as device
-use Rattle.fs_device.specs.declared.refusal.Refusal.{Refusal}
-use Rattle.fs_device.specs.declared.refusal.Refusal.TheVariants as why
-use Rattle.fs_device.specs.Step.{State, Exchange, Idle, Refused, Exchanged, Calls, Step, with_queue}
+use Rattle.plain_machine.specs.Harvested.{Page, harvested}
+use Rattle.plain_machine.specs.declared.error.DeviceError.{DeviceError}
+use Rattle.plain_machine.specs.declared.error.DeviceError.TheVariants as device
+use Rattle.plain_machine.specs.declared.refusal.Refusal.{Refusal}
+use Rattle.plain_machine.specs.declared.refusal.Refusal.TheVariants as why
+use Rattle.plain_machine.specs.Step.{State, Exchange, Idle, Refused, Exchanged, Calls, Step, with_queue}
 
 -- what is asked of the machine
 pub data Command : Type 0 where

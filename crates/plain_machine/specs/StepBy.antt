@@ -12,10 +12,10 @@ use Rattle.fs_queue.specs.Taking as taking
 use Rattle.fs_queue.specs.Loads.{Load}
 use Rattle.fs_queue.specs.OfferLoads.{offer_by, AreLoadsOf}
 use Rattle.fs_queue.specs.Returning.{Store, writes_of, stores_after_reply, tells, advanced}
-use Rattle.fs_device.specs.Apart.{Apart}
+use Rattle.plain_machine.specs.Apart.{Apart}
 use Rattle.virtiofsd_fuse.specs.Serving.{May, ServedMessage}
-use Rattle.fs_device.specs.declared.error.DeviceError.TheVariants as device
-use Rattle.fs_device.specs.Step.{State, Exchange, StepEnd, Idle, Refused, Exchanged, Calls, Unchanged, ServesRequest, with_queue, faulty, served_exchange, Step}
+use Rattle.plain_machine.specs.declared.error.DeviceError.TheVariants as device
+use Rattle.plain_machine.specs.Step.{State, Exchange, StepEnd, Idle, Refused, Exchanged, Calls, Unchanged, ServesRequest, with_queue, faulty, served_exchange, Step}
 
 -- what a step loads before its calls: the available index, the ring's entry, the tables' entries, and the request's bytes (VIRTIO 1.2, 2.7.5 and 2.7.6)
 pub record StepLoads : Type 0 where

@@ -13,8 +13,8 @@ use Rattle.vm_memory_core.specs.declared.window.IoMarks.{IoMarks}
 use Rattle.vm_memory_core.specs.Window.{Window, io_address, places_of, put_all, put_byte, span}
 use Rattle.vm_memory_core.proofs.WindowLemmas.{put_all-append}
 use Rattle.std.proofs.Math.Seq.{take-nil}
-use Rattle.fs_device.specs.Apart.{Apart, IsApart, are_apart}
-use Rattle.fs_device.specs.FillsProof.{zip-both, zip-front}
+use Rattle.plain_machine.specs.Apart.{Apart, IsApart, are_apart}
+use Rattle.plain_machine.specs.FillsProof.{zip-both, zip-front}
 
 -- two places aren't one byte
 abbrev Differ : Place → Place → Type 0

@@ -25,7 +25,7 @@ use Rattle.virtiofsd_fuse.specs.Grammar.{Meaning, IsFault, Replies, IsSilent, As
 use Rattle.virtiofsd_fuse.specs.Listings as listings
 use Rattle.virtiofsd_fuse.specs.Listings.{ListRequest, list_entries}
 use Rattle.virtiofsd_fuse.specs.Serving.{Setting, served, replied, commanded, list_answered, start_answered, answer_bytes, agreed}
-use Rattle.fs_device.specs.UsedLength.{header_length}
+use Rattle.plain_machine.specs.UsedLength.{header_length}
 
 -- the bytes of a reply, if there are any, begin with their number
 abbrev pub IsHeaded : List ℕ → Type 0

@@ -17,7 +17,7 @@ pub enum DeviceError {
 }
 
 impl DeviceError {
-    ghost use Rattle.fs_device.specs.Refusing.{refusal_number};
+    ghost use Rattle.plain_machine.specs.Refusing.{refusal_number};
 
     /// The number that tells the refusal apart: a queue's own, from 1 to 9, and 10 for `NoSuchQueue`.
     pub fn number(&self) -> u8
@@ -31,7 +31,7 @@ impl DeviceError {
 }
 
 ghost use Rattle.fs_queue.specs.declared.fault.QueueError.TheVariants.{OutOfMemory};
-ghost use Rattle.fs_device.specs.declared.error.DeviceError.TheVariants.{Queue};
+ghost use Rattle.plain_machine.specs.declared.error.DeviceError.TheVariants.{Queue};
 
 impl From<AllocError> for DeviceError {
     ghost from_gives = { λ _ e. e ≡ Queue OutOfMemory };

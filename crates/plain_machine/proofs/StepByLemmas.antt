@@ -19,13 +19,13 @@ use Rattle.fs_queue.proofs.OfferByLemmas.{offer_is_still, offer_finds}
 use Rattle.fs_queue.proofs.ReadLemmas.{length-bytes}
 use Rattle.fs_queue.proofs.ReturnLemmas.{over, all_tables, same_location, stored_located, returns_by_stores}
 use Rattle.fs_queue.specs.Returning.{Store, writes_of, stores_after_reply, returned, wants_notice, tells, advanced}
-use Rattle.fs_device.proofs.ApartLemmas.{put_all_comm}
+use Rattle.plain_machine.proofs.ApartLemmas.{put_all_comm}
 use Rattle.virtiofsd_fuse.specs.Serving.{May}
-use Rattle.fs_device.specs.declared.error.DeviceError.TheVariants as device
-use Rattle.fs_device.specs.Step.{State, Exchange, StepEnd, Idle, Refused, Exchanged, Calls, Unchanged, Acts, Exchanges, Returns, StepOf, with_queue, faulty, served_exchange}
-use Rattle.fs_device.specs.StepBy.{StepLoads, AreStepLoadsOf, byte_store, reply_stores, return_stores, after_stores, Act, Effects, stores_among, return_acts}
-use Rattle.fs_device.specs.StepBy.{DoesNothing, FindFlags, ReturnsBy, ExchangesBy, ActsBy, StepOfBy, IsFrontApart, MayStoreLast, IsOfMemory, HasEffects, StepByIsStep}
-use Rattle.fs_device.specs.StepBy.{StepIsStepBy, StoresOnlyThere, return_addresses}
+use Rattle.plain_machine.specs.declared.error.DeviceError.TheVariants as device
+use Rattle.plain_machine.specs.Step.{State, Exchange, StepEnd, Idle, Refused, Exchanged, Calls, Unchanged, Acts, Exchanges, Returns, StepOf, with_queue, faulty, served_exchange}
+use Rattle.plain_machine.specs.StepBy.{StepLoads, AreStepLoadsOf, byte_store, reply_stores, return_stores, after_stores, Act, Effects, stores_among, return_acts}
+use Rattle.plain_machine.specs.StepBy.{DoesNothing, FindFlags, ReturnsBy, ExchangesBy, ActsBy, StepOfBy, IsFrontApart, MayStoreLast, IsOfMemory, HasEffects, StepByIsStep}
+use Rattle.plain_machine.specs.StepBy.{StepIsStepBy, StoresOnlyThere, return_addresses}
 
 some_same : {A : Type 0} (x y : A) → Some x ≡ Some y → x ≡ y
 some_same x y e = cc

@@ -28,7 +28,7 @@ pub enum Refusal {
 }
 
 impl Refusal {
-    ghost use Rattle.fs_device.specs.Refusing.{command_refusal_number};
+    ghost use Rattle.plain_machine.specs.Refusing.{command_refusal_number};
 
     /// The number that tells the refusal apart, from 1 for `NoPlace` to 9 for `OutOfMemory`, in the order above.
     pub fn number(&self) -> u8

@@ -1,0 +1,12 @@
+pub mod Step
+pub mod StepBy
+pub mod Refusing
+pub mod Run
+pub mod UsedLength
+pub mod MarkedPages
+pub mod Examples
+pub mod ExamplesOfLoads
+pub mod Fills
+pub mod FillsProof
+pub mod Apart
+pub mod Harvested
