@@ -1,7 +1,8 @@
 -- What the file system writes down, and what it may answer.
 use Rattle.std.specs.Prelude.{◌≡◌, nat_lt, List, [], ◌∷◌, ◌++◌, length, map, None, if◌then◌else◌}
 use Rattle.fuse_fs.specs.Answers.{default_stats}
-use Rattle.fuse_fs.specs.Calls.{FileCall, FileAnswer, Init, Destroy, Lookup, Forget, BatchForget, Open, Opendir, Read, Write, Statfs, Done, HasEntry, Opened, Stats, Failed, Wants}
+use Rattle.fuse_fs.specs.Calls.{FileCall, FileAnswer, Init, Destroy, Lookup, Forget, BatchForget, Open}
+use Rattle.fuse_fs.specs.Calls.{Opendir, Read, Write, Statfs, Done, HasEntry, Opened, Stats, Failed, Wants}
 use Rattle.call_log.specs.declared.files.CallLog.{CallLog}
 use Rattle.call_log.specs.declared.log.LoggedCall.{LoggedCall}
 use Rattle.call_log.specs.declared.log.LoggedCall.TheVariants as log
@@ -25,8 +26,8 @@ abbrev pub with_calls : List LoggedCall → List LoggedCall → List LoggedCall
 with_calls calls [] = calls
 with_calls calls (call ∷ more) = with_calls (kept calls call) more
 
--- what a call may be answered: a look-up finds node 2, or nothing (ENOENT); `init` asks for no option; what isn't served
--- has its default, which mostly is that there is no such call (ENOSYS)
+-- what a call may be answered: a look-up finds node 2, or nothing (ENOENT); `init` asks for no option; what
+-- isn't served has its default, which mostly is that there is no such call (ENOSYS)
 abbrev pub MayAnswerLogged : FileCall → FileAnswer → Type 0
 MayAnswerLogged (Init capable) (Wants options) = options ≡ 0
 MayAnswerLogged (Init capable) _ = ⊥
@@ -45,4 +46,5 @@ MayAnswerLogged _ answer = answer ≡ Failed 38
 
 -- each call grows the log by itself, and has one of the answers that it may have
 abbrev pub MayLog : CallLog → FileCall → FileAnswer → CallLog → Type 0
-MayLog before call answer after = (after.calls.items ≡ with_calls before.calls.items (entries_for call)) × MayAnswerLogged call answer
+MayLog before call answer after =
+    (after.calls.items ≡ with_calls before.calls.items (entries_for call)) × MayAnswerLogged call answer

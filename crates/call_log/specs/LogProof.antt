@@ -1,10 +1,14 @@
--- A proof: what holds of the file system's log, whatever it is asked. It stands here since `files.rt` cites it.
+-- A proof: what holds of the file system's log, whatever it is asked. It stands here since `files.rt` cites
+-- it.
 use Rattle.std.proofs.Common.{◌≡◌, ℕ, List, [], ◌∷◌, Bool, true, false, refl, ap, ◌∙◌}
 use Rattle.fuse_fs.specs.declared.answers.Context.{Context}
 use Rattle.fuse_fs.specs.Answers.{ForgetsEach}
-use Rattle.fuse_fs.specs.Calls.{FileCall, Init, Destroy, Lookup, Forget, BatchForget, Getattr, Setattr, Readlink, Symlink, Mknod, Mkdir, Unlink, Rmdir, Rename, Link}
-use Rattle.fuse_fs.specs.Calls.{Open, Read, Write, Statfs, Release, Fsync, Fsyncdir, Setxattr, Getxattr, Listxattr, Removexattr, Flush, Opendir, Readdir, Releasedir}
-use Rattle.fuse_fs.specs.Calls.{Getlk, Setlk, Setlkw, Bmap, Ioctl, Poll, NotifyReply, Access, Create, Fallocate, Lseek, CopyFileRange, Syncfs, TmpFile}
+use Rattle.fuse_fs.specs.Calls.{FileCall, Init, Destroy, Lookup, Forget, BatchForget, Getattr, Setattr}
+use Rattle.fuse_fs.specs.Calls.{Readlink, Symlink, Mknod, Mkdir, Unlink, Rmdir, Rename, Link}
+use Rattle.fuse_fs.specs.Calls.{Open, Read, Write, Statfs, Release, Fsync, Fsyncdir, Setxattr, Getxattr}
+use Rattle.fuse_fs.specs.Calls.{Listxattr, Removexattr, Flush, Opendir, Readdir, Releasedir}
+use Rattle.fuse_fs.specs.Calls.{Getlk, Setlk, Setlkw, Bmap, Ioctl, Poll, NotifyReply, Access, Create}
+use Rattle.fuse_fs.specs.Calls.{Fallocate, Lseek, CopyFileRange, Syncfs, TmpFile}
 use Rattle.fuse_fs.specs.Lacked.{Group, Opening, Changing, Rare, group_of, default_answer}
 use Rattle.call_log.specs.declared.files.CallLog.{CallLog}
 use Rattle.call_log.specs.declared.log.LoggedCall.{LoggedCall}
@@ -18,7 +22,8 @@ is_lacked Rare = true
 is_lacked _ = false
 
 -- each leaves nothing in the log, and has its default
-pub lacked_unlogged : (s : CallLog) (c : FileCall) → is_lacked (group_of c) ≡ true → MayLog s c (default_answer c) s
+pub lacked_unlogged :
+    (s : CallLog) (c : FileCall) → is_lacked (group_of c) ≡ true → MayLog s c (default_answer c) s
 lacked_unlogged s (Init a) e = absurd (cc)
 lacked_unlogged s Destroy e = (refl, refl)
 lacked_unlogged s (Lookup a b c) e = absurd (cc)
@@ -74,8 +79,10 @@ pub changing_unlogged : (s : CallLog) (c : FileCall) → group_of c ≡ Changing
 changing_unlogged s c of_group = lacked_unlogged s c (ap is_lacked of_group)
 
 -- nodes that are forgotten one after another are written down one after another
-pub forgets_logged : (before : CallLog) (who : Context) (counts : List (ℕ × ℕ)) (after : CallLog) → ForgetsEach MayLog before who counts after →
+pub forgets_logged : (before : CallLog) (who : Context) (counts : List (ℕ × ℕ)) (after : CallLog) →
+    ForgetsEach MayLog before who counts after →
     after.calls.items ≡ with_calls before.calls.items (entries_for (BatchForget who counts))
 forgets_logged before who [] after same = ap (λ (f : CallLog). f.calls.items) same
 forgets_logged before who (node ∷ counts) after (between, made, rest) =
-    forgets_logged between who counts after rest ∙ ap (λ (l : List LoggedCall). with_calls l (entries_for (BatchForget who counts))) made.0
+    forgets_logged between who counts after rest
+    ∙ ap (λ (l : List LoggedCall). with_calls l (entries_for (BatchForget who counts))) made.0

@@ -1,5 +1,5 @@
--- What a whole run writes down: the calls of INIT, LOOKUP, FORGET, BATCH_FORGET, READ and WRITE that the exchanged requests mean, and a forget
--- if the entry of a LOOKUP had no room.
+-- What a whole run writes down: the calls of INIT, LOOKUP, FORGET, BATCH_FORGET, READ and WRITE that the
+-- exchanged requests mean, and a forget if the entry of a LOOKUP had no room.
 use Rattle.std.specs.Prelude.{◌≡◌, List, [], ◌∷◌, ◌++◌, map, flat_map, Option, Some, None}
 use Rattle.fuse_fs.specs.Calls.{FileCall}
 use Rattle.virtiofsd_fuse.specs.Grammar.{meaning}
@@ -15,18 +15,21 @@ use Rattle.call_log.specs.Log.{entries_for, with_calls, MayAnswerLogged}
 abbrev pub entries_of : List FileCall → List LoggedCall
 entries_of calls = flat_map entries_for calls
 
--- each call has one of the answers that the file system may give it: so a look-up whose entry had no room is followed by the forget of
--- node 2 by 1, and one that found nothing by no forget
+-- each call has one of the answers that the file system may give it: so a look-up whose entry had no room is
+-- followed by the forget of node 2 by 1, and one that found nothing by no forget
 abbrev pub EachMayAnswer : Calls → Type 0
 EachMayAnswer [] = Unit {0}
 EachMayAnswer (step ∷ steps) = MayAnswerLogged step.0 step.1 × EachMayAnswer steps
 
--- what a request writes down that was answered so: the calls that it asks in some setting, each by the answers before it, which make
--- this exchange
+-- what a request writes down that was answered so: the calls that it asks in some setting, each by the
+-- answers before it, which make this exchange
 abbrev pub IsAnswered : Exchange → List LoggedCall → Type 0
-IsAnswered x entries = (s : Setting) × (steps : Calls) × EachSuits steps × EachMayAnswer steps
+IsAnswered x entries = (s : Setting) × (steps : Calls)
+    × EachSuits steps
+    × EachMayAnswer steps
     × ((served s (meaning s.options x.request s.room) (answers_alone steps)).calls ≡ calls_alone steps)
-    × (x ≡ served_exchange x.head x.request (served s (meaning s.options x.request s.room) (answers_alone steps)))
+    × (x ≡ served_exchange x.head x.request
+    (served s (meaning s.options x.request s.room) (answers_alone steps)))
     × (entries ≡ entries_of (calls_alone steps))
 
 -- what an exchange with this fault writes down: a faulty chain nothing
@@ -42,7 +45,8 @@ IsLoggedBy x entries = WritesDown x.fault x entries
 -- what exchanges write down, one after another
 unfoldable pub AreLoggedBy : List Exchange → List LoggedCall → Type 0
 AreLoggedBy [] entries = entries ≡ []
-AreLoggedBy (x ∷ xs) entries = (own rest : List LoggedCall) × IsLoggedBy x own × AreLoggedBy xs rest × (entries ≡ own ++ rest)
+AreLoggedBy (x ∷ xs) entries =
+    (own rest : List LoggedCall) × IsLoggedBy x own × AreLoggedBy xs rest × (entries ≡ own ++ rest)
 
 -- the exchanges that an answer lists
 abbrev pub exchanges_in : Answer → List Exchange
@@ -54,6 +58,10 @@ exchanges_in (Copied host) = []
 exchanges_in (Pages pages) = []
 exchanges_in (IsRefused why) = []
 
--- from one log to another, by commands that were answered so: it grew by the calls of the exchanges, in their order, and by nothing else
+-- from one log to another, by commands that were answered so: it grew by the calls of the exchanges, in their
+-- order, and by nothing else
 abbrev pub Grows : List LoggedCall → List Answer → List LoggedCall → Type 0
-Grows before answers after = (entries : List LoggedCall) × AreLoggedBy (flat_map exchanges_in answers) entries × (after ≡ with_calls before entries)
+Grows before answers after =
+    (entries : List LoggedCall)
+    × AreLoggedBy (flat_map exchanges_in answers) entries
+    × (after ≡ with_calls before entries)

@@ -9,10 +9,12 @@ use Rattle.call_log.specs.declared.files.CallLog.{CallLog}
 use Rattle.call_log.specs.Log.{MayLog}
 
 -- of a chain that was offered and exchanged, the used element says this length, as it is told of the reply
-pub record LeavesUsedLength {F : Type 0} (before : State F) (i used_length : ℕ) (after : Memory) : Type 0 where
+pub record LeavesUsedLength {F : Type 0} (before : State F) (i used_length : ℕ) (after : Memory) :
+    Type 0 where
   pub exchange : Exchange
   pub offered : IsOffered before i exchange
-  pub tells : TellsLength before.memory offered.queue exchange.head (room_of offered.fetched) exchange.reply used_length after
+  pub tells : TellsLength before.memory offered.queue exchange.head (room_of offered.fetched) exchange.reply
+      used_length after
 
 -- how a step ends, by only the used length, which is that of the reply in bytes (VIRTIO 1.2, 2.7.8)
 abbrev pub told_length : StepEnd → Result (Option ℕ) DeviceError
@@ -22,4 +24,7 @@ told_length (Refused e) = Err e
 
 -- there are calls and an end by which a step on queue i goes so, and this tells that end
 abbrev pub StepTellsLength : State CallLog → (i : ℕ) → Result (Option ℕ) DeviceError → State CallLog → Type 0
-StepTellsLength before i result after = (calls : Calls) × (outcome : StepEnd) × Step MayLog before i calls outcome after × (result ≡ told_length outcome)
+StepTellsLength before i result after =
+    (calls : Calls) × (outcome : StepEnd)
+    × Step MayLog before i calls outcome after
+    × (result ≡ told_length outcome)

@@ -20,8 +20,8 @@ pub const HELLO: u64 = 2;
 /// The node of a file that has no name: its byte at k is k modulo 251, and it has no end.
 pub const PATTERN: u64 = 3;
 
-/// The node of a file that has no name: of its bytes, which are those of `hello`, one read gives at most three, and
-/// if there are none, that is EIO.
+/// The node of a file that has no name: of its bytes, which are those of `hello`, one read gives at most
+/// three, and if there are none, that is EIO.
 pub const BROKEN: u64 = 4;
 
 // The bytes of a file: those of `hello`, all at once or at most three a read, or the pattern.
@@ -103,9 +103,9 @@ impl PositionedFile for WrittenBytes {
     }
 }
 
-/// A file system whose state is the log of its calls of six kinds: INIT, LOOKUP, FORGET, lists of nodes to forget, READ
-/// and WRITE, with the first bytes that were written. A look-up of `a` in node 1 may find node 2, and any may find
-/// nothing.
+/// A file system whose state is the log of its calls of six kinds: INIT, LOOKUP, FORGET, lists of nodes to
+/// forget, READ and WRITE, with the first bytes that were written. A look-up of `a` in node 1 may find node
+/// 2, and any may find nothing.
 #[derive(Drop)]
 pub struct CallLog {
     calls: ArrayVec<LoggedCall, MOST_CALLS>,
@@ -206,7 +206,8 @@ impl FewCalls for CallLog {
         _inode: u64,
         _handle: Option<u64>,
     ) -> Result<(Attr, Timeout), Errno>
-        ensures may { MayLog self.old (call.Getattr _ctx _inode (option_map (λ n. n) _handle)) (attr_answer result) self.new }
+        ensures may { MayLog self.old (call.Getattr _ctx _inode (option_map (λ n. n) _handle))
+            (attr_answer result) self.new }
     {
         defaults::getattr()
     }

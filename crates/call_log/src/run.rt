@@ -15,20 +15,23 @@ use fs_device::{Answer, Command, Machine};
 use std::alloc::{AllocError, Global};
 use vm_memory::Iommu;
 
-/// Does commands one after another, as `Machine::run`, which this run is of. The log grows by the calls of its six kinds
-/// that the exchanged requests mean, and by a forget if the entry of a LOOKUP had no room, in the order of the
-/// exchanges; nothing else that is done adds to it. For each node but 0, what the file system answered and was sent
-/// balances with what replies and requests say of it.
+/// Does commands one after another, as `Machine::run`, which this run is of. The log grows by the calls of
+/// its six kinds that the exchanged requests mean, and by a forget if the entry of a LOOKUP had no room, in
+/// the order of the exchanges; nothing else that is done adds to it. For each node but 0, what the file
+/// system answered and was sent balances with what replies and requests say of it.
 pub fn run_logged<I: Iommu + Drop>(
     alloc: Global,
     machine: &mut Machine<CallLog, I>,
     commands: Vec<Command>,
 ) -> Result<Vec<Answer>, AllocError>
-    ensures run { IfOk result (λ answers. Run MayLog (machine_of machine.old) (zip (map command_of commands.items) (map answer_of answers.items))
+    ensures run { IfOk result (λ answers. Run MayLog (machine_of machine.old)
+        (zip (map command_of commands.items) (map answer_of answers.items))
         (machine_of machine.new)) }
     ensures all { IfOk result (λ answers. length answers.items ≡ length commands.items) }
-    ensures log { IfOk result (λ answers. Grows machine.old.device.files.calls.items (map answer_of answers.items) machine.new.device.files.calls.items) }
-    ensures books { IfOk result (λ answers. BalancedRun MayLog (machine_of machine.old) (zip (map command_of commands.items) (map answer_of answers.items))
+    ensures log { IfOk result (λ answers. Grows machine.old.device.files.calls.items
+        (map answer_of answers.items) machine.new.device.files.calls.items) }
+    ensures books { IfOk result (λ answers. BalancedRun MayLog (machine_of machine.old)
+        (zip (map command_of commands.items) (map answer_of answers.items))
         (machine_of machine.new)) }
     ensures err { OnErr result (machine_of machine.new ≡ machine_of machine.old) }
     ensures memory { OnErr result (0 < length commands.items) }

@@ -12,11 +12,11 @@ use std::alloc::Global;
 use vm_memory::GuestMemory;
 use vm_memory_core::HostBlocks;
 
-/// Serves the next chain of a queue, by its number from 0, as `Device::process_one`, with that call's refusals, and
-/// tells the used length that the driver finds, in bytes (VIRTIO 1.2, 2.7.8): above 0 it is the length in the reply's
-/// header (linux/fuse.h, `fuse_out_header.len`) and the number of bytes written over the chain's room; if it is 0, no
-/// byte of the room was written. None if no chain waits. Whatever it answers, memory, queues, options and files go
-/// as by a step that ends so.
+/// Serves the next chain of a queue, by its number from 0, as `Device::process_one`, with that call's
+/// refusals, and tells the used length that the driver finds, in bytes (VIRTIO 1.2, 2.7.8): above 0 it is the
+/// length in the reply's header (linux/fuse.h, `fuse_out_header.len`) and the number of bytes written over
+/// the chain's room; if it is 0, no byte of the room was written. None if no chain waits. Whatever it
+/// answers, memory, queues, options and files go as by a step that ends so.
 pub fn used_length<M: GuestMemory, H: HostBlocks>(
     alloc: Global,
     device: &mut Device<CallLog>,
@@ -27,7 +27,8 @@ pub fn used_length<M: GuestMemory, H: HostBlocks>(
     requires { M.IsHeld mem.now (H.host host.old) }
     ensures step { StepTellsLength (state_of (M.memory mem.now (H.host host.old)) device.old) queue result
         (state_of (M.memory mem.now (H.host host.new)) device.new) }
-    ensures told { IfOk result (λ o. IfSome o (λ n. LeavesUsedLength (state_of (M.memory mem.now (H.host host.old)) device.old) queue n
+    ensures told { IfOk result (λ o.
+        IfSome o (λ n. LeavesUsedLength (state_of (M.memory mem.now (H.host host.old)) device.old) queue n
         (M.memory mem.now (H.host host.new)))) }
     ensures shape { shape (H.host host.new) ≡ shape (H.host host.old) }
 {

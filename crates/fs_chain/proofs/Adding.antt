@@ -1,9 +1,11 @@
 -- What an entry changes in a listing, by what its call ensures.
-use Rattle.std.proofs.Common.{◌≡◌, ◌∙◌, ℕ, Bool, true, false, List, [], ◌∷◌, ◌++◌, Some, Result, Ok, Err, OnOk, OnErr, IfErr, refl, sym, subst, if◌then◌else◌}
+use Rattle.std.proofs.Common.{◌≡◌, ◌∙◌, ℕ, Bool, true, false, List, [], ◌∷◌, ◌++◌, Some, Result, Ok, Err, OnOk, OnErr, IfErr, refl, sym}
+use Rattle.std.proofs.Common.{subst, if◌then◌else◌}
 use Rattle.server_phases.specs.declared.listing.Listing.{Listing}
 use Rattle.server_phases.specs.declared.listing.NotAdded as reason
 use Rattle.server_phases.specs.declared.listing.NotAdded.TheVariants as not_added
-use Rattle.server_phases.specs.Gathering.{Brought, EndsList, FailsList, Holds, StaysBut, added_found, added_plain, bytes_of, error_of, placed, put_at}
+use Rattle.server_phases.specs.Gathering.{Brought, EndsList, FailsList, Holds, StaysBut, added_found, added_plain, bytes_of, error_of}
+use Rattle.server_phases.specs.Gathering.{placed, put_at}
 use Rattle.fs_chain.specs.Listings.{Adds}
 
 -- an entry without its node is in a READDIR alone, one with its node in a READDIRPLUS
@@ -22,7 +24,8 @@ found_kind l list_len name_len ok = by_kind l.with_nodes (placed l list_len name
     by_kind false r ok = cc
 
 -- the clauses of a call that brought an entry, for what came of it
-pub adds_by : (old new : Listing) (list after : List ℕ) (e : Brought) (kind : Bool) (result outcome : Result (Unit {0}) reason.NotAdded) → result ≡ outcome
+pub adds_by : (old new : Listing) (list after : List ℕ) (e : Brought) (kind : Bool) (result outcome : Result (Unit {0}) reason.NotAdded)
+    → result ≡ outcome
     → (outcome ≡ Ok tt → old.with_nodes ≡ kind)
     → OnOk result (after ≡ put_at old.len (bytes_of kind e) list)
     → OnOk result ((es : List Brought) → Holds old list es → Holds new after (es ++ e ∷ []))

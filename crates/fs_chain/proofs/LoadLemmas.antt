@@ -1,5 +1,6 @@
 -- Loads in parts: the bytes that are wanted fit the load, what is refused of them, and a walk goes on whatever part of a load is kept.
-use Rattle.std.proofs.Common.{◌≡◌, ◌==◌, ℕ, ◌+◌, ◌<◌, ◌≤◌, ◌++◌, ◌∙◌, List, Bool, Option, false, length, Some, None, inl, inr, subst, ap, sym, refl, arith, if◌then◌else◌}
+use Rattle.std.proofs.Common.{◌≡◌, ◌==◌, ℕ, ◌+◌, ◌<◌, ◌≤◌, ◌++◌, ◌∙◌, List, Bool, Option, false, length, Some, None, inl, inr, subst, ap}
+use Rattle.std.proofs.Common.{sym, refl, arith, if◌then◌else◌}
 use Rattle.std.specs.Prelude.{◌⊎◌}
 use Rattle.std.proofs.lemmas.Bool.Decides.{nat_tests}
 use Rattle.std.proofs.lemmas.List.{length-append}
@@ -23,7 +24,8 @@ use Rattle.fs_chain.specs.declared.popping.PopOutcome as walked
 use Rattle.fs_chain.specs.declared.chain_handle.ChainHandle.{ChainHandle}
 use Rattle.fs_chain.specs.Loads.{AreDue, AreWanted, AreWhole, RefusesWalk, came, due_len, whole}
 
-within : (s : state.ChainState) (P : QueueWalk → Type 0) (n : ℕ) → IsWalking s → IfWalking s P → ((walk : QueueWalk) → P walk → n ≤ asked_len walk) → n ≤ load_len s
+within : (s : state.ChainState) (P : QueueWalk → Type 0) (n : ℕ) → IsWalking s → IfWalking s P →
+    ((walk : QueueWalk) → P walk → n ≤ asked_len walk) → n ≤ load_len s
 within (at.Walking course pop_id walk) P n is p h = h walk p
 within at.Free P n is p h = absurd is
 within (at.Taken out) P n is p h = absurd is
@@ -65,7 +67,8 @@ ends_load w loaded all len asks =
     omega (arith, due, sum, same)
 
 -- what the handle refuses, of bytes that are due
-pub refuses_walk : (w : ChainHandle) (q : QueueState) (loaded : List ℕ) (e : ChainError) → AreDue w loaded → length loaded ≡ due_len w loaded → whole w loaded ≡ loaded
+pub refuses_walk : (w : ChainHandle) (q : QueueState) (loaded : List ℕ) (e : ChainError) → AreDue w loaded
+    → length loaded ≡ due_len w loaded → whole w loaded ≡ loaded
     → ((walk_error w.state q (length loaded) ≡ Some e) ⊎ ((e ≡ OutOfMemory) × (walk_error w.state q (length loaded) ≡ None)))
     → (e ≡ OutOfMemory → LacksRoom w) → RefusesWalk w q loaded e
 refuses_walk w q loaded e due len all (inl is) memory = inl (due, subst (λ (n : ℕ). walk_error w.state q n ≡ Some e) len is)
@@ -74,7 +77,8 @@ refuses_walk w q loaded e due len all (inr lacks) memory =
     inr (inl (lacks.0, inl (ends_load w loaded all len room.0, room), due, subst (λ (n : ℕ). walk_error w.state q n ≡ None) len lacks.1))
 
 -- bytes that are due begin a walk, or they are a whole load, or they are wanted
-pub due : (w : ChainHandle) (loaded : List ℕ) → AreDue w loaded → (load_len w.state ≡ 0) ⊎ AreWhole w (length loaded) ⊎ AreWanted w (length loaded)
+pub due : (w : ChainHandle) (loaded : List ℕ) → AreDue w loaded →
+    (load_len w.state ≡ 0) ⊎ AreWhole w (length loaded) ⊎ AreWanted w (length loaded)
 due w loaded (inl none) = inl none
 due w loaded (inr some) = inr some.1
 
@@ -95,7 +99,8 @@ module _ (w w' : ChainHandle) (aside kept : Vec ℕ) (q q' : QueueState) (told :
   begins None h = begins_where (event_fault (places_in w.regions) q) h
   begins (Some why) h = h
 
-  goes_on : (stopped : Option QueueError) (course : Course) (pop_id : PopId) (walk : QueueWalk) (bytes : List ℕ) → GoesOnUnless stopped course pop_id walk bytes before w' q q' told
+  goes_on : (stopped : Option QueueError) (course : Course) (pop_id : PopId) (walk : QueueWalk) (bytes : List ℕ)
+      → GoesOnUnless stopped course pop_id walk bytes before w' q q' told
       → GoesOnUnless stopped course pop_id walk bytes w after q q' told
   goes_on None course pop_id walk bytes h = h
   goes_on (Some why) course pop_id walk bytes h = h
@@ -110,7 +115,8 @@ module _ (w w' : ChainHandle) (aside kept : Vec ℕ) (q q' : QueueState) (told :
   walks_from (at.Pushing out) bytes h = h
 
 -- by the same bytes, from a handle to one that are these but for that part
-pub walks_apart : (w before w' after : ChainHandle) (q q' : QueueState) (told : walked.PopOutcome) (bytes all : List ℕ) → before ≡ record w { part = before.part }
+pub walks_apart : (w before w' after : ChainHandle) (q q' : QueueState) (told : walked.PopOutcome) (bytes all : List ℕ)
+    → before ≡ record w { part = before.part }
     → after ≡ record w' { part = after.part } → bytes ≡ all → WalksOn bytes before w' q q' told → WalksOn all w after q q' told
 walks_apart w before w' after q q' told bytes all from to same h =
     let there = subst (λ (x : ChainHandle). WalksOn bytes x w' q q' told) from h in
@@ -125,6 +131,7 @@ pub joined_goes : (w joined new : ChainHandle) (q q' : QueueState) (told : walke
 joined_goes w joined new q q' told loaded some from same items right walks =
     let all : joined.part.items ≡ whole w loaded =
     items ∙ sym (ap (λ (t : Bool). if t then loaded else w.part.items ++ loaded) (some_asked (load_len w.state) some)) in (
-      subst (λ (l : List ℕ). walk_error w.state q (length l) ≡ None) all (subst (λ (s : state.ChainState). walk_error s q (came joined) ≡ None) same right),
+      subst (λ (l : List ℕ). walk_error w.state q (length l) ≡ None) all
+          (subst (λ (s : state.ChainState). walk_error s q (came joined) ≡ None) same right),
       walks_apart w joined new new q q' told joined.part.items (whole w loaded) from refl all walks,
     )

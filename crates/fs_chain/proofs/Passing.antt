@@ -1,5 +1,6 @@
 -- Windows behind the descriptors that were passed are windows of the whole chain.
-use Rattle.std.proofs.Common.{◌≡◌, ◌∙◌, ℕ, Bool, true, false, ◌+◌, ◌-◌, ◌≤◌, ◌++◌, List, [], ◌∷◌, take, drop, refl, ap, sym, subst, append_assoc, arith}
+use Rattle.std.proofs.Common.{◌≡◌, ◌∙◌, ℕ, Bool, true, false, ◌+◌, ◌-◌, ◌≤◌, ◌++◌, List, [], ◌∷◌, take, drop, refl, ap, sym, subst}
+use Rattle.std.proofs.Common.{append_assoc, arith}
 use Rattle.std.specs.Prelude.{IfSome, Option, Some, None}
 use Rattle.std.proofs.lemmas.List.{take-append-drop}
 use Rattle.std.proofs.lemmas.List.Sums.{sum_by-append, sum_by-cons}
@@ -39,7 +40,8 @@ none_of true = refl
 none_of false = refl
 
 -- so many bytes are skipped by passing some descriptors
-skips_one : (l : Mapped) (b x : Bool) (ds : List Descriptor) (from skip : ℕ) (d : Descriptor) (rest : List Descriptor) → beq (is_writable d) b ≡ x → counted x d ≤ skip
+skips_one : (l : Mapped) (b x : Bool) (ds : List Descriptor) (from skip : ℕ) (d : Descriptor) (rest : List Descriptor)
+    → beq (is_writable d) b ≡ x → counted x d ≤ skip
     → Skips l b ds from skip (d ∷ rest) → Skips l b ds from (skip - counted x d) rest
 skips_one l b true ds from skip d rest this less s = skips_on l b ds from skip d rest this less s
 skips_one l b false ds from skip d rest this less s =
@@ -67,7 +69,8 @@ passed_skips l b ds p from passed below =
     (skips_front l b ds from from (take p.index ds) (drop p.index ds) (omega (arith, bytes, below)) whole)
 
 -- a window behind what was skipped
-stands_behind : (l : Mapped) (b : Bool) (ds : List Descriptor) (from skip : ℕ) (rest : List Descriptor) (d : Descriptor) (k : ℕ) → Skips l b ds from skip rest
+stands_behind : (l : Mapped) (b : Bool) (ds : List Descriptor) (from skip : ℕ) (rest : List Descriptor) (d : Descriptor) (k : ℕ)
+    → Skips l b ds from skip rest
     → StandsIn (of_direction b rest) skip d k → StandsIn (of_direction b ds) from d k
 stands_behind l b ds from skip rest d k s is =
     let front = s.front in
@@ -81,7 +84,8 @@ stands_behind l b ds from skip rest d k s is =
       is.4,
     )
 
-window_behind : (l : Mapped) (b : Bool) (ds : List Descriptor) (from skip : ℕ) (rest : List Descriptor) (w : Window) → Skips l b ds from skip rest
+window_behind :
+    (l : Mapped) (b : Bool) (ds : List Descriptor) (from skip : ℕ) (rest : List Descriptor) (w : Window) → Skips l b ds from skip rest
     → IsWindowFrom l b rest skip w → IsWindowFrom l b ds from w
 window_behind l b ds from skip rest w s is =
     let count = s.count in
@@ -97,23 +101,28 @@ window_behind l b ds from skip rest w s is =
     )
 
 -- so it is behind what was passed
-window_passed : (l : Mapped) (b : Bool) (ds : List Descriptor) (p : WindowCursor) (from : ℕ) (w : Window) → HasPassed b ds p → p.bytes ≤ from
+window_passed :
+    (l : Mapped) (b : Bool) (ds : List Descriptor) (p : WindowCursor) (from : ℕ) (w : Window) → HasPassed b ds p → p.bytes ≤ from
     → IsWindowFrom l b (drop p.index ds) (from - p.bytes) w → IsWindowFrom l b ds from w
-window_passed l b ds p from w passed below is = window_behind l b ds from (from - p.bytes) (drop p.index ds) w (passed_skips l b ds p from passed below) is
+window_passed l b ds p from w passed below is =
+    window_behind l b ds from (from - p.bytes) (drop p.index ds) w (passed_skips l b ds p from passed below) is
 
 -- by what the code answers
-pub windows_passed : (l : Mapped) (b : Bool) (ds rest : List Descriptor) (p : WindowCursor) (from : ℕ) (o : Option Window) → HasPassed b ds p → p.bytes ≤ from → rest ≡ drop p.index ds
+pub windows_passed : (l : Mapped) (b : Bool) (ds rest : List Descriptor) (p : WindowCursor) (from : ℕ) (o : Option Window)
+    → HasPassed b ds p → p.bytes ≤ from → rest ≡ drop p.index ds
     → IfSome o (IsWindowFrom l b rest (from - p.bytes)) → IfSome o (IsWindowFrom l b ds from)
 windows_passed l b ds rest p from None passed below left is = tt
 windows_passed l b ds rest p from (Some w) passed below left is =
     window_passed l b ds p from w passed below (subst (λ (xs : List Descriptor). IsWindowFrom l b xs (from - p.bytes) w) left is)
 
 -- and what ends there, ends
-pub end_passed : (l : Mapped) (b : Bool) (ds rest : List Descriptor) (p : WindowCursor) (from : ℕ) → HasPassed b ds p → p.bytes ≤ from → rest ≡ drop p.index ds
+pub end_passed : (l : Mapped) (b : Bool) (ds rest : List Descriptor) (p : WindowCursor) (from : ℕ) → HasPassed b ds p → p.bytes ≤ from
+    → rest ≡ drop p.index ds
     → (all_reach (places_in l) (access_of b) (of_direction b rest) ≡ true → total_len (of_direction b rest) ≤ from - p.bytes)
     → all_reach (places_in l) (access_of b) (of_direction b ds) ≡ true → total_len (of_direction b ds) ≤ from
 end_passed l b ds rest p from passed below left none all =
-    let s : Skips l b ds from (from - p.bytes) rest = subst (λ (xs : List Descriptor). Skips l b ds from (from - p.bytes) xs) (sym left) (passed_skips l b ds p from passed below) in
+    let s : Skips l b ds from (from - p.bytes) rest =
+    subst (λ (xs : List Descriptor). Skips l b ds from (from - p.bytes) xs) (sym left) (passed_skips l b ds p from passed below) in
     let count = s.count in
     let under = s.below in
     let end = none (s.there all) in

@@ -18,7 +18,8 @@ use Rattle.fs_chain.specs.declared.popping.PopOutcome as walked
 use Rattle.fs_chain.specs.declared.popping.PopOutcome.TheVariants as tells
 use Rattle.fs_chain.specs.declared.chain_handle.ChainHandle.{ChainHandle}
 use Rattle.fs_chain.specs.Events.{event_fault}
-use Rattle.fs_chain.specs.Walks.{BeginsPop, BeginsUnless, BeginsWhere, GoesOn, GoesOnUnless, HasEvents, LeavesNone, RefusalHasEvents, WalksFrom, WalksOn, left_of}
+use Rattle.fs_chain.specs.Walks.{BeginsPop, BeginsUnless, BeginsWhere, GoesOn, GoesOnUnless, HasEvents, LeavesNone, RefusalHasEvents}
+use Rattle.fs_chain.specs.Walks.{WalksFrom, WalksOn, left_of}
 
 -- of a faulty chain none are kept, and none are spoken of
 pub comes_left : (m : Memory) (limit : ℕ) (q : Queue) (loaded : Loaded) (ds : List Descriptor) (came : comes.CourseStep)
@@ -29,9 +30,11 @@ comes_left m limit q loaded ds (step.Refused e) h = h
 comes_left m limit q loaded ds (step.Chain head None) h = h
 comes_left m limit q loaded ds (step.Chain head (Some fault)) h = h
 
-pub by_left : (m : Memory) (limit : ℕ) (q : Queue) (loaded : Loaded) (walk : QueueWalk) (bytes : List ℕ) (ds : List Descriptor) (came : comes.CourseStep)
+pub by_left : (m : Memory) (limit : ℕ) (q : Queue) (loaded : Loaded) (walk : QueueWalk) (bytes : List ℕ) (ds : List Descriptor)
+    (came : comes.CourseStep)
     → ComesBy m limit q loaded walk bytes ds came → ComesBy m limit q loaded walk bytes (left_of came ds) came
-by_left m limit q loaded walk bytes ds came h = record { after = h.after; adds = h.adds; comes = comes_left m limit q h.after ds came h.comes }
+by_left m limit q loaded walk bytes ds came h =
+    record { after = h.after; adds = h.adds; comes = comes_left m limit q h.after ds came h.comes }
 
 pub leaves_none : (came : comes.CourseStep) (ds : List Descriptor) → LeavesNone came (left_of came ds)
 leaves_none (step.Load w) ds = tt
@@ -41,7 +44,8 @@ leaves_none (step.Chain head None) ds = tt
 leaves_none (step.Chain head (Some fault)) ds = refl
 
 -- a walk comes to the same that was taken out of its place
-pub comes_taken : (course : Course) (walk taken : QueueWalk) (bytes : List ℕ) (came : comes.CourseStep) (regions : Mapped) (ds left : List Descriptor) → taken ≡ walk
+pub comes_taken : (course : Course) (walk taken : QueueWalk) (bytes : List ℕ) (came : comes.CourseStep) (regions : Mapped)
+    (ds left : List Descriptor) → taken ≡ walk
     → ((loaded : Loaded) → IsWalkAt (places_in regions) (queue_of course) loaded ds taken
     → ComesBy (places_in regions) course.limit (queue_of course) loaded taken bytes left came)
     → (loaded : Loaded) → IsWalkAt (places_in regions) (queue_of course) loaded ds walk
@@ -52,7 +56,8 @@ comes_taken course walk taken bytes came regions ds left same by_taken =
     subst P same by_taken
 
 -- a handle's walk begins, unless the queue's event index has no place
-pub begins_where : (old new : ChainHandle) (before after : QueueState) (told : walked.PopOutcome) (fault : Option QueueError) → before.stopped ≡ None
+pub begins_where :
+    (old new : ChainHandle) (before after : QueueState) (told : walked.PopOutcome) (fault : Option QueueError) → before.stopped ≡ None
     → fault ≡ event_fault (places_in old.regions) before → BeginsWhere fault old new before after told → BeginsPop old new before after told
 begins_where old new before after told fault goes is begins =
     let there = subst (λ (f : Option QueueError). BeginsWhere f old new before after told) is begins in
@@ -71,20 +76,27 @@ goes_by_none old new before after told (Some e) goes begins = absurd (goes (subs
 pub begun_has_events : (old new : ChainHandle) (before after : QueueState) (told : walked.PopOutcome) → RefusalHasEvents told old before
     → BeginsUnless None old new before after told → HasEvents old before
 begun_has_events old new before after (tells.Refused e) has begins = has
-begun_has_events old new before after (tells.Load n) has begins = goes_by_none old new before after (tells.Load n) (event_fault (places_in old.regions) before) (λ no. no) begins
-begun_has_events old new before after tells.Idle has begins = goes_by_none old new before after tells.Idle (event_fault (places_in old.regions) before) (λ no. no) begins
+begun_has_events old new before after (tells.Load n) has begins =
+    goes_by_none old new before after (tells.Load n) (event_fault (places_in old.regions) before) (λ no. no) begins
+begun_has_events old new before after tells.Idle has begins =
+    goes_by_none old new before after tells.Idle (event_fault (places_in old.regions) before) (λ no. no) begins
 begun_has_events old new before after (tells.Chain head n r) has begins =
     goes_by_none old new before after (tells.Chain head n r) (event_fault (places_in old.regions) before) (λ no. no) begins
 begun_has_events old new before after (tells.Faulty head fault) has begins =
     goes_by_none old new before after (tells.Faulty head fault) (event_fault (places_in old.regions) before) (λ no. no) begins
 
 -- a handle's walk goes on, unless its queue was stopped
-pub walks_unless : (course : Course) (pop_id : PopId) (walk : QueueWalk) (bytes : List ℕ) (old new : ChainHandle) (before after : QueueState) (told : walked.PopOutcome)
-    → old.state ≡ at.Walking course pop_id walk → GoesOnUnless before.stopped course pop_id walk bytes old new before after told → WalksOn bytes old new before after told
-walks_unless course pop_id walk bytes old new before after told is goes = let P : state.ChainState → Type 0 = λ s. WalksFrom s bytes old new before after told in subst P (sym is) goes
+pub walks_unless : (course : Course) (pop_id : PopId) (walk : QueueWalk) (bytes : List ℕ) (old new : ChainHandle)
+    (before after : QueueState) (told : walked.PopOutcome)
+    → old.state ≡ at.Walking course pop_id walk → GoesOnUnless before.stopped course pop_id walk bytes old new before after told
+    → WalksOn bytes old new before after told
+walks_unless course pop_id walk bytes old new before after told is goes =
+    let P : state.ChainState → Type 0 = λ s. WalksFrom s bytes old new before after told in subst P (sym is) goes
 
-pub walks_on : (course : Course) (pop_id : PopId) (walk : QueueWalk) (bytes : List ℕ) (old new : ChainHandle) (before after : QueueState) (told : walked.PopOutcome)
-    → before.stopped ≡ None → old.state ≡ at.Walking course pop_id walk → GoesOn course pop_id walk bytes old new before after told → WalksOn bytes old new before after told
+pub walks_on : (course : Course) (pop_id : PopId) (walk : QueueWalk) (bytes : List ℕ) (old new : ChainHandle) (before after : QueueState)
+    (told : walked.PopOutcome)
+    → before.stopped ≡ None → old.state ≡ at.Walking course pop_id walk → GoesOn course pop_id walk bytes old new before after told
+    → WalksOn bytes old new before after told
 walks_on course pop_id walk bytes old new before after told free is goes =
     walks_unless course pop_id walk bytes old new before after told is
     (subst (λ (s : Option QueueError). GoesOnUnless s course pop_id walk bytes old new before after told) (sym free) goes)

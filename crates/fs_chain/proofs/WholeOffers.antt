@@ -1,5 +1,6 @@
 -- What is offered by loads: a request and a room within the limit, and never want of memory.
-use Rattle.std.proofs.Common.{◌≡◌, ℕ, ◌≤◌, Bool, true, false, List, [], ◌∷◌, ◌++◌, length, ◌+◌, ◌^◌, Option, Some, None, refl, subst, sym, ap, ◌∙◌, arith, length-append}
+use Rattle.std.proofs.Common.{◌≡◌, ℕ, ◌≤◌, Bool, true, false, List, [], ◌∷◌, ◌++◌, length, ◌+◌, ◌^◌, Option, Some, None, refl, subst, sym}
+use Rattle.std.proofs.Common.{ap, ◌∙◌, arith, length-append}
 use Rattle.std.specs.Prelude.{if◌then◌else◌, ◌==◌, ◌||◌, not, nat_lt, option_map, option_and_then, flat_map, replicate}
 use Rattle.std.proofs.lemmas.Bool.{eqb-true, ltb-false}
 use Rattle.vm_iotlb.specs.declared.permissions.Permissions.TheVariants.{Read, Write}
@@ -12,8 +13,10 @@ use Rattle.fs_queue.specs.NextAvail as avail
 use Rattle.fs_queue.specs.NextAvail.{NextAvail, next_avail}
 use Rattle.fs_queue.specs.Chain.{Descriptor, Found, IsChain, HasFault, StopsQueue}
 use Rattle.fs_queue.specs.Loads.{Load, holding, index_load, entry_load, chain_exactly}
-use Rattle.fs_queue.specs.OfferLoads.{without_request, without_chain, without_loads, without_entry, waits_by, with_request, with_loaded, on_waits, offer_by}
-use Rattle.fs_queue.specs.Taking.{readable, writable, total_len, all_reach, RequestAndRoom, IsRequest, CannotFetch, Offer, Refuses, Offers, offer_of, addresses_of}
+use Rattle.fs_queue.specs.OfferLoads.{without_request, without_chain, without_loads, without_entry, waits_by, with_request, with_loaded}
+use Rattle.fs_queue.specs.OfferLoads.{on_waits, offer_by}
+use Rattle.fs_queue.specs.Taking.{readable, writable, total_len, all_reach, RequestAndRoom, IsRequest, CannotFetch, Offer, Refuses, Offers}
+use Rattle.fs_queue.specs.Taking.{offer_of, addresses_of}
 use Rattle.fs_queue.specs.Taking as taking
 use Rattle.fs_regions.specs.Walks.{Loaded, OffersBy}
 use Rattle.fs_chain.specs.Walks.{count}
@@ -41,7 +44,8 @@ on_chain : (P : Offer → Type 0) (ls : List Load) (request : List ℕ) (o : Off
 on_chain P [] request o p = on_request P request o p
 on_chain P (l ∷ ls) request o p = tt
 
-on_nothing : (P : Offer → Type 0) (index entry : Option (List ℕ)) (ls : List Load) (request : List ℕ) (o : Offer) → P o → Says P (without_loads index entry ls request o)
+on_nothing : (P : Offer → Type 0) (index entry : Option (List ℕ)) (ls : List Load) (request : List ℕ) (o : Offer) → P o →
+    Says P (without_loads index entry ls request o)
 on_nothing P None None ls request o p = on_chain P ls request o p
 on_nothing P None (Some bs) ls request o p = tt
 on_nothing P (Some bs) entry ls request o p = tt
@@ -58,7 +62,8 @@ abbrev NoWant : NextAvail → Type 0
 NoWant (avail.Refused e) = e ≡ stop.OutOfMemory → ⊥
 NoWant _ = Unit {0}
 
-next_tests : (a b c d e : Bool) (head : ℕ) → NoWant (if a then avail.Refused stop.AvailIndexUnreachable else if b then avail.Idle else if c then avail.Refused stop.AvailTooFar
+next_tests : (a b c d e : Bool) (head : ℕ) →
+    NoWant (if a then avail.Refused stop.AvailIndexUnreachable else if b then avail.Idle else if c then avail.Refused stop.AvailTooFar
     else if d then avail.Refused stop.RingEntryUnreachable else if e then avail.Refused stop.HeadOutOfTable else avail.Head head)
 next_tests true b c d e head = λ is. cc
 next_tests false true c d e head = tt
@@ -83,7 +88,8 @@ waits_tests false false false entry v w one two = two
 
 waits_is : (q : Queue) (index entry : Option (List ℕ)) → SaysNext NoWant (waits_by q index entry)
 waits_is q index entry =
-    waits_tests _ _ _ entry (next_avail (holding (index_load q index ∷ [])) q) (next_avail (holding (index_load q index ∷ entry_load q entry ∷ [])) q)
+    waits_tests _ _ _ entry (next_avail (holding (index_load q index ∷ [])) q)
+    (next_avail (holding (index_load q index ∷ entry_load q entry ∷ [])) q)
     (next_is (holding (index_load q index ∷ [])) q) (next_is (holding (index_load q index ∷ entry_load q entry ∷ [])) q)
 
 -- ---- what an offer is
@@ -101,17 +107,22 @@ or_false true y is = absurd (cc)
 or_false false true is = absurd (cc)
 
 -- what is fetched, by its tests
-fetched : (limit head : ℕ) (bs request room : List ℕ) (same : Bool) → (length bs == length request) ≡ same → length request ≤ limit → length room ≤ limit →
+fetched : (limit head : ℕ) (bs request room : List ℕ) (same : Bool) → (length bs == length request) ≡ same → length request ≤ limit →
+    length room ≤ limit →
     Says (IsWithin limit) (option_map (Offers head) (if same then Some (IsRequest bs room) else None))
-fetched limit head bs request room true is few some = (subst (λ (n : ℕ). n ≤ limit) (sym (eqb-true (length bs) (length request) is)) few, some)
+fetched limit head bs request room true is few some =
+    (subst (λ (n : ℕ). n ≤ limit) (sym (eqb-true (length bs) (length request) is)) few, some)
 fetched limit head bs request room false is few some = tt
 
-no_fetch : (limit head : ℕ) (bs : List ℕ) (why : ChainFault) → Says (IsWithin limit) (option_map (Offers head) (without_request bs (CannotFetch why)))
+no_fetch : (limit head : ℕ) (bs : List ℕ) (why : ChainFault) →
+    Says (IsWithin limit) (option_map (Offers head) (without_request bs (CannotFetch why)))
 no_fetch limit head [] why = tt
 no_fetch limit head (b ∷ bs) why = tt
 
-fetched_tests : (limit head : ℕ) (bs request room : List ℕ) (over lost_request lost_room : Bool) → (over ≡ false → (length request ≤ limit) × (length room ≤ limit)) →
-    Says (IsWithin limit) (option_map (Offers head) (with_request bs (if over then CannotFetch OverLimit else if lost_request then CannotFetch RequestUnreachable
+fetched_tests : (limit head : ℕ) (bs request room : List ℕ) (over lost_request lost_room : Bool) →
+    (over ≡ false → (length request ≤ limit) × (length room ≤ limit)) →
+    Says (IsWithin limit)
+    (option_map (Offers head) (with_request bs (if over then CannotFetch OverLimit else if lost_request then CannotFetch RequestUnreachable
     else if lost_room then CannotFetch RoomUnreachable else IsRequest request room)))
 fetched_tests limit head bs request room true b c few = no_fetch limit head bs OverLimit
 fetched_tests limit head bs request room false true c few = no_fetch limit head bs RequestUnreachable
@@ -129,7 +140,8 @@ length-request m (d ∷ ds) =
 of_found : (m : Memory) (limit head : ℕ) (bs : List ℕ) (f : Found) → Says (IsWithin limit) (with_loaded bs (offer_of m limit head f))
 of_found m limit head bs (IsChain ds) =
     fetched_tests limit head bs (flat_map (λ d. bytes m d.addr d.len) (readable ds)) (flat_map (λ d. addresses d.addr d.len) (writable ds))
-    (nat_lt limit (total_len (readable ds)) || nat_lt limit (total_len (writable ds))) (not (all_reach m Read (readable ds))) (not (all_reach m Write (writable ds)))
+    (nat_lt limit (total_len (readable ds)) || nat_lt limit (total_len (writable ds))) (not (all_reach m Read (readable ds)))
+    (not (all_reach m Write (writable ds)))
     (λ over. let parts = or_false (nat_lt limit (total_len (readable ds))) (nat_lt limit (total_len (writable ds))) over in (
       subst (λ (n : ℕ). n ≤ limit) (sym (length-request m (readable ds))) (ltb-false _ _ parts.0),
       subst (λ (n : ℕ). n ≤ limit) (sym (length-addresses_of (writable ds))) (ltb-false _ _ parts.1),
@@ -137,26 +149,31 @@ of_found m limit head bs (IsChain ds) =
 of_found m limit head bs (HasFault fault) = no_fetch limit head bs fault
 of_found m limit head bs StopsQueue = on_request (IsWithin limit) bs (Refuses stop.DescriptorUnreachable) (λ is. cc)
 
-of_option : (m : Memory) (limit head : ℕ) (bs : List ℕ) (f : Option Found) → Says (IsWithin limit) (option_and_then (λ f. with_loaded bs (offer_of m limit head f)) f)
+of_option : (m : Memory) (limit head : ℕ) (bs : List ℕ) (f : Option Found) →
+    Says (IsWithin limit) (option_and_then (λ f. with_loaded bs (offer_of m limit head f)) f)
 of_option m limit head bs None = tt
 of_option m limit head bs (Some f) = of_found m limit head bs f
 
 head_tests : (limit : ℕ) (ls : List Load) (bs : List ℕ) (a b : Bool) (x : Option Offer) → Says (IsWithin limit) x →
-    Says (IsWithin limit) (if a then without_chain ls bs (Refuses stop.UsedUnreachable) else if b then without_chain ls bs (Refuses stop.AvailFlagsUnreachable) else x)
+    Says (IsWithin limit) (if a then without_chain ls bs (Refuses stop.UsedUnreachable)
+    else if b then without_chain ls bs (Refuses stop.AvailFlagsUnreachable) else x)
 head_tests limit ls bs true b x says = on_chain (IsWithin limit) ls bs (Refuses stop.UsedUnreachable) (λ is. cc)
 head_tests limit ls bs false true x says = on_chain (IsWithin limit) ls bs (Refuses stop.AvailFlagsUnreachable) (λ is. cc)
 head_tests limit ls bs false false x says = says
 
-of_next : (m : Memory) (limit : ℕ) (q : Queue) (ls : List Load) (bs : List ℕ) (w : NextAvail) → NoWant w → Says (IsWithin limit) (on_waits m limit q ls bs w)
+of_next : (m : Memory) (limit : ℕ) (q : Queue) (ls : List Load) (bs : List ℕ) (w : NextAvail) → NoWant w →
+    Says (IsWithin limit) (on_waits m limit q ls bs w)
 of_next m limit q ls bs avail.Idle h = on_chain (IsWithin limit) ls bs taking.Idle tt
 of_next m limit q ls bs (avail.Refused e) h = on_chain (IsWithin limit) ls bs (Refuses e) h
 of_next m limit q ls bs (avail.Head head) h = head_tests limit ls bs _ _ _ (of_option m limit head bs (chain_exactly ls q head))
 
-of_waits : (m : Memory) (limit : ℕ) (q : Queue) (ls : List Load) (bs : List ℕ) (w : Option NextAvail) → SaysNext NoWant w → Says (IsWithin limit) (option_and_then (on_waits m limit q ls bs) w)
+of_waits : (m : Memory) (limit : ℕ) (q : Queue) (ls : List Load) (bs : List ℕ) (w : Option NextAvail) → SaysNext NoWant w →
+    Says (IsWithin limit) (option_and_then (on_waits m limit q ls bs) w)
 of_waits m limit q ls bs None h = tt
 of_waits m limit q ls bs (Some w) h = of_next m limit q ls bs w h
 
-by_stop : (m : Memory) (limit : ℕ) (stopped : Bool) (index entry : Option (List ℕ)) (ls : List Load) (bs : List ℕ) (x : Option Offer) → Says (IsWithin limit) x →
+by_stop : (m : Memory) (limit : ℕ) (stopped : Bool) (index entry : Option (List ℕ)) (ls : List Load) (bs : List ℕ) (x : Option Offer) →
+    Says (IsWithin limit) x →
     Says (IsWithin limit) (if stopped then without_loads index entry ls bs (Refuses stop.Stopped) else x)
 by_stop m limit true index entry ls bs x says = on_nothing (IsWithin limit) index entry ls bs (Refuses stop.Stopped) (λ is. cc)
 by_stop m limit false index entry ls bs x says = says
@@ -172,12 +189,14 @@ is_within m limit q index entry ls request o is =
 
 -- its lengths aren't cut at 2^64, and its room is at most 2^31 bytes long, if the limit is
 pub fits_limit : (m : Memory) (limit : ℕ) (q : Queue) (loaded : Loaded) (ds : List Descriptor) (head : ℕ) → limit ≤ 2 ^ 31
-    → ((request : List ℕ) → length request ≡ total_len (readable ds) → OffersBy m limit q loaded request (Offers head (IsRequest request (addresses_of (writable ds)))))
+    → ((request : List ℕ) → length request ≡ total_len (readable ds)
+    → OffersBy m limit q loaded request (Offers head (IsRequest request (addresses_of (writable ds)))))
     → (count false ds ≡ total_len (readable ds)) × (length (addresses_of (writable ds)) ≡ count true ds) × (count true ds ≤ 2 ^ 31)
 fits_limit m limit q loaded ds head small offers =
     let n = total_len (readable ds) in
     let by = offers (replicate n 0) (length-replicate n 0) in
-    let within = is_within m limit q loaded.index loaded.entry (loaded.entries ++ by.1) (replicate n 0) (Offers head (IsRequest (replicate n 0) (addresses_of (writable ds)))) by.3 in
+    let within = is_within m limit q loaded.index loaded.entry (loaded.entries ++ by.1) (replicate n 0)
+    (Offers head (IsRequest (replicate n 0) (addresses_of (writable ds)))) by.3 in
     let few : n ≤ limit = subst (λ (k : ℕ). k ≤ limit) (length-replicate n 0) within.0 in
     let room_is = length-addresses_of (writable ds) in
     let fits : total_len (writable ds) ≤ limit = subst (λ (k : ℕ). k ≤ limit) room_is within.1 in

@@ -1,5 +1,6 @@
 -- A chain by the calls of a handle is a step by loads and stores.
-use Rattle.std.proofs.Common.{◌≡◌, ℕ, ◌+◌, ◌≤◌, ◌^◌, Bool, false, List, [], ◌∷◌, ◌++◌, length, map, Option, Some, None, refl, sym, ap, ◌∙◌, arith, length-append}
+use Rattle.std.proofs.Common.{◌≡◌, ℕ, ◌+◌, ◌≤◌, ◌^◌, Bool, false, List, [], ◌∷◌, ◌++◌, length, map, Option, Some, None, refl, sym, ap, ◌∙◌}
+use Rattle.std.proofs.Common.{arith, length-append}
 use Rattle.std.proofs.lemmas.Bool.{true≢false}
 use Rattle.fs_queue.specs.Queue.{Queue}
 use Rattle.fs_queue.specs.Returning.{Store, stores_after_reply, tells}
@@ -42,7 +43,8 @@ forgets : (f : Option (Context × ℕ)) → calls_alone (map (λ c. (c, file.Don
 forgets None = refl
 forgets (Some node) = refl
 
-pub serves_call : (s : Setting) (m : Meaning) (command : FileCommand) (made : made_call.FileCall) (bytes behind : List ℕ) (a : FileAnswer) (given : Answered) (options : ℕ)
+pub serves_call : (s : Setting) (m : Meaning) (command : FileCommand) (made : made_call.FileCall) (bytes behind : List ℕ) (a : FileAnswer)
+    (given : Answered) (options : ℕ)
     → m ≡ Asks command → call_of behind made ≡ first_call command → is_listing command ≡ false → Gives s command bytes a given options
     → served s m (answers_alone (file_calls behind (asks.Call made) (OneAnswer a bytes (replied_of given))))
     ≡ served_by (calls_alone (file_calls behind (asks.Call made) (OneAnswer a bytes (replied_of given)))) options given.sent bytes
@@ -52,7 +54,8 @@ serves_call s m command made bytes behind a given options is call_is not_list gi
     ∙ first_is_enough s command (answer_of bytes a) (answers_alone (map (λ c. (c, file.Done)) (forget_call given.forget))) not_list
     ∙ gives
     ∙ ap (λ (cs : List FileCall). served_by cs options given.sent bytes)
-    (ap (λ (c : FileCall). c ∷ forget_call given.forget) (sym call_is) ∙ ap (λ (cs : List FileCall). call_of behind made ∷ cs) (sym (forgets given.forget)))
+    (ap (λ (c : FileCall). c ∷ forget_call given.forget) (sym call_is)
+    ∙ ap (λ (cs : List FileCall). call_of behind made ∷ cs) (sym (forgets given.forget)))
 
 pub by_calls : (cs : List FileCall) (o : ℕ) (x : Sent) (bytes : List ℕ) → (served_by cs o x bytes).calls ≡ cs
 by_calls cs o (sent.Reply front) bytes = refl
@@ -62,7 +65,8 @@ pub by_options : (cs : List FileCall) (o : ℕ) (x : Sent) (bytes : List ℕ) �
 by_options cs o (sent.Reply front) bytes = refl
 by_options cs o sent.NoRoom bytes = refl
 
-pub by_reply : (cs : List FileCall) (o n : ℕ) (x : Sent) (bytes : List ℕ) → (served_by cs o x bytes).reply ≡ front_if (reply_of x n).front bytes
+pub by_reply :
+    (cs : List FileCall) (o n : ℕ) (x : Sent) (bytes : List ℕ) → (served_by cs o x bytes).reply ≡ front_if (reply_of x n).front bytes
 by_reply cs o n (sent.Reply front) bytes = refl
 by_reply cs o n sent.NoRoom bytes = refl
 
@@ -71,30 +75,39 @@ data_is bytes (value.Bytes len) h = h
 data_is bytes a h = sym (ap length h)
 
 -- a reply is as long as its front and its data
-pub whole_len : (x : Sent) (n : ℕ) (bytes : List ℕ) → n ≡ length bytes → front_len (reply_of x n) + (reply_of x n).behind ≡ length (front_if (reply_of x n).front bytes)
+pub whole_len : (x : Sent) (n : ℕ) (bytes : List ℕ) → n ≡ length bytes →
+    front_len (reply_of x n) + (reply_of x n).behind ≡ length (front_if (reply_of x n).front bytes)
 whole_len (sent.Reply front) n bytes same = ap (λ (k : ℕ). length front + k) same ∙ sym (length-append front bytes)
 whole_len sent.NoRoom n bytes same = refl
 
 -- and isn't cut, where it has room
-pub isnt_cut : (out : InFlight) (reply : ChainReply) (len : ℕ) → front_len reply + reply.behind ≡ len → len ≤ out.room_len → out.room_len ≤ 2 ^ 31 → reply_len out reply ≡ len
+pub isnt_cut : (out : InFlight) (reply : ChainReply) (len : ℕ) → front_len reply + reply.behind ≡ len → len ≤ out.room_len →
+    out.room_len ≤ 2 ^ 31 → reply_len out reply ≡ len
 isnt_cut out reply len is fits small = omega (arith, is, fits, small)
 
 -- an answered request
-pub answers : {F : Type 0} (may : May F) (m : State F) (i : ℕ) (q : Queue) (head : ℕ) (request room : List ℕ) (calls : Calls) (files : F) (given : ServedMessage) (reply : ChainReply) (behind : List ℕ)
-    (used : PushStores) (flags : List ℕ) (notice : Bool) (options : ℕ) → ServesRequest may m.page_size m.options request (length room) m.files calls given files
-    → given.reply ≡ front_if reply.front behind → given.options ≡ options → stores_of used.used ≡ stores_after_reply q head (length given.reply) → length flags ≡ 2 → notice ≡ tells flags
+pub answers : {F : Type 0} (may : May F) (m : State F) (i : ℕ) (q : Queue) (head : ℕ) (request room : List ℕ) (calls : Calls) (files : F)
+    (given : ServedMessage) (reply : ChainReply) (behind : List ℕ)
+    (used : PushStores) (flags : List ℕ) (notice : Bool) (options : ℕ)
+    → ServesRequest may m.page_size m.options request (length room) m.files calls given files
+    → given.reply ≡ front_if reply.front behind → given.options ≡ options
+    → stores_of used.used ≡ stores_after_reply q head (length given.reply) → length flags ≡ 2 → notice ≡ tells flags
     → AnswersBy may m i q head request room calls (served_exchange head request given) notice
     (record { acts = acts_of room reply behind used flags; last = front_len reply }) (after_chain m i q options files)
-answers {F} may m i q head request room calls files given reply behind used flags notice options serves is_reply is_options stores two told = record {
-  given = given;
-  serves = serves;
-  returns = record {
-    exchange = refl;
-    flags = flags;
-    flags_len = two;
-    acts = ap (λ (b : List ℕ). map act.Stores (reply_stores room b (front_len reply) ++ stores_of used.used) ++ act.LoadsFlags flags ∷ []) (sym is_reply)
-        ∙ ap (λ (ss : List Store). map act.Stores (reply_stores room given.reply (front_len reply) ++ ss) ++ act.LoadsFlags flags ∷ []) stores;
-    state = ap (λ (o : ℕ). after_chain m i q o files) (sym is_options);
-    told = told;
-  };
-}
+answers {F} may m i q head request room calls files given reply behind used flags notice options serves is_reply is_options stores two
+    told = record {
+      given = given;
+      serves = serves;
+      returns = record {
+        exchange = refl;
+        flags = flags;
+        flags_len = two;
+        acts = ap (λ (b : List ℕ). map act.Stores (reply_stores room b (front_len reply) ++ stores_of used.used)
+            ++ act.LoadsFlags flags ∷ [])
+            (sym is_reply)
+            ∙ ap (λ (ss : List Store). map act.Stores (reply_stores room given.reply (front_len reply) ++ ss) ++ act.LoadsFlags flags ∷ [])
+            stores;
+        state = ap (λ (o : ℕ). after_chain m i q o files) (sym is_options);
+        told = told;
+      };
+    }

@@ -1,5 +1,6 @@
 -- A walk by calls of the handle comes to what all its loads tell.
-use Rattle.std.proofs.Common.{◌≡◌, ◌+◌, ◌<◌, ℕ, ◌^◌, zero, suc, true, false, List, [], ◌∷◌, ◌++◌, length, length-append, Option, Some, None, refl, subst, sym, ap, ◌∙◌, arith}
+use Rattle.std.proofs.Common.{◌≡◌, ◌+◌, ◌<◌, ℕ, ◌^◌, zero, suc, true, false, List, [], ◌∷◌, ◌++◌, length, length-append, Option, Some, None}
+use Rattle.std.proofs.Common.{refl, subst, sym, ap, ◌∙◌, arith}
 use Rattle.vm_iotlb.specs.declared.permissions.Permissions.TheVariants.{Read}
 use Rattle.std.specs.Prelude.{is_some, nat_lt}
 use Rattle.std.specs.List.{list_all}
@@ -21,7 +22,8 @@ use Rattle.fs_chain.specs.declared.popping.PopOutcome as walked
 use Rattle.fs_chain.specs.declared.popping.PopOutcome.TheVariants as says
 use Rattle.fs_chain.specs.declared.chain_handle.ChainHandle.{ChainHandle}
 use Rattle.fs_chain.specs.Events.{event_fault}
-use Rattle.fs_chain.specs.Walks.{WalksOn, WalksFrom, BeginsPop, BeginsOn, BeginsUnless, BeginsWhere, GoesOn, GoesOnUnless, HasEvents, IsAllButPart, KeepsStep, RefusalHasEvents, course_of, queue_after}
+use Rattle.fs_chain.specs.Walks.{WalksOn, WalksFrom, BeginsPop, BeginsOn, BeginsUnless, BeginsWhere, GoesOn, GoesOnUnless, HasEvents}
+use Rattle.fs_chain.specs.Walks.{IsAllButPart, KeepsStep, RefusalHasEvents, course_of, queue_after}
 use Rattle.fs_chain.specs.declared.loads.LoadOutcome as went
 use Rattle.fs_chain.specs.declared.loads.LoadOutcome.TheVariants as wents
 use Rattle.fs_chain.specs.Loads.{GoesSo, came, whole}
@@ -63,7 +65,8 @@ some_asked (asks.RingEntry w) = omega arith
 some_asked (asks.Entries w) = let some = w.some in omega (arith, some)
 
 -- a part more is less than the load still
-few_still : (w new : ChainHandle) (bs : List ℕ) (walk : QueueWalk) (course : Course) (pop_id : PopId) → w.state ≡ at.Walking course pop_id walk → new.part.items ≡ w.part.items ++ bs
+few_still : (w new : ChainHandle) (bs : List ℕ) (walk : QueueWalk) (course : Course) (pop_id : PopId)
+    → w.state ≡ at.Walking course pop_id walk → new.part.items ≡ w.part.items ++ bs
     → came w + length bs < load_len w.state → came new < asked_len walk
 few_still w new bs walk course pop_id is more few =
     let len : came new ≡ came w + length bs = ap length more ∙ length-append w.part.items bs in
@@ -71,22 +74,26 @@ few_still w new bs walk course pop_id is more few =
     omega (arith, len, asked, few)
 
 -- each address of what is there has a place
-has_place : (l : Mapped) (n a i : ℕ) → list_all (λ x. is_some (location (places_in l) Read x)) (addresses a n) ≡ true → i < n → is_some (location (places_in l) Read (a + i)) ≡ true
+has_place : (l : Mapped) (n a i : ℕ) → list_all (λ x. is_some (location (places_in l) Read x)) (addresses a n) ≡ true → i < n →
+    is_some (location (places_in l) Read (a + i)) ≡ true
 unfolding addresses
 has_place l zero a i all lt = absurd (omega (arith, lt))
 has_place l (suc n) a zero all lt =
     let same : a ≡ a + 0 = omega arith in
-    subst (λ (k : ℕ). is_some (location (places_in l) Read k) ≡ true) same (and_parts (is_some (location (places_in l) Read a)) (list_all (λ x. is_some (location (places_in l) Read x)) (addresses (a + 1) n)) all).0
+    subst (λ (k : ℕ). is_some (location (places_in l) Read k) ≡ true) same (and_parts (is_some (location (places_in l) Read a))
+    (list_all (λ x. is_some (location (places_in l) Read x)) (addresses (a + 1) n)) all).0
 has_place l (suc n) a (suc i) all lt =
     let same : a + 1 + i ≡ a + suc i = omega arith in
     subst (λ (k : ℕ). is_some (location (places_in l) Read k) ≡ true) same
-    (has_place l n (a + 1) i (and_parts (is_some (location (places_in l) Read a)) (list_all (λ x. is_some (location (places_in l) Read x)) (addresses (a + 1) n)) all).1 (omega (arith, lt)))
+    (has_place l n (a + 1) i (and_parts (is_some (location (places_in l) Read a))
+    (list_all (λ x. is_some (location (places_in l) Read x)) (addresses (a + 1) n)) all).1 (omega (arith, lt)))
 
 -- a walk that begins asks for no load yet, so that nothing is a part of one
 no_load : (w : ChainHandle) → w.state ≡ at.Free → load_len w.state ≡ 0
 no_load w free = ap load_len free
 
-begins_whole : (old : ChainHandle) (before : QueueState) (new : ChainHandle) (after : QueueState) → old.state ≡ at.Free → GoesSo old before [] wents.Part new after → ⊥
+begins_whole : (old : ChainHandle) (before : QueueState) (new : ChainHandle) (after : QueueState) → old.state ≡ at.Free →
+    GoesSo old before [] wents.Part new after → ⊥
 begins_whole old before new after free call = let none = no_load old free in let few = call.1 in omega (arith, none, few)
 
 whole_of_none : (w : ChainHandle) → w.state ≡ at.Free → whole w [] ≡ []
@@ -98,26 +105,33 @@ Comes loaded old new before after wents.Part = Wants loaded old new before after
 Comes loaded old new before after (wents.On told) = ComesSo loaded old new before after told × (new.part.items ≡ [])
 
 -- the first call of a walk through a queue that isn't stopped
-begun : (old new : ChainHandle) (before after : QueueState) (told : walked.PopOutcome) → before.stopped ≡ None → BeginsPopBy old new before after (wents.On told)
+begun : (old new : ChainHandle) (before after : QueueState) (told : walked.PopOutcome) → before.stopped ≡ None
+    → BeginsPopBy old new before after (wents.On told)
     → BeginsUnless None old new before after told
 begun old new before after told goes by =
-    let walks : WalksOn [] old new before after told = subst (λ (bs : List ℕ). WalksOn bs old new before after told) (whole_of_none old by.0) by.1.4 in
-    let begins : BeginsPop old new before after told = subst (λ (s : state.ChainState). WalksFrom s [] old new before after told) by.0 walks in
+    let walks : WalksOn [] old new before after told =
+    subst (λ (bs : List ℕ). WalksOn bs old new before after told) (whole_of_none old by.0) by.1.4 in
+    let begins : BeginsPop old new before after told =
+    subst (λ (s : state.ChainState). WalksFrom s [] old new before after told) by.0 walks in
     subst (λ (s : Option QueueError). BeginsUnless s old new before after told) goes begins
 
-first : (old new : ChainHandle) (before after : QueueState) (told : went.LoadOutcome) → before.stopped ≡ None → HasEvents old before → BeginsPopBy old new before after told → Comes nothing old new before after told
+first : (old new : ChainHandle) (before after : QueueState) (told : went.LoadOutcome) → before.stopped ≡ None → HasEvents old before →
+    BeginsPopBy old new before after told → Comes nothing old new before after told
 first old new before after wents.Part goes events by = absurd (begins_whole old before new after by.0 by.1)
 first old new before after (wents.On told) goes events by =
     let unless = begun old new before after told goes by in
-    let on : BeginsOn (course_of before old.limit) (pop_id_of before) old new before after told = subst (λ (f : Option QueueError). BeginsWhere f old new before after told) events unless in
+    let on : BeginsOn (course_of before old.limit) (pop_id_of before) old new before after told =
+    subst (λ (f : Option QueueError). BeginsWhere f old new before after told) events unless in
     ((on.0, on.1, on.2), by.1.1)
 
 -- the loads after a call, and what it comes to by them
 abbrev ComesAfter : (old w new : ChainHandle) → (before after : QueueState) → (l : Loaded) → (bs : List ℕ) → went.LoadOutcome → Type 0
-ComesAfter old w new before after l bs told = (loaded : Loaded) × AddsSo w.state told new.descriptors.items l (whole w bs) loaded × Comes loaded old new before after told
+ComesAfter old w new before after l bs told =
+    (loaded : Loaded) × AddsSo w.state told new.descriptors.items l (whole w bs) loaded × Comes loaded old new before after told
 
 -- from where a load was asked for
-on_load : (bs : List ℕ) (l : Loaded) (old w new : ChainHandle) (before q after : QueueState) (told : went.LoadOutcome) → before.stopped ≡ None
+on_load :
+    (bs : List ℕ) (l : Loaded) (old w new : ChainHandle) (before q after : QueueState) (told : went.LoadOutcome) → before.stopped ≡ None
     → Wants l old w before q → GoesSo w q bs told new after → ComesAfter old w new before after l bs told
 on_load bs l old w new before q after wents.Part goes wants call =
     let still : Wants l old new before after = record {
@@ -130,7 +144,8 @@ on_load bs l old w new before q after wents.Part goes wants call =
       list_len = call.3.0.3 ∙ wants.list_len;
       few = few_still w new bs wants.walk (course_of before old.limit) (pop_id_of before) wants.state call.4 call.1;
       there = wants.there;
-      stands = subst (λ (ds : List Descriptor). IsWalkAt (places_in old.regions) (queue_of (course_of before old.limit)) l ds wants.walk) (kept_items w new call.3.2) wants.stands;
+      stands = subst (λ (ds : List Descriptor). IsWalkAt (places_in old.regions) (queue_of (course_of before old.limit)) l ds wants.walk)
+          (kept_items w new call.3.2) wants.stands;
     } in
     (l, refl, still)
 on_load bs l old w new before q after (wents.On told) goes wants call =
@@ -138,26 +153,37 @@ on_load bs l old w new before q after (wents.On told) goes wants call =
     let pop_id = pop_id_of before in
     let walk = wants.walk in
     let all = whole w bs in
-    let unless : GoesOnUnless q.stopped course pop_id walk all w new q after told = subst (λ (s : state.ChainState). WalksFrom s all w new q after told) wants.state call.4 in
+    let unless : GoesOnUnless q.stopped course pop_id walk all w new q after told =
+    subst (λ (s : state.ChainState). WalksFrom s all w new q after told) wants.state call.4 in
     let on : GoesOn course pop_id walk all w new q after told =
-    subst (λ (s : Option QueueError). GoesOnUnless s course pop_id walk all w new q after told) (ap (λ (k : QueueState). k.stopped) wants.queue ∙ goes) unless in
+    subst (λ (s : Option QueueError). GoesOnUnless s course pop_id walk all w new q after told)
+    (ap (λ (k : QueueState). k.stopped) wants.queue ∙ goes) unless in
     let there : IsWalkAt (places_in w.regions) (queue_of course) l w.descriptors.items walk =
     subst (λ (r : Mapped). IsWalkAt (places_in r) (queue_of course) l w.descriptors.items walk) (sym wants.regions) wants.stands in
     let by : ComesBy (places_in w.regions) course.limit (queue_of course) l walk all new.descriptors.items on.0 = on.2 l there in
     let came : IsCourseStep (places_in old.regions) old.limit (queue_of course) by.after new.descriptors.items on.0 =
-    subst (λ (r : Mapped). IsCourseStep (places_in r) old.limit (queue_of course) by.after new.descriptors.items on.0) wants.regions by.comes in
+    subst (λ (r : Mapped). IsCourseStep (places_in r) old.limit (queue_of course) by.after new.descriptors.items on.0)
+    wants.regions by.comes in
     let adds : AddsSo w.state (wents.On told) new.descriptors.items l all by.after =
-    subst (λ (s : state.ChainState). AddsSo s (wents.On told) new.descriptors.items l all by.after) (sym wants.state) (on.0, on.1.0, by.adds) in
+    subst (λ (s : state.ChainState). AddsSo s (wents.On told) new.descriptors.items l all by.after) (sym wants.state)
+    (on.0, on.1.0, by.adds) in
     let so : ComesSo by.after old new before after told = (
       on.0,
-      (on.1.0, on.1.1, on.1.2 ∙ ap (λ (k : QueueState). queue_after k on.0) wants.queue, on.1.3, (on.1.4.0 ∙ wants.regions, on.1.4.1 ∙ wants.limit, on.1.4.2 ∙ wants.serial, on.1.4.3 ∙ wants.list_len)),
+      (
+        on.1.0,
+        on.1.1,
+        on.1.2 ∙ ap (λ (k : QueueState). queue_after k on.0) wants.queue,
+        on.1.3,
+        (on.1.4.0 ∙ wants.regions, on.1.4.1 ∙ wants.limit, on.1.4.2 ∙ wants.serial, on.1.4.3 ∙ wants.list_len),
+      ),
       came,
     ) in
     (by.after, adds, (so, call.1))
 
 -- what wants bytes asks for a load
 wants_so : (l : Loaded) (old w : ChainHandle) (before q : QueueState) (n : ℕ) (came : comes.CourseStep) → w.part.items ≡ []
-    → KeepsStep (course_of before old.limit) (pop_id_of before) came old w before q (says.Load n) → IsCourseStep (places_in old.regions) old.limit (queue_of (course_of before old.limit)) l w.descriptors.items came
+    → KeepsStep (course_of before old.limit) (pop_id_of before) came old w before q (says.Load n)
+    → IsCourseStep (places_in old.regions) old.limit (queue_of (course_of before old.limit)) l w.descriptors.items came
     → Wants l old w before q
 wants_so l old w before q n (step.Load walk) none keeps comes =
     record {
@@ -177,7 +203,8 @@ wants_so l old w before q n (step.Refused e) none keeps comes = absurd (subst Is
 wants_so l old w before q n (step.Chain head None) none keeps comes = absurd (subst IsALoad keeps.0 tt)
 wants_so l old w before q n (step.Chain head (Some fault)) none keeps comes = absurd (subst IsALoad keeps.0 tt)
 
-wanted : (l : Loaded) (old w : ChainHandle) (before q : QueueState) (earlier : went.LoadOutcome) → WantsBytes earlier → Comes l old w before q earlier → Wants l old w before q
+wanted : (l : Loaded) (old w : ChainHandle) (before q : QueueState) (earlier : went.LoadOutcome) → WantsBytes earlier →
+    Comes l old w before q earlier → Wants l old w before q
 wanted l old w before q wents.Part wants comes = comes
 wanted l old w before q (wents.On (says.Load n)) wants comes = wants_so l old w before q n comes.0.0 comes.1 comes.0.1 comes.0.2
 wanted l old w before q (wents.On says.Idle) wants comes = absurd wants
@@ -198,23 +225,29 @@ wants_unrefused w q (wents.On (says.Refused e)) wants = absurd wants
 wants_unrefused w q (wents.On (says.Chain head n r)) wants = absurd wants
 wants_unrefused w q (wents.On (says.Faulty head fault)) wants = absurd wants
 
-first_has_events : (old new : ChainHandle) (before after : QueueState) (told : went.LoadOutcome) → before.stopped ≡ None → HasNoneRefused told old before
+first_has_events :
+    (old new : ChainHandle) (before after : QueueState) (told : went.LoadOutcome) → before.stopped ≡ None → HasNoneRefused told old before
     → BeginsPopBy old new before after told → HasEvents old before
 first_has_events old new before after wents.Part goes has by = absurd (begins_whole old before new after by.0 by.1)
-first_has_events old new before after (wents.On told) goes has by = begun_has_events old new before after told has (begun old new before after told goes by)
+first_has_events old new before after (wents.On told) goes has by =
+    begun_has_events old new before after told has (begun old new before after told goes by)
 
 -- then it has them: its first call would have told a refusal
-walk_has_events : (given : List (List ℕ)) (old new : ChainHandle) (before after : QueueState) (told : went.LoadOutcome) → before.stopped ≡ None → HasNoneRefused told old before
+walk_has_events : (given : List (List ℕ)) (old new : ChainHandle) (before after : QueueState) (told : went.LoadOutcome)
+    → before.stopped ≡ None → HasNoneRefused told old before
     → WalksBy given old new before after told → HasEvents old before
 walk_has_events [] old new before after told goes has walks = first_has_events old new before after told goes has walks
 walk_has_events (bs ∷ given) old new before after told goes has walks =
     walk_has_events given old walks.0 before walks.1 walks.2 goes (wants_unrefused old before walks.2 walks.4) walks.3
 
 -- the loads of a walk's calls, and what they come to
-abbrev AllCome : (given : List (List ℕ)) (old new : ChainHandle) (before after : QueueState) (told : went.LoadOutcome) → WalksBy given old new before after told → Type 0
-AllCome given old new before after told walks = (loaded : Loaded) × LoadsOf given old new before after told walks loaded × Comes loaded old new before after told
+abbrev AllCome : (given : List (List ℕ)) (old new : ChainHandle) (before after : QueueState) (told : went.LoadOutcome) →
+    WalksBy given old new before after told → Type 0
+AllCome given old new before after told walks =
+    (loaded : Loaded) × LoadsOf given old new before after told walks loaded × Comes loaded old new before after told
 
-all_come : (given : List (List ℕ)) (old new : ChainHandle) (before after : QueueState) (told : went.LoadOutcome) → before.stopped ≡ None → HasEvents old before
+all_come : (given : List (List ℕ)) (old new : ChainHandle) (before after : QueueState) (told : went.LoadOutcome) → before.stopped ≡ None
+    → HasEvents old before
     → (walks : WalksBy given old new before after told) → AllCome given old new before after told walks
 all_come [] old new before after told goes events walks = (nothing, refl, first old new before after told goes events walks)
 all_come (bs ∷ given) old new before after told goes events walks =
@@ -222,15 +255,18 @@ all_come (bs ∷ given) old new before after told goes events walks =
     let q = walks.1 in
     let earlier = walks.2 in
     let e : AllCome given old w before q earlier walks.3 = all_come given old w before q earlier goes events walks.3 in
-    let n : ComesAfter old w new before after e.0 bs told = on_load bs e.0 old w new before q after told goes (wanted e.0 old w before q earlier walks.4 e.2) walks.5 in
+    let n : ComesAfter old w new before after e.0 bs told =
+    on_load bs e.0 old w new before q after told goes (wanted e.0 old w before q earlier walks.4 e.2) walks.5 in
     (n.0, (e.0, e.1, n.1), n.2)
 
 -- the loads of a walk that told this, and what they come to
-abbrev pub CameSo : (given : List (List ℕ)) (old new : ChainHandle) (before after : QueueState) (told : walked.PopOutcome) → WalksBy given old new before after (wents.On told) → Type 0
+abbrev pub CameSo : (given : List (List ℕ)) (old new : ChainHandle) (before after : QueueState) (told : walked.PopOutcome) →
+    WalksBy given old new before after (wents.On told) → Type 0
 CameSo given old new before after told walks =
     (loaded : Loaded) × LoadsOf given old new before after (wents.On told) walks loaded × ComesSo loaded old new before after told
 
-pub walk_comes : (given : List (List ℕ)) (old new : ChainHandle) (before after : QueueState) (told : walked.PopOutcome) → before.stopped ≡ None → RefusalHasEvents told old before
+pub walk_comes : (given : List (List ℕ)) (old new : ChainHandle) (before after : QueueState) (told : walked.PopOutcome)
+    → before.stopped ≡ None → RefusalHasEvents told old before
     → (walks : WalksBy given old new before after (wents.On told)) → CameSo given old new before after told walks
 walk_comes given old new before after told goes refusal walks =
     let events = walk_has_events given old new before after (wents.On told) goes refusal walks in
@@ -243,8 +279,10 @@ wanted_has_a_place given old new before after told goes walks wants lacks =
     let all = all_come given old new before after told goes events walks in
     let w = wanted all.0 old new before after told wants all.2 in
     let none : came new < asked_len w.walk → location (places_in new.regions) Read (asked_by w.walk + came new) ≡ None =
-    subst (λ (s : state.ChainState). IfWalking s (λ walk. came new < asked_len walk → location (places_in new.regions) Read (asked_by walk + came new) ≡ None)) w.state lacks in
-    let there = (and_parts (nat_lt (asked_by w.walk + asked_len w.walk) (2 ^ 64)) (list_all (λ x. is_some (location (places_in old.regions) Read x)) (addresses (asked_by w.walk) (asked_len w.walk))) w.there).1 in
+    subst (λ (s : state.ChainState). IfWalking s
+    (λ walk. came new < asked_len walk → location (places_in new.regions) Read (asked_by walk + came new) ≡ None)) w.state lacks in
+    let there = (and_parts (nat_lt (asked_by w.walk + asked_len w.walk) (2 ^ 64))
+    (list_all (λ x. is_some (location (places_in old.regions) Read x)) (addresses (asked_by w.walk) (asked_len w.walk))) w.there).1 in
     let some = has_place old.regions (asked_len w.walk) (asked_by w.walk) (came new) there w.few in
     let lost : is_some (location (places_in old.regions) Read (asked_by w.walk + came new)) ≡ false =
     ap is_some (subst (λ (r : Mapped). location (places_in r) Read (asked_by w.walk + came new) ≡ None) w.regions (none w.few)) in
@@ -256,12 +294,15 @@ no_fault : (e : QueueError) → None ≡ Some e → ⊥
 no_fault e is = cc
 
 -- the first call is refused
-first_refused : (e : QueueError) (old new : ChainHandle) (before after : QueueState) (told : went.LoadOutcome) → before.stopped ≡ None → event_fault (places_in old.regions) before ≡ Some e
-    → BeginsPopBy old new before after told → (told ≡ wents.On (says.Refused e)) × IsAllButPart old new × (new.part.items ≡ []) × (after ≡ record before { stopped = Some e })
+first_refused : (e : QueueError) (old new : ChainHandle) (before after : QueueState) (told : went.LoadOutcome) → before.stopped ≡ None
+    → event_fault (places_in old.regions) before ≡ Some e
+    → BeginsPopBy old new before after told
+    → (told ≡ wents.On (says.Refused e)) × IsAllButPart old new × (new.part.items ≡ []) × (after ≡ record before { stopped = Some e })
 first_refused e old new before after wents.Part goes fault by = absurd (begins_whole old before new after by.0 by.1)
 first_refused e old new before after (wents.On told) goes fault by =
     let unless = begun old new before after told goes by in
-    let refused : BeginsWhere (Some e) old new before after told = subst (λ (f : Option QueueError). BeginsWhere f old new before after told) fault unless in
+    let refused : BeginsWhere (Some e) old new before after told =
+    subst (λ (f : Option QueueError). BeginsWhere f old new before after told) fault unless in
     (ap (λ (x : walked.PopOutcome). wents.On x) refused.0, refused.1, by.1.1, refused.2)
 
 pub event_fault_refuses : EventFaultRefuses
@@ -269,13 +310,16 @@ event_fault_refuses [] e old new before after told goes fault walks =
     let refused = first_refused e old new before after told goes fault walks in
     (refused.0, refl, refl, refused.1, refused.2, refused.3)
 event_fault_refuses (bs ∷ given) e old new before after told goes fault walks =
-    absurd (no_fault e (sym (walk_has_events given old walks.0 before walks.1 walks.2 goes (wants_unrefused old before walks.2 walks.4) walks.3) ∙ fault))
+    absurd (no_fault e (sym (walk_has_events given old walks.0 before walks.1 walks.2 goes (wants_unrefused old before walks.2 walks.4)
+    walks.3) ∙ fault))
 
 -- ---- by the contract of walk, call by call
 
-pub begins_by : (old new : ChainHandle) (before after : QueueState) (told : went.LoadOutcome) → old.state ≡ at.Free → GoesSo old before [] told new after → IsWalked old new before after told
+pub begins_by : (old new : ChainHandle) (before after : QueueState) (told : went.LoadOutcome) → old.state ≡ at.Free →
+    GoesSo old before [] told new after → IsWalked old new before after told
 begins_by old new before after told free call = ([], (free, call))
 
-pub goes_on_by : (old w new : ChainHandle) (before q after : QueueState) (earlier told : went.LoadOutcome) (bs : List ℕ) → WantsBytes earlier
+pub goes_on_by :
+    (old w new : ChainHandle) (before q after : QueueState) (earlier told : went.LoadOutcome) (bs : List ℕ) → WantsBytes earlier
     → IsWalked old w before q earlier → GoesSo w q bs told new after → IsWalked old new before after told
 goes_on_by old w new before q after earlier told bs wants walked call = (bs ∷ walked.0, (w, q, earlier, walked.1, wants, call))

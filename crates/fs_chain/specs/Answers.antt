@@ -50,10 +50,16 @@ error_of refused.OtherKind = error.OtherKind
 error_of refused.TooLong = error.LongReply
 
 -- an answer to what waits is taken: this is given, whatever command it waits for, told, and kept
-abbrev pub IsGiven : (s : Setting) → Waiting → FileAnswer → InFlight → (options : ℕ) → Replied → state.ChainState → Type 0
+abbrev pub IsGiven :
+    (s : Setting) → Waiting → FileAnswer → InFlight → (options : ℕ) → Replied → state.ChainState → Type 0
 IsGiven s w answer out options told kept =
-    (given : Answered) × (told ≡ replied_of given) × (kept ≡ at.HasReply out (reply_of given.sent (data_len answer)))
-    × ((command : FileCommand) (bytes : List ℕ) → WaitsFor w command → TellsBytes bytes answer → Gives s command bytes answer given options)
+    (given : Answered)
+    × (told ≡ replied_of given)
+    × (kept ≡ at.HasReply out (reply_of given.sent (data_len answer)))
+    × ((command : FileCommand) (bytes : List ℕ) →
+    WaitsFor w command →
+    TellsBytes bytes answer →
+    Gives s command bytes answer given options)
 
 -- an answer to what waits can be taken
 abbrev pub CanBeGiven : Waiting → FileAnswer → Type 0
@@ -64,8 +70,12 @@ CanBeGiven w answer =
 -- an answer to what waits is refused
 abbrev pub RefusesAnswer : Waiting → FileAnswer → ChainError → Type 0
 RefusesAnswer w answer e =
-    (reason : why.AnswerRefusal) × (e ≡ error_of reason)
-    × ((command : FileCommand) (bytes : List ℕ) → WaitsFor w command → TellsBytes bytes answer → IsRefusedFor reason (first_call command) w.room bytes answer)
+    (reason : why.AnswerRefusal)
+    × (e ≡ error_of reason)
+    × ((command : FileCommand) (bytes : List ℕ) →
+    WaitsFor w command →
+    TellsBytes bytes answer →
+    IsRefusedFor reason (first_call command) w.room bytes answer)
 
 -- of a call that waits for its answer
 abbrev pub IfWaits : state.ChainState → (InFlight → Waiting → Type 0) → Type 0
@@ -81,7 +91,8 @@ AnswerFails _ answer e = e ≡ error.WrongOrder
 -- an answer with this number does nothing: no call waits for it, another one does, or it is refused
 abbrev pub IsNotTaken : ChainHandle → (serial : ℕ) → FileAnswer → ChainError → Type 0
 IsNotTaken w serial answer e =
-    (serial_error w.state w.serial serial ≡ Some e) ⊎ ((serial_error w.state w.serial serial ≡ None) × AnswerFails w.state answer e)
+    (serial_error w.state w.serial serial ≡ Some e)
+    ⊎ ((serial_error w.state w.serial serial ≡ None) × AnswerFails w.state answer e)
 
 -- a call waits
 abbrev pub IsWaiting : state.ChainState → Type 0

@@ -22,7 +22,12 @@ use Rattle.fs_chain.specs.Walks.{no_reply}
 -- the listing that is asked for, the call that it makes first, and that no entry came yet
 abbrev pub AsksListing : Setting → Meaning → (bytes : List ℕ) → FileCall → Listing → Type 0
 AsksListing s m bytes made l =
-    (command : FileCommand) × (m ≡ Asks command) × (call_of bytes made ≡ first_call command) × TellsData bytes made × IsListingFor l s.room command × (l.len ≡ 0)
+    (command : FileCommand)
+    × (m ≡ Asks command)
+    × (call_of bytes made ≡ first_call command)
+    × TellsData bytes made
+    × IsListingFor l s.room command
+    × (l.len ≡ 0)
 
 -- it waits for no listing, whatever command it waits for
 abbrev pub WaitsForNoListing : Waiting → Type 0
@@ -30,7 +35,8 @@ WaitsForNoListing w = (command : FileCommand) → WaitsFor w command → is_list
 
 -- the call that is told is the first one of what is asked for, and this is kept while it waits
 abbrev pub KeepsCall : Setting → Meaning → (bytes : List ℕ) → FileCall → InFlight → state.ChainState → Type 0
-KeepsCall s m bytes made out (at.Waits kept w) = (kept ≡ out) × AsksCall s m bytes made w × WaitsForNoListing w
+KeepsCall s m bytes made out (at.Waits kept w) =
+    (kept ≡ out) × AsksCall s m bytes made w × WaitsForNoListing w
 KeepsCall s m bytes made out (at.Lists kept l) = (kept ≡ out) × AsksListing s m bytes made l
 KeepsCall s m bytes made out _ = ⊥
 
@@ -41,22 +47,26 @@ asked_of (Some front) = asked.Reply front
 
 -- no call is made, and the reply is kept, if there is one
 abbrev pub KeepsReply : Setting → Meaning → (bytes : List ℕ) → InFlight → state.ChainState → Type 0
-KeepsReply s m bytes out (at.HasReply kept reply) = (kept ≡ out) × (reply.behind ≡ 0) × IsDecoded s m bytes (asked_of reply.front)
+KeepsReply s m bytes out (at.HasReply kept reply) =
+    (kept ≡ out) × (reply.behind ≡ 0) × IsDecoded s m bytes (asked_of reply.front)
 KeepsReply s m bytes out _ = ⊥
 
 -- what is told of a request with this meaning, and kept of its chain
-abbrev pub TellsMeaning : Setting → Meaning → (bytes : List ℕ) → InFlight → told.Decoded → state.ChainState → Type 0
+abbrev pub TellsMeaning :
+    Setting → Meaning → (bytes : List ℕ) → InFlight → told.Decoded → state.ChainState → Type 0
 TellsMeaning s m bytes out (tells.Call made) kept = KeepsCall s m bytes made out kept
 TellsMeaning s m bytes out (tells.More wanted) kept = kept ≡ at.Taken out
 TellsMeaning s m bytes out tells.Nothing kept = KeepsReply s m bytes out kept
-TellsMeaning s m bytes out (tells.Fault e) kept = (kept ≡ at.HasReply out no_reply) × IsDecoded s m bytes (asked.Fault e)
+TellsMeaning s m bytes out (tells.Fault e) kept =
+    (kept ≡ at.HasReply out no_reply) × IsDecoded s m bytes (asked.Fault e)
 
 -- what waits for an answer names this one, but a listing, which names nobody
 abbrev pub IsKeptFor : Context → state.ChainState → Type 0
 IsKeptFor who (at.Waits out w) = w.context ≡ who
 IsKeptFor who _ = Unit {0}
 
--- how many bytes of a request are wanted after these, if they don't tell what it asks: those before a WRITE's data, and then all
+-- how many bytes of a request are wanted after these, if they don't tell what it asks: those before a WRITE's
+-- data, and then all
 abbrev pub wanted : (len whole : ℕ) → ℕ
 wanted len whole = if nat_lt len 80 then min whole 80 else whole
 

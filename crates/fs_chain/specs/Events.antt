@@ -1,4 +1,5 @@
--- By what driver and device say of which chains they want to be told: VIRTIO_F_EVENT_IDX, or the rings' flags (VIRTIO 1.2, 2.7.7 and 2.7.10).
+-- By what driver and device say of which chains they want to be told: VIRTIO_F_EVENT_IDX, or the rings' flags
+-- (VIRTIO 1.2, 2.7.7 and 2.7.10).
 use Rattle.std.specs.Prelude.{ℕ, ◌+◌, ◌*◌, Bool, not, ◌==◌, List, Option, Some, None, if◌then◌else◌}
 use Rattle.std.specs.Int.{w16, to_le_bytes, from_le_bytes}
 use Rattle.vm_iotlb.specs.declared.permissions.Permissions.TheVariants.{Read, Write}
@@ -17,7 +18,8 @@ used_event_at l = l.avail + 4 + 2 * l.size
 abbrev pub avail_event_at : QueueLayout → ℕ
 avail_event_at l = l.used + 4 + 8 * l.size
 
--- where the two bytes stand that tell whether the driver wants to be told of a chain that goes back: used_event, or the available flags
+-- where the two bytes stand that tell whether the driver wants to be told of a chain that goes back:
+-- used_event, or the available flags
 abbrev pub seen_at : (event_index : Bool) → QueueLayout → ℕ
 seen_at event_index l = if event_index then used_event_at l else l.avail
 
@@ -33,11 +35,12 @@ event_fault m q =
     else if not (reach m Write (avail_event_at q.layout) 2) then Some UsedUnreachable
     else None
 
--- what is stored to be told of the next chain, or of none: with the event index its position, and nothing to be told of none; else the used flags, bit 0 of which says that
--- none is wanted
+-- what is stored to be told of the next chain, or of none: with the event index its position, and nothing to
+-- be told of none; else the used flags, bit 0 of which says that none is wanted
 abbrev pub notification_store : QueueState → (wanted : Bool) → Option Store
 notification_store q wanted =
-    if q.event_index then (if wanted then Some (record { address = avail_event_at q.layout; bytes = to_le_bytes w16 q.next_avail }) else None)
+    if q.event_index then (if wanted
+    then Some (record { address = avail_event_at q.layout; bytes = to_le_bytes w16 q.next_avail }) else None)
     else Some (record { address = q.layout.used; bytes = to_le_bytes w16 (if wanted then 0 else 1) })
 
 -- such a store, as the code says it

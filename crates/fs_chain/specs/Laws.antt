@@ -3,7 +3,8 @@ use Rattle.std.specs.Prelude.{◌≡◌, ℕ, List, length, None}
 use Rattle.vm_memory_core.specs.Host.{Host}
 use Rattle.vm_memory.specs.Memory.{Memory}
 use Rattle.fs_queue.specs.Chain.{Descriptor}
-use Rattle.fs_queue.specs.Taking.{readable, writable, total_len, offer, Offer, Idle, Refuses, Offers, CannotFetch, IsRequest, addresses_of}
+use Rattle.fs_queue.specs.Taking.{readable, writable, total_len, offer, Offer, Idle, Refuses, Offers}
+use Rattle.fs_queue.specs.Taking.{CannotFetch, IsRequest, addresses_of}
 use Rattle.fs_regions.specs.declared.course.Course.{Course}
 use Rattle.fs_regions.specs.declared.walk.QueueWalk.{QueueWalk}
 use Rattle.fs_regions.specs.Laws.{HasLoaded}
@@ -18,31 +19,49 @@ use Rattle.fs_chain.specs.declared.popping.PopOutcome.TheVariants as tells
 use Rattle.fs_chain.specs.declared.chain_handle.ChainHandle.{ChainHandle}
 use Rattle.fs_chain.specs.Walks.{RefusalHasEvents, WalksOn, course_of, told_of}
 
--- what a walk tells, of these descriptors, is this offer; a chain without a fault, if so many bytes are its request; a load leaves it open
+-- what a walk tells, of these descriptors, is this offer; a chain without a fault, if so many bytes are its
+-- request; a load leaves it open
 abbrev pub IsOfferOf : List Descriptor → walked.PopOutcome → (request : List ℕ) → Offer → Type 0
 IsOfferOf ds (tells.Load n) request o = Unit {0}
 IsOfferOf ds tells.Idle request o = o ≡ Idle
 IsOfferOf ds (tells.Refused e) request o = o ≡ Refuses e
-IsOfferOf ds (tells.Chain head request_len room_len) request o = length request ≡ total_len (readable ds) → o ≡ Offers head (IsRequest request (addresses_of (writable ds)))
+IsOfferOf ds (tells.Chain head request_len room_len) request o =
+    length request ≡ total_len (readable ds) →
+    o ≡ Offers head (IsRequest request (addresses_of (writable ds)))
 IsOfferOf ds (tells.Faulty head fault) request o = o ≡ Offers head (CannotFetch fault)
 
 -- what a walk tells is what the course's queue offers in a memory
 abbrev pub TellsOffer : Memory → Course → ChainHandle → walked.PopOutcome → (request : List ℕ) → Type 0
-TellsOffer m course new told request = IsOfferOf new.descriptors.items told request (offer m course.limit (queue_of course))
+TellsOffer m course new told request =
+    IsOfferOf new.descriptors.items told request (offer m course.limit (queue_of course))
 
--- what a walk that goes on tells is what the queue offers in each memory of the handle's regions that has the walk's loads, which these bytes added to, and the request's bytes
-pub record GoesOnByLoads (loaded : Loaded) (course : Course) (walk : QueueWalk) (bytes : List ℕ) (old new : ChainHandle) (told : walked.PopOutcome) : Type 0 where
+-- what a walk that goes on tells is what the queue offers in each memory of the handle's regions that has the
+-- walk's loads, which these bytes added to, and the request's bytes
+pub record GoesOnByLoads (loaded : Loaded) (course : Course) (walk : QueueWalk) (bytes : List ℕ)
+    (old new : ChainHandle) (told : walked.PopOutcome) : Type 0 where
   pub came : comes.CourseStep
   pub told_so : told ≡ told_of new.descriptors.items came
   pub after : Loaded
   pub adds : AddsBytes walk bytes came loaded after
-  pub offers : (h : Host) (request : List ℕ) → HasLoaded (memory_over h old.regions) (queue_of course) after request → TellsOffer (memory_over h old.regions) course new told request
+  pub offers : (h : Host) (request : List ℕ) →
+      HasLoaded (memory_over h old.regions) (queue_of course) after request →
+      TellsOffer (memory_over h old.regions) course new told request
 
--- what a call of walk tells, of a queue that wasn't stopped, is what the queue offers in each memory of the handle's regions that has all loads of the walk, and the request's bytes
+-- what a call of walk tells, of a queue that wasn't stopped, is what the queue offers in each memory of the
+-- handle's regions that has all loads of the walk, and the request's bytes
 pub record WalksAreOffers : Type 0 where
-  pub begins : (h : Host) (bytes request : List ℕ) (old new : ChainHandle) (before after : QueueState) (told : walked.PopOutcome) → before.stopped ≡ None → RefusalHasEvents told old before → old.state ≡ at.Free
-      → WalksOn bytes old new before after told → HasLoaded (memory_over h old.regions) (queue_of (course_of before old.limit)) nothing request
+  pub begins : (h : Host) (bytes request : List ℕ) (old new : ChainHandle) (before after : QueueState)
+      (told : walked.PopOutcome)
+      → before.stopped ≡ None
+      → RefusalHasEvents told old before
+      → old.state ≡ at.Free
+      → WalksOn bytes old new before after told
+      → HasLoaded (memory_over h old.regions) (queue_of (course_of before old.limit)) nothing request
       → TellsOffer (memory_over h old.regions) (course_of before old.limit) new told request
-  pub goes_on : (loaded : Loaded) (course : Course) (pop_id : PopId) (walk : QueueWalk) (bytes : List ℕ) (old new : ChainHandle) (before after : QueueState) (told : walked.PopOutcome)
-      → before.stopped ≡ None → old.state ≡ at.Walking course pop_id walk → WalksOn bytes old new before after told
-      → IsWalkAt (places_in old.regions) (queue_of course) loaded old.descriptors.items walk → GoesOnByLoads loaded course walk bytes old new told
+  pub goes_on : (loaded : Loaded) (course : Course) (pop_id : PopId) (walk : QueueWalk) (bytes : List ℕ)
+      (old new : ChainHandle) (before after : QueueState) (told : walked.PopOutcome)
+      → before.stopped ≡ None
+      → old.state ≡ at.Walking course pop_id walk
+      → WalksOn bytes old new before after told
+      → IsWalkAt (places_in old.regions) (queue_of course) loaded old.descriptors.items walk
+      → GoesOnByLoads loaded course walk bytes old new told

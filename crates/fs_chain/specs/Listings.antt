@@ -1,5 +1,6 @@
 -- Listings that are answered entry by entry: what is told of an entry, and what is kept of a reply.
-use Rattle.std.specs.Prelude.{◌≡◌, ℕ, ◌++◌, ◌&&◌, not, ◌==◌, [], ◌∷◌, List, true, false, nat_lt, take, Option, Some, None, Result, Ok, Err, if◌then◌else◌}
+use Rattle.std.specs.Prelude.{◌≡◌, ℕ, ◌++◌, ◌&&◌, not, ◌==◌, [], ◌∷◌, List, true, false, nat_lt, take, Option}
+use Rattle.std.specs.Prelude.{Some, None, Result, Ok, Err, if◌then◌else◌}
 use Rattle.std.specs.Option.{option_or}
 use Rattle.fuse_fs.specs.Calls.{Entries, Failed, Listed}
 use Rattle.server_replies.specs.Entries.{is_dot}
@@ -10,7 +11,9 @@ use Rattle.server_phases.specs.declared.listing.Listing.{Listing}
 use Rattle.server_phases.specs.declared.listing.ListingReply.{ListingReply}
 use Rattle.server_phases.specs.declared.listing.NotAdded as reason
 use Rattle.server_phases.specs.declared.listing.NotAdded.TheVariants as not_added
-use Rattle.server_phases.specs.Gathering.{Brought, EndsList, FailsList, Holds, IsListingFor, StaysBut, all_bytes, all_found, bytes_of, entries_of, error_of, look_up, look_ups, put_at, served_list}
+use Rattle.server_phases.specs.Gathering.{Brought, EndsList, FailsList, Holds, IsListingFor, StaysBut}
+use Rattle.server_phases.specs.Gathering.{all_bytes, all_found, bytes_of, entries_of, error_of, look_up}
+use Rattle.server_phases.specs.Gathering.{look_ups, put_at, served_list}
 use Rattle.server_phases.specs.Waiting.{first_call}
 use Rattle.fs_chain.specs.declared.error.ChainError.{ChainError}
 use Rattle.fs_chain.specs.declared.error.ChainError.TheVariants as error
@@ -31,21 +34,35 @@ told_added (Err not_added.NoRoom) = Ok added.NoRoom
 told_added (Err not_added.TooLong) = Ok added.TooLong
 told_added (Err not_added.ShortList) = Err error.ShortBuffer
 
--- what an entry changes in a listing and its list, and what follows if it isn't in. If it is in, its bytes are put over those of the list
--- behind the entries before it, and no other byte of the list changes
-pub record Adds (old new : Listing) (list list' : List ℕ) (e : Brought) (outcome : Result (Unit {0}) reason.NotAdded) : Type 0 where
-  pub put : outcome ≡ Ok tt → list' ≡ put_at old.len (bytes_of old.with_nodes e) list
-  pub holds : outcome ≡ Ok tt → (es : List Brought) → Holds old list es → Holds new list' (es ++ e ∷ [])
-  pub full : outcome ≡ Err not_added.Full → EndsList old list e
-  pub fails : (why : reason.NotAdded) (errno : ℕ) → outcome ≡ Err why → error_of why ≡ Some errno → FailsList old list e errno
-  pub same : (why : reason.NotAdded) → outcome ≡ Err why → (new ≡ old) × (list' ≡ list)
+-- what an entry changes in a listing and its list, and what follows if it isn't in. If it is in, its bytes
+-- are put over those of the list behind the entries before it, and no other byte of the list changes
+pub record Adds (old new : Listing) (list list' : List ℕ) (e : Brought)
+    (outcome : Result (Unit {0}) reason.NotAdded) : Type 0 where
+  pub put : outcome ≡ Ok tt →
+      list' ≡ put_at old.len (bytes_of old.with_nodes e) list
+  pub holds : outcome ≡ Ok tt →
+      (es : List Brought) →
+      Holds old list es →
+      Holds new list' (es ++ e ∷ [])
+  pub full : outcome ≡ Err not_added.Full →
+      EndsList old list e
+  pub fails : (why : reason.NotAdded) (errno : ℕ) →
+      outcome ≡ Err why →
+      error_of why ≡ Some errno →
+      FailsList old list e errno
+  pub same : (why : reason.NotAdded) →
+      outcome ≡ Err why →
+      (new ≡ old) × (list' ≡ list)
   pub stays : StaysBut old new
 
 -- an entry is brought to the listing that is answered, of which this comes; to no other
-abbrev pub AddsTo : (old new : state.ChainState) → (list list' : List ℕ) → Brought → (outcome : Listing → Result (Unit {0}) reason.NotAdded) → Result Added ChainError → Type 0
+abbrev pub AddsTo : (old new : state.ChainState) → (list list' : List ℕ) → Brought →
+    (outcome : Listing → Result (Unit {0}) reason.NotAdded) → Result Added ChainError → Type 0
 AddsTo (at.Lists out l) new list list' e outcome told =
-    (told ≡ told_added (outcome l)) × ((now : Listing) × (new ≡ at.Lists out now) × Adds l now list list' e (outcome l))
-AddsTo (at.Waits out w) new list list' e outcome told = (told ≡ Err error.OtherKind) × (new ≡ at.Waits out w) × (list' ≡ list)
+    (told ≡ told_added (outcome l))
+    × ((now : Listing) × (new ≡ at.Lists out now) × Adds l now list list' e (outcome l))
+AddsTo (at.Waits out w) new list list' e outcome told =
+    (told ≡ Err error.OtherKind) × (new ≡ at.Waits out w) × (list' ≡ list)
 AddsTo old new list list' e outcome told = (told ≡ Err error.WrongOrder) × (new ≡ old) × (list' ≡ list)
 
 -- how long the list is then into which the last entry was put
@@ -53,14 +70,17 @@ abbrev pub list_after : (before len : ℕ) → Result Added ChainError → ℕ
 list_after before len (Ok added.In) = len
 list_after before len _ = before
 
--- why no entry is brought by a list of this length: the entries so far stand in one of another length, which is 0 if there are none
+-- why no entry is brought by a list of this length: the entries so far stand in one of another length, which
+-- is 0 if there are none
 abbrev pub list_error : state.ChainState → (before len : ℕ) → Option ChainError
-list_error (at.Lists out l) before len = if not (before == 0) && not (before == len) then Some error.BadArgument else None
+list_error (at.Lists out l) before len =
+    if not (before == 0) && not (before == len) then Some error.BadArgument else None
 list_error _ before len = None
 
 -- why none is brought with this number by it: no call waits, another one does, or the list is another one
 abbrev pub adding_error : ChainHandle → (serial len : ℕ) → Option ChainError
-adding_error w serial len = option_or (serial_error w.state w.serial serial) (list_error w.state w.list_len len)
+adding_error w serial len =
+    option_or (serial_error w.state w.serial serial) (list_error w.state w.list_len len)
 
 -- a listing's reply is kept: its front, and how many bytes of the list are its data
 abbrev pub answered_by : InFlight → ListingReply → state.ChainState
@@ -69,23 +89,36 @@ answered_by out reply = at.HasReply out (record { front = Some reply.front; behi
 -- the reply to a listing of these entries
 abbrev pub IsListReply : Listing → ListingReply → Type 0
 IsListReply l reply =
-    (s : Setting) (command : FileCommand) (list : List ℕ) (es : List Brought) → IsListingFor l s.room command → Holds l list es
-    → commanded s command (Entries (entries_of es) ∷ all_found l.with_nodes es) ≡ served_list (first_call command ∷ look_ups command es) s.options reply list
+    (s : Setting) (command : FileCommand) (list : List ℕ) (es : List Brought)
+    → IsListingFor l s.room command
+    → Holds l list es
+    → commanded s command (Entries (entries_of es) ∷ all_found l.with_nodes es)
+    ≡ served_list (first_call command ∷ look_ups command es) s.options reply list
 
--- how a listing ends that failed by an error: the error alone, or, if READDIRPLUS has brought entries, these, since their nodes are held
+-- how a listing ends that failed by an error: the error alone, or, if READDIRPLUS has brought entries, these,
+-- since their nodes are held
 pub record IsFailedReply (l : Listing) (errno : ℕ) (reply : ListingReply) : Type 0 where
-  pub bytes : (list : List ℕ) (es : List Brought) → Holds l list es
-      → reply.front ++ take reply.len list ≡ listing_bytes l.unique l.with_nodes (all_bytes l.with_nodes es) (Some errno)
-  pub alone : (l.with_nodes && nat_lt 0 l.len) ≡ false → (s : Setting) (command : FileCommand) (list : List ℕ) → IsListingFor l s.room command
+  pub bytes : (list : List ℕ) (es : List Brought)
+      → Holds l list es
+      → reply.front ++ take reply.len list
+      ≡ listing_bytes l.unique l.with_nodes (all_bytes l.with_nodes es) (Some errno)
+  pub alone : (l.with_nodes && nat_lt 0 l.len) ≡ false
+      → (s : Setting) (command : FileCommand) (list : List ℕ)
+      → IsListingFor l s.room command
       → commanded s command (Failed errno ∷ []) ≡ served_list (first_call command ∷ []) s.options reply list
-  pub looked_up : l.with_nodes ≡ true → (s : Setting) (command : FileCommand) (list : List ℕ) (es : List Brought) (d : Listed)
-      → IsListingFor l s.room command → Holds l list es → is_dot d.name ≡ false
+  pub looked_up : l.with_nodes ≡ true
+      → (s : Setting) (command : FileCommand) (list : List ℕ) (es : List Brought) (d : Listed)
+      → IsListingFor l s.room command
+      → Holds l list es
+      → is_dot d.name ≡ false
       → commanded s command (Entries (entries_of es ++ d ∷ []) ∷ (all_found true es ++ Failed errno ∷ []))
       ≡ served_list (first_call command ∷ (look_ups command es ++ look_up command d)) s.options reply list
 
 -- a listing that is answered ends by its reply; no other call does
-abbrev pub RepliesBy : (Listing → ListingReply → Type 0) → (old new : state.ChainState) → Result ℕ ChainError → Type 0
-RepliesBy P (at.Lists out l) new told = (reply : ListingReply) × (told ≡ Ok reply.len) × (new ≡ answered_by out reply) × P l reply
+abbrev pub RepliesBy :
+    (Listing → ListingReply → Type 0) → (old new : state.ChainState) → Result ℕ ChainError → Type 0
+RepliesBy P (at.Lists out l) new told =
+    (reply : ListingReply) × (told ≡ Ok reply.len) × (new ≡ answered_by out reply) × P l reply
 RepliesBy P (at.Waits out w) new told = (told ≡ Err error.OtherKind) × (new ≡ at.Waits out w)
 RepliesBy P old new told = (told ≡ Err error.WrongOrder) × (new ≡ old)
 

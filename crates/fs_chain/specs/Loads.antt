@@ -1,5 +1,6 @@
 -- A walk by loads that are made in parts, where one goes over the end of a region.
-use Rattle.std.specs.Prelude.{◌≡◌, ◌<◌, ◌+◌, ◌-◌, ◌⊎◌, ◌==◌, ℕ, List, [], ◌++◌, length, min, Some, None, if◌then◌else◌, vec_capacity}
+use Rattle.std.specs.Prelude.{◌≡◌, ◌<◌, ◌+◌, ◌-◌, ◌⊎◌, ◌==◌, ℕ, List, [], ◌++◌, length, min, Some, None}
+use Rattle.std.specs.Prelude.{if◌then◌else◌, vec_capacity}
 use Rattle.memory_requests.specs.Refused.{RoomWasRefused}
 use Rattle.vm_memory_core.specs.Window.{Window}
 use Rattle.vm_iotlb.specs.declared.permissions.Permissions.TheVariants.{Read}
@@ -19,12 +20,15 @@ use Rattle.fs_chain.specs.Walks.{IsAllBut, IsAllButPart, LacksRoom, WalksOn}
 -- the window of the bytes that a walk still asks for, after so many of them: as long as its region goes on
 abbrev pub IsLoadWindow : ChainHandle → (from : ℕ) → Window → Type 0
 IsLoadWindow w from v = IsWalking w.state × IfWalking w.state (λ walk.
-    (from < asked_len walk) × IsWindowAt (location (places_in w.regions) Read) (asked_by walk + from) (asked_len walk - from) v
+    (from < asked_len walk)
+    × IsWindowAt (location (places_in w.regions) Read) (asked_by walk + from) (asked_len walk - from) v
     × (v.len ≡ min (asked_len walk - from) (left_in (places_in w.regions) (asked_by walk + from))))
 
 -- what a walk still asks for has no place
 abbrev pub HasNoPlace : ChainHandle → (from : ℕ) → Type 0
-HasNoPlace w from = IfWalking w.state (λ walk. from < asked_len walk → location (places_in w.regions) Read (asked_by walk + from) ≡ None)
+HasNoPlace w from =
+    IfWalking w.state (λ walk. from < asked_len walk →
+    location (places_in w.regions) Read (asked_by walk + from) ≡ None)
 
 -- how many bytes of the load came
 abbrev pub came : ChainHandle → ℕ
@@ -40,44 +44,68 @@ AreWanted w len = (v : Window) × IsLoadWindow w (came w) v × (v.len ≡ len)
 
 -- they are neither a whole load, nor those that it still asks for
 abbrev pub AreOthers : ChainHandle → (len : ℕ) → Type 0
-AreOthers w len = (AreWhole w len → ⊥) × (HasNoPlace w (came w) ⊎ ((v : Window) × IsLoadWindow w (came w) v × (v.len ≡ len → ⊥)))
+AreOthers w len =
+    (AreWhole w len → ⊥)
+    × (HasNoPlace w (came w) ⊎ ((v : Window) × IsLoadWindow w (came w) v × (v.len ≡ len → ⊥)))
 
 -- the bytes of a load, if one is asked for: those that came before, and these
 abbrev pub whole : ChainHandle → List ℕ → List ℕ
 whole w loaded = if load_len w.state == 0 then loaded else w.part.items ++ loaded
 
--- what these bytes come to: a part of a load, or the walk goes on, if nothing is wrong with it; the session stays
-abbrev pub GoesSo : (before : ChainHandle) → (q : QueueState) → (loaded : List ℕ) → went.LoadOutcome → (after : ChainHandle) → (q' : QueueState) → Type 0
+-- what these bytes come to: a part of a load, or the walk goes on, if nothing is wrong with it; the session
+-- stays
+abbrev pub GoesSo : (before : ChainHandle) → (q : QueueState) → (loaded : List ℕ) → went.LoadOutcome →
+    (after : ChainHandle) → (q' : QueueState) → Type 0
 GoesSo w q loaded goes.Part w' q' =
-    AreWanted w (length loaded) × (came w + length loaded < load_len w.state) × (walk_error w.state q (load_len w.state) ≡ None)
-    × IsAllButPart w w' × (w'.part.items ≡ w.part.items ++ loaded) × (q' ≡ q)
+    AreWanted w (length loaded)
+    × (came w + length loaded < load_len w.state)
+    × (walk_error w.state q (load_len w.state) ≡ None)
+    × IsAllButPart w w'
+    × (w'.part.items ≡ w.part.items ++ loaded)
+    × (q' ≡ q)
 GoesSo w q loaded (goes.On told) w' q' =
-    ((load_len w.state ≡ 0) ⊎ AreWhole w (length loaded) ⊎ AreWanted w (length loaded)) × (w'.part.items ≡ []) × (w'.session ≡ w.session)
-    × (walk_error w.state q (length (whole w loaded)) ≡ None) × WalksOn (whole w loaded) w w' q q' told
+    ((load_len w.state ≡ 0) ⊎ AreWhole w (length loaded) ⊎ AreWanted w (length loaded))
+    × (w'.part.items ≡ [])
+    × (w'.session ≡ w.session)
+    × (walk_error w.state q (length (whole w loaded)) ≡ None)
+    × WalksOn (whole w loaded) w w' q q' told
 
--- nothing was done: regions, limit, place and descriptors are as they were, what came of a load, and the session
+-- nothing was done: regions, limit, place and descriptors are as they were, what came of a load, and the
+-- session
 abbrev pub IsSame : ChainHandle → ChainHandle → Type 0
 IsSame w w' =
-    IsAllBut w w' × (w'.state ≡ w.state) × (w'.descriptors.items ≡ w.descriptors.items) × (w'.part.items ≡ w.part.items) × (w'.session ≡ w.session)
+    IsAllBut w w'
+    × (w'.state ≡ w.state)
+    × (w'.descriptors.items ≡ w.descriptors.items)
+    × (w'.part.items ≡ w.part.items)
+    × (w'.session ≡ w.session)
 
 -- these bytes begin a walk, or they are the load that is asked for, or those that are wanted of it
 abbrev pub AreDue : ChainHandle → (loaded : List ℕ) → Type 0
-AreDue w loaded = (load_len w.state ≡ 0) ⊎ ((0 < load_len w.state) × (AreWhole w (length loaded) ⊎ AreWanted w (length loaded)))
+AreDue w loaded =
+    (load_len w.state ≡ 0)
+    ⊎ ((0 < load_len w.state) × (AreWhole w (length loaded) ⊎ AreWanted w (length loaded)))
 
 -- how many bytes the walk takes next
 abbrev pub due_len : ChainHandle → (loaded : List ℕ) → ℕ
 due_len w loaded = if load_len w.state == 0 then length loaded else load_len w.state
 
--- memory may be wanting for so many bytes that are due: they end the load, and the walk lacks room for the descriptors of its entries; or they are a part of
--- the load, those that came lack room for them, and the allocator refused it
+-- memory may be wanting for so many bytes that are due: they end the load, and the walk lacks room for the
+-- descriptors of its entries; or they are a part of the load, those that came lack room for them, and the
+-- allocator refused it
 abbrev pub LoadLacksMemory : ChainHandle → (len : ℕ) → Type 0
 LoadLacksMemory w len =
-    ((came w + len ≡ load_len w.state) × LacksRoom w) ⊎ ((len < load_len w.state) × (vec_capacity w.part < came w + len) × RoomWasRefused len)
+    ((came w + len ≡ load_len w.state) × LacksRoom w)
+    ⊎ ((len < load_len w.state) × (vec_capacity w.part < came w + len) × RoomWasRefused len)
 
--- why a walk doesn't go on by these bytes: by where its chain is or by the queue, also if they are only a part of the load; for want of memory, if nothing
--- else is wrong; or since they are neither the whole load nor those that are wanted
+-- why a walk doesn't go on by these bytes: by where its chain is or by the queue, also if they are only a
+-- part of the load; for want of memory, if nothing else is wrong; or since they are neither the whole load
+-- nor those that are wanted
 abbrev pub RefusesWalk : ChainHandle → QueueState → (loaded : List ℕ) → ChainError → Type 0
 RefusesWalk w q loaded e =
     (AreDue w loaded × (walk_error w.state q (due_len w loaded) ≡ Some e))
-    ⊎ ((e ≡ OutOfMemory) × LoadLacksMemory w (length loaded) × AreDue w loaded × (walk_error w.state q (due_len w loaded) ≡ None))
+    ⊎ ((e ≡ OutOfMemory)
+    × LoadLacksMemory w (length loaded)
+    × AreDue w loaded
+    × (walk_error w.state q (due_len w loaded) ≡ None))
     ⊎ ((e ≡ BadArgument) × (0 < load_len w.state) × AreOthers w (length loaded))

@@ -1,5 +1,6 @@
 -- Which calls go on from where a chain is, and which do nothing.
-use Rattle.std.specs.Prelude.{ℕ, ◌+◌, ◌-◌, ◌^◌, min, [], Bool, true, false, not, ◌==◌, ◌&&◌, ◌||◌, nat_lt, length, List, Option, Some, None, if◌then◌else◌}
+use Rattle.std.specs.Prelude.{ℕ, ◌+◌, ◌-◌, ◌^◌, min, [], Bool, true, false, not, ◌==◌, ◌&&◌, ◌||◌, nat_lt}
+use Rattle.std.specs.Prelude.{length, List, Option, Some, None, if◌then◌else◌}
 use Rattle.fs_regions.specs.declared.course.Course.{Course}
 use Rattle.fs_regions.specs.declared.walk.QueueWalk.{QueueWalk}
 use Rattle.fs_regions.specs.Walks.{asked_entries, asked_len}
@@ -11,7 +12,8 @@ use Rattle.fs_chain.specs.declared.state.ChainState as state
 use Rattle.fs_chain.specs.declared.state.ChainState.TheVariants as at
 use Rattle.fs_chain.specs.Queues.{is_at, is_last, is_out_of, may_take}
 use Rattle.fs_chain.specs.declared.error.ChainError.{ChainError}
-use Rattle.fs_chain.specs.declared.error.ChainError.TheVariants.{BadArgument, ShortBuffer, WrongOrder, OtherQueue, ChainInFlight, Pushing}
+use Rattle.fs_chain.specs.declared.error.ChainError.TheVariants.{BadArgument, ShortBuffer, WrongOrder}
+use Rattle.fs_chain.specs.declared.error.ChainError.TheVariants.{OtherQueue, ChainInFlight, Pushing}
 
 -- whether a chain is out, of any queue
 abbrev pub is_out : state.ChainState → Bool
@@ -41,12 +43,16 @@ memory_error _ limit = Some ChainInFlight
 
 -- why a walk can't begin, by so many bytes
 abbrev pub begin_error : QueueState → (len : ℕ) → Option ChainError
-begin_error q len = if not (len == 0) then Some BadArgument else if not (may_take q) then Some ChainInFlight else None
+begin_error q len =
+    if not (len == 0) then Some BadArgument else if not (may_take q) then Some ChainInFlight else None
 
 -- why a walk can't go on
 abbrev pub give_error : QueueState → Course → PopId → (asked len : ℕ) → Option ChainError
 give_error q course pop_id asked len =
-    if not (len == asked) then Some BadArgument else if not (is_at q course pop_id) then Some OtherQueue else if not (may_take q) then Some ChainInFlight else None
+    if not (len == asked) then Some BadArgument
+    else if not (is_at q course pop_id) then Some OtherQueue
+    else if not (may_take q) then Some ChainInFlight
+    else None
 
 -- why a call of a walk does nothing, but for memory that is wanting
 abbrev pub walk_error : state.ChainState → QueueState → (len : ℕ) → Option ChainError
@@ -77,7 +83,10 @@ reply_len out r = min (min (front_len r + r.behind) out.room_len) (2 ^ 32 - 1)
 -- why a chain can't go back, by a buffer of so many bytes
 abbrev pub return_error : state.ChainState → QueueState → (len : ℕ) → Option ChainError
 return_error (at.HasReply out reply) q len =
-    if not (is_out_of q out) then Some OtherQueue else if q.pushing then Some Pushing else if nat_lt len (front_len reply) then Some ShortBuffer else None
+    if not (is_out_of q out) then Some OtherQueue
+    else if q.pushing then Some Pushing
+    else if nat_lt len (front_len reply) then Some ShortBuffer
+    else None
 return_error _ q len = Some WrongOrder
 
 -- why no return can be ended
@@ -89,7 +98,8 @@ end_error _ q = Some WrongOrder
 abbrev pub give_up_error : state.ChainState → QueueState → Option ChainError
 give_up_error at.Free q = None
 give_up_error (at.Walking course pop_id walk) q = None
-give_up_error (at.Taken out) q = if not (is_out_of q out) then Some OtherQueue else if not (is_last q out) then Some WrongOrder else None
+give_up_error (at.Taken out) q =
+    if not (is_out_of q out) then Some OtherQueue else if not (is_last q out) then Some WrongOrder else None
 give_up_error _ q = Some WrongOrder
 
 -- whether no chain is walked, and none is out

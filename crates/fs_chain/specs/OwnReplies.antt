@@ -1,4 +1,5 @@
--- A reply of its maker's own bytes: they stand in the room from its first place on, and only how many they are is told.
+-- A reply of its maker's own bytes: they stand in the room from its first place on, and only how many they
+-- are is told.
 use Rattle.std.specs.Prelude.{ℕ, ◌-◌, ◌^◌, not, ◌==◌, ◌||◌, nat_lt, Option, Some, None, if◌then◌else◌}
 use Rattle.fs_chain.specs.declared.error.ChainError.{ChainError}
 use Rattle.fs_chain.specs.declared.error.ChainError.TheVariants.{LongReply, OtherCall, WrongOrder}

@@ -22,7 +22,9 @@ put_front reply buffer = front_of reply ++ drop (front_len reply) buffer
 -- what is told of a chain's return with this reply, at the position where its queue's next one goes back
 abbrev pub PushesBy : QueueState → InFlight → ChainReply → PushStores → Type 0
 PushesBy q out reply s =
-    (s.front_len ≡ front_len reply) × (stores_of s.used ≡ stores_after_reply (at_return q out) out.head (reply_len out reply)) × (s.seen_at ≡ seen_at q.event_index out.course.layout)
+    (s.front_len ≡ front_len reply)
+    × (stores_of s.used ≡ stores_after_reply (at_return q out) out.head (reply_len out reply))
+    × (s.seen_at ≡ seen_at q.event_index out.course.layout)
     × (s.used.flags ≡ out.course.layout.avail)
 
 -- of a chain whose reply is known

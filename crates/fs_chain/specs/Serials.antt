@@ -1,5 +1,7 @@
--- By which number an answer names its call: no other chain of the handle has it, of 2^32 that follow one another.
-use Rattle.std.specs.Prelude.{◌≡◌, ◌⊎◌, ℕ, ◌+◌, ◌%◌, ◌^◌, not, ◌==◌, Option, Some, None, Result, Err, if◌then◌else◌}
+-- By which number an answer names its call: no other chain of the handle has it, of 2^32 that follow one
+-- another.
+use Rattle.std.specs.Prelude.{◌≡◌, ◌⊎◌, ℕ, ◌+◌, ◌%◌, ◌^◌, not, ◌==◌, Option, Some, None, Result, Err}
+use Rattle.std.specs.Prelude.{if◌then◌else◌}
 use Rattle.fs_chain.specs.declared.error.ChainError.{ChainError}
 use Rattle.fs_chain.specs.declared.error.ChainError.TheVariants.{OtherCall, WrongOrder}
 use Rattle.fs_chain.specs.declared.state.ChainState as state
@@ -26,5 +28,7 @@ serial_error (at.Lists out listing) mine serial = number_error mine serial
 serial_error _ mine serial = Some WrongOrder
 
 -- a call that is refused for this reason does nothing; without one it does this
-abbrev pub UnlessRefused : {A : Type 0} → (why : Option ChainError) → Result A ChainError → (Same Does : Type 0) → Type 0
-UnlessRefused why told Same Does = ((e : ChainError) × (why ≡ Some e) × (told ≡ Err e) × Same) ⊎ ((why ≡ None) × Does)
+abbrev pub UnlessRefused :
+    {A : Type 0} → (why : Option ChainError) → Result A ChainError → (Same Does : Type 0) → Type 0
+UnlessRefused why told Same Does =
+    ((e : ChainError) × (why ≡ Some e) × (told ≡ Err e) × Same) ⊎ ((why ≡ None) × Does)

@@ -35,11 +35,19 @@ course_of q limit = record { layout = q.layout; position = q.next_avail; limit =
 
 -- a chain without a fault, out of its queue, with these descriptors
 abbrev pub out_of : Course → PopId → (head : ℕ) → List Descriptor → InFlight
-out_of course pop_id head ds = record { course = course; pop_id = pop_id; head = head; request_len = count false ds; room_len = count true ds }
+out_of course pop_id head ds =
+    record {
+      course = course;
+      pop_id = pop_id;
+      head = head;
+      request_len = count false ds;
+      room_len = count true ds;
+    }
 
 -- a faulty chain, out of its queue: nothing is read or written of it
 abbrev pub faulty_out : Course → PopId → (head : ℕ) → InFlight
-faulty_out course pop_id head = record { course = course; pop_id = pop_id; head = head; request_len = 0; room_len = 0 }
+faulty_out course pop_id head =
+    record { course = course; pop_id = pop_id; head = head; request_len = 0; room_len = 0 }
 
 -- no reply
 abbrev pub no_reply : ChainReply
@@ -59,7 +67,8 @@ state_after course pop_id ds (step.Load walk) = at.Walking course pop_id walk
 state_after course pop_id ds step.Idle = at.Free
 state_after course pop_id ds (step.Refused e) = at.Free
 state_after course pop_id ds (step.Chain head None) = at.Taken (out_of course pop_id head ds)
-state_after course pop_id ds (step.Chain head (Some fault)) = at.HasReply (faulty_out course pop_id head) no_reply
+state_after course pop_id ds (step.Chain head (Some fault)) =
+    at.HasReply (faulty_out course pop_id head) no_reply
 
 -- the queue then
 abbrev pub queue_after : QueueState → comes.CourseStep → QueueState
@@ -77,39 +86,60 @@ abbrev pub LeavesNone : comes.CourseStep → List Descriptor → Type 0
 LeavesNone (step.Chain head (Some fault)) ds = ds ≡ []
 LeavesNone _ ds = Unit {0}
 
--- the handle goes over the same regions, by the same limit, and the number of its chain stays, and how long the list of a listing is
+-- the handle goes over the same regions, by the same limit, and the number of its chain stays, and how long
+-- the list of a listing is
 abbrev pub IsAllBut : (old new : ChainHandle) → Type 0
-IsAllBut old new = (new.regions ≡ old.regions) × (new.limit ≡ old.limit) × (new.serial ≡ old.serial) × (new.list_len ≡ old.list_len)
+IsAllBut old new =
+    (new.regions ≡ old.regions)
+    × (new.limit ≡ old.limit)
+    × (new.serial ≡ old.serial)
+    × (new.list_len ≡ old.list_len)
 
 -- all but where its chain is stays, and how long the list of a listing is
 abbrev pub IsAllButPlace : (old new : ChainHandle) → Type 0
 IsAllButPlace old new =
-    ((new.regions ≡ old.regions) × (new.limit ≡ old.limit) × (new.serial ≡ old.serial)) × (new.descriptors ≡ old.descriptors) × (new.session ≡ old.session)
+    ((new.regions ≡ old.regions) × (new.limit ≡ old.limit) × (new.serial ≡ old.serial))
+    × (new.descriptors ≡ old.descriptors)
+    × (new.session ≡ old.session)
     × (new.part ≡ old.part)
 
 -- all stays but what came of a load
 abbrev pub IsAllButPart : (old new : ChainHandle) → Type 0
 IsAllButPart old new =
-    IsAllBut old new × (new.alloc ≡ old.alloc) × (new.descriptors ≡ old.descriptors) × (new.state ≡ old.state) × (new.session ≡ old.session)
+    IsAllBut old new
+    × (new.alloc ≡ old.alloc)
+    × (new.descriptors ≡ old.descriptors)
+    × (new.state ≡ old.state)
+    × (new.session ≡ old.session)
 
--- handle and queue keep what a walk on this course came to, and this is told of it; of a faulty chain no descriptor is kept
-abbrev pub KeepsStep : Course → PopId → comes.CourseStep → (old new : ChainHandle) → (before after : QueueState) → walked.PopOutcome → Type 0
+-- handle and queue keep what a walk on this course came to, and this is told of it; of a faulty chain no
+-- descriptor is kept
+abbrev pub KeepsStep : Course → PopId → comes.CourseStep → (old new : ChainHandle) →
+    (before after : QueueState) → walked.PopOutcome → Type 0
 KeepsStep course pop_id came old new before after told =
-    (told ≡ told_of new.descriptors.items came) × (new.state ≡ state_after course pop_id new.descriptors.items came) × (after ≡ queue_after before came)
-    × LeavesNone came new.descriptors.items × IsAllBut old new
+    (told ≡ told_of new.descriptors.items came)
+    × (new.state ≡ state_after course pop_id new.descriptors.items came)
+    × (after ≡ queue_after before came)
+    × LeavesNone came new.descriptors.items
+    × IsAllBut old new
 
 -- a walk begins: by no load it comes to what is kept and told
-abbrev pub BeginsOn : Course → PopId → (old new : ChainHandle) → (before after : QueueState) → walked.PopOutcome → Type 0
+abbrev pub BeginsOn :
+    Course → PopId → (old new : ChainHandle) → (before after : QueueState) → walked.PopOutcome → Type 0
 BeginsOn course pop_id old new before after told =
     (came : comes.CourseStep) × KeepsStep course pop_id came old new before after told
     × IsCourseStep (places_in old.regions) course.limit (queue_of course) nothing new.descriptors.items came
 
 -- a walk goes on by the bytes of a load: whatever was loaded before, it comes to what is kept and told
-abbrev pub GoesOn : Course → PopId → QueueWalk → (bytes : List ℕ) → (old new : ChainHandle) → (before after : QueueState) → walked.PopOutcome → Type 0
+abbrev pub GoesOn : Course → PopId → QueueWalk → (bytes : List ℕ) → (old new : ChainHandle) →
+    (before after : QueueState) → walked.PopOutcome → Type 0
 GoesOn course pop_id walk bytes old new before after told =
-    (came : comes.CourseStep) × KeepsStep course pop_id came old new before after told
-    × ((loaded : Loaded) → IsWalkAt (places_in old.regions) (queue_of course) loaded old.descriptors.items walk
-    → ComesBy (places_in old.regions) course.limit (queue_of course) loaded walk bytes new.descriptors.items came)
+    (came : comes.CourseStep)
+    × KeepsStep course pop_id came old new before after told
+    × ((loaded : Loaded)
+    → IsWalkAt (places_in old.regions) (queue_of course) loaded old.descriptors.items walk
+    → ComesBy (places_in old.regions) course.limit (queue_of course) loaded walk bytes
+    new.descriptors.items came)
 
 -- the event index has its places, if the queue has it
 abbrev pub HasEvents : ChainHandle → QueueState → Type 0
@@ -120,34 +150,52 @@ abbrev pub RefusalHasEvents : walked.PopOutcome → ChainHandle → QueueState �
 RefusalHasEvents (tells.Refused e) w q = HasEvents w q
 RefusalHasEvents _ w q = Unit {0}
 
--- a walk begins, unless the queue's event index has no place: then it is refused by that, which stops the queue
-abbrev pub BeginsWhere : (fault : Option QueueError) → (old new : ChainHandle) → (before after : QueueState) → walked.PopOutcome → Type 0
-BeginsWhere (Some e) old new before after told = (told ≡ tells.Refused e) × IsAllButPart old new × (after ≡ record before { stopped = Some e })
-BeginsWhere None old new before after told = BeginsOn (course_of before old.limit) (pop_id_of before) old new before after told
+-- a walk begins, unless the queue's event index has no place: then it is refused by that, which stops the
+-- queue
+abbrev pub BeginsWhere : (fault : Option QueueError) → (old new : ChainHandle) → (before after : QueueState) →
+    walked.PopOutcome → Type 0
+BeginsWhere (Some e) old new before after told =
+    (told ≡ tells.Refused e) × IsAllButPart old new × (after ≡ record before { stopped = Some e })
+BeginsWhere None old new before after told =
+    BeginsOn (course_of before old.limit) (pop_id_of before) old new before after told
 
 -- a stopped queue refuses each walk
-abbrev pub BeginsUnless : (stopped : Option QueueError) → (old new : ChainHandle) → (before after : QueueState) → walked.PopOutcome → Type 0
-BeginsUnless (Some why) old new before after told = (told ≡ tells.Refused Stopped) × IsAllButPart old new × (after ≡ before)
-BeginsUnless None old new before after told = BeginsWhere (event_fault (places_in old.regions) before) old new before after told
+abbrev pub BeginsUnless : (stopped : Option QueueError) → (old new : ChainHandle) →
+    (before after : QueueState) → walked.PopOutcome → Type 0
+BeginsUnless (Some why) old new before after told =
+    (told ≡ tells.Refused Stopped) × IsAllButPart old new × (after ≡ before)
+BeginsUnless None old new before after told =
+    BeginsWhere (event_fault (places_in old.regions) before) old new before after told
 
 abbrev pub BeginsPop : (old new : ChainHandle) → (before after : QueueState) → walked.PopOutcome → Type 0
 BeginsPop old new before after told = BeginsUnless before.stopped old new before after told
 
--- a walk goes on, unless its queue was stopped meanwhile: then it is refused as each walk of a stopped queue, and the handle has no chain
-abbrev pub GoesOnUnless : (stopped : Option QueueError) → Course → PopId → QueueWalk → (bytes : List ℕ) → (old new : ChainHandle) → (before after : QueueState) → walked.PopOutcome → Type 0
+-- a walk goes on, unless its queue was stopped meanwhile: then it is refused as each walk of a stopped queue,
+-- and the handle has no chain
+abbrev pub GoesOnUnless : (stopped : Option QueueError) → Course → PopId → QueueWalk → (bytes : List ℕ) →
+    (old new : ChainHandle) → (before after : QueueState) → walked.PopOutcome → Type 0
 GoesOnUnless (Some why) course pop_id walk bytes old new before after told =
     (told ≡ tells.Refused Stopped) × IsAllButPart (record old { state = at.Free }) new × (after ≡ before)
-GoesOnUnless None course pop_id walk bytes old new before after told = GoesOn course pop_id walk bytes old new before after told
+GoesOnUnless None course pop_id walk bytes old new before after told =
+    GoesOn course pop_id walk bytes old new before after told
 
--- a walk goes on from where its chain is, by the bytes of the load that it asked for, and by none at its beginning
-abbrev pub WalksFrom : state.ChainState → (bytes : List ℕ) → (old new : ChainHandle) → (before after : QueueState) → walked.PopOutcome → Type 0
+-- a walk goes on from where its chain is, by the bytes of the load that it asked for, and by none at its
+-- beginning
+abbrev pub WalksFrom : state.ChainState → (bytes : List ℕ) → (old new : ChainHandle) →
+    (before after : QueueState) → walked.PopOutcome → Type 0
 WalksFrom at.Free bytes old new before after told = BeginsPop old new before after told
-WalksFrom (at.Walking course pop_id walk) bytes old new before after told = GoesOnUnless before.stopped course pop_id walk bytes old new before after told
+WalksFrom (at.Walking course pop_id walk) bytes old new before after told =
+    GoesOnUnless before.stopped course pop_id walk bytes old new before after told
 WalksFrom _ bytes old new before after told = ⊥
 
-abbrev pub WalksOn : (bytes : List ℕ) → (old new : ChainHandle) → (before after : QueueState) → walked.PopOutcome → Type 0
+abbrev pub WalksOn :
+    (bytes : List ℕ) → (old new : ChainHandle) → (before after : QueueState) → walked.PopOutcome → Type 0
 WalksOn bytes old new before after told = WalksFrom old.state bytes old new before after told
 
--- a walk asks for entries of a table, as many descriptors have no room beside those that joined, and the allocator refused that: only then the walk lacks memory
+-- a walk asks for entries of a table, as many descriptors have no room beside those that joined, and the
+-- allocator refused that: only then the walk lacks memory
 abbrev pub LacksRoom : ChainHandle → Type 0
-LacksRoom w = (0 < entries_asked w.state) × (HasRoomFor w.descriptors (entries_asked w.state) → ⊥) × RoomWasRefused (entries_asked w.state)
+LacksRoom w =
+    (0 < entries_asked w.state)
+    × (HasRoomFor w.descriptors (entries_asked w.state) → ⊥)
+    × RoomWasRefused (entries_asked w.state)

@@ -1,6 +1,9 @@
--- A whole chain by the calls of a handle, from its walk to its return, for a guest that writes meanwhile (VIRTIO 1.2, 2.7.5 to 2.7.8). The plain machine has no event
--- index: its step takes the two bytes that are seen after the stores for its flags. What the driver of a queue with the event index is told by them is said beside it.
-use Rattle.std.specs.Prelude.{false, All, ◌≡◌, ◌≤◌, ◌^◌, ℕ, Bool, List, [], ◌∷◌, ◌++◌, length, map, drop, Option, Some, None, slice_get}
+-- A whole chain by the calls of a handle, from its walk to its return, for a guest that writes meanwhile
+-- (VIRTIO 1.2, 2.7.5 to 2.7.8). The plain machine has no event index: its step takes the two bytes that are
+-- seen after the stores for its flags. What the driver of a queue with the event index is told by them is
+-- said beside it.
+use Rattle.std.specs.Prelude.{false, All, ◌≡◌, ◌≤◌, ◌^◌, ℕ, Bool, List, [], ◌∷◌, ◌++◌, length, map, drop}
+use Rattle.std.specs.Prelude.{Option, Some, None, slice_get}
 use Rattle.vm_memory_core.specs.Host.{Host, changed_at}
 use Rattle.vm_memory.specs.Memory.{Memory, bytes}
 use Rattle.fs_queue.specs.declared.fault.ChainFault.{ChainFault}
@@ -52,7 +55,8 @@ use Rattle.fs_chain.specs.WholeListings.{Ending, IsListedBy, listing_calls}
 use Rattle.plain_machine.specs.declared.error.DeviceError.TheVariants as device
 use Rattle.plain_machine.specs.Step.{State, Exchange, Idle, Refused, Exchanged, Calls, Step, with_queue}
 use Rattle.plain_machine.specs.StepBy as act
-use Rattle.plain_machine.specs.StepBy.{AnswersBy, ReturnsFaultyBy, StepLoads, StepBy, Act, Effects, reply_stores, after_stores, stores_among, FindFlags, MayStoreLast}
+use Rattle.plain_machine.specs.StepBy.{AnswersBy, ReturnsFaultyBy, StepLoads, StepBy, Act, Effects}
+use Rattle.plain_machine.specs.StepBy.{reply_stores, after_stores, stores_among, FindFlags, MayStoreLast}
 
 -- ---- the walk
 
@@ -66,23 +70,34 @@ WantsBytes (wents.On _) = ⊥
 abbrev pub BeginsPopBy : (old new : ChainHandle) → (before after : QueueState) → went.LoadOutcome → Type 0
 BeginsPopBy old new before after told = (old.state ≡ at.Free) × GoesSo old before [] told new after
 
--- a walk by calls of the handle that weren't refused, the last one first: without bytes at first, then each by bytes of which the call before wanted some
-abbrev pub WalksBy : (given : List (List ℕ)) → (old new : ChainHandle) → (before after : QueueState) → went.LoadOutcome → Type 0
+-- a walk by calls of the handle that weren't refused, the last one first: without bytes at first, then each
+-- by bytes of which the call before wanted some
+abbrev pub WalksBy : (given : List (List ℕ)) → (old new : ChainHandle) → (before after : QueueState) →
+    went.LoadOutcome → Type 0
 WalksBy [] old new before after told = BeginsPopBy old new before after told
 WalksBy (bs ∷ given) old new before after told =
-    (w : ChainHandle) × (q : QueueState) × (earlier : went.LoadOutcome) × WalksBy given old w before q earlier × WantsBytes earlier × GoesSo w q bs told new after
+    (w : ChainHandle) × (q : QueueState) × (earlier : went.LoadOutcome)
+    × WalksBy given old w before q earlier
+    × WantsBytes earlier
+    × GoesSo w q bs told new after
 
--- what a call of walk, which left these descriptors, adds to what was loaded: a part of a load nothing yet, a whole one what was asked for
-abbrev pub AddsSo : state.ChainState → went.LoadOutcome → List Descriptor → (before : Loaded) → (bytes : List ℕ) → (after : Loaded) → Type 0
+-- what a call of walk, which left these descriptors, adds to what was loaded: a part of a load nothing yet, a
+-- whole one what was asked for
+abbrev pub AddsSo : state.ChainState → went.LoadOutcome → List Descriptor → (before : Loaded) →
+    (bytes : List ℕ) → (after : Loaded) → Type 0
 AddsSo at wents.Part ds before bs after = after ≡ before
-AddsSo (at.Walking course pop_id walk) (wents.On told) ds before bs after = (came : comes.CourseStep) × (told ≡ told_of ds came) × AddsBytes walk bs came before after
+AddsSo (at.Walking course pop_id walk) (wents.On told) ds before bs after =
+    (came : comes.CourseStep) × (told ≡ told_of ds came) × AddsBytes walk bs came before after
 AddsSo _ (wents.On told) ds before bs after = ⊥
 
 -- these loads came of the bytes of a walk's calls
-abbrev pub LoadsOf : (given : List (List ℕ)) (old new : ChainHandle) (before after : QueueState) (told : went.LoadOutcome) → WalksBy given old new before after told → Loaded → Type 0
+abbrev pub LoadsOf : (given : List (List ℕ)) (old new : ChainHandle) (before after : QueueState)
+    (told : went.LoadOutcome) → WalksBy given old new before after told → Loaded → Type 0
 LoadsOf [] old new before after told walks loaded = loaded ≡ nothing
 LoadsOf (bs ∷ given) old new before after told walks loaded =
-    (l : Loaded) × LoadsOf given old walks.0 before walks.1 walks.2 walks.3 l × AddsSo walks.0.state told new.descriptors.items l (whole walks.0 bs) loaded
+    (l : Loaded)
+    × LoadsOf given old walks.0 before walks.1 walks.2 walks.3 l
+    × AddsSo walks.0.state told new.descriptors.items l (whole walks.0 bs) loaded
 
 -- some bytes by which a walk told this
 abbrev pub IsWalked : (old new : ChainHandle) → (before after : QueueState) → went.LoadOutcome → Type 0
@@ -91,8 +106,12 @@ IsWalked old new before after told = (given : List (List ℕ)) × WalksBy given 
 -- what a walk by calls of the handle wants has a place, so that no call is refused for it
 abbrev pub WantedHasAPlace : Type 0
 WantedHasAPlace =
-    (given : List (List ℕ)) (old new : ChainHandle) (before after : QueueState) (told : went.LoadOutcome) → before.stopped ≡ None →
-    WalksBy given old new before after told → WantsBytes told → HasNoPlace new (came new) → ⊥
+    (given : List (List ℕ)) (old new : ChainHandle) (before after : QueueState) (told : went.LoadOutcome) →
+    before.stopped ≡ None →
+    WalksBy given old new before after told →
+    WantsBytes told →
+    HasNoPlace new (came new) →
+    ⊥
 
 -- ---- the call and its answer
 
@@ -101,36 +120,49 @@ abbrev pub FromTaken : state.ChainState → (InFlight → Type 0) → Type 0
 FromTaken (at.Taken out) P = P out
 FromTaken _ P = ⊥
 
--- a handle is asked in a session by the first bytes of a request that was loaded; an ask that told More before it changed the session alone
-abbrev pub IsDecodedBy : ChainHandle → Session → (request front : List ℕ) → told.Decoded → ChainHandle → Type 0
-IsDecodedBy w s request front made w' = FromTaken w.state (λ out. (out.request_len ≡ length request) × IsRequestFront front request
-    × TellsMeaning (setting s.page_size s.options.0 out.room_len) (meaning s.options.0 request out.room_len) (drop 80 request) out made w'.state
-    × (w'.descriptors ≡ w.descriptors) × (w'.session ≡ s))
+-- a handle is asked in a session by the first bytes of a request that was loaded; an ask that told More
+-- before it changed the session alone
+abbrev pub IsDecodedBy :
+    ChainHandle → Session → (request front : List ℕ) → told.Decoded → ChainHandle → Type 0
+IsDecodedBy w s request front made w' =
+    FromTaken w.state (λ out. (out.request_len ≡ length request)
+    × IsRequestFront front request
+    × TellsMeaning (setting s.page_size s.options.0 out.room_len) (meaning s.options.0 request out.room_len)
+    (drop 80 request) out made w'.state
+    × (w'.descriptors ≡ w.descriptors)
+    × (w'.session ≡ s))
 
--- a call is answered in the session in which it was asked, with these bytes of data in the room behind the front
+-- a call is answered in the session in which it was asked, with these bytes of data in the room behind the
+-- front
 abbrev pub IsAnsweredBy : ChainHandle → FileAnswer → (bytes : List ℕ) → Replied → ChainHandle → Type 0
 IsAnsweredBy w a bytes told w' =
-    IsWaiting w.state × TellsBytes bytes a × (w'.descriptors ≡ w.descriptors)
-    × IfWaits w.state (λ out waiting. IsGiven (setting w.session.page_size w.session.options.0 waiting.room) waiting a out w'.session.options.0 told w'.state)
+    IsWaiting w.state
+    × TellsBytes bytes a
+    × (w'.descriptors ≡ w.descriptors)
+    × IfWaits w.state (λ out waiting. IsGiven (setting w.session.page_size w.session.options.0 waiting.room)
+    waiting a out w'.session.options.0 told w'.state)
 
--- how a chain's call is answered: there is none; by one answer, with the bytes of its data and what is told of it; or, if it lists a directory, by its entries, with the
--- bytes of the list that are its data
+-- how a chain's call is answered: there is none; by one answer, with the bytes of its data and what is told
+-- of it; or, if it lists a directory, by its entries, with the bytes of the list that are its data
 pub data ChainAnswer : Type 0 where
   NoAnswer : ChainAnswer
   OneAnswer : FileAnswer → (bytes : List ℕ) → Replied → ChainAnswer
   ByEntries : (with_nodes : Bool) → List Brought → Ending → (bytes : List ℕ) → ChainAnswer
 
--- the file calls of a chain: none; the one that was told, with its answer, and the one that gives an entry back; or a listing and its look-ups
+-- the file calls of a chain: none; the one that was told, with its answer, and the one that gives an entry
+-- back; or a listing and its look-ups
 abbrev pub file_calls : (behind : List ℕ) → told.Decoded → ChainAnswer → Calls
 file_calls behind (asks.Call made) (OneAnswer answer bytes replied) =
     (call_of behind made, answer_of bytes answer) ∷ map (λ c. (c, file.Done)) (forget_call replied.forget)
-file_calls behind (asks.Call made) (ByEntries with_nodes es ending bytes) = listing_calls (call_of behind made) with_nodes es ending
+file_calls behind (asks.Call made) (ByEntries with_nodes es ending bytes) =
+    listing_calls (call_of behind made) with_nodes es ending
 file_calls behind made given = []
 
 -- a chain whose request was asked has its reply: by no call, or by one that is answered
 abbrev pub HasReply : told.Decoded → ChainHandle → ChainAnswer → ChainHandle → Type 0
 HasReply (asks.Call made) w (OneAnswer answer bytes replied) w' = IsAnsweredBy w answer bytes replied w'
-HasReply (asks.Call made) w (ByEntries with_nodes es ending bytes) w' = IsListedBy w with_nodes es ending bytes w'
+HasReply (asks.Call made) w (ByEntries with_nodes es ending bytes) w' =
+    IsListedBy w with_nodes es ending bytes w'
 HasReply asks.Nothing w NoAnswer w' = w' ≡ w
 HasReply (asks.Fault e) w NoAnswer w' = w' ≡ w
 HasReply _ w given w' = ⊥
@@ -144,7 +176,8 @@ data_behind (ByEntries with_nodes es ending bytes) = bytes
 -- ---- the return
 
 -- of a chain whose reply is known, and which goes back to its queue, as it is then, by these stores
-abbrev pub FromReplied : (back : QueueState) → state.ChainState → (ChainReply → PushStores → Type 0) → PushStores → Type 0
+abbrev pub FromReplied :
+    (back : QueueState) → state.ChainState → (ChainReply → PushStores → Type 0) → PushStores → Type 0
 FromReplied back (at.HasReply out reply) P s = PushesBy back out reply s × P reply s
 FromReplied back _ P s = ⊥
 
@@ -157,26 +190,33 @@ front_if (Some front) behind = front ++ behind
 abbrev pub reply_bytes : ChainReply → (behind : List ℕ) → List ℕ
 reply_bytes reply behind = front_if reply.front behind
 
--- what the caller stores and loads for a return: the data over the room, the front over its begin, the element's two halves and the index, and then the two bytes that are
--- seen: flags, or used_event (2.7.8 and 2.7.7); a chain without a reply stores none in its room
-abbrev pub acts_of : (room : List ℕ) → ChainReply → (behind : List ℕ) → PushStores → (flags : List ℕ) → List Act
+-- what the caller stores and loads for a return: the data over the room, the front over its begin, the
+-- element's two halves and the index, and then the two bytes that are seen: flags, or used_event (2.7.8 and
+-- 2.7.7); a chain without a reply stores none in its room
+abbrev pub acts_of :
+    (room : List ℕ) → ChainReply → (behind : List ℕ) → PushStores → (flags : List ℕ) → List Act
 acts_of room reply behind s flags =
-    map act.Stores (reply_stores room (reply_bytes reply behind) (front_len reply) ++ stores_of s.used) ++ act.LoadsFlags flags ∷ []
+    map act.Stores (reply_stores room (reply_bytes reply behind) (front_len reply) ++ stores_of s.used)
+    ++ act.LoadsFlags flags ∷ []
 
 -- a chain goes back by what its caller stores and loads, and this is told of the two bytes that were loaded
-pub record GoesBackBy (back : QueueState) (room : List ℕ) (behind : List ℕ) (from : state.ChainState) (acts : List Act) (last : ℕ) (notice : Bool) : Type 0 where
+pub record GoesBackBy (back : QueueState) (room : List ℕ) (behind : List ℕ) (from : state.ChainState)
+    (acts : List Act) (last : ℕ) (notice : Bool) : Type 0 where
   pub stores : PushStores
   pub flags : List ℕ
   pub flags_len : length flags ≡ 2
-  pub returns : FromReplied back from (λ reply s. (last ≡ front_len reply) × (acts ≡ acts_of room reply behind s flags)) stores
+  pub returns : FromReplied back from (λ reply s. (last ≡ front_len reply)
+      × (acts ≡ acts_of room reply behind s flags)) stores
   pub notified : notice ≡ tells_of back flags
 
 -- ---- the whole
 
--- a chain from its walk to its return, without a refusal between: the calls of the walk, the request as it was loaded, the call and its answer, the stores and
--- the two bytes that are seen; limit, regions and position are those of its beginning, and `back` is the queue as the return finds it: other chains may have been taken and have gone
--- back meanwhile
-pub record ChainBy (given_bytes : List (List ℕ)) (request : List ℕ) (calls : Calls) (acts : List Act) (last : ℕ) (head : ℕ) (notice : Bool)
+-- a chain from its walk to its return, without a refusal between: the calls of the walk, the request as it
+-- was loaded, the call and its answer, the stores and the two bytes that are seen; limit, regions and
+-- position are those of its beginning, and `back` is the queue as the return finds it: other chains may have
+-- been taken and have gone back meanwhile
+pub record ChainBy (given_bytes : List (List ℕ)) (request : List ℕ) (calls : Calls) (acts : List Act)
+    (last : ℕ) (head : ℕ) (notice : Bool)
     (old new : ChainHandle) (before : QueueState) (s : Session) : Type 0 where
   pub popped_handle : ChainHandle
   pub taken : QueueState
@@ -190,10 +230,12 @@ pub record ChainBy (given_bytes : List (List ℕ)) (request : List ℕ) (calls :
   pub replies : HasReply made decoded_handle given new
   pub calls_are : calls ≡ file_calls (drop 80 request) made given
   pub back : QueueState
-  pub returns : GoesBackBy back (addresses_of (writable popped_handle.descriptors.items)) (data_behind given) new.state acts last notice
+  pub returns : GoesBackBy back (addresses_of (writable popped_handle.descriptors.items)) (data_behind given)
+      new.state acts last notice
 
 -- a faulty chain from its walk to its return: nothing is loaded of it or stored in it
-pub record FaultyChainBy (given_bytes : List (List ℕ)) (fault : ChainFault) (acts : List Act) (last : ℕ) (head : ℕ) (notice : Bool)
+pub record FaultyChainBy (given_bytes : List (List ℕ)) (fault : ChainFault) (acts : List Act) (last : ℕ)
+    (head : ℕ) (notice : Bool)
     (old : ChainHandle) (before : QueueState) : Type 0 where
   pub popped_handle : ChainHandle
   pub taken : QueueState
@@ -213,8 +255,10 @@ IsInOrder before back = back.next_used ≡ before.next_avail
 abbrev pub IsByFlags : QueueState → Type 0
 IsByFlags q = q.event_index ≡ false
 
--- the state of the plain machine before: its memory's places are the regions', its queue is the kept one, which isn't stopped, and the limit is one
-pub record IsMachineBefore {F : Type 0} (old : ChainHandle) (before : QueueState) (i : ℕ) (m : State F) : Type 0 where
+-- the state of the plain machine before: its memory's places are the regions', its queue is the kept one,
+-- which isn't stopped, and the limit is one
+pub record IsMachineBefore {F : Type 0} (old : ChainHandle) (before : QueueState) (i : ℕ) (m : State F) :
+    Type 0 where
   pub goes : before.stopped ≡ None
   pub places : m.memory ≡ places_in old.regions
   pub limit : m.limit ≡ old.limit
@@ -227,15 +271,20 @@ IsSession s m = (m.page_size ≡ s.page_size) × (m.options ≡ s.options.0)
 
 -- and after: options, files and the queue's position alone went on
 abbrev pub after_chain : {F : Type 0} → State F → (i : ℕ) → Queue → (options : ℕ) → F → State F
-after_chain m i q options files = record m { queues = changed_at m.queues i (λ _. advanced q); options = options; files = files }
+after_chain m i q options files =
+    record m { queues = changed_at m.queues i (λ _. advanced q); options = options; files = files }
 
 -- the loads of a step, with those of entries that have no place
 abbrev pub step_loads : Loaded → (lost : List Load) → (request : List ℕ) → StepLoads
-step_loads l lost request = record { index = l.index; entry = l.entry; entries = l.entries ++ lost; request = request }
+step_loads l lost request =
+    record { index = l.index; entry = l.entry; entries = l.entries ++ lost; request = request }
 
--- besides the loads that came of bytes a step knows only that these have no place: an index or a ring's entry, and an entry of a table that was asked for last
+-- besides the loads that came of bytes a step knows only that these have no place: an index or a ring's
+-- entry, and an entry of a table that was asked for last
 abbrev pub LackPlaces : ChainHandle → QueueState → Loaded → (lost : List Load) → Type 0
-LackPlaces old before loaded lost = RingIsAsked (places_in old.regions) (queue_of (course_of before old.limit)) loaded × All (IsLost (places_in old.regions)) lost
+LackPlaces old before loaded lost =
+    RingIsAsked (places_in old.regions) (queue_of (course_of before old.limit)) loaded
+    × All (IsLost (places_in old.regions)) lost
 
 -- nothing is stored
 abbrev pub no_effects : Effects
@@ -244,106 +293,194 @@ no_effects = record { acts = []; last = 0 }
 -- a walk that finds nothing is the plain machine's idle step by what was loaded
 abbrev pub IdleIsStepBy : {F : Type 0} → May F → Type 0
 IdleIsStepBy {F} may =
-    (given : List (List ℕ)) (i : ℕ) (old new : ChainHandle) (before after : QueueState) (m : State F) → IsMachineBefore old before i m →
+    (given : List (List ℕ)) (i : ℕ) (old new : ChainHandle) (before after : QueueState) (m : State F) →
+    IsMachineBefore old before i m →
     (walks : WalksBy given old new before after (wents.On says.Idle)) →
-    (loaded : Loaded) × LoadsOf given old new before after (wents.On says.Idle) walks loaded
-    × (lost : List Load) × LackPlaces old before loaded lost × StepBy may m i (step_loads loaded lost []) [] Idle no_effects m
+    (loaded : Loaded)
+    × LoadsOf given old new before after (wents.On says.Idle) walks loaded
+    × (lost : List Load)
+    × LackPlaces old before loaded lost
+    × StepBy may m i (step_loads loaded lost []) [] Idle no_effects m
 
--- a walk that is refused is the plain machine's refused step, which stops the queue, if the event index has its places
+-- a walk that is refused is the plain machine's refused step, which stops the queue, if the event index has
+-- its places
 abbrev pub RefusalIsStepBy : {F : Type 0} → May F → Type 0
 RefusalIsStepBy {F} may =
-    (given : List (List ℕ)) (e : QueueError) (i : ℕ) (old new : ChainHandle) (before after : QueueState) (m : State F) → IsMachineBefore old before i m → HasEvents old before →
-    (walks : WalksBy given old new before after (wents.On (says.Refused e))) → let q = queue_of (course_of before old.limit) in
-    (loaded : Loaded) × LoadsOf given old new before after (wents.On (says.Refused e)) walks loaded
-    × (lost : List Load) × LackPlaces old before loaded lost × StepBy may m i (step_loads loaded lost []) [] (Refused (device.Queue e)) no_effects (with_queue m i (after_refusal q e))
+    (given : List (List ℕ)) (e : QueueError) (i : ℕ) (old new : ChainHandle) (before after : QueueState)
+    (m : State F) →
+    IsMachineBefore old before i m →
+    HasEvents old before →
+    (walks : WalksBy given old new before after (wents.On (says.Refused e))) →
+    let q = queue_of (course_of before old.limit) in
+    (loaded : Loaded)
+    × LoadsOf given old new before after (wents.On (says.Refused e)) walks loaded
+    × (lost : List Load)
+    × LackPlaces old before loaded lost
+    × StepBy may m i (step_loads loaded lost []) [] (Refused (device.Queue e)) no_effects
+    (with_queue m i (after_refusal q e))
 
--- without them a walk is refused by its first call, whatever waits: no byte is loaded of it and none stored, the handle stays as it was, and the queue is stopped
+-- without them a walk is refused by its first call, whatever waits: no byte is loaded of it and none stored,
+-- the handle stays as it was, and the queue is stopped
 abbrev pub EventFaultRefuses : Type 0
 EventFaultRefuses =
-    (given : List (List ℕ)) (e : QueueError) (old new : ChainHandle) (before after : QueueState) (told : went.LoadOutcome) → before.stopped ≡ None →
-    event_fault (places_in old.regions) before ≡ Some e → (walks : WalksBy given old new before after told) →
-    (told ≡ wents.On (says.Refused e)) × (given ≡ []) × LoadsOf given old new before after told walks nothing × IsAllButPart old new × (new.part.items ≡ [])
+    (given : List (List ℕ)) (e : QueueError) (old new : ChainHandle) (before after : QueueState)
+    (told : went.LoadOutcome) →
+    before.stopped ≡ None →
+    event_fault (places_in old.regions) before ≡ Some e →
+    (walks : WalksBy given old new before after told) →
+    (told ≡ wents.On (says.Refused e))
+    × (given ≡ [])
+    × LoadsOf given old new before after told walks nothing
+    × IsAllButPart old new
+    × (new.part.items ≡ [])
     × (after ≡ record before { stopped = Some e })
 
 -- a faulty chain is the plain machine's step that gives it back with nothing
 abbrev pub FaultyIsStepBy : {F : Type 0} → May F → Type 0
 FaultyIsStepBy {F} may =
-    (given : List (List ℕ)) (fault : ChainFault) (acts : List Act) (last head i : ℕ) (notice : Bool) (old : ChainHandle) (before : QueueState) (m : State F) →
-    IsMachineBefore old before i m → (run : FaultyChainBy given fault acts last head notice old before) → IsInOrder before run.back →
-    (loaded : Loaded) × LoadsOf given old run.popped_handle before run.taken (wents.On (says.Faulty head fault)) run.walks loaded
-    × (lost : List Load) × LackPlaces old before loaded lost × (x : Exchange) × (x.head ≡ head)
-    × StepBy may m i (step_loads loaded lost []) [] (Exchanged x (tells run.returns.flags)) (record { acts = acts; last = last })
+    (given : List (List ℕ)) (fault : ChainFault) (acts : List Act) (last head i : ℕ) (notice : Bool)
+    (old : ChainHandle) (before : QueueState) (m : State F) →
+    IsMachineBefore old before i m →
+    (run : FaultyChainBy given fault acts last head notice old before) →
+    IsInOrder before run.back →
+    (loaded : Loaded)
+    × LoadsOf given old run.popped_handle before run.taken (wents.On (says.Faulty head fault))
+    run.walks loaded
+    × (lost : List Load)
+    × LackPlaces old before loaded lost
+    × (x : Exchange)
+    × (x.head ≡ head)
+    × StepBy may m i (step_loads loaded lost []) [] (Exchanged x (tells run.returns.flags))
+    (record { acts = acts; last = last })
     (after_chain m i (queue_of (course_of before old.limit)) m.options m.files)
 
 -- whichever chains of its queue go back before it, a faulty chain goes back with nothing where it does
 abbrev pub FaultyIsAnsweredBy : {F : Type 0} → May F → Type 0
 FaultyIsAnsweredBy {F} may =
-    (given : List (List ℕ)) (fault : ChainFault) (acts : List Act) (last head i : ℕ) (notice : Bool) (old : ChainHandle) (before : QueueState) (m : State F) →
-    (run : FaultyChainBy given fault acts last head notice old before) → before.stopped ≡ None → let q = queue_back before run.back in
-    (loaded : Loaded) × LoadsOf given old run.popped_handle before run.taken (wents.On (says.Faulty head fault)) run.walks loaded
-    × OffersBy (places_in old.regions) old.limit (queue_of (course_of before old.limit)) loaded [] (Offers head (CannotFetch fault)) × (x : Exchange)
-    × ReturnsFaultyBy m i q head fault [] x (tells run.returns.flags) (record { acts = acts; last = last }) (after_chain m i q m.options m.files)
+    (given : List (List ℕ)) (fault : ChainFault) (acts : List Act) (last head i : ℕ) (notice : Bool)
+    (old : ChainHandle) (before : QueueState) (m : State F) →
+    (run : FaultyChainBy given fault acts last head notice old before) →
+    before.stopped ≡ None →
+    let q = queue_back before run.back in
+    (loaded : Loaded)
+    × LoadsOf given old run.popped_handle before run.taken (wents.On (says.Faulty head fault))
+    run.walks loaded
+    × OffersBy (places_in old.regions) old.limit (queue_of (course_of before old.limit)) loaded []
+    (Offers head (CannotFetch fault))
+    × (x : Exchange)
+    × ReturnsFaultyBy m i q head fault [] x (tells run.returns.flags) (record { acts = acts; last = last })
+    (after_chain m i q m.options m.files)
 
 -- these loads came of the calls of a chain's walk
-abbrev pub LoadsOfChain : (given : List (List ℕ)) (request : List ℕ) (calls : Calls) (acts : List Act) (last head : ℕ) (notice : Bool) (old new : ChainHandle) (before : QueueState) (s : Session)
+abbrev pub LoadsOfChain : (given : List (List ℕ)) (request : List ℕ) (calls : Calls) (acts : List Act)
+    (last head : ℕ) (notice : Bool) (old new : ChainHandle) (before : QueueState) (s : Session)
     → ChainBy given request calls acts last head notice old new before s → Loaded → Type 0
 LoadsOfChain given request calls acts last head notice old new before s run loaded =
-    LoadsOf given old run.popped_handle before run.taken (wents.On (says.Chain head run.lens.0 run.lens.1)) run.walks loaded
+    LoadsOf given old run.popped_handle before run.taken (wents.On (says.Chain head run.lens.0 run.lens.1))
+    run.walks loaded
 
--- whatever the guest writes meanwhile, and whichever chains of its queue are taken and go back meanwhile, what its loads offer is answered as a plain machine, whatever its
--- memory, answers it on a queue that stands where the chain goes back: by these calls, this reply and these stores
+-- whatever the guest writes meanwhile, and whichever chains of its queue are taken and go back meanwhile,
+-- what its loads offer is answered as a plain machine, whatever its memory, answers it on a queue that stands
+-- where the chain goes back: by these calls, this reply and these stores
 abbrev pub ChainIsAnsweredBy : {F : Type 0} → May F → Type 0
 ChainIsAnsweredBy {F} may =
-    (given : List (List ℕ)) (request : List ℕ) (calls : Calls) (acts : List Act) (last head i : ℕ) (notice : Bool)
+    (given : List (List ℕ)) (request : List ℕ) (calls : Calls) (acts : List Act) (last head i : ℕ)
+    (notice : Bool)
     (old new : ChainHandle) (before : QueueState) (s : Session) (m : State F) (files : F) →
-    (run : ChainBy given request calls acts last head notice old new before s) → before.stopped ≡ None → old.limit ≤ 2 ^ 31 → IsSession s m → FileRun may m.files calls files →
-    let room = addresses_of (writable run.popped_handle.descriptors.items) in let q = queue_back before run.back in
-    (loaded : Loaded) × LoadsOfChain given request calls acts last head notice old new before s run loaded
-    × OffersBy (places_in old.regions) old.limit (queue_of (course_of before old.limit)) loaded request (Offers head (IsRequest request room))
-    × (x : Exchange) × (x.head ≡ head) × (x.request ≡ request)
-    × AnswersBy may m i q head request room calls x (tells run.returns.flags) (record { acts = acts; last = last }) (after_chain m i q new.session.options.0 files)
+    (run : ChainBy given request calls acts last head notice old new before s) →
+    before.stopped ≡ None →
+    old.limit ≤ 2 ^ 31 →
+    IsSession s m →
+    FileRun may m.files calls files →
+    let room = addresses_of (writable run.popped_handle.descriptors.items) in
+    let q = queue_back before run.back in
+    (loaded : Loaded)
+    × LoadsOfChain given request calls acts last head notice old new before s run loaded
+    × OffersBy (places_in old.regions) old.limit (queue_of (course_of before old.limit)) loaded request
+    (Offers head (IsRequest request room))
+    × (x : Exchange)
+    × (x.head ≡ head)
+    × (x.request ≡ request)
+    × AnswersBy may m i q head request room calls x (tells run.returns.flags)
+    (record { acts = acts; last = last }) (after_chain m i q new.session.options.0 files)
 
--- if it goes back in order, the calls told, the reply and the stores of a chain are those of the plain machine's step by what was loaded
+-- if it goes back in order, the calls told, the reply and the stores of a chain are those of the plain
+-- machine's step by what was loaded
 abbrev pub ChainIsStepBy : {F : Type 0} → May F → Type 0
 ChainIsStepBy {F} may =
-    (given : List (List ℕ)) (request : List ℕ) (calls : Calls) (acts : List Act) (last head i : ℕ) (notice : Bool)
+    (given : List (List ℕ)) (request : List ℕ) (calls : Calls) (acts : List Act) (last head i : ℕ)
+    (notice : Bool)
     (old new : ChainHandle) (before : QueueState) (s : Session) (m : State F) (files : F) →
-    (run : ChainBy given request calls acts last head notice old new before s) → IsMachineBefore old before i m → IsInOrder before run.back → IsSession s m → FileRun may m.files calls files →
-    (loaded : Loaded) × LoadsOfChain given request calls acts last head notice old new before s run loaded
-    × (lost : List Load) × LackPlaces old before loaded lost × (x : Exchange) × (x.head ≡ head) × (x.request ≡ request)
-    × StepBy may m i (step_loads loaded lost request) calls (Exchanged x (tells run.returns.flags)) (record { acts = acts; last = last })
+    (run : ChainBy given request calls acts last head notice old new before s) →
+    IsMachineBefore old before i m →
+    IsInOrder before run.back →
+    IsSession s m →
+    FileRun may m.files calls files →
+    (loaded : Loaded)
+    × LoadsOfChain given request calls acts last head notice old new before s run loaded
+    × (lost : List Load)
+    × LackPlaces old before loaded lost
+    × (x : Exchange)
+    × (x.head ≡ head)
+    × (x.request ≡ request)
+    × StepBy may m i (step_loads loaded lost request) calls (Exchanged x (tells run.returns.flags))
+    (record { acts = acts; last = last })
     (after_chain m i (queue_of (course_of before old.limit)) new.session.options.0 files)
 
--- the two bytes that were loaded for a return stand at used_event, and tell whether they name the position where it goes back; without the event index they are the
--- available flags, and tell what the plain machine tells by them
-pub record IsToldBySeen (layout : QueueLayout) (back : QueueState) (s : PushStores) (seen : List ℕ) (notice : Bool) : Type 0 where
+-- the two bytes that were loaded for a return stand at used_event, and tell whether they name the position
+-- where it goes back; without the event index they are the available flags, and tell what the plain machine
+-- tells by them
+pub record IsToldBySeen (layout : QueueLayout) (back : QueueState) (s : PushStores) (seen : List ℕ)
+    (notice : Bool) : Type 0 where
   pub place : s.seen_at ≡ seen_at back.event_index layout
   pub told : notice ≡ tells_of back seen
   pub by_flags : IsByFlags back → notice ≡ tells seen
 
 -- so it is of each chain, whichever chains of its queue go back before it
 pub record ReturnsAreToldBySeen : Type 0 where
-  pub of_chain : (given : List (List ℕ)) (request : List ℕ) (calls : Calls) (acts : List Act) (last head : ℕ) (notice : Bool) (old new : ChainHandle) (before : QueueState) (s : Session)
-      → before.stopped ≡ None → (run : ChainBy given request calls acts last head notice old new before s) → IsToldBySeen before.layout run.back run.returns.stores run.returns.flags notice
-  pub of_faulty : (given : List (List ℕ)) (fault : ChainFault) (acts : List Act) (last head : ℕ) (notice : Bool) (old : ChainHandle) (before : QueueState)
-      → before.stopped ≡ None → (run : FaultyChainBy given fault acts last head notice old before) → IsToldBySeen before.layout run.back run.returns.stores run.returns.flags notice
+  pub of_chain : (given : List (List ℕ)) (request : List ℕ) (calls : Calls) (acts : List Act) (last head : ℕ)
+      (notice : Bool) (old new : ChainHandle) (before : QueueState) (s : Session)
+      → before.stopped ≡ None
+      → (run : ChainBy given request calls acts last head notice old new before s)
+      → IsToldBySeen before.layout run.back run.returns.stores run.returns.flags notice
+  pub of_faulty : (given : List (List ℕ)) (fault : ChainFault) (acts : List Act) (last head : ℕ)
+      (notice : Bool) (old : ChainHandle) (before : QueueState)
+      → before.stopped ≡ None
+      → (run : FaultyChainBy given fault acts last head notice old before)
+      → IsToldBySeen before.layout run.back run.returns.stores run.returns.flags notice
 
--- if the load of the two bytes finds what memory has at this place by then, the driver is told by what it has there after the stores; without the event index so is that of
--- the plain machine, by the flags
-pub record IsToldByMemory (m left : Memory) (q : Queue) (back : QueueState) (place : ℕ) (acts : List Act) (notice : Bool) : Type 0 where
+-- if the load of the two bytes finds what memory has at this place by then, the driver is told by what it has
+-- there after the stores; without the event index so is that of the plain machine, by the flags
+pub record IsToldByMemory (m left : Memory) (q : Queue) (back : QueueState) (place : ℕ) (acts : List Act)
+    (notice : Bool) : Type 0 where
   pub told : FindFlags m (record q { avail = place }) acts → notice ≡ tells_of back (bytes left place 2)
   pub by_flags : IsByFlags back → FindFlags m q acts → notice ≡ wants_notice left q
 
--- and over some memory: if one has all that was loaded before (then no byte was loaded as two), and the front's bytes apart, it is the plain machine's step over that
--- memory, which is left with the stores in it; the machine tells by its flags, and the handle by the two bytes that it sees
+-- and over some memory: if one has all that was loaded before (then no byte was loaded as two), and the
+-- front's bytes apart, it is the plain machine's step over that memory, which is left with the stores in it;
+-- the machine tells by its flags, and the handle by the two bytes that it sees
 abbrev pub ChainIsStep : {F : Type 0} → May F → Type 0
 ChainIsStep {F} may =
-    (given : List (List ℕ)) (request : List ℕ) (calls : Calls) (acts : List Act) (last head i : ℕ) (notice : Bool)
-    (old new : ChainHandle) (before : QueueState) (s : Session) (m : State F) (files : F) (h : Host) (room : List ℕ) →
-    let q = queue_of (course_of before old.limit) in let memory = memory_over h old.regions in let left = after_stores memory (stores_among acts) in
-    (run : ChainBy given request calls acts last head notice old new before s) → IsMachineBefore old before i m → IsInOrder before run.back → IsSession s m → FileRun may m.files calls files →
-    ((loaded : Loaded) → LoadsOfChain given request calls acts last head notice old new before s run loaded → HasLoaded memory q loaded request) →
-    room ≡ addresses_of (writable run.popped_handle.descriptors.items) → MayStoreLast memory room last →
-    (x : Exchange) × (x.head ≡ head) × (x.request ≡ request)
-    × Step may (record m { memory = memory }) i calls (Exchanged x (wants_notice left q)) (record (after_chain m i q new.session.options.0 files) { memory = left })
+    (given : List (List ℕ)) (request : List ℕ) (calls : Calls) (acts : List Act) (last head i : ℕ)
+    (notice : Bool)
+    (old new : ChainHandle) (before : QueueState) (s : Session) (m : State F) (files : F) (h : Host)
+    (room : List ℕ) →
+    let q = queue_of (course_of before old.limit) in
+    let memory = memory_over h old.regions in
+    let left = after_stores memory (stores_among acts) in
+    (run : ChainBy given request calls acts last head notice old new before s) →
+    IsMachineBefore old before i m →
+    IsInOrder before run.back →
+    IsSession s m →
+    FileRun may m.files calls files →
+    ((loaded : Loaded) →
+    LoadsOfChain given request calls acts last head notice old new before s run loaded →
+    HasLoaded memory q loaded request) →
+    room ≡ addresses_of (writable run.popped_handle.descriptors.items) →
+    MayStoreLast memory room last →
+    (x : Exchange)
+    × (x.head ≡ head)
+    × (x.request ≡ request)
+    × Step may (record m { memory = memory }) i calls (Exchanged x (wants_notice left q))
+    (record (after_chain m i q new.session.options.0 files) { memory = left })
     × IsToldByMemory memory left q run.back (seen_at run.back.event_index before.layout) acts notice

@@ -1,9 +1,13 @@
--- A READDIR or READDIRPLUS of a whole chain: its entries one by one, how it ends, and the file calls that it makes (linux/fuse.h).
-use Rattle.std.specs.Prelude.{◌≡◌, ◌⊎◌, ℕ, Bool, true, false, List, [], ◌∷◌, ◌++◌, length, take, Option, Some, None, Result, Ok, if◌then◌else◌}
-use Rattle.fuse_fs.specs.Calls.{FileCall, FileAnswer, Listed, Lookup, Forget, Readdir, HasEntry, Entries, Failed, Done}
+-- A READDIR or READDIRPLUS of a whole chain: its entries one by one, how it ends, and the file calls that it
+-- makes (linux/fuse.h).
+use Rattle.std.specs.Prelude.{◌≡◌, ◌⊎◌, ℕ, Bool, true, false, List, [], ◌∷◌, ◌++◌, length, take, Option, Some}
+use Rattle.std.specs.Prelude.{None, Result, Ok, if◌then◌else◌}
+use Rattle.fuse_fs.specs.Calls.{FileCall, FileAnswer, Listed, Lookup, Forget, Readdir, HasEntry, Entries}
+use Rattle.fuse_fs.specs.Calls.{Failed, Done}
 use Rattle.server_replies.specs.Entries.{is_dot, EIO, EOVERFLOW}
 use Rattle.server_phases.specs.declared.listing.Listing.{Listing}
-use Rattle.server_phases.specs.Gathering.{Brought, added_found, added_plain, entries_of, is_looked_up, node_of}
+use Rattle.server_phases.specs.Gathering.{Brought, added_found, added_plain, entries_of, is_looked_up}
+use Rattle.server_phases.specs.Gathering.{node_of}
 use Rattle.fs_chain.specs.declared.error.ChainError.{ChainError}
 use Rattle.fs_chain.specs.declared.listing.Added.{Added}
 use Rattle.fs_chain.specs.declared.listing.Added.TheVariants as added
@@ -16,16 +20,23 @@ use Rattle.plain_machine.specs.Step.{Calls}
 
 -- ---- by the calls of a handle
 
--- an entry is brought to the listing that is answered, without its node or with it, in a list of the caller's, and this is told
-abbrev pub BringsEntry : ChainHandle → (list : List ℕ) → Brought → Result Added ChainError → ChainHandle → (list' : List ℕ) → Type 0
+-- an entry is brought to the listing that is answered, without its node or with it, in a list of the
+-- caller's, and this is told
+abbrev pub BringsEntry : ChainHandle → (list : List ℕ) → Brought → Result Added ChainError → ChainHandle →
+    (list' : List ℕ) → Type 0
 BringsEntry w list e told w' list' =
     (AddsTo w.state w'.state list list' e (λ l. added_plain l (length list) (length e.0.name)) told
-    ⊎ AddsTo w.state w'.state list list' e (λ l. added_found l (length list) (length e.0.name)) told) × IsAllButPlace w w'
+    ⊎ AddsTo w.state w'.state list list' e (λ l. added_found l (length list) (length e.0.name)) told)
+    × IsAllButPlace w w'
 
 -- entries are brought one by one, each to the list that the one before left, and each is in
-abbrev pub Gathers : (es : List Brought) → ChainHandle → (list : List ℕ) → ChainHandle → (list' : List ℕ) → Type 0
+abbrev pub Gathers :
+    (es : List Brought) → ChainHandle → (list : List ℕ) → ChainHandle → (list' : List ℕ) → Type 0
 Gathers [] w list w' list' = (w' ≡ w) × (list' ≡ list)
-Gathers (e ∷ es) w list w' list' = (v : ChainHandle) × (between : List ℕ) × BringsEntry w list e (Ok added.In) v between × Gathers es v between w' list'
+Gathers (e ∷ es) w list w' list' =
+    (v : ChainHandle) × (between : List ℕ)
+    × BringsEntry w list e (Ok added.In) v between
+    × Gathers es v between w' list'
 
 -- the listing is replied: so many bytes of its list are the data
 abbrev pub IsEnded : ChainHandle → (len : ℕ) → ChainHandle → Type 0
@@ -41,8 +52,9 @@ failed_by added.NoRoom = Some EIO
 failed_by added.TooLong = Some EOVERFLOW
 failed_by _ = None
 
--- how a listing ends behind the entries that are in: with the directory; at an entry that has no place in the size that was asked for; at one by which it fails; at
--- one that isn't found; or since the directory can't be read on. Behind such an entry there may be others
+-- how a listing ends behind the entries that are in: with the directory; at an entry that has no place in the
+-- size that was asked for; at one by which it fails; at one that isn't found; or since the directory can't be
+-- read on. Behind such an entry there may be others
 pub data Ending : Type 0 where
   EndsThere : Ending
   FullAt : Brought → (behind : List Listed) → Ending
@@ -55,17 +67,25 @@ abbrev pub FromLists : state.ChainState → (Listing → Type 0) → Type 0
 FromLists (at.Lists out l) P = P l
 FromLists _ P = ⊥
 
--- it ends so, with so many bytes of its list as data; only with nodes an entry is looked up, and . and .. aren't
+-- it ends so, with so many bytes of its list as data; only with nodes an entry is looked up, and . and ..
+-- aren't
 abbrev pub EndsBy : Ending → ChainHandle → (list : List ℕ) → (len : ℕ) → ChainHandle → Type 0
 EndsBy EndsThere w list len w' = IsEnded w len w'
-EndsBy (FullAt e behind) w list len w' = (v : ChainHandle) × (list' : List ℕ) × BringsEntry w list e (Ok added.Full) v list' × IsEnded v len w'
+EndsBy (FullAt e behind) w list len w' =
+    (v : ChainHandle) × (list' : List ℕ) × BringsEntry w list e (Ok added.Full) v list' × IsEnded v len w'
 EndsBy (FailsAt e behind errno) w list len w' =
-    (v : ChainHandle) × (list' : List ℕ) × (why : Added) × (failed_by why ≡ Some errno) × BringsEntry w list e (Ok why) v list' × IsFailed errno v len w'
-EndsBy (NotFound d behind errno) w list len w' = FromLists w.state (λ l. l.with_nodes ≡ true) × (is_dot d.name ≡ false) × IsFailed errno w len w'
+    (v : ChainHandle) × (list' : List ℕ) × (why : Added)
+    × (failed_by why ≡ Some errno)
+    × BringsEntry w list e (Ok why) v list'
+    × IsFailed errno v len w'
+EndsBy (NotFound d behind errno) w list len w' =
+    FromLists w.state (λ l. l.with_nodes ≡ true) × (is_dot d.name ≡ false) × IsFailed errno w len w'
 EndsBy (Unreadable errno) w list len w' = IsFailed errno w len w'
 
--- a listing, with nodes or without, is answered by these entries and ends so, with these bytes of its list as data
-pub record IsListedBy (w : ChainHandle) (with_nodes : Bool) (es : List Brought) (ending : Ending) (bytes : List ℕ) (w' : ChainHandle) : Type 0 where
+-- a listing, with nodes or without, is answered by these entries and ends so, with these bytes of its list as
+-- data
+pub record IsListedBy (w : ChainHandle) (with_nodes : Bool) (es : List Brought) (ending : Ending)
+    (bytes : List ℕ) (w' : ChainHandle) : Type 0 where
   pub kind : FromLists w.state (λ l. l.with_nodes ≡ with_nodes)
   pub first : List ℕ
   pub list : List ℕ
@@ -79,32 +99,41 @@ pub record IsListedBy (w : ChainHandle) (with_nodes : Bool) (es : List Brought) 
 
 -- the look-up of an entry of the directory that a call reads, with its answer
 abbrev pub looked_up : FileCall → (with_nodes : Bool) → Listed → FileAnswer → Calls
-looked_up (Readdir who node handle size offset) with_nodes d answer = if is_looked_up with_nodes d then (Lookup who node d.name, answer) ∷ [] else []
+looked_up (Readdir who node handle size offset) with_nodes d answer =
+    if is_looked_up with_nodes d then (Lookup who node d.name, answer) ∷ [] else []
 looked_up call with_nodes d answer = []
 
 -- the look-ups of entries that were found, in their order
 abbrev pub all_looked_up : FileCall → (with_nodes : Bool) → List Brought → Calls
 all_looked_up call with_nodes [] = []
-all_looked_up call with_nodes (e ∷ es) = looked_up call with_nodes e.0 (HasEntry e.1) ++ all_looked_up call with_nodes es
+all_looked_up call with_nodes (e ∷ es) =
+    looked_up call with_nodes e.0 (HasEntry e.1) ++ all_looked_up call with_nodes es
 
 -- the call that gives back the node of an entry that isn't in
 abbrev pub node_back : FileCall → (with_nodes : Bool) → Brought → Calls
-node_back (Readdir who node handle size offset) with_nodes e = if with_nodes then (Forget who (node_of e).inode 1, Done) ∷ [] else []
+node_back (Readdir who node handle size offset) with_nodes e =
+    if with_nodes then (Forget who (node_of e).inode 1, Done) ∷ [] else []
 node_back call with_nodes e = []
 
--- a directory that can't be read on has failed, unless entries with nodes are in, which are held: then it has ended
+-- a directory that can't be read on has failed, unless entries with nodes are in, which are held: then it has
+-- ended
 abbrev pub unreadable_calls : FileCall → (with_nodes : Bool) → List Brought → (errno : ℕ) → Calls
-unreadable_calls call true (e ∷ es) errno = (call, Entries (entries_of (e ∷ es))) ∷ all_looked_up call true (e ∷ es)
+unreadable_calls call true (e ∷ es) errno =
+    (call, Entries (entries_of (e ∷ es))) ∷ all_looked_up call true (e ∷ es)
 unreadable_calls call true [] errno = (call, Failed errno) ∷ []
 unreadable_calls call false es errno = (call, Failed errno) ∷ []
 
 -- the file calls of a listing: the directory is read, and its entries are looked up
 abbrev pub listing_calls : FileCall → (with_nodes : Bool) → List Brought → Ending → Calls
-listing_calls call with_nodes es EndsThere = (call, Entries (entries_of es)) ∷ all_looked_up call with_nodes es
+listing_calls call with_nodes es EndsThere =
+    (call, Entries (entries_of es)) ∷ all_looked_up call with_nodes es
 listing_calls call with_nodes es (FullAt e behind) =
-    (call, Entries (entries_of es ++ e.0 ∷ behind)) ∷ (all_looked_up call with_nodes es ++ (looked_up call with_nodes e.0 (HasEntry e.1) ++ node_back call with_nodes e))
+    (call, Entries (entries_of es ++ e.0 ∷ behind)) ∷ (all_looked_up call with_nodes es
+    ++ (looked_up call with_nodes e.0 (HasEntry e.1) ++ node_back call with_nodes e))
 listing_calls call with_nodes es (FailsAt e behind errno) =
-    (call, Entries (entries_of es ++ e.0 ∷ behind)) ∷ (all_looked_up call with_nodes es ++ (looked_up call with_nodes e.0 (HasEntry e.1) ++ node_back call with_nodes e))
+    (call, Entries (entries_of es ++ e.0 ∷ behind)) ∷ (all_looked_up call with_nodes es
+    ++ (looked_up call with_nodes e.0 (HasEntry e.1) ++ node_back call with_nodes e))
 listing_calls call with_nodes es (NotFound d behind errno) =
-    (call, Entries (entries_of es ++ d ∷ behind)) ∷ (all_looked_up call with_nodes es ++ looked_up call with_nodes d (Failed errno))
+    (call, Entries (entries_of es ++ d ∷ behind))
+    ∷ (all_looked_up call with_nodes es ++ looked_up call with_nodes d (Failed errno))
 listing_calls call with_nodes es (Unreadable errno) = unreadable_calls call with_nodes es errno

@@ -2,7 +2,9 @@
 
 ghost use Rattle.std.specs.Prelude.{◌≡◌, IfOk, IfErr, OnOk, OnErr};
 ghost use Rattle.virtiofsd_fuse.specs.Serving.{setting};
-ghost use Rattle.fs_chain.specs.Answers.{AnswerFails, CanBeGiven, IfWaits, IsGiven, IsNotTaken, RefusesAnswer, IsWaiting, data_len, error_of, fits, replied_of, reply_of};
+ghost use Rattle.fs_chain.specs.Answers.{AnswerFails, CanBeGiven, IfWaits, IsGiven, IsNotTaken};
+ghost use Rattle.fs_chain.specs.Answers.{RefusesAnswer, IsWaiting, data_len, error_of, fits, replied_of};
+ghost use Rattle.fs_chain.specs.Answers.{reply_of};
 ghost use Rattle.fs_chain.specs.Walks.{IsAllBut};
 ghost use Rattle.fs_chain.specs.declared.state.ChainState.TheVariants as at;
 
@@ -63,7 +65,8 @@ impl ChainHandle {
     // Keeps the reply of an answer.
     fn keep_answered(&mut self, out: InFlight, answered: Answered, behind: usize) -> Replied
         ensures told { result ≡ replied_of answered }
-        ensures kept { self.new ≡ record self.old { state = at.HasReply out (reply_of answered.sent behind) } }
+        ensures kept { self.new
+            ≡ record self.old { state = at.HasReply out (reply_of answered.sent behind) } }
     {
         let (reply, has_room) = reply_of(answered.sent, behind);
         self.state = ChainState::HasReply(out, reply);
@@ -80,12 +83,16 @@ impl ChainHandle {
         waiting: Waiting,
         answer: FileAnswer,
     ) -> Result<Replied, ChainError>
-        ensures given { IfOk result (λ told. IsGiven (setting self.old.session.page_size self.old.session.options.0 waiting.room) waiting answer out self.new.session.options.0 told self.new.state) }
+        ensures given { IfOk result
+            (λ told. IsGiven (setting self.old.session.page_size self.old.session.options.0 waiting.room)
+            waiting answer out self.new.session.options.0 told self.new.state) }
         ensures taken { OnOk result (CanBeGiven waiting answer) }
         ensures refused { IfErr result (λ e. RefusesAnswer waiting answer e) }
         ensures same { OnErr result (self.new ≡ record self.old { state = at.Waits out waiting }) }
         ensures page_size { self.new.session.page_size ≡ self.old.session.page_size }
-        ensures stays { IsAllBut self.old self.new × (self.new.descriptors ≡ self.old.descriptors) × (self.new.part ≡ self.old.part) }
+        ensures stays { IsAllBut self.old self.new
+            × (self.new.descriptors ≡ self.old.descriptors)
+            × (self.new.part ≡ self.old.part) }
     {
         let behind = data_len(&answer);
         match self.session.answer(waiting, answer) {
@@ -101,12 +108,16 @@ impl ChainHandle {
     // Answers the call that waits, whichever it is.
     fn answer_asked(&mut self, answer: FileAnswer) -> Result<Replied, ChainError>
         ensures given { IfOk result (λ told. IfWaits self.old.state (λ out w.
-            IsGiven (setting self.old.session.page_size self.old.session.options.0 w.room) w answer out self.new.session.options.0 told self.new.state)) }
-        ensures taken { OnOk result (IsWaiting self.old.state × IfWaits self.old.state (λ out w. CanBeGiven w answer)) }
+            IsGiven (setting self.old.session.page_size self.old.session.options.0 w.room) w answer out
+            self.new.session.options.0 told self.new.state)) }
+        ensures taken { OnOk result (IsWaiting self.old.state
+            × IfWaits self.old.state (λ out w. CanBeGiven w answer)) }
         ensures refused { IfErr result (λ e. AnswerFails self.old.state answer e) }
         ensures same { OnErr result (self.new ≡ self.old) }
         ensures page_size { self.new.session.page_size ≡ self.old.session.page_size }
-        ensures stays { IsAllBut self.old self.new × (self.new.descriptors ≡ self.old.descriptors) × (self.new.part ≡ self.old.part) }
+        ensures stays { IsAllBut self.old self.new
+            × (self.new.descriptors ≡ self.old.descriptors)
+            × (self.new.part ≡ self.old.part) }
     {
         match mem::replace(&mut self.state, ChainState::Free) {
             ChainState::Waits(out, waiting) => self.answer_waiting(out, waiting, answer),
@@ -121,17 +132,22 @@ impl ChainHandle {
         }
     }
 
-    /// Answers a chain's call, in the session in which it was asked, by the number of the chain (`serial`). `WrongOrder` if no call waits, `OtherCall` if
-    /// another one does. A listing is answered entry by entry, or by `fail`: else `OtherKind`.
+    /// Answers a chain's call, in the session in which it was asked, by the number of the chain (`serial`).
+    /// `WrongOrder` if no call waits, `OtherCall` if another one does. A listing is answered entry by entry,
+    /// or by `fail`: else `OtherKind`.
     pub fn answer(&mut self, serial: u32, answer: FileAnswer) -> Result<Replied, ChainError>
         ensures given { IfOk result (λ told. IfWaits self.old.state (λ out w.
-            IsGiven (setting self.old.session.page_size self.old.session.options.0 w.room) w answer out self.new.session.options.0 told self.new.state)) }
+            IsGiven (setting self.old.session.page_size self.old.session.options.0 w.room) w answer out
+            self.new.session.options.0 told self.new.state)) }
         ensures mine { OnOk result (self.old.serial ≡ serial) }
-        ensures taken { OnOk result (IsWaiting self.old.state × IfWaits self.old.state (λ out w. CanBeGiven w answer)) }
+        ensures taken { OnOk result (IsWaiting self.old.state
+            × IfWaits self.old.state (λ out w. CanBeGiven w answer)) }
         ensures refused { IfErr result (λ e. IsNotTaken self.old serial answer e) }
         ensures same { OnErr result (self.new ≡ self.old) }
         ensures page_size { self.new.session.page_size ≡ self.old.session.page_size }
-        ensures stays { IsAllBut self.old self.new × (self.new.descriptors ≡ self.old.descriptors) × (self.new.part ≡ self.old.part) }
+        ensures stays { IsAllBut self.old self.new
+            × (self.new.descriptors ≡ self.old.descriptors)
+            × (self.new.part ≡ self.old.part) }
     {
         match self.serial_error(serial) {
             Some(error) => Err(error),

@@ -1,6 +1,7 @@
 //! The handle: a handle for one chain at a time.
 
-ghost use Rattle.std.specs.Prelude.{◌≡◌, ◌≤◌, [], Some, None, IfErr, IfSome, OnOk, OnErr, OnSome, true, false};
+ghost use Rattle.std.specs.Prelude.{◌≡◌, ◌≤◌, [], Some, None, IfErr, IfSome, OnOk, OnErr, OnSome, true};
+ghost use Rattle.std.specs.Prelude.{false};
 ghost use Rattle.fs_queue.specs.Taking.{all_reach, total_len, access_of, of_direction};
 ghost use Rattle.fs_regions.specs.Places.{places_in, untranslated};
 ghost use Rattle.fs_regions.specs.Windows.{IsWindowFrom};
@@ -19,8 +20,9 @@ use virtiofsd_fuse::MAX_REQUEST_LEN;
 use vm_bitmaps::PAGE_SIZE;
 use vm_memory_core::VolatileSlice;
 
-/// A handle for one chain at a time: from the walk that finds it to the stores that give it back. It keeps the first bytes of the load that its walk
-/// asks for, if the load is made in parts, the session in which its chain was asked, and by which number an answer names that chain.
+/// A handle for one chain at a time: from the walk that finds it to the stores that give it back. It keeps
+/// the first bytes of the load that its walk asks for, if the load is made in parts, the session in which its
+/// chain was asked, and by which number an answer names that chain.
 #[derive(Drop)]
 pub struct ChainHandle {
     pub(crate) alloc: Global,
@@ -61,14 +63,18 @@ impl ChainHandle {
         }
     }
 
-    /// Over which memory the next walks go, and how many bytes a request or a room has at most: from 0x101000 to 2^31, else `BadArgument`.
-    /// `ChainInFlight` unless the handle is free.
+    /// Over which memory the next walks go, and how many bytes a request or a room has at most: from 0x101000
+    /// to 2^31, else `BadArgument`. `ChainInFlight` unless the handle is free.
     pub fn set_memory(&mut self, regions: GuestMap, limit: u32) -> Result<(), ChainError>
         ensures error { IfErr result (λ e. memory_error self.old.state limit ≡ Some e) }
         ensures ok { OnOk result (memory_error self.old.state limit ≡ None) }
         ensures same { OnErr result (self.new ≡ self.old) }
-        ensures set { OnOk result ((self.new.regions ≡ regions) × (self.new.limit ≡ limit) × (self.new.state ≡ self.old.state)
-            × (self.new.part ≡ self.old.part) × (self.new.session ≡ self.old.session) × (self.new.serial ≡ self.old.serial)
+        ensures set { OnOk result ((self.new.regions ≡ regions)
+            × (self.new.limit ≡ limit)
+            × (self.new.state ≡ self.old.state)
+            × (self.new.part ≡ self.old.part)
+            × (self.new.session ≡ self.old.session)
+            × (self.new.serial ≡ self.old.serial)
             × (self.new.list_len ≡ self.old.list_len)) }
     {
         match self.state {
@@ -82,8 +88,12 @@ impl ChainHandle {
         ensures error { IfErr result (λ e. memory_error at.Free limit ≡ Some e) }
         ensures ok { OnOk result (memory_error at.Free limit ≡ None) }
         ensures same { OnErr result (self.new ≡ self.old) }
-        ensures set { OnOk result ((self.new.regions ≡ regions) × (self.new.limit ≡ limit) × (self.new.state ≡ self.old.state)
-            × (self.new.part ≡ self.old.part) × (self.new.session ≡ self.old.session) × (self.new.serial ≡ self.old.serial)
+        ensures set { OnOk result ((self.new.regions ≡ regions)
+            × (self.new.limit ≡ limit)
+            × (self.new.state ≡ self.old.state)
+            × (self.new.part ≡ self.old.part)
+            × (self.new.session ≡ self.old.session)
+            × (self.new.serial ≡ self.old.serial)
             × (self.new.list_len ≡ self.old.list_len)) }
     {
         if limit < MAX_REQUEST_LEN || MOST_LIMIT < limit {
@@ -101,8 +111,9 @@ impl ChainHandle {
         !matches!(self.state, ChainState::Free | ChainState::Walking(_, _, _))
     }
 
-    /// The longest window of one direction of a chain from a byte on, behind the descriptors that were passed; those before that byte are passed
-    /// then. None past the end of the direction's bytes, or if no chain is out. So all windows of a chain take time for its descriptors once.
+    /// The longest window of one direction of a chain from a byte on, behind the descriptors that were
+    /// passed; those before that byte are passed then. None past the end of the direction's bytes, or if no
+    /// chain is out. So all windows of a chain take time for its descriptors once.
     pub fn next_window(
         &self,
         write_only: bool,
@@ -111,10 +122,13 @@ impl ChainHandle {
     ) -> Option<VolatileSlice>
         requires passed { HasPassed write_only self.now.descriptors.items passed.old }
         ensures passed { HasPassed write_only self.now.descriptors.items passed.new }
-        ensures some { IfSome result (IsWindowFrom self.now.regions write_only self.now.descriptors.items from) }
+        ensures some { IfSome result
+            (IsWindowFrom self.now.regions write_only self.now.descriptors.items from) }
         ensures out { OnSome result (is_out self.now.state ≡ true) }
-        ensures none { result ≡ None → is_out self.now.state ≡ true
-            → all_reach (places_in self.now.regions) (access_of write_only) (of_direction write_only self.now.descriptors.items) ≡ true
+        ensures none { result ≡ None
+            → is_out self.now.state ≡ true
+            → all_reach (places_in self.now.regions) (access_of write_only)
+            (of_direction write_only self.now.descriptors.items) ≡ true
             → total_len (of_direction write_only self.now.descriptors.items) ≤ from }
     {
         if !self.is_out() {
@@ -127,10 +141,13 @@ impl ChainHandle {
 
     // The longest window of one direction of the chain that is out, from a byte on.
     fn window(&self, write_only: bool, from: u64) -> Option<VolatileSlice>
-        ensures some { IfSome result (IsWindowFrom self.now.regions write_only self.now.descriptors.items from) }
+        ensures some { IfSome result
+            (IsWindowFrom self.now.regions write_only self.now.descriptors.items from) }
         ensures out { OnSome result (is_out self.now.state ≡ true) }
-        ensures none { result ≡ None → is_out self.now.state ≡ true
-            → all_reach (places_in self.now.regions) (access_of write_only) (of_direction write_only self.now.descriptors.items) ≡ true
+        ensures none { result ≡ None
+            → is_out self.now.state ≡ true
+            → all_reach (places_in self.now.regions) (access_of write_only)
+            (of_direction write_only self.now.descriptors.items) ≡ true
             → total_len (of_direction write_only self.now.descriptors.items) ≤ from }
     {
         if !self.is_out() {
@@ -143,8 +160,10 @@ impl ChainHandle {
     pub fn request_window(&self, from: u64) -> Option<VolatileSlice>
         ensures some { IfSome result (IsWindowFrom self.now.regions false self.now.descriptors.items from) }
         ensures out { OnSome result (is_out self.now.state ≡ true) }
-        ensures none { result ≡ None → is_out self.now.state ≡ true
-            → all_reach (places_in self.now.regions) (access_of false) (of_direction false self.now.descriptors.items) ≡ true
+        ensures none { result ≡ None
+            → is_out self.now.state ≡ true
+            → all_reach (places_in self.now.regions) (access_of false)
+            (of_direction false self.now.descriptors.items) ≡ true
             → total_len (of_direction false self.now.descriptors.items) ≤ from }
     {
         self.window(false, from)
@@ -154,8 +173,10 @@ impl ChainHandle {
     pub fn room_window(&self, from: u64) -> Option<VolatileSlice>
         ensures some { IfSome result (IsWindowFrom self.now.regions true self.now.descriptors.items from) }
         ensures out { OnSome result (is_out self.now.state ≡ true) }
-        ensures none { result ≡ None → is_out self.now.state ≡ true
-            → all_reach (places_in self.now.regions) (access_of true) (of_direction true self.now.descriptors.items) ≡ true
+        ensures none { result ≡ None
+            → is_out self.now.state ≡ true
+            → all_reach (places_in self.now.regions) (access_of true)
+            (of_direction true self.now.descriptors.items) ≡ true
             → total_len (of_direction true self.now.descriptors.items) ≤ from }
     {
         self.window(true, from)

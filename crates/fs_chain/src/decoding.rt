@@ -1,6 +1,7 @@
 //! What a chain's request asks.
 
-ghost use Rattle.std.specs.Prelude.{◌≡◌, ℕ, List, Ok, Some, None, IfErr, IfOk, OnOk, OnErr, drop, length, if◌then◌else◌};
+ghost use Rattle.std.specs.Prelude.{◌≡◌, ℕ, List, Ok, Some, None, IfErr, IfOk, OnOk, OnErr, drop, length};
+ghost use Rattle.std.specs.Prelude.{if◌then◌else◌};
 ghost use Rattle.fuse_fs.specs.Answers.{context_of};
 ghost use Rattle.fuse_fs.specs.declared.answers.Context.{Context};
 ghost use Rattle.fuse_in.specs.Records.{in_header};
@@ -9,8 +10,10 @@ ghost use Rattle.fuse_values.specs.declared.call.FileCall as value;
 ghost use Rattle.server_requests.specs.Reading.{reading_of};
 ghost use Rattle.virtiofsd_fuse.specs.Grammar.{Meaning, meaning};
 ghost use Rattle.virtiofsd_fuse.specs.Serving.{Setting, setting};
-ghost use Rattle.server_phases.specs.Asking.{AsksCall, HasAskerByFront, IsAskedBy, IsRequestFront, IsDecoded, IsToldByFront, is_told};
-ghost use Rattle.fs_chain.specs.Decoding.{IfUndecoded, IsKeptFor, KeepsCall, TellsMeaning, wanted, wanted_after, wanted_by};
+ghost use Rattle.server_phases.specs.Asking.{AsksCall, HasAskerByFront, IsAskedBy, IsRequestFront, IsDecoded};
+ghost use Rattle.server_phases.specs.Asking.{IsToldByFront, is_told};
+ghost use Rattle.fs_chain.specs.Decoding.{IfUndecoded, IsKeptFor, KeepsCall, TellsMeaning, wanted};
+ghost use Rattle.fs_chain.specs.Decoding.{wanted_after, wanted_by};
 ghost use Rattle.fs_chain.specs.Orders.{ask_error};
 ghost use Rattle.fs_chain.specs.Walks.{IsAllBut, IsAllButPlace};
 ghost use Rattle.fs_chain.specs.declared.state.ChainState.TheVariants as at;
@@ -38,7 +41,9 @@ pub enum Decoded<'a> {
 
 // Where a chain is whose call waits: a listing gathers entries.
 fn waiting_state(out: InFlight, waiting: Waiting) -> ChainState
-    ensures keeps { (s : Setting) (m : Meaning) (bytes : List ℕ) (made : value.FileCall) → AsksCall s m bytes made waiting → KeepsCall s m bytes made out result }
+    ensures keeps { (s : Setting) (m : Meaning) (bytes : List ℕ) (made : value.FileCall)
+        → AsksCall s m bytes made waiting
+        → KeepsCall s m bytes made out result }
     ensures asker { IsKeptFor waiting.context result }
 {
     match Listing::begin(waiting) {
@@ -68,7 +73,9 @@ fn wanted(len: usize, whole: usize) -> usize
 impl ChainHandle {
     // Keeps what a request asks, and tells it.
     fn keep_asked<'a>(&mut self, out: InFlight, asked: DecodedRequest<'a>) -> Decoded<'a>
-        ensures tells { (s : Setting) (m : Meaning) (bytes : List ℕ) → IsDecoded s m bytes asked.entry → TellsMeaning s m bytes out result self.new.state }
+        ensures tells { (s : Setting) (m : Meaning) (bytes : List ℕ)
+            → IsDecoded s m bytes asked.entry
+            → TellsMeaning s m bytes out result self.new.state }
         ensures asker { (who : Context) → IsAskedBy who asked.entry → IsKeptFor who self.new.state }
         ensures told { wanted_by result ≡ None }
         ensures same { IsAllButPlace self.old self.new }
@@ -96,9 +103,16 @@ impl ChainHandle {
 
     // Keeps what the first bytes of a request tell.
     fn keep_front<'a>(&mut self, out: InFlight, len: usize, asked: AskedFront<'a>) -> Decoded<'a>
-        ensures tells { (s : Setting) (m : Meaning) (bytes : List ℕ) → IsToldByFront s m bytes asked.entry → TellsMeaning s m bytes out result self.new.state }
-        ensures asker { (request : List ℕ) → HasAskerByFront request asked.entry → (h : InHeader) (more : List ℕ) → reading_of in_header request ≡ Ok (h, more) → IsKeptFor (context_of h) self.new.state }
-        ensures wanted { wanted_by result ≡ (if is_told asked.entry then None else Some (wanted len out.request_len)) }
+        ensures tells { (s : Setting) (m : Meaning) (bytes : List ℕ)
+            → IsToldByFront s m bytes asked.entry
+            → TellsMeaning s m bytes out result self.new.state }
+        ensures asker { (request : List ℕ)
+            → HasAskerByFront request asked.entry
+            → (h : InHeader) (more : List ℕ)
+            → reading_of in_header request ≡ Ok (h, more)
+            → IsKeptFor (context_of h) self.new.state }
+        ensures wanted { wanted_by result ≡ (if is_told asked.entry then None
+            else Some (wanted len out.request_len)) }
         ensures same { IsAllButPlace self.old self.new }
         ensures list { self.new.list_len ≡ self.old.list_len }
     {
@@ -121,14 +135,24 @@ impl ChainHandle {
         requires { self.old.state ≡ at.Taken out }
         ensures error { IfErr result (λ e. ask_error (at.Taken out) (length request.now) ≡ Some e) }
         ensures ok { OnOk result (ask_error (at.Taken out) (length request.now) ≡ None) }
-        ensures tells { IfOk result (λ told. (whole : List ℕ) → out.request_len ≡ length whole → IsRequestFront request.now whole
-            → TellsMeaning (setting session.page_size session.options.0 out.room_len) (meaning session.options.0 whole out.room_len) (drop 80 whole) out told self.new.state) }
-        ensures asker { OnOk result ((whole : List ℕ) → out.request_len ≡ length whole → IsRequestFront request.now whole
-            → (h : InHeader) (more : List ℕ) → reading_of in_header whole ≡ Ok (h, more) → IsKeptFor (context_of h) self.new.state) }
+        ensures tells { IfOk result (λ told. (whole : List ℕ)
+            → out.request_len ≡ length whole
+            → IsRequestFront request.now whole
+            → TellsMeaning (setting session.page_size session.options.0 out.room_len)
+            (meaning session.options.0 whole out.room_len) (drop 80 whole) out told self.new.state) }
+        ensures asker { OnOk result ((whole : List ℕ)
+            → out.request_len ≡ length whole
+            → IsRequestFront request.now whole
+            → (h : InHeader) (more : List ℕ)
+            → reading_of in_header whole ≡ Ok (h, more)
+            → IsKeptFor (context_of h) self.new.state) }
         ensures wanted { IfOk result (λ told. wanted_by told ≡ wanted_after request.now out.request_len) }
-        ensures same { IsAllBut self.old self.new × (self.new.descriptors ≡ self.old.descriptors) × (self.new.part ≡ self.old.part) }
+        ensures same { IsAllBut self.old self.new
+            × (self.new.descriptors ≡ self.old.descriptors)
+            × (self.new.part ≡ self.old.part) }
         ensures session { OnOk result (self.new.session ≡ session) }
-        ensures stays { OnErr result ((self.new.state ≡ at.Taken out) × (self.new.session ≡ self.old.session)) }
+        ensures stays { OnErr result ((self.new.state ≡ at.Taken out)
+            × (self.new.session ≡ self.old.session)) }
     {
         let len = out.request_len;
         if len < request.len() {
@@ -139,8 +163,8 @@ impl ChainHandle {
         Ok(self.keep_front(out, request.len(), asked))
     }
 
-    /// Tells what a chain's request asks, by its first bytes, in this session, which is kept. A call that is told waits
-    /// for its answer. No error of it is for want of memory.
+    /// Tells what a chain's request asks, by its first bytes, in this session, which is kept. A call that is
+    /// told waits for its answer. No error of it is for want of memory.
     pub fn decode<'a>(
         &mut self,
         session: Session,
@@ -148,14 +172,25 @@ impl ChainHandle {
     ) -> Result<Decoded<'a>, ChainError>
         ensures error { IfErr result (λ e. ask_error self.old.state (length request.now) ≡ Some e) }
         ensures ok { OnOk result (ask_error self.old.state (length request.now) ≡ None) }
-        ensures tells { IfOk result (λ told. IfUndecoded self.old.state (λ out. (whole : List ℕ) → out.request_len ≡ length whole → IsRequestFront request.now whole
-            → TellsMeaning (setting session.page_size session.options.0 out.room_len) (meaning session.options.0 whole out.room_len) (drop 80 whole) out told self.new.state)) }
-        ensures asker { OnOk result (IfUndecoded self.old.state (λ out. (whole : List ℕ) → out.request_len ≡ length whole → IsRequestFront request.now whole
-            → (h : InHeader) (more : List ℕ) → reading_of in_header whole ≡ Ok (h, more) → IsKeptFor (context_of h) self.new.state)) }
-        ensures wanted { IfOk result (λ told. IfUndecoded self.old.state (λ out. wanted_by told ≡ wanted_after request.now out.request_len)) }
-        ensures same { IsAllBut self.old self.new × (self.new.descriptors ≡ self.old.descriptors) × (self.new.part ≡ self.old.part) }
+        ensures tells { IfOk result (λ told. IfUndecoded self.old.state (λ out. (whole : List ℕ)
+            → out.request_len ≡ length whole
+            → IsRequestFront request.now whole
+            → TellsMeaning (setting session.page_size session.options.0 out.room_len)
+            (meaning session.options.0 whole out.room_len) (drop 80 whole) out told self.new.state)) }
+        ensures asker { OnOk result (IfUndecoded self.old.state (λ out. (whole : List ℕ)
+            → out.request_len ≡ length whole
+            → IsRequestFront request.now whole
+            → (h : InHeader) (more : List ℕ)
+            → reading_of in_header whole ≡ Ok (h, more)
+            → IsKeptFor (context_of h) self.new.state)) }
+        ensures wanted { IfOk result (λ told. IfUndecoded self.old.state
+            (λ out. wanted_by told ≡ wanted_after request.now out.request_len)) }
+        ensures same { IsAllBut self.old self.new
+            × (self.new.descriptors ≡ self.old.descriptors)
+            × (self.new.part ≡ self.old.part) }
         ensures session { OnOk result (self.new.session ≡ session) }
-        ensures stays { OnErr result ((self.new.state ≡ self.old.state) × (self.new.session ≡ self.old.session)) }
+        ensures stays { OnErr result ((self.new.state ≡ self.old.state)
+            × (self.new.session ≡ self.old.session)) }
     {
         match &self.state {
             ChainState::Taken(out) => {

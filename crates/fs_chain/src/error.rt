@@ -12,11 +12,13 @@ pub enum ChainError {
     BadArgument,
     /// The buffer is too short.
     ShortBuffer,
-    /// More data than a reply can tell; or a reply of the caller's own that is longer than the room, or than can be told.
+    /// More data than a reply can tell; or a reply of the caller's own that is longer than the room, or than
+    /// can be told.
     LongReply,
     /// The chain isn't where this call goes on from.
     WrongOrder,
-    /// The queue is another one than that of the chain or of its walk, or was begun anew since; or a chain was taken or given up since the walk began.
+    /// The queue is another one than that of the chain or of its walk, or was begun anew since; or a chain
+    /// was taken or given up since the walk began.
     OtherQueue,
     /// The answer is another call's than that which waits: its pop_id is another one.
     OtherCall,

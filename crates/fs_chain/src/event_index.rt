@@ -1,8 +1,10 @@
-//! By what driver and device say of which chains they want to be told: VIRTIO_F_EVENT_IDX, or the rings' flags (VIRTIO 1.2, 2.7.7 and 2.7.10).
+//! By what driver and device say of which chains they want to be told: VIRTIO_F_EVENT_IDX, or the rings'
+//! flags (VIRTIO 1.2, 2.7.7 and 2.7.10).
 
 ghost use Rattle.std.specs.Prelude.{◌≡◌, option_map};
 ghost use Rattle.fs_regions.specs.Places.{places_in};
-ghost use Rattle.fs_chain.specs.Events.{avail_event_at, event_fault, notification_store, seen_at, store_of, tells_of, used_event_at};
+ghost use Rattle.fs_chain.specs.Events.{avail_event_at, event_fault, notification_store, seen_at, store_of};
+ghost use Rattle.fs_chain.specs.Events.{tells_of, used_event_at};
 
 use crate::queue::QueueState;
 use fs_queue::{QueueError, QueueLayout, Return};
@@ -74,10 +76,11 @@ impl QueueState {
         None
     }
 
-    /// What the device stores to enable the driver's notifications of new chains, or to disable them. With the event
-    /// index the driver notifies for the next chain alone, and nothing is stored to disable. A thread enables them
-    /// before it sleeps, and when it takes a chain while another thread of the queue sleeps: behind a full barrier it
-    /// then looks once more, by a new load of the available index. All of that is under the queue's lock.
+    /// What the device stores to enable the driver's notifications of new chains, or to disable them. With
+    /// the event index the driver notifies for the next chain alone, and nothing is stored to disable. A
+    /// thread enables them before it sleeps, and when it takes a chain while another thread of the queue
+    /// sleeps: behind a full barrier it then looks once more, by a new load of the available index. All of
+    /// that is under the queue's lock.
     pub fn notification_store(&self, wanted: bool) -> Option<NotificationStore>
         ensures { option_map store_of result ≡ notification_store self.now wanted }
     {

@@ -13,7 +13,8 @@ use crate::queue::QueueState;
 use crate::state::{ChainState, InFlight};
 
 impl ChainHandle {
-    // A chain that wasn't asked is out of its queue no more; or it stays, of another queue, or since others were taken after it.
+    // A chain that wasn't asked is out of its queue no more; or it stays, of another queue, or since others
+    // were taken after it.
     fn give_back(&mut self, queue: &mut QueueState, out: InFlight) -> Result<(), ChainError>
         requires { self.old.state ≡ at.Taken out }
         ensures error { IfErr result (λ e. give_up_error (at.Taken out) queue.old ≡ Some e) }
@@ -32,15 +33,17 @@ impl ChainHandle {
         Ok(())
     }
 
-    /// Gives up a walk, or a chain whose request wasn't asked: the handle is free, and the queue hands the same chain out at its next walk, read anew.
-    /// `WrongOrder` if its request was asked, since then a reply ends it, or silence (`reply`), or if it isn't the last of those that were taken;
-    /// `OtherQueue` if it isn't out of this queue.
+    /// Gives up a walk, or a chain whose request wasn't asked: the handle is free, and the queue hands the
+    /// same chain out at its next walk, read anew. `WrongOrder` if its request was asked, since then a reply
+    /// ends it, or silence (`reply`), or if it isn't the last of those that were taken; `OtherQueue` if it
+    /// isn't out of this queue.
     pub fn give_up(&mut self, queue: &mut QueueState) -> Result<(), ChainError>
         ensures error { IfErr result (λ e. give_up_error self.old.state queue.old ≡ Some e) }
         ensures ok { OnOk result (give_up_error self.old.state queue.old ≡ None) }
         ensures same { OnErr result ((self.new ≡ self.old) × (queue.new ≡ queue.old)) }
         ensures free { OnOk result (self.new ≡ freed self.old) }
-        ensures queue { OnOk result (queue.new ≡ (if is_out self.old.state then untook queue.old else queue.old)) }
+        ensures queue { OnOk result (queue.new ≡ (if is_out self.old.state then untook queue.old
+            else queue.old)) }
     {
         match &self.state {
             ChainState::Free | ChainState::Walking(_, _, _) => {
@@ -55,7 +58,8 @@ impl ChainHandle {
         }
     }
 
-    /// Frees a handle whose queue was begun anew while its chain was out, or while it was walked: the queue isn't told. Nothing is kept of a load.
+    /// Frees a handle whose queue was begun anew while its chain was out, or while it was walked: the queue
+    /// isn't told. Nothing is kept of a load.
     pub fn abandon(&mut self)
         ensures { IsFreed self.old self.new }
     {

@@ -1,13 +1,15 @@
 //! A walk is given the bytes that it asked for; where these bytes stand.
 
-ghost use Rattle.std.specs.Prelude.{◌≡◌, ◌⊎◌, ◌<◌, ◌+◌, ◌-◌, Some, None, IfErr, IfOk, OnOk, OnErr, IfSome, OnSome, length, min};
+ghost use Rattle.std.specs.Prelude.{◌≡◌, ◌⊎◌, ◌<◌, ◌+◌, ◌-◌, Some, None, IfErr, IfOk, OnOk, OnErr, IfSome};
+ghost use Rattle.std.specs.Prelude.{OnSome, length, min};
 ghost use Rattle.smallvec.specs.SmallVec.{HasRoomFor};
 ghost use Rattle.vm_iotlb.specs.declared.permissions.Permissions.TheVariants.{Read};
 ghost use Rattle.vm_memory.specs.Memory.{location};
 ghost use Rattle.vm_memory.specs.Slices.{IsWindowAt};
 ghost use Rattle.fs_regions.specs.Places.{left_in, places_in};
 ghost use Rattle.fs_regions.specs.Walks.{asked_by, asked_len};
-ghost use Rattle.fs_chain.specs.Orders.{begin_error, give_error, walk_error, entries_asked, IfWalking, IsWalking};
+ghost use Rattle.fs_chain.specs.Orders.{begin_error, give_error, walk_error, entries_asked, IfWalking};
+ghost use Rattle.fs_chain.specs.Orders.{IsWalking};
 ghost use Rattle.fs_chain.specs.Walks.{LacksRoom, WalksOn, IsAllBut};
 ghost use Rattle.fs_chain.specs.declared.state.ChainState.TheVariants as at;
 
@@ -25,9 +27,14 @@ use vm_memory_core::{Permissions, VolatileSlice};
 // The longest window of the bytes that a walk asks for, from one of them on.
 #[inline(always)]
 fn window_of(regions: &GuestMap, walk: &QueueWalk, from: usize) -> Option<VolatileSlice>
-    ensures some { IfSome result (λ w. (from < asked_len walk.now) × IsWindowAt (location (places_in regions.now) Read) (asked_by walk.now + from) (asked_len walk.now - from) w) }
-    ensures longest { IfSome result (λ w. w.len ≡ min (asked_len walk.now - from) (left_in (places_in regions.now) (asked_by walk.now + from))) }
-    ensures none { result ≡ None → from < asked_len walk.now → location (places_in regions.now) Read (asked_by walk.now + from) ≡ None }
+    ensures some { IfSome result (λ w. (from < asked_len walk.now)
+        × IsWindowAt (location (places_in regions.now) Read) (asked_by walk.now + from)
+        (asked_len walk.now - from) w) }
+    ensures longest { IfSome result (λ w. w.len
+        ≡ min (asked_len walk.now - from) (left_in (places_in regions.now) (asked_by walk.now + from))) }
+    ensures none { result ≡ None
+        → from < asked_len walk.now
+        → location (places_in regions.now) Read (asked_by walk.now + from) ≡ None }
 {
     let len = walk.len();
     if len <= from {
@@ -119,7 +126,9 @@ impl ChainHandle {
         requires { IsWalking self.old.state }
         ensures room { OnOk result (HasRoomFor self.new.descriptors (entries_asked self.new.state)) }
         ensures memory { IfErr result (λ e. (e ≡ ChainError.OutOfMemory) × LacksRoom self.old) }
-        ensures same { IsAllBut self.old self.new × (self.new.state ≡ self.old.state) × (self.new.descriptors.items ≡ self.old.descriptors.items) }
+        ensures same { IsAllBut self.old self.new
+            × (self.new.state ≡ self.old.state)
+            × (self.new.descriptors.items ≡ self.old.descriptors.items) }
         ensures apart { (self.new.part ≡ self.old.part) × (self.new.session ≡ self.old.session) }
     {
         let ChainState::Walking(_, _, walk) = &self.state else {
@@ -135,17 +144,22 @@ impl ChainHandle {
         }
     }
 
-    // Goes on with a walk by these bytes, if it asked for so many and its queue is this one. A queue that was stopped
-    // meanwhile refuses it.
+    // Goes on with a walk by these bytes, if it asked for so many and its queue is this one. A queue that was
+    // stopped meanwhile refuses it.
     #[inline(always)]
     fn go_on(&mut self, queue: &mut QueueState, loaded: &[u8]) -> Result<PopOutcome, ChainError>
         requires { IsWalking self.old.state }
         ensures error { IfErr result (λ e. (walk_error self.old.state queue.old (length loaded.now) ≡ Some e)
-            ⊎ ((e ≡ ChainError.OutOfMemory) × (walk_error self.old.state queue.old (length loaded.now) ≡ None))) }
+            ⊎ ((e ≡ ChainError.OutOfMemory)
+            × (walk_error self.old.state queue.old (length loaded.now) ≡ None))) }
         ensures ok { OnOk result (walk_error self.old.state queue.old (length loaded.now) ≡ None) }
         ensures memory { IfErr result (λ e. e ≡ ChainError.OutOfMemory → LacksRoom self.old) }
-        ensures same { OnErr result (IsAllBut self.old self.new × (self.new.state ≡ self.old.state) × (self.new.descriptors.items ≡ self.old.descriptors.items) × (queue.new ≡ queue.old)) }
-        ensures walks { IfOk result (λ walked. WalksOn loaded.now self.old self.new queue.old queue.new walked) }
+        ensures same { OnErr result (IsAllBut self.old self.new
+            × (self.new.state ≡ self.old.state)
+            × (self.new.descriptors.items ≡ self.old.descriptors.items)
+            × (queue.new ≡ queue.old)) }
+        ensures walks { IfOk result
+            (λ walked. WalksOn loaded.now self.old self.new queue.old queue.new walked) }
         ensures apart { (self.new.part ≡ self.old.part) × (self.new.session ≡ self.old.session) }
     {
         match &self.state {
@@ -166,7 +180,8 @@ impl ChainHandle {
         }
     }
 
-    /// Takes the next chain of a queue by whole loads: at first without bytes, then with those of each load that was asked for.
+    /// Takes the next chain of a queue by whole loads: at first without bytes, then with those of each load
+    /// that was asked for.
     #[inline(always)]
     pub(crate) fn walk_load(
         &mut self,
@@ -174,11 +189,16 @@ impl ChainHandle {
         loaded: &[u8],
     ) -> Result<PopOutcome, ChainError>
         ensures error { IfErr result (λ e. (walk_error self.old.state queue.old (length loaded.now) ≡ Some e)
-            ⊎ ((e ≡ ChainError.OutOfMemory) × (walk_error self.old.state queue.old (length loaded.now) ≡ None))) }
+            ⊎ ((e ≡ ChainError.OutOfMemory)
+            × (walk_error self.old.state queue.old (length loaded.now) ≡ None))) }
         ensures ok { OnOk result (walk_error self.old.state queue.old (length loaded.now) ≡ None) }
         ensures memory { IfErr result (λ e. e ≡ ChainError.OutOfMemory → LacksRoom self.old) }
-        ensures same { OnErr result (IsAllBut self.old self.new × (self.new.state ≡ self.old.state) × (self.new.descriptors.items ≡ self.old.descriptors.items) × (queue.new ≡ queue.old)) }
-        ensures walks { IfOk result (λ walked. WalksOn loaded.now self.old self.new queue.old queue.new walked) }
+        ensures same { OnErr result (IsAllBut self.old self.new
+            × (self.new.state ≡ self.old.state)
+            × (self.new.descriptors.items ≡ self.old.descriptors.items)
+            × (queue.new ≡ queue.old)) }
+        ensures walks { IfOk result
+            (λ walked. WalksOn loaded.now self.old self.new queue.old queue.new walked) }
         ensures apart { (self.new.part ≡ self.old.part) × (self.new.session ≡ self.old.session) }
     {
         match self.state {
@@ -188,7 +208,8 @@ impl ChainHandle {
         }
     }
 
-    /// Why a walk doesn't go on by a whole load of so many bytes, of a queue as it stands, or begin by none; None if only memory may be wanting.
+    /// Why a walk doesn't go on by a whole load of so many bytes, of a queue as it stands, or begin by none;
+    /// None if only memory may be wanting.
     pub fn walk_refusal(&self, queue: &QueueState, len: usize) -> Option<ChainError>
         ensures { result ≡ walk_error self.now.state queue.now len }
     {
@@ -201,13 +222,18 @@ impl ChainHandle {
         }
     }
 
-    /// The longest window of the bytes that a walk asks for, from one of them on; none past their end, or if nothing is asked for.
+    /// The longest window of the bytes that a walk asks for, from one of them on; none past their end, or if
+    /// nothing is asked for.
     #[inline(always)]
     pub fn load_window(&self, from: usize) -> Option<VolatileSlice>
         ensures some { IfSome result (λ w. IfWalking self.now.state (λ walk. (from < asked_len walk)
-            × IsWindowAt (location (places_in self.now.regions) Read) (asked_by walk + from) (asked_len walk - from) w
-            × (w.len ≡ min (asked_len walk - from) (left_in (places_in self.now.regions) (asked_by walk + from))))) }
-        ensures none { result ≡ None → IfWalking self.now.state (λ walk. from < asked_len walk → location (places_in self.now.regions) Read (asked_by walk + from) ≡ None) }
+            × IsWindowAt (location (places_in self.now.regions) Read) (asked_by walk + from)
+            (asked_len walk - from) w
+            × (w.len ≡ min (asked_len walk - from)
+            (left_in (places_in self.now.regions) (asked_by walk + from))))) }
+        ensures none { result ≡ None
+            → IfWalking self.now.state (λ walk. from < asked_len walk
+            → location (places_in self.now.regions) Read (asked_by walk + from) ≡ None) }
         ensures walking { OnSome result (IsWalking self.now.state) }
     {
         match &self.state {

@@ -4,7 +4,8 @@ ghost use Rattle.std.specs.Prelude.{◌≡◌, OnOk, OnErr, length};
 ghost use Rattle.fuse_fs.specs.Answers.{listed};
 ghost use Rattle.server_replies.specs.Entries.{no_node};
 ghost use Rattle.server_phases.specs.Gathering.{added_found, added_plain};
-ghost use Rattle.fs_chain.specs.Listings.{AddsTo, EndsByEntries, EndsByError, adding_error, answered_by, list_after, list_error, told_added};
+ghost use Rattle.fs_chain.specs.Listings.{AddsTo, EndsByEntries, EndsByError, adding_error, answered_by};
+ghost use Rattle.fs_chain.specs.Listings.{list_after, list_error, told_added};
 ghost use Rattle.fs_chain.specs.Serials.{UnlessRefused, serial_error};
 ghost use Rattle.fs_chain.specs.Walks.{IsAllButPlace};
 ghost use Rattle.fs_chain.specs.declared.state.ChainState.TheVariants as at;
@@ -88,7 +89,8 @@ impl ChainHandle {
         list: &mut [u8],
         entry: &DirEntry<'_>,
     ) -> Result<Added, ChainError>
-        ensures adds { AddsTo (at.Lists out listing) self.new.state list.old list.new (listed entry.now, no_node (listed entry.now))
+        ensures adds { AddsTo (at.Lists out listing) self.new.state list.old list.new
+            (listed entry.now, no_node (listed entry.now))
             (λ l. added_plain l (length list.old) (length entry.now.name.now)) result }
         ensures list { self.new.list_len ≡ list_after self.old.list_len (length list.old) result }
         ensures stays { IsAllButPlace self.old self.new }
@@ -125,7 +127,8 @@ impl ChainHandle {
 
     // Puts an entry of READDIR behind those of the listing, if one waits.
     fn add_asked(&mut self, list: &mut [u8], entry: &DirEntry<'_>) -> Result<Added, ChainError>
-        ensures adds { AddsTo self.old.state self.new.state list.old list.new (listed entry.now, no_node (listed entry.now))
+        ensures adds { AddsTo self.old.state self.new.state list.old list.new
+            (listed entry.now, no_node (listed entry.now))
             (λ l. added_plain l (length list.old) (length entry.now.name.now)) result }
         ensures list { self.new.list_len ≡ list_after self.old.list_len (length list.old) result }
         ensures stays { IsAllButPlace self.old self.new }
@@ -143,8 +146,9 @@ impl ChainHandle {
         }
     }
 
-    /// Puts an entry of READDIR behind the others, unless it has no place. The list is the same at each call: once it has entries, one of another length
-    /// is refused (`BadArgument`). `WrongOrder` if no call waits, `OtherCall` if another one does than that of this number, `OtherKind` if it is no READDIR,
+    /// Puts an entry of READDIR behind the others, unless it has no place. The list is the same at each call:
+    /// once it has entries, one of another length is refused (`BadArgument`). `WrongOrder` if no call waits,
+    /// `OtherCall` if another one does than that of this number, `OtherKind` if it is no READDIR,
     /// `ShortBuffer` if the list ends before the entry.
     pub fn add(
         &mut self,
@@ -152,10 +156,14 @@ impl ChainHandle {
         list: &mut [u8],
         entry: &DirEntry<'_>,
     ) -> Result<Added, ChainError>
-        ensures told { UnlessRefused (adding_error self.old serial (length list.old)) result ((self.new ≡ self.old) × (list.new ≡ list.old))
-            (AddsTo self.old.state self.new.state list.old list.new (listed entry.now, no_node (listed entry.now))
+        ensures told { UnlessRefused (adding_error self.old serial (length list.old)) result
+            ((self.new ≡ self.old)
+            × (list.new ≡ list.old))
+            (AddsTo self.old.state self.new.state list.old list.new
+            (listed entry.now, no_node (listed entry.now))
             (λ l. added_plain l (length list.old) (length entry.now.name.now)) result) }
-        ensures adds { OnOk result (AddsTo self.old.state self.new.state list.old list.new (listed entry.now, no_node (listed entry.now))
+        ensures adds { OnOk result (AddsTo self.old.state self.new.state list.old list.new
+            (listed entry.now, no_node (listed entry.now))
             (λ l. added_plain l (length list.old) (length entry.now.name.now)) result) }
         ensures list { self.new.list_len ≡ list_after self.old.list_len (length list.old) result }
         ensures stays { IsAllButPlace self.old self.new }
@@ -191,8 +199,8 @@ impl ChainHandle {
         }
     }
 
-    /// Puts an entry of READDIRPLUS behind the others, with its node, unless it has no place; who looked it up undoes that then. It is refused as that of
-    /// READDIR is.
+    /// Puts an entry of READDIRPLUS behind the others, with its node, unless it has no place; who looked it
+    /// up undoes that then. It is refused as that of READDIR is.
     pub fn add_with_node(
         &mut self,
         serial: u32,
@@ -200,10 +208,13 @@ impl ChainHandle {
         entry: &DirEntry<'_>,
         node: Entry<u64>,
     ) -> Result<Added, ChainError>
-        ensures told { UnlessRefused (adding_error self.old serial (length list.old)) result ((self.new ≡ self.old) × (list.new ≡ list.old))
+        ensures told { UnlessRefused (adding_error self.old serial (length list.old)) result
+            ((self.new ≡ self.old)
+            × (list.new ≡ list.old))
             (AddsTo self.old.state self.new.state list.old list.new (listed entry.now, node)
             (λ l. added_found l (length list.old) (length entry.now.name.now)) result) }
-        ensures adds { OnOk result (AddsTo self.old.state self.new.state list.old list.new (listed entry.now, node)
+        ensures adds { OnOk result
+            (AddsTo self.old.state self.new.state list.old list.new (listed entry.now, node)
             (λ l. added_found l (length list.old) (length entry.now.name.now)) result) }
         ensures list { self.new.list_len ≡ list_after self.old.list_len (length list.old) result }
         ensures stays { IsAllButPlace self.old self.new }
@@ -244,10 +255,11 @@ impl ChainHandle {
         }
     }
 
-    /// Replies the entries so far: how many bytes of the list are the data. `WrongOrder` if no call waits, `OtherCall` if another one does than that of this
-    /// number, `OtherKind` if it is no listing.
+    /// Replies the entries so far: how many bytes of the list are the data. `WrongOrder` if no call waits,
+    /// `OtherCall` if another one does than that of this number, `OtherKind` if it is no listing.
     pub fn end(&mut self, serial: u32) -> Result<usize, ChainError>
-        ensures told { UnlessRefused (serial_error self.old.state self.old.serial serial) result (self.new ≡ self.old) (EndsByEntries self.old.state self.new.state result) }
+        ensures told { UnlessRefused (serial_error self.old.state self.old.serial serial) result
+            (self.new ≡ self.old) (EndsByEntries self.old.state self.new.state result) }
         ensures ended { OnOk result (EndsByEntries self.old.state self.new.state result) }
         ensures same { OnErr result (self.new ≡ self.old) }
         ensures stays { IsAllButPlace self.old self.new }
@@ -279,7 +291,8 @@ impl ChainHandle {
 
     /// Replies that the listing failed: how many bytes of the list are the data. It is refused as `end` is.
     pub fn fail(&mut self, serial: u32, error: Errno) -> Result<usize, ChainError>
-        ensures told { UnlessRefused (serial_error self.old.state self.old.serial serial) result (self.new ≡ self.old) (EndsByError error self.old.state self.new.state result) }
+        ensures told { UnlessRefused (serial_error self.old.state self.old.serial serial) result
+            (self.new ≡ self.old) (EndsByError error self.old.state self.new.state result) }
         ensures failed { OnOk result (EndsByError error self.old.state self.new.state result) }
         ensures same { OnErr result (self.new ≡ self.old) }
         ensures stays { IsAllButPlace self.old self.new }

@@ -1,8 +1,11 @@
-//! A walk through what waits in a queue, by loads that its caller makes: in parts, if one goes over the end of a region.
+//! A walk through what waits in a queue, by loads that its caller makes: in parts, if one goes over the end
+//! of a region.
 
-ghost use Rattle.std.specs.Prelude.{◌≡◌, ◌⊎◌, ◌<◌, ◌+◌, ◌++◌, [], Some, None, true, false, length, take, IfOk, IfErr, IfSome, OnOk, OnErr, vec_capacity};
+ghost use Rattle.std.specs.Prelude.{◌≡◌, ◌⊎◌, ◌<◌, ◌+◌, ◌++◌, [], Some, None, true, false, length, take};
+ghost use Rattle.std.specs.Prelude.{IfOk, IfErr, IfSome, OnOk, OnErr, vec_capacity};
 ghost use Rattle.memory_requests.specs.Refused.{RoomWasRefused};
-ghost use Rattle.fs_chain.specs.Loads.{AreDue, AreOthers, AreWanted, AreWhole, GoesSo, HasNoPlace, IsLoadWindow, IsSame, RefusesWalk, came, due_len, whole};
+ghost use Rattle.fs_chain.specs.Loads.{AreDue, AreOthers, AreWanted, AreWhole, GoesSo, HasNoPlace};
+ghost use Rattle.fs_chain.specs.Loads.{IsLoadWindow, IsSame, RefusesWalk, came, due_len, whole};
 ghost use Rattle.fs_chain.specs.Orders.{load_len, walk_error};
 ghost use Rattle.fs_chain.specs.Walks.{IsAllBut, IsAllButPart, LacksRoom, WalksOn};
 
@@ -24,8 +27,8 @@ pub enum LoadOutcome {
 }
 
 impl ChainHandle {
-    /// The window of the bytes that a walk still asks for: of its load what didn't come yet, as long as its region goes on. None if it asks for
-    /// none, or if they have no place.
+    /// The window of the bytes that a walk still asks for: of its load what didn't come yet, as long as its
+    /// region goes on. None if it asks for none, or if they have no place.
     #[inline(always)]
     pub fn still_wanted(&self) -> Option<VolatileSlice>
         ensures some { IfSome result (IsLoadWindow self.now (came self.now)) }
@@ -49,7 +52,9 @@ impl ChainHandle {
     // Puts some bytes behind the first ones of the load.
     fn join_part(&mut self, loaded: &[u8]) -> Result<(), ChainError>
         ensures joined { OnOk result (self.new.part.items ≡ self.old.part.items ++ loaded.now) }
-        ensures memory { IfErr result (λ e. (e ≡ ChainError.OutOfMemory) × (vec_capacity self.old.part < came self.old + length loaded.now) × RoomWasRefused (length loaded.now)) }
+        ensures memory { IfErr result (λ e. (e ≡ ChainError.OutOfMemory)
+            × (vec_capacity self.old.part < came self.old + length loaded.now)
+            × RoomWasRefused (length loaded.now)) }
         ensures same { OnErr result (self.new.part.items ≡ self.old.part.items) }
         ensures apart { self.new ≡ record self.old { part = self.new.part } }
         ensures stays { IsAllButPart self.old self.new }
@@ -99,11 +104,15 @@ impl ChainHandle {
             ⊎ ((e ≡ ChainError.OutOfMemory) × (walk_error self.old.state queue.old (came self.old) ≡ None))) }
         ensures ok { OnOk result (walk_error self.old.state queue.old (came self.old) ≡ None) }
         ensures memory { IfErr result (λ e. e ≡ ChainError.OutOfMemory → LacksRoom self.old) }
-        ensures same { OnErr result (IsAllBut self.old self.new × (self.new.state ≡ self.old.state) × (self.new.descriptors.items ≡ self.old.descriptors.items) × (queue.new ≡ queue.old)) }
+        ensures same { OnErr result (IsAllBut self.old self.new
+            × (self.new.state ≡ self.old.state)
+            × (self.new.descriptors.items ≡ self.old.descriptors.items)
+            × (queue.new ≡ queue.old)) }
         ensures part { OnErr result (self.new.part.items ≡ take before self.old.part.items) }
         ensures none { OnOk result (self.new.part.items ≡ []) }
         ensures session { self.new.session ≡ self.old.session }
-        ensures walks { IfOk result (λ walked. WalksOn self.old.part.items self.old self.new queue.old queue.new walked) }
+        ensures walks { IfOk result
+            (λ walked. WalksOn self.old.part.items self.old self.new queue.old queue.new walked) }
     {
         let mut part = self.take_part();
         match self.walk_load(queue, &part) {
@@ -178,12 +187,14 @@ impl ChainHandle {
         }
     }
 
-    /// Takes the next chain of a queue: at first without bytes, then with those of each load that is asked for. A load is given whole, also if it goes
-    /// over the end of a region, or in parts: each time those of the window that is still wanted (`still_wanted`), until the walk goes on.
+    /// Takes the next chain of a queue: at first without bytes, then with those of each load that is asked
+    /// for. A load is given whole, also if it goes over the end of a region, or in parts: each time those of
+    /// the window that is still wanted (`still_wanted`), until the walk goes on.
     ///
-    /// `BadArgument` for other bytes than those, or if a walk begins by some. `WrongOrder` if a chain is out. `OtherQueue` if the walk is another queue's,
-    /// or if a chain was taken or given up since it began; `ChainInFlight` if the queue has as many chains out as it may; `OutOfMemory` if the descriptors
-    /// of the entries that are asked for, or a part of a load, have no room. Then nothing is done.
+    /// `BadArgument` for other bytes than those, or if a walk begins by some. `WrongOrder` if a chain is out.
+    /// `OtherQueue` if the walk is another queue's, or if a chain was taken or given up since it began;
+    /// `ChainInFlight` if the queue has as many chains out as it may; `OutOfMemory` if the descriptors of the
+    /// entries that are asked for, or a part of a load, have no room. Then nothing is done.
     pub fn pop(&mut self, queue: &mut QueueState, loaded: &[u8]) -> Result<LoadOutcome, ChainError>
         ensures goes { IfOk result (λ went. GoesSo self.old queue.old loaded.now went self.new queue.new) }
         ensures error { IfErr result (RefusesWalk self.old queue.old loaded.now) }

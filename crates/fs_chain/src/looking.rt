@@ -16,7 +16,8 @@ use server_phases::Session;
 use vm_memory_core::{Permissions, VolatileSlice};
 
 impl ChainHandle {
-    /// The longest window of at most `most` bytes from a guest address on, for an access. None if the address has no place.
+    /// The longest window of at most `most` bytes from a guest address on, for an access. None if the address
+    /// has no place.
     pub fn window_at(&self, addr: u64, most: usize, access: Permissions) -> Option<VolatileSlice>
         requires { 0 < most }
         ensures none { result ≡ None → location (places_in self.now.regions) access addr ≡ None }
@@ -71,12 +72,14 @@ impl ChainHandle {
         }
     }
 
-    /// The guest's addresses of the room's bytes from one on, as far as their descriptor goes: the first one, modulo 2^64, and how many. None past their
-    /// end, or if no chain is out.
+    /// The guest's addresses of the room's bytes from one on, as far as their descriptor goes: the first one,
+    /// modulo 2^64, and how many. None past their end, or if no chain is out.
     pub fn room_range(&self, from: u64) -> Option<(u64, u64)>
         ensures some { IfSome result (λ r. IsRangeFrom true self.now.descriptors.items from r.0 r.1) }
         ensures out { OnSome result (is_out self.now.state ≡ true) }
-        ensures none { result ≡ None → is_out self.now.state ≡ true → total_len (of_direction true self.now.descriptors.items) ≤ from }
+        ensures none { result ≡ None
+            → is_out self.now.state ≡ true
+            → total_len (of_direction true self.now.descriptors.items) ≤ from }
     {
         if !self.is_out() {
             return None;

@@ -3,7 +3,8 @@
 ghost use Rattle.std.specs.Prelude.{◌≡◌, [], true, Some, None, IfErr, IfOk, OnOk, OnErr, length};
 ghost use Rattle.fs_chain.specs.Orders.{begin_error};
 ghost use Rattle.fs_chain.specs.Queues.{pop_id_of, took};
-ghost use Rattle.fs_chain.specs.Walks.{course_of, told_of, state_after, queue_after, left_of, BeginsPop, BeginsOn, IsAllBut};
+ghost use Rattle.fs_chain.specs.Walks.{course_of, told_of, state_after, queue_after, left_of, BeginsPop};
+ghost use Rattle.fs_chain.specs.Walks.{BeginsOn, IsAllBut};
 ghost use Rattle.fs_chain.specs.declared.state.ChainState.TheVariants as at;
 
 use crate::chain_handle::ChainHandle;
@@ -52,7 +53,9 @@ impl ChainHandle {
         head: u16,
     ) -> PopOutcome
         ensures told { result ≡ told_of self.old.descriptors.items (CourseStep.Chain head None) }
-        ensures kept { self.new ≡ record self.old { state = state_after course pop_id self.old.descriptors.items (CourseStep.Chain head None) } }
+        ensures kept { self.new ≡ record self.old {
+          state = state_after course pop_id self.old.descriptors.items (CourseStep.Chain head None);
+        } }
         ensures queue { queue.new ≡ took queue.old }
     {
         let request_len = count_bytes(&self.descriptors, false) as usize;
@@ -82,7 +85,8 @@ impl ChainHandle {
         fault: ChainFault,
     ) -> PopOutcome
         ensures told { result ≡ PopOutcome.Faulty head fault }
-        ensures state { self.new.state ≡ state_after course pop_id self.new.descriptors.items (CourseStep.Chain head (Some fault)) }
+        ensures state { self.new.state
+            ≡ state_after course pop_id self.new.descriptors.items (CourseStep.Chain head (Some fault)) }
         ensures empty { self.new.descriptors.items ≡ [] }
         ensures same { IsAllBut self.old self.new }
         ensures apart { (self.new.part ≡ self.old.part) × (self.new.session ≡ self.old.session) }
@@ -172,7 +176,8 @@ impl ChainHandle {
     #[inline(always)]
     fn begin_there(&mut self, queue: &mut QueueState) -> PopOutcome
         requires { self.old.state ≡ at.Free }
-        ensures begins { BeginsOn (course_of queue.old self.old.limit) (pop_id_of queue.old) self.old self.new queue.old queue.new result }
+        ensures begins { BeginsOn (course_of queue.old self.old.limit) (pop_id_of queue.old) self.old self.new
+            queue.old queue.new result }
         ensures apart { (self.new.part ≡ self.old.part) × (self.new.session ≡ self.old.session) }
     {
         let course = Course {

@@ -1,6 +1,7 @@
 //! How a chain goes back to its queue.
 
-ghost use Rattle.std.specs.Prelude.{◌≡◌, ◌<◌, true, nat_lt, IfSome, None, Some, false, Err, IfErr, IfOk, OnOk, OnErr, length};
+ghost use Rattle.std.specs.Prelude.{◌≡◌, ◌<◌, true, nat_lt, IfSome, None, Some, false, Err, IfErr, IfOk};
+ghost use Rattle.std.specs.Prelude.{OnOk, OnErr, length};
 ghost use Rattle.fs_chain.specs.Events.{tells_of};
 ghost use Rattle.fs_chain.specs.Orders.{end_error, front_len, return_error};
 ghost use Rattle.fs_chain.specs.Queues.{gave};
@@ -22,14 +23,20 @@ pub struct PushStores {
     pub front_len: usize,
     /// The used element, the used index, and where the available flags stand.
     pub used: Return,
-    /// The guest address of the two bytes that are loaded then, behind a full barrier: whether the driver wants to be told.
+    /// The guest address of the two bytes that are loaded then, behind a full barrier: whether the driver
+    /// wants to be told.
     pub seen_at: u64,
 }
 
 // Copies a reply's front over the first bytes of a buffer; its length, or none if the buffer is shorter.
 fn copy_front(reply: &ChainReply, front: &mut [u8]) -> Option<usize>
-    ensures short { result ≡ None → (nat_lt (length front.old) (front_len reply.now) ≡ true) × (front.new ≡ front.old) × (length front.old < 160) }
-    ensures copied { IfSome result (λ n. (nat_lt (length front.old) (front_len reply.now) ≡ false) × (n ≡ front_len reply.now) × (front.new ≡ put_front reply.now front.old)) }
+    ensures short { result ≡ None
+        → (nat_lt (length front.old) (front_len reply.now) ≡ true)
+        × (front.new ≡ front.old)
+        × (length front.old < 160) }
+    ensures copied { IfSome result (λ n. (nat_lt (length front.old) (front_len reply.now) ≡ false)
+        × (n ≡ front_len reply.now)
+        × (front.new ≡ put_front reply.now front.old)) }
 {
     match &reply.front {
         Some(bytes) => {
@@ -51,8 +58,10 @@ fn stores_of(
     reply: &ChainReply,
     front: &mut [u8],
 ) -> Result<PushStores, ChainError>
-    ensures error { IfErr result (λ e. return_error (at.HasReply out.now reply.now) queue.now (length front.old) ≡ Some e) }
-    ensures ok { OnOk result (return_error (at.HasReply out.now reply.now) queue.now (length front.old) ≡ None) }
+    ensures error { IfErr result
+        (λ e. return_error (at.HasReply out.now reply.now) queue.now (length front.old) ≡ Some e) }
+    ensures ok { OnOk result
+        (return_error (at.HasReply out.now reply.now) queue.now (length front.old) ≡ None) }
     ensures short { result ≡ Err ChainError.ShortBuffer → length front.old < 160 }
     ensures same { OnErr result (front.new ≡ front.old) }
     ensures stores { IfOk result (λ s. PushesBy queue.now out.now reply.now s) }
@@ -83,22 +92,28 @@ fn stores_of(
 }
 
 impl ChainHandle {
-    /// Says how a chain goes back: its reply's front is copied over the first bytes of a buffer, for which 160 always do (else
-    /// `ShortBuffer`), and the stores are those of the position where the queue's next chain goes back. Until it is ended no other
-    /// chain of the queue goes back (`Pushing`).
+    /// Says how a chain goes back: its reply's front is copied over the first bytes of a buffer, for which
+    /// 160 always do (else `ShortBuffer`), and the stores are those of the position where the queue's next
+    /// chain goes back. Until it is ended no other chain of the queue goes back (`Pushing`).
     pub fn push(
         &mut self,
         queue: &mut QueueState,
         front: &mut [u8],
     ) -> Result<PushStores, ChainError>
-        ensures error { IfErr result (λ e. return_error self.old.state queue.old (length front.old) ≡ Some e) }
+        ensures error { IfErr result
+            (λ e. return_error self.old.state queue.old (length front.old) ≡ Some e) }
         ensures ok { OnOk result (return_error self.old.state queue.old (length front.old) ≡ None) }
         ensures short { result ≡ Err ChainError.ShortBuffer → length front.old < 160 }
-        ensures same { OnErr result ((self.new ≡ self.old) × (front.new ≡ front.old) × (queue.new ≡ queue.old)) }
-        ensures pushing { OnOk result (IfHasReply self.old.state (λ out reply. self.new ≡ record self.old { state = at.Pushing out })) }
+        ensures same { OnErr result ((self.new ≡ self.old)
+            × (front.new ≡ front.old)
+            × (queue.new ≡ queue.old)) }
+        ensures pushing { OnOk result
+            (IfHasReply self.old.state (λ out reply. self.new ≡ record self.old { state = at.Pushing out })) }
         ensures queue { OnOk result (queue.new ≡ record queue.old { pushing = true }) }
-        ensures stores { IfOk result (λ s. IfHasReply self.old.state (λ out reply. PushesBy queue.old out reply s)) }
-        ensures front { OnOk result (IfHasReply self.old.state (λ out reply. front.new ≡ put_front reply front.old)) }
+        ensures stores { IfOk result
+            (λ s. IfHasReply self.old.state (λ out reply. PushesBy queue.old out reply s)) }
+        ensures front { OnOk result
+            (IfHasReply self.old.state (λ out reply. front.new ≡ put_front reply front.old)) }
     {
         match &self.state {
             ChainState::HasReply(out, reply) => {
@@ -116,8 +131,9 @@ impl ChainHandle {
         }
     }
 
-    /// The stores are made: the queue's next chain goes back at the next position, and the handle is free. Whether the driver wants to be told, by the
-    /// two bytes that were loaded. `WrongOrder` if no stores were told, `OtherQueue` if they were another queue's.
+    /// The stores are made: the queue's next chain goes back at the next position, and the handle is free.
+    /// Whether the driver wants to be told, by the two bytes that were loaded. `WrongOrder` if no stores were
+    /// told, `OtherQueue` if they were another queue's.
     pub fn pushed(&mut self, queue: &mut QueueState, seen: [u8; 2]) -> Result<bool, ChainError>
         ensures error { IfErr result (λ e. end_error self.old.state queue.old ≡ Some e) }
         ensures ok { OnOk result (end_error self.old.state queue.old ≡ None) }

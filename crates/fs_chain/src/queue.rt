@@ -1,20 +1,23 @@
 //! A queue as values that its keeper has.
 
 ghost use Rattle.std.specs.Prelude.{◌≡◌};
-ghost use Rattle.fs_chain.specs.Queues.{reset_to, new_queue, gave, is_at, is_laid_out, is_last, is_out_of, may_take, in_flight, pop_id_of, took, untook};
+ghost use Rattle.fs_chain.specs.Queues.{reset_to, new_queue, gave, is_at, is_laid_out, is_last, is_out_of};
+ghost use Rattle.fs_chain.specs.Queues.{may_take, in_flight, pop_id_of, took, untook};
 
 use crate::state::{InFlight, PopId};
 use fs_queue::{QueueError, QueueLayout};
 use fs_regions::Course;
 
-/// A queue: values that its keeper has and lends for a call. Its chains are taken one after another, and go back in any order.
+/// A queue: values that its keeper has and lends for a call. Its chains are taken one after another, and go
+/// back in any order.
 #[derive(Clone, Copy, Debug)]
 pub struct QueueState {
     /// Where its parts are.
     pub layout: QueueLayout,
     /// Where in the available ring the next chain is taken, modulo 2^16.
     pub next_avail: u16,
-    /// Where in the used ring the next chain goes back, modulo 2^16: as far behind `position` as chains are out.
+    /// Where in the used ring the next chain goes back, modulo 2^16: as far behind `position` as chains are
+    /// out.
     pub next_used: u16,
     /// How many chains may be out.
     pub max_in_flight: u16,
@@ -24,8 +27,8 @@ pub struct QueueState {
     pub reset_count: u32,
     /// How often a chain was taken or given up, modulo 2^32.
     pub pop_count: u32,
-    /// Whether VIRTIO_F_EVENT_IDX was agreed on. Then a walk is refused where used_event (`AvailFlagsUnreachable`) or avail_event (`UsedUnreachable`)
-    /// has no place.
+    /// Whether VIRTIO_F_EVENT_IDX was agreed on. Then a walk is refused where used_event
+    /// (`AvailFlagsUnreachable`) or avail_event (`UsedUnreachable`) has no place.
     pub event_index: bool,
     /// The refusal that stopped it.
     pub stopped: Option<QueueError>,
@@ -42,8 +45,9 @@ fn is_laid_out(mine: &QueueLayout, other: &QueueLayout) -> bool
 }
 
 impl QueueState {
-    /// A queue that begins at a position for the first time, without the event index: no chain is out, and at most so many may be. One that is there is
-    /// begun anew by `reset`: chains of before are known by how often.
+    /// A queue that begins at a position for the first time, without the event index: no chain is out, and at
+    /// most so many may be. One that is there is begun anew by `reset`: chains of before are known by how
+    /// often.
     pub fn new(layout: QueueLayout, position: u16, max_in_flight: u16) -> QueueState
         ensures { result ≡ new_queue layout position max_in_flight }
     {
@@ -60,8 +64,9 @@ impl QueueState {
         }
     }
 
-    /// Begins the queue anew with its parts there, at a position: no chain is out. Each call that takes the queue refuses its walks and chains from
-    /// then on (`OtherQueue`; `give_up` ends a walk), unless it is begun anew 2^32 times. How many may be out stays, and the event index.
+    /// Begins the queue anew with its parts there, at a position: no chain is out. Each call that takes the
+    /// queue refuses its walks and chains from then on (`OtherQueue`; `give_up` ends a walk), unless it is
+    /// begun anew 2^32 times. How many may be out stays, and the event index.
     pub fn reset(&mut self, layout: QueueLayout, position: u16)
         ensures { self.new ≡ reset_to self.old layout position }
     {

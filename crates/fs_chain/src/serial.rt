@@ -19,20 +19,23 @@ pub(crate) fn number_error(mine: u32, serial: u32) -> Option<ChainError>
 }
 
 impl ChainHandle {
-    /// The number of the chain that is out, which each answer to its call brings: so an answer that comes late, to a chain that was given up, isn't taken
-    /// for the one of the next chain. From chain to chain of a handle it grows by 1, modulo 2^32.
+    /// The number of the chain that is out, which each answer to its call brings: so an answer that comes
+    /// late, to a chain that was given up, isn't taken for the one of the next chain. From chain to chain of
+    /// a handle it grows by 1, modulo 2^32.
     pub fn serial(&self) -> u32
         ensures { result ≡ self.now.serial }
     {
         self.serial
     }
 
-    /// Chooses the number of the handle's next chain; it grows by 1 from there. Handles that begin far apart have no
-    /// number in common for as many chains, so an answer that is given to the wrong handle is refused (`OtherCall`).
-    /// `ChainInFlight` if a chain is walked or in flight.
+    /// Chooses the number of the handle's next chain; it grows by 1 from there. Handles that begin far apart
+    /// have no number in common for as many chains, so an answer that is given to the wrong handle is refused
+    /// (`OtherCall`). `ChainInFlight` if a chain is walked or in flight.
     pub fn number_from(&mut self, first: u32) -> Result<(), ChainError>
-        ensures error { IfErr result (λ e. (e ≡ ChainError.ChainInFlight) × (is_free self.old.state ≡ false)) }
-        ensures ok { OnOk result ((is_free self.old.state ≡ true) × (self.new ≡ record self.old { serial = first })) }
+        ensures error { IfErr result (λ e. (e ≡ ChainError.ChainInFlight)
+            × (is_free self.old.state ≡ false)) }
+        ensures ok { OnOk result ((is_free self.old.state ≡ true)
+            × (self.new ≡ record self.old { serial = first })) }
         ensures same { OnErr result (self.new ≡ self.old) }
     {
         if !self.is_free() {

@@ -3,7 +3,8 @@
 use fs_regions::{Course, QueueWalk};
 use server_phases::{Front, Listing, Waiting};
 
-/// What a walk is known by, and then its chain: how often its queue was begun anew before, and how often a chain was taken or given up.
+/// What a walk is known by, and then its chain: how often its queue was begun anew before, and how often a
+/// chain was taken or given up.
 #[derive(Clone, Copy, Debug)]
 pub struct PopId {
     pub(crate) reset_count: u32,

@@ -5,8 +5,9 @@ ghost use Rattle.fs_chain.specs.Passing.{HasPassed};
 
 use fs_queue::Descriptor;
 
-/// How far the bytes of one direction of a chain were gone through: the descriptors before one have so many of them. So the windows of a chain
-/// are found one after another without going through its descriptors anew for each.
+/// How far the bytes of one direction of a chain were gone through: the descriptors before one have so many
+/// of them. So the windows of a chain are found one after another without going through its descriptors anew
+/// for each.
 #[derive(Clone, Copy, Debug)]
 pub struct WindowCursor {
     /// How many descriptors were passed.
@@ -79,7 +80,8 @@ impl WindowCursor {
         &descriptors[self.index..]
     }
 
-    /// Goes to the descriptor in which a byte stands, or to their end: anew from the first one, if it was passed.
+    /// Goes to the descriptor in which a byte stands, or to their end: anew from the first one, if it was
+    /// passed.
     pub(crate) fn pass_to(&mut self, descriptors: &[Descriptor], write_only: bool, from: u64)
         requires passed { HasPassed write_only descriptors.now self.old }
         ensures passed { HasPassed write_only descriptors.now self.new }

@@ -12,16 +12,19 @@ use Rattle.fs_chain_c.specs.Memory.{IsDevice, IsMemory}
 pub on_handle : (Does : ChainHandle → ChainHandle → Type 0) (Nothing : Type 0) (before after : Option ChainHandle) (b b' : ChainHandle)
     → before ≡ Some b → after ≡ Some b' → Does b b' → OnHandle Does Nothing before after
 on_handle Does Nothing before after b b' was is does =
-    subst (λ (o : Option ChainHandle). OnHandle Does Nothing o after) (sym was) (subst (λ (o : Option ChainHandle). OnHandle Does Nothing (Some b) o) (sym is) does)
+    subst (λ (o : Option ChainHandle). OnHandle Does Nothing o after) (sym was)
+    (subst (λ (o : Option ChainHandle). OnHandle Does Nothing (Some b) o) (sym is) does)
 
 -- a `ChainHandle` is told its memory
 pub sets_some : (d : FsDevice) (regions : List FsRegion) (status : ℕ) (before after : Option ChainHandle) (b b' : ChainHandle)
     → before ≡ Some b → after ≡ Some b' → SetsHandle b d regions status b' → SetsMemory before d regions status after
 sets_some d regions status before after b b' was is sets =
-    subst (λ (o : Option ChainHandle). SetsMemory o d regions status after) (sym was) (subst (λ (o : Option ChainHandle). SetsMemory (Some b) d regions status o) (sym is) sets)
+    subst (λ (o : Option ChainHandle). SetsMemory o d regions status after) (sym was)
+    (subst (λ (o : Option ChainHandle). SetsMemory (Some b) d regions status o) (sym is) sets)
 
 -- the same `ChainHandle` is told the same
-pub goes_along : (b : ChainHandle) (d : FsDevice) (regions : List FsRegion) (b' b'' : ChainHandle) → b'' ≡ b' → GoesOver b d regions b' → GoesOver b d regions b''
+pub goes_along : (b : ChainHandle) (d : FsDevice) (regions : List FsRegion) (b' b'' : ChainHandle) → b'' ≡ b' → GoesOver b d regions b' →
+    GoesOver b d regions b''
 goes_along b d regions b' b'' same goes = let P : ChainHandle → Type 0 = λ x. GoesOver b d regions x in subst P (sym same) goes
 
 -- where the chain is is looked at behind the device's numbers and the regions

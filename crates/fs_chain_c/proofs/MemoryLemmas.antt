@@ -1,6 +1,8 @@
 -- Why regions in any order are no memory, by those in ascending order; and which neighbours stand apart.
-use Rattle.std.proofs.Common.{◌≡◌, ◌≤◌, ◌<◌, ◌+◌, ◌-◌, ◌∙◌, ℕ, length, List, [], ◌∷◌, All, Bool, false, true, if◌then◌else◌, ◌&&◌, nat_lt, get_or}
-use Rattle.std.proofs.Common.{Option, Some, None, Result, Ok, Err, IfErr, IfOk, IsPermutation, inr, map, take, drop, ◌++◌, ap, subst, refl, sym, arith}
+use Rattle.std.proofs.Common.{◌≡◌, ◌≤◌, ◌<◌, ◌+◌, ◌-◌, ◌∙◌, ℕ, length, List, [], ◌∷◌, All, Bool, false, true, if◌then◌else◌, ◌&&◌, nat_lt}
+use Rattle.std.proofs.Common.{get_or}
+use Rattle.std.proofs.Common.{Option, Some, None, Result, Ok, Err, IfErr, IfOk, IsPermutation, inr, map, take, drop, ◌++◌, ap, subst, refl}
+use Rattle.std.proofs.Common.{sym, arith}
 use Rattle.std.proofs.lemmas.Bool.Decides.{nat_tests}
 use Rattle.std.proofs.lemmas.List.{append-nil, drop_all, get_or_default, length-map, take_all}
 use Rattle.std.specs.List.Sorted.{IsNonDecreasingBy}
@@ -21,7 +23,8 @@ use Rattle.fs_chain_c.specs.declared.memory.FsRegion.{FsRegion}
 abbrev between : (down front back : Bool) → Option GuestRegionCollectionError
 between down front back = if down then Some UnsortedMemoryRegions else if front && back then Some MemoryRegionOverlap else None
 
-some_between : (down front back : Bool) → (down ≡ false → front ≡ true) → back ≡ true → (fault : GuestRegionCollectionError) × (between down front back ≡ Some fault)
+some_between : (down front back : Bool) → (down ≡ false → front ≡ true) → back ≡ true →
+    (fault : GuestRegionCollectionError) × (between down front back ≡ Some fault)
 some_between true front back h e = (UnsortedMemoryRegions, refl)
 some_between false true true h e = (MemoryRegionOverlap, refl)
 some_between false true false h e = absurd (cc)
@@ -43,7 +46,8 @@ module _ (regions : List FsRegion) (are : All IsRegion regions) (i : ℕ) (from 
   abbrev pub after : FsRegion
   after = get_or regions i none
 
-  here : fault_from (map region_of regions) i ≡ option_or (fault_between (region_of before) (region_of after)) (fault_from (map region_of regions) (i + 1))
+  here : fault_from (map region_of regions) i
+      ≡ option_or (fault_between (region_of before) (region_of after)) (fault_from (map region_of regions) (i + 1))
   here =
       fault_pair (map region_of regions) i (region_of before) (region_of after) (fault_between (region_of before) (region_of after))
       (rw (length-map regions region_of) within)
@@ -52,20 +56,26 @@ module _ (regions : List FsRegion) (are : All IsRegion regions) (i : ℕ) (from 
       refl
 
   -- a region that doesn't begin behind the one before it is at fault
-  pub at_fault : after.guest ≤ before.guest + (before.len - 1) → fault_of (map region_of regions) ≡ fault_from (map region_of regions) i → HaveFault regions
+  pub at_fault : after.guest ≤ before.guest + (before.len - 1) → fault_of (map region_of regions) ≡ fault_from (map region_of regions) i
+      → HaveFault regions
   at_fault low all =
       let first = are (i - 1) none (omega arith) in
       let next = are i none within in
-      let some = some_between (nat_lt after.guest before.guest) (nat_lt before.guest (after.guest + after.len)) (nat_lt after.guest (before.guest + before.len))
-      (λ up. grind (arith, nat_tests)) (grind (arith, nat_tests)) in
-      (omega (arith, within), some.0, all ∙ here ∙ ap (λ (o : Option GuestRegionCollectionError). option_or o (fault_from (map region_of regions) (i + 1))) some.1)
+      let some = some_between (nat_lt after.guest before.guest) (nat_lt before.guest (after.guest + after.len))
+      (nat_lt after.guest (before.guest + before.len))
+      (λ up. grind (arith, nat_tests)) (grind (arith, nat_tests)) in (
+        omega (arith, within),
+        some.0,
+        all ∙ here ∙ ap (λ (o : Option GuestRegionCollectionError). option_or o (fault_from (map region_of regions) (i + 1))) some.1,
+      )
 
   -- one that begins behind it isn't
   pub no_fault : before.guest + (before.len - 1) < after.guest → fault_of (map region_of regions) ≡ fault_from (map region_of regions) i
       → fault_of (map region_of regions) ≡ fault_from (map region_of regions) (i + 1)
   no_fault high all =
       let first = are (i - 1) none (omega arith) in
-      let is = none_between (nat_lt after.guest before.guest) (nat_lt before.guest (after.guest + after.len)) (nat_lt after.guest (before.guest + before.len))
+      let is = none_between (nat_lt after.guest before.guest) (nat_lt before.guest (after.guest + after.len))
+      (nat_lt after.guest (before.guest + before.len))
       (grind (arith, nat_tests)) (grind (arith, nat_tests)) in
       all ∙ here ∙ ap (λ (o : Option GuestRegionCollectionError). option_or o (fault_from (map region_of regions) (i + 1))) (sym is)
 
@@ -78,7 +88,8 @@ whole_slice old new same =
     let all : new ++ drop (length new) old ≡ new = ap (λ (rest : List FsRegion). new ++ rest) none ∙ append-nil new in
     ap (take (length old)) all ∙ take_all (length old) new (omega (arith, same))
 
-pub all_sorted : (regions sorted slice : List FsRegion) → IsPermutation regions sorted → slice ≡ sorted → All IsRegion regions → All IsRegion slice
+pub all_sorted :
+    (regions sorted slice : List FsRegion) → IsPermutation regions sorted → slice ≡ sorted → All IsRegion regions → All IsRegion slice
 all_sorted regions sorted slice same is are = subst (All IsRegion) (sym is) (All-permutation IsRegion regions sorted same are)
 
 stand_apart : (sorted : List FsRegion) → fault_of (map region_of sorted) ≡ None → StandApart (map region_of sorted) × (0 < length sorted)
@@ -98,7 +109,8 @@ module _ (regions sorted : List FsRegion) (same : IsPermutation regions sorted) 
       )
 
   -- the memory of the regions in ascending order is one of those in any
-  pub a_memory : (r : Result (List Region) ChainError) → IfOk r (λ memory. memory ≡ map region_of sorted) → IfOk r StandApart → IfOk r (IsMemory regions)
+  pub a_memory : (r : Result (List Region) ChainError) → IfOk r (λ memory. memory ≡ map region_of sorted) → IfOk r StandApart →
+      IfOk r (IsMemory regions)
   a_memory (Ok m) is apart = (few, sorted, same, All-permutation IsRegion regions sorted same are, is, apart)
   a_memory (Err e) is apart = tt
 

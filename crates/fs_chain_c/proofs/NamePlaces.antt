@@ -1,6 +1,7 @@
 -- Where the names and pairs stand that are read from some bytes.
 use Rattle.std.proofs.Common.{◌≡◌, ◌∙◌, ℕ, zero, suc, ◌-◌, ◌+◌, ◌*◌, ◌/◌, ◌<◌, ◌≤◌, All, Bool, true, false, cond, ◌&&◌, List}
-use Rattle.std.proofs.Common.{[], ◌∷◌, length, take, drop, Option, Some, None, Ok, Err, refl, ap, sym, subst, arith, le_refl, slice_get, true≢false}
+use Rattle.std.proofs.Common.{[], ◌∷◌, length, take, drop, Option, Some, None, Ok, Err, refl, ap, sym, subst, arith, le_refl, slice_get}
+use Rattle.std.proofs.Common.{true≢false}
 use Rattle.std.specs.Prelude.{◌==◌, nat_lt, nat_le}
 use Rattle.std.proofs.lemmas.Bool.{eq-eqb, eqb-true, ltb-false}
 use Rattle.std.proofs.lemmas.List.{drop-drop, drop-take, length-drop, length-take-le, take-take, take_all}
@@ -11,8 +12,10 @@ use Rattle.fuse_wire.specs.Records.{forget_one}
 use Rattle.fuse_fs.specs.Calls.{Extra, NewLink}
 use Rattle.fuse_values.specs.Values.{pair_in, pairs_in, pairs_of}
 use Rattle.server_segments.specs.declared.error.Error.{Error}
-use Rattle.server_segments.specs.declared.error.Error.TheVariants.{DecodeMessage, InvalidCString, InvalidHeaderLength, InvalidXattrSize, MissingParameter}
-use Rattle.server_requests.specs.Reading.{Read, ReadFailure, Faults, and_then, at_zero, before_zero, ended_or, exactly, front_name, last_name, many, name_and_value, name_by, name_or, needs, reading_of, two_names}
+use Rattle.server_segments.specs.declared.error.Error.TheVariants.{DecodeMessage, InvalidCString, InvalidHeaderLength, InvalidXattrSize}
+use Rattle.server_segments.specs.declared.error.Error.TheVariants.{MissingParameter}
+use Rattle.server_requests.specs.Reading.{Read, ReadFailure, Faults, and_then, at_zero, before_zero, ended_or, exactly, front_name}
+use Rattle.server_requests.specs.Reading.{last_name, many, name_and_value, name_by, name_or, needs, reading_of, two_names}
 use Rattle.server_requests.specs.Extras.{extra, new_link, new_name}
 use Rattle.server_requests.specs.Fronts.{counted, forget_pair, with_bytes}
 use Rattle.fs_chain_c.specs.Spans.{IsNotZero}
@@ -56,7 +59,8 @@ pub quiet : {A : Type 0} (r : Read A) → IfRead (λ (a : A) (more : List ℕ). 
 quiet (Ok x) = tt
 quiet (Err r) = tt
 
-pub needed : (test : Bool) (r : ReadFailure) (bytes : List ℕ) → IfRead (λ (u : Unit {0}) (more : List ℕ). (test ≡ true) × (more ≡ bytes)) (needs test r bytes)
+pub needed : (test : Bool) (r : ReadFailure) (bytes : List ℕ) →
+    IfRead (λ (u : Unit {0}) (more : List ℕ). (test ≡ true) × (more ≡ bytes)) (needs test r bytes)
 needed true r bytes = (refl, refl)
 needed false r bytes = tt
 
@@ -74,12 +78,14 @@ exactly_read n bytes = exactly_by (nat_lt (length bytes) n) n bytes refl
 
 -- a record that was read, and the bytes behind it
 abbrev pub IsRecord : {R : Type 0} → RecordShape R → (bytes : List ℕ) → R → (more : List ℕ) → Type 0
-IsRecord s bytes r more = (r ≡ made s.parts s.make (take (size s.parts) bytes)) × (more ≡ drop (size s.parts) bytes) × (size s.parts ≤ length bytes)
+IsRecord s bytes r more =
+    (r ≡ made s.parts s.make (take (size s.parts) bytes)) × (more ≡ drop (size s.parts) bytes) × (size s.parts ≤ length bytes)
 
 pub record_read : {R : Type 0} (s : RecordShape R) (bytes : List ℕ) → IfRead (IsRecord s bytes) (reading_of s bytes)
 unfolding reading_of
 record_read {R} s bytes =
-    then_read (AreFirst (size s.parts) bytes) (IsRecord s bytes) (exactly (size s.parts) bytes) (λ x. Ok (made s.parts s.make x.0, x.1)) (exactly_read (size s.parts) bytes)
+    then_read (AreFirst (size s.parts) bytes) (IsRecord s bytes) (exactly (size s.parts) bytes) (λ x. Ok (made s.parts s.make x.0, x.1))
+    (exactly_read (size s.parts) bytes)
     (λ x h. (ap (made s.parts s.make) h.0, h.1, h.2))
 
 first_of : (n : ℕ) (r : Read (List ℕ)) (bytes : List ℕ) → IfRead (AreFirst n bytes) r → IfRead (λ (a more : List ℕ). a ≡ take n bytes) r
@@ -92,8 +98,10 @@ unfolding counted
 counted_read len k bytes =
     let n = len - 40 - k in
     then_read (λ (u : Unit {0}) (more : List ℕ). (nat_le (40 + k) len ≡ true) × (more ≡ bytes)) (λ (a more : List ℕ). a ≡ take n bytes)
-    (needs (nat_le (40 + k) len) (Faults InvalidHeaderLength) bytes) (λ x. exactly n x.1) (needed (nat_le (40 + k) len) (Faults InvalidHeaderLength) bytes)
-    (λ x h. subst (λ (b : List ℕ). IfRead (λ (a more : List ℕ). a ≡ take n bytes) (exactly n b)) (sym h.1) (first_of n (exactly n bytes) bytes (exactly_read n bytes)))
+    (needs (nat_le (40 + k) len) (Faults InvalidHeaderLength) bytes) (λ x. exactly n x.1)
+    (needed (nat_le (40 + k) len) (Faults InvalidHeaderLength) bytes)
+    (λ x h. subst (λ (b : List ℕ). IfRead (λ (a more : List ℕ). a ≡ take n bytes) (exactly n b)) (sym h.1)
+    (first_of n (exactly n bytes) bytes (exactly_read n bytes)))
 
 -- a record of k bytes behind a header, and bytes that stand behind it
 abbrev pub StandBehind : (k : ℕ) → (request : List ℕ) → {R : Type 0} → R × List ℕ → List ℕ → Type 0
@@ -104,35 +112,45 @@ pub with_bytes_read : {R : Type 0} (s : RecordShape R) (k len : ℕ) (request : 
 unfolding with_bytes
 with_bytes_read {R} s k len request is =
     let n = len - 40 - k in
-    let there : drop (size s.parts) (drop 40 request) ≡ drop (40 + k) request = drop-drop (size s.parts) 40 request ∙ ap (λ (m : ℕ). drop (40 + m) request) is in
+    let there : drop (size s.parts) (drop 40 request) ≡ drop (40 + k) request =
+    drop-drop (size s.parts) 40 request ∙ ap (λ (m : ℕ). drop (40 + m) request) is in
     then_read (IsRecord s (drop 40 request)) (λ (x : R × List ℕ) (more : List ℕ). StandBehind (40 + k) request x more)
     (reading_of s (drop 40 request)) (λ x. and_then (counted len k x.1) (λ y. Ok ((x.0, y.0), y.1))) (record_read s (drop 40 request))
-    (λ x h. then_read (λ (a more : List ℕ). a ≡ take n x.1) (λ (x : R × List ℕ) (more : List ℕ). StandBehind (40 + k) request x more) (counted len k x.1)
+    (λ x h. then_read (λ (a more : List ℕ). a ≡ take n x.1) (λ (x : R × List ℕ) (more : List ℕ). StandBehind (40 + k) request x more)
+    (counted len k x.1)
     (λ y. Ok ((x.0, y.0), y.1)) (counted_read len k x.1) (λ y i. (n, i ∙ ap (take n) (h.1 ∙ there))))
 
 -- ---- pairs
 
-pair_read : (bytes : List ℕ) → IfRead (λ (pair : ℕ × ℕ) (more : List ℕ). (pair ≡ pair_in bytes) × (more ≡ drop 16 bytes) × (16 ≤ length bytes)) (forget_pair bytes)
+pair_read : (bytes : List ℕ) →
+    IfRead (λ (pair : ℕ × ℕ) (more : List ℕ). (pair ≡ pair_in bytes) × (more ≡ drop 16 bytes) × (16 ≤ length bytes)) (forget_pair bytes)
 pair_read bytes =
-    then_read (IsRecord forget_one bytes) (λ (pair : ℕ × ℕ) (more : List ℕ). (pair ≡ pair_in bytes) × (more ≡ drop 16 bytes) × (16 ≤ length bytes)) (reading_of forget_one bytes)
-    (λ x. Ok ((x.0.nodeid, x.0.nlookup), x.1)) (record_read forget_one bytes) (λ x h. (ap (λ (r : ForgetOne). (r.nodeid, r.nlookup)) h.0, h.1, h.2))
+    then_read (IsRecord forget_one bytes)
+    (λ (pair : ℕ × ℕ) (more : List ℕ). (pair ≡ pair_in bytes) × (more ≡ drop 16 bytes) × (16 ≤ length bytes)) (reading_of forget_one bytes)
+    (λ x. Ok ((x.0.nodeid, x.0.nlookup), x.1)) (record_read forget_one bytes)
+    (λ x h. (ap (λ (r : ForgetOne). (r.nodeid, r.nlookup)) h.0, h.1, h.2))
 
 -- n pairs stand in front
 abbrev pub ArePairs : (n : ℕ) → (bytes : List ℕ) → List (ℕ × ℕ) → Type 0
 ArePairs n bytes pairs = (pairs ≡ pairs_of n bytes) × (n * 16 ≤ length bytes)
 
-pub pairs_read : (n : ℕ) (bytes : List ℕ) → IfRead (λ (pairs : List (ℕ × ℕ)) (more : List ℕ). ArePairs n bytes pairs) (many n forget_pair bytes)
+pub pairs_read :
+    (n : ℕ) (bytes : List ℕ) → IfRead (λ (pairs : List (ℕ × ℕ)) (more : List ℕ). ArePairs n bytes pairs) (many n forget_pair bytes)
 unfolding many pairs_of
 pairs_read zero bytes = (refl, omega arith)
 pairs_read (suc n) bytes =
     let All : List (ℕ × ℕ) → List ℕ → Type 0 = λ pairs more. ArePairs (suc n) bytes pairs in
-    then_read (λ (pair : ℕ × ℕ) (more : List ℕ). (pair ≡ pair_in bytes) × (more ≡ drop 16 bytes) × (16 ≤ length bytes)) All (forget_pair bytes)
+    then_read (λ (pair : ℕ × ℕ) (more : List ℕ). (pair ≡ pair_in bytes) × (more ≡ drop 16 bytes) × (16 ≤ length bytes)) All
+    (forget_pair bytes)
     (λ x. and_then (many n forget_pair x.1) (λ y. Ok (x.0 ∷ y.0, y.1))) (pair_read bytes)
-    (λ x h. then_read (λ (pairs : List (ℕ × ℕ)) (more : List ℕ). ArePairs n x.1 pairs) All (many n forget_pair x.1) (λ y. Ok (x.0 ∷ y.0, y.1)) (pairs_read n x.1)
+    (λ x h. then_read (λ (pairs : List (ℕ × ℕ)) (more : List ℕ). ArePairs n x.1 pairs) All (many n forget_pair x.1)
+    (λ y. Ok (x.0 ∷ y.0, y.1)) (pairs_read n x.1)
     (λ y i. let left : length x.1 ≡ length bytes - 16 = ap length h.1 ∙ length-drop 16 bytes in
     let some = h.2 in
-    let others = i.1 in
-    (ap (λ (pair : ℕ × ℕ). pair ∷ y.0) h.0 ∙ ap (λ (pairs : List (ℕ × ℕ)). pair_in bytes ∷ pairs) (i.0 ∙ ap (pairs_of n) h.1), omega (arith, left, some, others))))
+    let others = i.1 in (
+      ap (λ (pair : ℕ × ℕ). pair ∷ y.0) h.0 ∙ ap (λ (pairs : List (ℕ × ℕ)). pair_in bytes ∷ pairs) (i.0 ∙ ap (pairs_of n) h.1),
+      omega (arith, left, some, others),
+    )))
 
 length_pairs : (n : ℕ) (bytes : List ℕ) → length (pairs_of n bytes) ≡ n
 unfolding pairs_of
@@ -146,14 +164,16 @@ pairs_kept zero bytes = refl
 pairs_kept (suc n) bytes =
     let whole : suc n * 16 ≡ 16 + n * 16 = omega arith in
     let first : take 16 (take (suc n * 16) bytes) ≡ take 16 bytes = take-take 16 (suc n * 16) bytes (omega arith) in
-    let others : drop 16 (take (suc n * 16) bytes) ≡ take (n * 16) (drop 16 bytes) = ap (λ (m : ℕ). drop 16 (take m bytes)) whole ∙ drop-take 16 (n * 16) bytes in
+    let others : drop 16 (take (suc n * 16) bytes) ≡ take (n * 16) (drop 16 bytes) =
+    ap (λ (m : ℕ). drop 16 (take m bytes)) whole ∙ drop-take 16 (n * 16) bytes in
     let pair : pair_in (take (suc n * 16) bytes) ≡ pair_in bytes =
     ap (λ (b : List ℕ). let r = made forget_one.parts forget_one.make b in (r.nodeid, r.nlookup)) first in
     ap (λ (p : ℕ × ℕ). p ∷ pairs_of n (drop 16 (take (suc n * 16) bytes))) pair
     ∙ ap (λ (pairs : List (ℕ × ℕ)). pair_in bytes ∷ pairs) (ap (pairs_of n) others ∙ pairs_kept n (drop 16 bytes))
 
 -- the pairs of some bytes, which stand in front of others, stand in the first so many of these
-pub pairs_held : (counts bytes : List ℕ) (n m : ℕ) → ArePairs n bytes (pairs_in counts) → (16 * (length counts / 16) ≤ length bytes → m ≡ 16 * (length counts / 16))
+pub pairs_held : (counts bytes : List ℕ) (n m : ℕ) → ArePairs n bytes (pairs_in counts)
+    → (16 * (length counts / 16) ≤ length bytes → m ≡ 16 * (length counts / 16))
     → pairs_in (take m bytes) ≡ pairs_in counts
 pairs_held counts bytes n m are is =
     let k = length counts / 16 in
@@ -202,7 +222,8 @@ unfolding last_name
 last_read bytes =
     then_read (Ends bytes) (λ (name more : List ℕ). IsName bytes name) (name_or InvalidCString bytes)
     (λ x. and_then (needs (length x.1 == 0) (Faults InvalidCString) []) (λ z. Ok (x.0, z.1))) (name_read InvalidCString bytes)
-    (λ x h. then_read (λ (u : Unit {0}) (more : List ℕ). Unit {0}) (λ (name more : List ℕ). IsName bytes name) (needs (length x.1 == 0) (Faults InvalidCString) [])
+    (λ x h. then_read (λ (u : Unit {0}) (more : List ℕ). Unit {0}) (λ (name more : List ℕ). IsName bytes name)
+    (needs (length x.1 == 0) (Faults InvalidCString) [])
     (λ z. Ok (x.0, z.1)) (quiet (needs (length x.1 == 0) (Faults InvalidCString) [])) (λ z k. h.0))
 
 -- two names, one behind the other's zero byte
@@ -210,18 +231,22 @@ pub two_read : (bytes : List ℕ) → IfRead (λ (names : List ℕ × List ℕ) 
 unfolding two_names
 two_read bytes =
     let Two : List ℕ × List ℕ → List ℕ → Type 0 = λ names more. AreTwo bytes names.0 names.1 in
-    then_read (Ends bytes) Two (name_or MissingParameter bytes) (λ x. and_then (last_name x.1) (λ y. Ok ((x.0, y.0), y.1))) (name_read MissingParameter bytes)
+    then_read (Ends bytes) Two (name_or MissingParameter bytes) (λ x. and_then (last_name x.1) (λ y. Ok ((x.0, y.0), y.1)))
+    (name_read MissingParameter bytes)
     (λ x h. then_read (λ (name more : List ℕ). IsName x.1 name) Two (last_name x.1) (λ y. Ok ((x.0, y.0), y.1)) (last_read x.1)
     (λ y k. (h.0, subst (λ (b : List ℕ). IsName b y.0) (sym h.1) k)))
 
 -- a name, and a value behind its zero byte
-pub value_read : (size : ℕ) (bytes : List ℕ) → IfRead (λ (parts : List ℕ × List ℕ) (more : List ℕ). AreNameAndValue bytes parts.0 parts.1) (name_and_value size bytes)
+pub value_read : (size : ℕ) (bytes : List ℕ) →
+    IfRead (λ (parts : List ℕ × List ℕ) (more : List ℕ). AreNameAndValue bytes parts.0 parts.1) (name_and_value size bytes)
 unfolding name_and_value
 value_read size bytes =
     let Two : List ℕ × List ℕ → List ℕ → Type 0 = λ parts more. AreNameAndValue bytes parts.0 parts.1 in
     then_read (Ends bytes) Two (name_or MissingParameter bytes)
-    (λ x. and_then (needs (size == length x.1) (Faults (InvalidXattrSize (size, length x.1))) []) (λ z. Ok ((x.0, x.1), z.1))) (name_read MissingParameter bytes)
-    (λ x h. then_read (λ (u : Unit {0}) (more : List ℕ). Unit {0}) Two (needs (size == length x.1) (Faults (InvalidXattrSize (size, length x.1))) []) (λ z. Ok ((x.0, x.1), z.1))
+    (λ x. and_then (needs (size == length x.1) (Faults (InvalidXattrSize (size, length x.1))) []) (λ z. Ok ((x.0, x.1), z.1)))
+    (name_read MissingParameter bytes)
+    (λ x h. then_read (λ (u : Unit {0}) (more : List ℕ). Unit {0}) Two
+    (needs (size == length x.1) (Faults (InvalidXattrSize (size, length x.1))) []) (λ z. Ok ((x.0, x.1), z.1))
     (quiet (needs (size == length x.1) (Faults (InvalidXattrSize (size, length x.1))) []))
     (λ z k. (h.0, ap (take (length x.1)) h.1 ∙ take_all (length x.1) x.1 (le_refl (length x.1)))))
 
@@ -233,7 +258,8 @@ by_split : (bytes : List ℕ) (split : Option (List ℕ × List ℕ)) → IsSpli
 by_split bytes None h = λ no. absurd (cc)
 by_split bytes (Some s) h = λ yes. h
 
-front_by : (test : Bool) (bytes : List ℕ) (r : Read (List ℕ × Bool)) → IfRead (EndsIf bytes) r → IfRead (EndsIf bytes) (cond test (Err (Faults MissingParameter)) r)
+front_by : (test : Bool) (bytes : List ℕ) (r : Read (List ℕ × Bool)) → IfRead (EndsIf bytes) r →
+    IfRead (EndsIf bytes) (cond test (Err (Faults MissingParameter)) r)
 front_by true bytes r h = tt
 front_by false bytes r h = h
 
@@ -253,25 +279,31 @@ unfolding new_name
 new_read options bytes =
     let New : List ℕ × Extra → List ℕ → Type 0 = λ x more. IsName bytes x.0 in
     then_read (EndsIf bytes) New (front_name bytes)
-    (λ x. and_then (extra options x.1) (λ y. and_then (needs x.0.1 (Faults InvalidCString) y.1) (λ z. Ok ((x.0.0, y.0), z.1)))) (front_read bytes)
-    (λ x h. then_read (λ (more : Extra) (left : List ℕ). Unit {0}) New (extra options x.1) (λ y. and_then (needs x.0.1 (Faults InvalidCString) y.1) (λ z. Ok ((x.0.0, y.0), z.1)))
-    (quiet (extra options x.1)) (λ y k. if_needed (λ (n : List ℕ × Extra). IsName bytes n.0) x.0.1 (Faults InvalidCString) y.1 (x.0.0, y.0) (λ yes. (h yes).0)))
+    (λ x. and_then (extra options x.1) (λ y. and_then (needs x.0.1 (Faults InvalidCString) y.1) (λ z. Ok ((x.0.0, y.0), z.1))))
+    (front_read bytes)
+    (λ x h. then_read (λ (more : Extra) (left : List ℕ). Unit {0}) New (extra options x.1)
+    (λ y. and_then (needs x.0.1 (Faults InvalidCString) y.1) (λ z. Ok ((x.0.0, y.0), z.1)))
+    (quiet (extra options x.1))
+    (λ y k. if_needed (λ (n : List ℕ × Extra). IsName bytes n.0) x.0.1 (Faults InvalidCString) y.1 (x.0.0, y.0) (λ yes. (h yes).0)))
 
 pub both : (a b : Bool) → (a && b) ≡ true → (a ≡ true) × (b ≡ true)
 both true b h = (refl, h)
 both false b h = absurd (cc)
 
 -- the name of a link, and what it leads to
-pub link_read : (options : ℕ) (bytes : List ℕ) → IfRead (λ (x : NewLink) (more : List ℕ). AreTwo bytes x.name x.link) (new_link options bytes)
+pub link_read :
+    (options : ℕ) (bytes : List ℕ) → IfRead (λ (x : NewLink) (more : List ℕ). AreTwo bytes x.name x.link) (new_link options bytes)
 unfolding new_link
 link_read options bytes =
     let New : NewLink → List ℕ → Type 0 = λ x more. AreTwo bytes x.name x.link in
     let last : (List ℕ × Bool) → (List ℕ × Bool) → Extra × List ℕ → Read NewLink =
     λ x y e. and_then (needs (x.1 && y.1) (Faults InvalidCString) e.1) (λ z. Ok (record { name = x.0; link = y.0; extra = e.0 }, z.1)) in
-    then_read (EndsIf bytes) New (front_name bytes) (λ x. and_then (front_name x.1) (λ y. and_then (extra options y.1) (λ e. last x.0 y.0 e))) (front_read bytes)
+    then_read (EndsIf bytes) New (front_name bytes)
+    (λ x. and_then (front_name x.1) (λ y. and_then (extra options y.1) (λ e. last x.0 y.0 e))) (front_read bytes)
     (λ x h. then_read (EndsIf x.1) New (front_name x.1) (λ y. and_then (extra options y.1) (λ e. last x.0 y.0 e)) (front_read x.1)
     (λ y k. then_read (λ (more : Extra) (left : List ℕ). Unit {0}) New (extra options y.1) (λ e. last x.0 y.0 e) (quiet (extra options y.1))
-    (λ e u. if_needed (λ (n : NewLink). AreTwo bytes n.name n.link) (x.0.1 && y.0.1) (Faults InvalidCString) e.1 (record { name = x.0.0; link = y.0.0; extra = e.0 })
+    (λ e u. if_needed (λ (n : NewLink). AreTwo bytes n.name n.link) (x.0.1 && y.0.1) (Faults InvalidCString) e.1
+    (record { name = x.0.0; link = y.0.0; extra = e.0 })
     (λ yes. let each = both x.0.1 y.0.1 yes in
     let one = h each.0 in
     (one.0, subst (λ (b : List ℕ). IsName b y.0.0) (sym one.1) (k each.1).0)))))
@@ -343,7 +375,8 @@ two_kept request first second k n h =
     let i = suc (length first) in
     let j = length second in
     let here : k + (i + j) ≡ k + (length first + 1) + j = omega arith in
-    let in_front : slice_get (drop k request) (i + j) ≡ Some 0 = get_take (drop k request) n (i + j) 0 (sym (get_drop (take n (drop k request)) i j) ∙ h.1.2) in (
+    let in_front : slice_get (drop k request) (i + j) ≡ Some 0 =
+    get_take (drop k request) n (i + j) 0 (sym (get_drop (take n (drop k request)) i j) ∙ h.1.2) in (
       name_kept request first k n h.0,
       (second_kept request first second k n h.1.0, h.1.1, sym (ap (slice_get request) here) ∙ sym (get_drop request k (i + j)) ∙ in_front),
     )

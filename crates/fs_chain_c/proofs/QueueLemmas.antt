@@ -1,5 +1,6 @@
 -- One queue of a record more over some.
-use Rattle.std.proofs.Common.{◌≡◌, ◌∙◌, ℕ, zero, suc, ◌+◌, List, [], ◌∷◌, get_or, take, slice_get, slice_set, Option, Some, None, refl, ap, sym, subst, arith}
+use Rattle.std.proofs.Common.{◌≡◌, ◌∙◌, ℕ, zero, suc, ◌+◌, List, [], ◌∷◌, get_or, take, slice_get, slice_set, Option, Some, None, refl, ap}
+use Rattle.std.proofs.Common.{sym, subst, arith}
 use Rattle.std.specs.Prelude.{◌<◌, length, unwrap_or}
 use Rattle.std.proofs.lemmas.Option.{slice_get-get_or, slice_get_read}
 use Rattle.fs_queue.specs.Queue.{Queue}
@@ -16,20 +17,24 @@ is_old x y e = ap (λ (o : Option FsQueue). unwrap_or o x) e
 is_queue : (x y : Queue) → Some x ≡ Some y → x ≡ y
 is_queue x y e = ap (λ (o : Option Queue). unwrap_or o x) e
 
-over_suc : (olds : List FsQueue) (qs : List Queue) (k : ℕ) (old : FsQueue) (q : Queue) → slice_get (restored_over olds (take k qs)) k ≡ Some old → slice_get qs k ≡ Some q
+over_suc : (olds : List FsQueue) (qs : List Queue) (k : ℕ) (old : FsQueue) (q : Queue)
+    → slice_get (restored_over olds (take k qs)) k ≡ Some old → slice_get qs k ≡ Some q
     → slice_set (restored_over olds (take k qs)) k (numbers_over old q) ≡ restored_over olds (take (suc k) qs)
 over_suc olds [] k old q was is = absurd (subst IsThere (sym is) tt)
 over_suc [] (p ∷ qs) zero old q was is = absurd (subst IsThere (sym was) tt)
 over_suc [] (p ∷ qs) (suc k) old q was is = absurd (subst IsThere (sym was) tt)
 over_suc (o ∷ olds) (p ∷ qs) zero old q was is =
-    ap (λ (x : FsQueue). numbers_over x q ∷ olds) (sym (is_old o old was)) ∙ ap (λ (x : Queue). numbers_over o x ∷ olds) (sym (is_queue p q is))
+    ap (λ (x : FsQueue). numbers_over x q ∷ olds) (sym (is_old o old was))
+    ∙ ap (λ (x : Queue). numbers_over o x ∷ olds) (sym (is_queue p q is))
 over_suc (o ∷ olds) (p ∷ qs) (suc k) old q was is = ap (λ (l : List FsQueue). numbers_over o p ∷ l) (over_suc olds qs k old q was is)
 
 -- it stands over the next of some queues
-pub over_next : (olds now : List FsQueue) (qs : List Queue) (k : ℕ) (old fresh : FsQueue) (q : Queue) → now ≡ restored_over olds (take k qs) → k < length now → k < length qs
+pub over_next : (olds now : List FsQueue) (qs : List Queue) (k : ℕ) (old fresh : FsQueue) (q : Queue) → now ≡ restored_over olds (take k qs)
+    → k < length now → k < length qs
     → q ≡ get_or qs k q → fresh ≡ numbers_over (get_or now k old) q → slice_set now k fresh ≡ restored_over olds (take (k + 1) qs)
 over_next olds now qs k old fresh q is_now low there is_q is_fresh =
     let next : suc k ≡ k + 1 = omega arith in
     let was = subst (λ (l : List FsQueue). slice_get l k ≡ Some (get_or now k old)) is_now (slice_get-get_or now k old low) in
     ap (λ (x : FsQueue). slice_set now k x) is_fresh ∙ ap (λ (l : List FsQueue). slice_set l k (numbers_over (get_or now k old) q)) is_now
-    ∙ over_suc olds qs k (get_or now k old) q was (slice_get_read qs (length qs) k q refl there is_q) ∙ ap (λ (n : ℕ). restored_over olds (take n qs)) next
+    ∙ over_suc olds qs k (get_or now k old) q was (slice_get_read qs (length qs) k q refl there is_q)
+    ∙ ap (λ (n : ℕ). restored_over olds (take n qs)) next

@@ -18,7 +18,8 @@ ranges_more w from most (x ∷ ss) s are is =
     let at : from + (x.len + range_bytes ss) ≡ from + x.len + range_bytes ss = omega arith in
     let left : most - (x.len + range_bytes ss) ≡ most - x.len - range_bytes ss = omega arith in
     let P : ℕ → ℕ → Type 0 = λ a m. IsReplyRange w a m s in
-    let there = subst (λ (a : ℕ). P a (most - x.len - range_bytes ss)) at (subst (λ (m : ℕ). P (from + (x.len + range_bytes ss)) m) left is) in
+    let there = subst (λ (a : ℕ). P a (most - x.len - range_bytes ss)) at
+    (subst (λ (m : ℕ). P (from + (x.len + range_bytes ss)) m) left is) in
     (are.0, ranges_more w (from + x.len) (most - x.len) ss s are.1 there)
 
 -- one more, by where the walk through the bytes stands

@@ -1,5 +1,6 @@
 -- A record has a place of 2080 bytes, which it never fills; and which queue is the first that it can't have.
-use Rattle.std.proofs.Common.{◌≡◌, ℕ, zero, suc, ◌+◌, ◌*◌, ◌<◌, ◌≤◌, All, Bool, true, List, [], ◌∷◌, ◌++◌, drop, get_or, length, take, arith, refl, ap, sym}
+use Rattle.std.proofs.Common.{◌≡◌, ℕ, zero, suc, ◌+◌, ◌*◌, ◌<◌, ◌≤◌, All, Bool, true, List, [], ◌∷◌, ◌++◌, drop, get_or, length, take}
+use Rattle.std.proofs.Common.{arith, refl, ap, sym}
 use Rattle.std.proofs.lemmas.List.{length-append}
 use Rattle.std.specs.List.{flat_map}
 use Rattle.vm_values.specs.Fields.{spelled, field_bytes}
@@ -29,7 +30,8 @@ queues_length (q ∷ qs) =
     let join = length-append (queue_bytes q) (flat_map queue_bytes qs) in
     let one = queue_length q in let more = queues_length qs in omega (arith, join, one, more)
 
-record_length : (page_size limit options : ℕ) (qs : List Queue) → length (record_bytes (Second page_size limit) options qs) ≡ 32 + 32 * length qs
+record_length :
+    (page_size limit options : ℕ) (qs : List Queue) → length (record_bytes (Second page_size limit) options qs) ≡ 32 + 32 * length qs
 record_length page_size limit options qs =
     let v = Second page_size limit in
     let head = spelled (head_fields (head_of v options (length qs))) in
@@ -40,7 +42,8 @@ record_length page_size limit options qs =
     let e = end_length page_size limit in omega (arith, first, second, h, q, e)
 
 -- a place that is full has more than some bytes of a record with others behind them
-pub never_full : (page_size limit options : ℕ) (qs : List Queue) (has part rest : List ℕ) (full : Bool) → length qs ≤ 64 → (full ≡ true → 2080 ≤ length has)
+pub never_full : (page_size limit options : ℕ) (qs : List Queue) (has part rest : List ℕ) (full : Bool) → length qs ≤ 64
+    → (full ≡ true → 2080 ≤ length has)
     → full ≡ true → record_bytes (Second page_size limit) options qs ≡ part ++ rest → 0 < length rest → has ≡ part → ⊥
 never_full page_size limit options qs has part rest full few known is cut more same =
     let long = known is in
@@ -56,7 +59,8 @@ parted (p ∷ qs) zero q within is = ap (λ (x : FsQueue). x ∷ qs) (sym is)
 parted (p ∷ qs) (suc k) q within is = ap (λ (l : List FsQueue). p ∷ l) (parted qs k q (omega (arith, within)) is)
 
 -- one that is refused is the first, if those before it aren't
-pub first_refused : (qs : List FsQueue) (k : ℕ) (q : FsQueue) (e : ChainError) → k < length qs → q ≡ get_or qs k q → All IsQueue (take k qs) → All HasNoneOut (take k qs)
+pub first_refused : (qs : List FsQueue) (k : ℕ) (q : FsQueue) (e : ChainError) → k < length qs → q ≡ get_or qs k q → All IsQueue (take k qs)
+    → All HasNoneOut (take k qs)
     → RefusesToSave q e → RefusesQueues qs e
 first_refused qs k q e within is are none_out why = record {
   before = take k qs;

@@ -1,5 +1,6 @@
 -- What pk_decode tells of the names of a request.
-use Rattle.std.proofs.Common.{◌≡◌, ◌∙◌, ℕ, ◌+◌, ◌-◌, ◌<◌, ◌≤◌, ◌^◌, Bool, true, false, ◌&&◌, ◌||◌, List, [], ◌++◌, length, take, drop, replicate, Option, Some, None, Ok, Err, is_ok, refl, ap, sym, subst, arith, le_refl}
+use Rattle.std.proofs.Common.{◌≡◌, ◌∙◌, ℕ, ◌+◌, ◌-◌, ◌<◌, ◌≤◌, ◌^◌, Bool, true, false, ◌&&◌, ◌||◌, List, [], ◌++◌, length, take, drop}
+use Rattle.std.proofs.Common.{replicate, Option, Some, None, Ok, Err, is_ok, refl, ap, sym, subst, arith, le_refl}
 use Rattle.std.specs.Prelude.{◌==◌, nat_lt, nat_le, if◌then◌else◌}
 use Rattle.std.specs.Int.{w32, from_le_bytes}
 use Rattle.std.proofs.lemmas.Bool.{eqb-true, le-ltb, leb-true, ltb-false}
@@ -56,10 +57,12 @@ unasked : (r : Read Meaning) → IfRead (λ (m : Meaning) (more : List ℕ). fal
 unasked (Ok x) = λ is. absurd (cc)
 unasked (Err e) = tt
 
-row_writes : (g : Given) (o : Opcode) (bytes : List ℕ) → IfRead (λ (m : Meaning) (more : List ℕ). is_write (Some o) ≡ true → MeansWrite m) (row g o bytes)
+row_writes : (g : Given) (o : Opcode) (bytes : List ℕ) →
+    IfRead (λ (m : Meaning) (more : List ℕ). is_write (Some o) ≡ true → MeansWrite m) (row g o bytes)
 unfolding row
 row_writes g op.Write bytes =
-    then_read (λ (r : WriteIn) (more : List ℕ). Unit {0}) (λ (m : Meaning) (more : List ℕ). true ≡ true → MeansWrite m) (reading_of write_in bytes)
+    then_read (λ (r : WriteIn) (more : List ℕ). Unit {0}) (λ (m : Meaning) (more : List ℕ). true ≡ true → MeansWrite m)
+    (reading_of write_in bytes)
     (λ x. one g (write_call g.header x.0 x.1) []) (quiet (reading_of write_in bytes)) (λ x h is. tt)
 row_writes g o bytes = unasked (row g o bytes)
 
@@ -82,7 +85,8 @@ test_holds false e h more ok = absurd (cc)
 
 header_by : (bytes : List ℕ) (short : Bool) → nat_lt (length bytes) 40 ≡ short
     → is_ok (and_then {A = InHeader × List ℕ} {B = InHeader × List ℕ} (header_read short bytes)
-    (λ x. and_then {A = Unit {0} × List ℕ} {B = InHeader × List ℕ} (needs (is_write (opcode_of x.0.opcode)) (Faults DecodeMessage) x.1) (λ y. Ok (x.0, y.1)))) ≡ true
+    (λ x. and_then {A = Unit {0} × List ℕ} {B = InHeader × List ℕ} (needs (is_write (opcode_of x.0.opcode)) (Faults DecodeMessage) x.1)
+    (λ y. Ok (x.0, y.1)))) ≡ true
     → is_write (opcode_of (opcode_in bytes)) ≡ true
 header_by bytes true is ok = absurd (cc)
 header_by bytes false is ok =
@@ -108,7 +112,8 @@ opcode_more front more long =
 -- ---- what is told
 
 -- a call that is told is the first one of what the request means
-asks_of : (s : Setting) (m : Meaning) (bytes : List ℕ) (made : values.FileCall) (out : InFlight) (kept : state.ChainState) → KeepsCall s m bytes made out kept
+asks_of : (s : Setting) (m : Meaning) (bytes : List ℕ) (made : values.FileCall) (out : InFlight) (kept : state.ChainState)
+    → KeepsCall s m bytes made out kept
     → (command : FileCommand) × (m ≡ Asks command) × (call_of bytes made ≡ first_call command)
 asks_of s m bytes made out (at.Waits same w) h = (h.1.0, h.1.1, h.1.2)
 asks_of s m bytes made out (at.Lists same l) h = (h.1.0, h.1.1, h.1.2)
@@ -120,7 +125,8 @@ Keeps out kept s request made =
     (all : List ℕ) → out.request_len ≡ length all → IsRequestFront request all
     → KeepsCall (setting s.page_size s.options.0 out.room_len) (meaning s.options.0 all out.room_len) (drop 80 all) made out kept
 
-by_front : (b : Bool) (out : InFlight) (kept : state.ChainState) (s : Session) (request : List ℕ) (made : values.FileCall) (other : ℕ) → (length request == out.request_len) ≡ b
+by_front : (b : Bool) (out : InFlight) (kept : state.ChainState) (s : Session) (request : List ℕ) (made : values.FileCall) (other : ℕ)
+    → (length request == out.request_len) ≡ b
     → length request < 2 ^ 32 → length request ≤ out.request_len
     → (b || (nat_le 80 (length request) && nat_le (length request) out.request_len && begins_a_write request)) ≡ true
     → Keeps out kept s request made → HasNames request made (told_call (opcode_in request) s.options.0 other made)
@@ -137,9 +143,11 @@ by_front false out kept s request made other is small fits tells keeps =
     let zeros : length more ≡ n = length-replicate {A = ℕ} n 0 in
     let whole : out.request_len ≡ length all = omega (arith, parts, zeros, fits) in
     let m = meaning s.options.0 all out.room_len in
-    let told = asks_of (setting s.page_size s.options.0 out.room_len) m (drop 80 all) made out kept (keeps all whole (take_at request more (length request) refl)) in
+    let told = asks_of (setting s.page_size s.options.0 out.room_len) m (drop 80 all) made out kept
+    (keeps all whole (take_at request more (length request) refl)) in
     let tests = both (nat_le 80 (length request) && nat_le (length request) out.request_len) (begins_a_write request) tells in
-    let long : 80 ≤ length request = leb-true 80 (length request) (both (nat_le 80 (length request)) (nat_le (length request) out.request_len) tests.0).0 in
+    let long : 80 ≤ length request =
+    leb-true 80 (length request) (both (nat_le 80 (length request)) (nat_le (length request) out.request_len) tests.0).0 in
     let write : is_write (opcode_of (opcode_in all)) ≡ true =
     ap (λ (o : ℕ). is_write (opcode_of o)) (opcode_more request more long) ∙ write_begins request tests.1 in
     let writes : IsWrite (first_call told.0) = subst MeansWrite told.1 (write_means s.options.0 out.room_len all write) in
@@ -153,15 +161,19 @@ tells_by : (test : Bool) (n : ℕ) → ◌≡◌ {A = Option ℕ} None (if test 
 tells_by true n e = refl
 tells_by false n e = absurd (cc)
 
-call_named : (before kept : state.ChainState) (s : Session) (request : List ℕ) (made : values.FileCall) (other : ℕ) → length request < 2 ^ 32
+call_named :
+    (before kept : state.ChainState) (s : Session) (request : List ℕ) (made : values.FileCall) (other : ℕ) → length request < 2 ^ 32
     → ask_error before (length request) ≡ None → IfUndecoded before (λ out. Keeps out kept s request made)
-    → IfUndecoded before (λ out. wanted_by (tells.Call made) ≡ wanted_after request out.request_len) → HasNames request made (told_call (opcode_in request) s.options.0 other made)
+    → IfUndecoded before (λ out. wanted_by (tells.Call made) ≡ wanted_after request out.request_len)
+    → HasNames request made (told_call (opcode_in request) s.options.0 other made)
 call_named (at.Taken out) kept s request made other small can keeps wanted =
     by_front (length request == out.request_len) out kept s request made other refl small
-    (ltb-false out.request_len (length request) (fits_by (nat_lt out.request_len (length request)) can)) (tells_by (front_tells request out.request_len) _ wanted) keeps
+    (ltb-false out.request_len (length request) (fits_by (nat_lt out.request_len (length request)) can))
+    (tells_by (front_tells request out.request_len) _ wanted) keeps
 call_named _ kept s request made other small can keeps wanted = absurd (cc)
 
-told_named : (b asked b' : ChainHandle) (s : Session) (request : List ℕ) (made : told.Decoded) (fields call : FsCall) (status ticket : ℕ) → length request < 2 ^ 32
+told_named : (b asked b' : ChainHandle) (s : Session) (request : List ℕ) (made : told.Decoded) (fields call : FsCall) (status ticket : ℕ)
+    → length request < 2 ^ 32
     → asking.Decodes b s request made asked → TellsAsked asked request made fields status b' → call ≡ record fields { ticket = ticket }
     → IfCall made (λ (made : values.FileCall). HasNames request made call)
 told_named b asked b' s request (tells.Call made) fields call status ticket small asks tells is =
@@ -174,4 +186,5 @@ told_named b asked b' s request (tells.Call made) fields call status ticket smal
 told_named b asked b' s request _ fields call status ticket small asks tells is = tt
 
 pub asked_spans_hold_names : AskedSpansHoldNames
-asked_spans_hold_names b d request call status b' small so = told_named b so.2 b' so.0 request so.3 so.5 call status b.serial small so.4 so.6 so.7
+asked_spans_hold_names b d request call status b' small so =
+    told_named b so.2 b' so.0 request so.3 so.5 call status b.serial small so.4 so.6 so.7

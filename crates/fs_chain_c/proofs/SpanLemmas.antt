@@ -13,20 +13,23 @@ use Rattle.fuse_in.specs.declared.nodes.SetxattrInCompat.{SetxattrInCompat}
 use Rattle.fuse_wire.specs.declared.opcodes.Opcode.{Opcode}
 use Rattle.fuse_wire.specs.declared.opcodes.Opcode.TheVariants as op
 use Rattle.fuse_wire.specs.Opcodes.{named, opcode_of, opcodes}
-use Rattle.fuse_fs.specs.Calls.{FileCall, Extra, NewLink, BatchForget, Lookup, Symlink, Mknod, Mkdir, Unlink, Rmdir, Rename, Link, Setxattr, Getxattr, Removexattr, Create}
+use Rattle.fuse_fs.specs.Calls.{FileCall, Extra, NewLink, BatchForget, Lookup, Symlink, Mknod, Mkdir, Unlink, Rmdir, Rename, Link, Setxattr}
+use Rattle.fuse_fs.specs.Calls.{Getxattr, Removexattr, Create}
 use Rattle.fuse_values.specs.declared.call.FileCall as values
 use Rattle.fuse_values.specs.declared.call.FileCall.TheVariants as value
 use Rattle.fuse_values.specs.Values.{call_of}
 use Rattle.server_segments.specs.declared.error.Error.{Error}
 use Rattle.server_segments.specs.declared.error.Error.TheVariants.{DecodeMessage, EncodeMessage}
-use Rattle.server_requests.specs.Reading.{Read, ReadFailure, Reading, Faults, Sends, ◌>>=◌, ◌>>◌, and_then, give, last_name, many, name_and_value, needs, reading_of, two_names, within}
+use Rattle.server_requests.specs.Reading.{Read, ReadFailure, Reading, Faults, Sends, ◌>>=◌, ◌>>◌, and_then, give, last_name, many}
+use Rattle.server_requests.specs.Reading.{name_and_value, needs, reading_of, two_names, within}
 use Rattle.server_requests.specs.Extras.{new_link, new_name}
 use Rattle.server_requests.specs.Fronts.{counted, flags2_of, forget_pair, setxattr_front, with_bytes, without_flags}
 use Rattle.server_calls.specs.Requests as request
 use Rattle.server_replies.specs.WholeReplies.{error_bytes}
 use Rattle.server_phases.specs.Waiting.{first_call}
 use Rattle.virtiofsd_fuse.specs.Grammar as grammar
-use Rattle.virtiofsd_fuse.specs.Grammar.{Asks, FileCommand, Given, IsFault, Lists, Meaning, Replies, ended, given, meaning, meant, one, row, row_of, with_header}
+use Rattle.virtiofsd_fuse.specs.Grammar.{Asks, FileCommand, Given, IsFault, Lists, Meaning, Replies, ended, given, meaning, meant, one, row}
+use Rattle.virtiofsd_fuse.specs.Grammar.{row_of, with_header}
 use Rattle.virtiofsd_fuse.specs.Listings.{listing_of}
 use Rattle.fs_chain_c.specs.Calls.{at_rename, at_setxattr, behind, low, opcode_in, span, told_call}
 use Rattle.fs_chain_c.specs.Spans.{HasNames, IsNameAt, SpansHoldNames, bytes_at}
@@ -43,7 +46,8 @@ at_rename_of _ = 48
 abbrev pub NamesStand : (request : List ℕ) → Option Opcode → (options : ℕ) → FileCall → Type 0
 NamesStand bytes o options (Lookup context node name) = NameStandsAt 40 bytes name
 NamesStand bytes o options (BatchForget context counts) = (n : ℕ) × ArePairs n (drop 48 bytes) counts
-NamesStand bytes o options (Symlink context link node name extra) = NameStandsAt 40 bytes name × NameStandsAt (40 + (length name + 1)) bytes link
+NamesStand bytes o options (Symlink context link node name extra) =
+    NameStandsAt 40 bytes name × NameStandsAt (40 + (length name + 1)) bytes link
 NamesStand bytes o options (Mknod context node name mode rdev umask extra) = NameStandsAt 56 bytes name
 NamesStand bytes o options (Mkdir context node name mode umask extra) = NameStandsAt 48 bytes name
 NamesStand bytes o options (Unlink context node name) = NameStandsAt 40 bytes name
@@ -73,7 +77,8 @@ within_read P (Err r) others h = tt
 few_read : (test : Bool) (e : ReadFailure) (n : ℕ) (bytes there : List ℕ) → bytes ≡ there
     → IfRead (λ (pairs : List (ℕ × ℕ)) (more : List ℕ). ArePairs n there pairs) ((needs test e >> many n forget_pair) bytes)
 few_read true e n bytes there is =
-    subst (λ (b : List ℕ). IfRead (λ (pairs : List (ℕ × ℕ)) (more : List ℕ). ArePairs n b pairs) (many n forget_pair bytes)) is (pairs_read n bytes)
+    subst (λ (b : List ℕ). IfRead (λ (pairs : List (ℕ × ℕ)) (more : List ℕ). ArePairs n b pairs) (many n forget_pair bytes)) is
+    (pairs_read n bytes)
 few_read false e n bytes there is = tt
 
 -- ---- rows of the grammar
@@ -91,85 +96,114 @@ module _ (all : List ℕ) (o : Option Opcode) (g : Given) where
   then_any (Ok x) f go = go x
   then_any (Err e) f go = tt
 
-  record_stands : {R : Type 0} (s : RecordShape R) (c : InHeader → R → FileCall) → ((r : R) → Has (c g.header r)) → Stands (grammar.record_row s c g (drop 40 all))
+  record_stands : {R : Type 0} (s : RecordShape R) (c : InHeader → R → FileCall) → ((r : R) → Has (c g.header r))
+      → Stands (grammar.record_row s c g (drop 40 all))
   record_stands s c has = then_any (reading_of s (drop 40 all)) (λ x. one g (c g.header x.0) x.1) (λ x. has x.0)
 
   -- what is read of some bytes at a place
-  inside : {A : Type 0} (p : Reading A) (c : A → FileCall) (Is : List ℕ → A → Type 0) (bytes others : List ℕ) (k n : ℕ) → bytes ≡ take n (drop k all)
+  inside :
+      {A : Type 0} (p : Reading A) (c : A → FileCall) (Is : List ℕ → A → Type 0) (bytes others : List ℕ) (k n : ℕ)
+      → bytes ≡ take n (drop k all)
       → IfRead (λ (a : A) (more : List ℕ). Is bytes a) (p bytes) → ((a : A) → Is (take n (drop k all)) a → Has (c a))
       → Stands (and_then (within bytes p others) (λ y. one g (c y.0) y.1))
   inside {A} p c Is bytes others k n begins read has =
-      then_read (λ (a : A) (more : List ℕ). Is bytes a) (λ (m : Meaning) (more : List ℕ). MeansNames all o g.options m) (within bytes p others) (λ y. one g (c y.0) y.1)
+      then_read (λ (a : A) (more : List ℕ). Is bytes a) (λ (m : Meaning) (more : List ℕ). MeansNames all o g.options m)
+      (within bytes p others) (λ y. one g (c y.0) y.1)
       (within_read (Is bytes) (p bytes) others read) (λ y i. has y.0 (subst (λ (b : List ℕ). Is b y.0) begins i))
 
   -- bytes behind the header, and what is read of them
-  counted_stands : {A : Type 0} (p : Reading A) (c : A → FileCall) (Is : List ℕ → A → Type 0) → ((bytes : List ℕ) → IfRead (λ (a : A) (more : List ℕ). Is bytes a) (p bytes))
-      → ((a : A) (n : ℕ) → Is (take n (drop 40 all)) a → Has (c a)) → Stands ((counted g.header.len 0 >>= λ bytes. within bytes p >>= λ y. one g (c y)) (drop 40 all))
+  counted_stands : {A : Type 0} (p : Reading A) (c : A → FileCall) (Is : List ℕ → A → Type 0)
+      → ((bytes : List ℕ) → IfRead (λ (a : A) (more : List ℕ). Is bytes a) (p bytes))
+      → ((a : A) (n : ℕ) → Is (take n (drop 40 all)) a → Has (c a))
+      → Stands ((counted g.header.len 0 >>= λ bytes. within bytes p >>= λ y. one g (c y)) (drop 40 all))
   counted_stands p c Is reads has =
       let n = g.header.len - 40 - 0 in
-      then_read (λ (a more : List ℕ). a ≡ take n (drop 40 all)) (λ (m : Meaning) (more : List ℕ). MeansNames all o g.options m) (counted g.header.len 0 (drop 40 all))
+      then_read (λ (a more : List ℕ). a ≡ take n (drop 40 all)) (λ (m : Meaning) (more : List ℕ). MeansNames all o g.options m)
+      (counted g.header.len 0 (drop 40 all))
       (λ x. and_then (within x.0 p x.1) (λ y. one g (c y.0) y.1)) (counted_read g.header.len 0 (drop 40 all))
       (λ x h. inside p c Is x.0 x.1 40 n h (reads x.0) (λ a i. has a n i))
 
-  name_stands : (c : InHeader → List ℕ → FileCall) → ((name : List ℕ) → NameStandsAt 40 all name → Has (c g.header name)) → Stands (grammar.name_row c g (drop 40 all))
+  name_stands : (c : InHeader → List ℕ → FileCall) → ((name : List ℕ) → NameStandsAt 40 all name → Has (c g.header name))
+      → Stands (grammar.name_row c g (drop 40 all))
   name_stands c has = counted_stands last_name (c g.header) IsName last_read (λ name n h. has name (name_kept all name 40 n h))
 
   -- a record and bytes behind it, and what is read of them
-  bytes_stands : {R A : Type 0} (front : Given → Reading (R × List ℕ)) (parts : Given → R → Reading A) (c : InHeader → R → A → FileCall) (k : ℕ) (Is : List ℕ → A → Type 0)
+  bytes_stands : {R A : Type 0} (front : Given → Reading (R × List ℕ)) (parts : Given → R → Reading A) (c : InHeader → R → A
+      → FileCall) (k : ℕ) (Is : List ℕ → A → Type 0)
       → IfRead (λ (x : R × List ℕ) (more : List ℕ). StandBehind k all x more) (front g (drop 40 all))
-      → ((r : R) (bytes : List ℕ) → IfRead (λ (a : A) (more : List ℕ). Is bytes a) (parts g r bytes)) → ((r : R) (a : A) (n : ℕ) → Is (take n (drop k all)) a → Has (c g.header r a))
+      → ((r : R) (bytes : List ℕ) → IfRead (λ (a : A) (more : List ℕ). Is bytes a) (parts g r bytes))
+      → ((r : R) (a : A) (n : ℕ) → Is (take n (drop k all)) a → Has (c g.header r a))
       → Stands (grammar.bytes_row front parts c g (drop 40 all))
   bytes_stands {R} {A} front parts c k Is begins reads has =
-      then_read (λ (x : R × List ℕ) (more : List ℕ). StandBehind k all x more) (λ (m : Meaning) (more : List ℕ). MeansNames all o g.options m) (front g (drop 40 all))
+      then_read (λ (x : R × List ℕ) (more : List ℕ). StandBehind k all x more)
+      (λ (m : Meaning) (more : List ℕ). MeansNames all o g.options m) (front g (drop 40 all))
       (λ x. and_then (within x.0.1 (parts g x.0.0) x.1) (λ y. one g (c g.header x.0.0 y.0) y.1)) begins
       (λ x h. inside (parts g x.0.0) (c g.header x.0.0) Is x.0.1 x.1 k h.0 h.1 (reads x.0.0 x.0.1) (λ a i. has x.0.0 a h.0 i))
 
   new_stands : {R : Type 0} (s : RecordShape R) (k : ℕ) (c : InHeader → R → List ℕ × Extra → FileCall) → size s.parts ≡ k
-      → ((r : R) (x : List ℕ × Extra) → NameStandsAt (40 + k) all x.0 → Has (c g.header r x)) → Stands (grammar.new_name_row s k c g (drop 40 all))
+      → ((r : R) (x : List ℕ × Extra) → NameStandsAt (40 + k) all x.0 → Has (c g.header r x))
+      → Stands (grammar.new_name_row s k c g (drop 40 all))
   new_stands {R} s k c is has =
-      bytes_stands (λ g. with_bytes s k g.header.len) (λ g r. new_name g.options) c (40 + k) (λ (bytes : List ℕ) (x : List ℕ × Extra). IsName bytes x.0)
+      bytes_stands (λ g. with_bytes s k g.header.len) (λ g r. new_name g.options) c (40 + k)
+      (λ (bytes : List ℕ) (x : List ℕ × Extra). IsName bytes x.0)
       (with_bytes_read s k g.header.len all is) (λ r bytes. new_read g.options bytes) (λ r x n h. has r x (name_kept all x.0 (40 + k) n h))
 
   record_name_stands : {R : Type 0} (s : RecordShape R) (k : ℕ) (c : InHeader → R → List ℕ → FileCall) → size s.parts ≡ k
-      → ((r : R) (name : List ℕ) → NameStandsAt (40 + k) all name → Has (c g.header r name)) → Stands (grammar.record_name_row s k c g (drop 40 all))
+      → ((r : R) (name : List ℕ) → NameStandsAt (40 + k) all name → Has (c g.header r name))
+      → Stands (grammar.record_name_row s k c g (drop 40 all))
   record_name_stands {R} s k c is has =
-      bytes_stands (λ g. with_bytes s k g.header.len) (λ g r. last_name) c (40 + k) IsName (with_bytes_read s k g.header.len all is) (λ r bytes. last_read bytes)
+      bytes_stands (λ g. with_bytes s k g.header.len) (λ g r. last_name) c (40 + k) IsName (with_bytes_read s k g.header.len all is)
+      (λ r bytes. last_read bytes)
       (λ r name n h. has r name (name_kept all name (40 + k) n h))
 
   two_names_stands : {R : Type 0} (s : RecordShape R) (k : ℕ) (c : InHeader → R → List ℕ × List ℕ → FileCall) → size s.parts ≡ k
-      → ((r : R) (names : List ℕ × List ℕ) → NameStandsAt (40 + k) all names.0 × NameStandsAt (40 + k + (length names.0 + 1)) all names.1 → Has (c g.header r names))
+      → ((r : R) (names : List ℕ × List ℕ) → NameStandsAt (40 + k) all names.0 × NameStandsAt (40 + k + (length names.0 + 1)) all names.1
+      → Has (c g.header r names))
       → Stands (grammar.two_names_row s k c g (drop 40 all))
   two_names_stands {R} s k c is has =
-      bytes_stands (λ g. with_bytes s k g.header.len) (λ g r. two_names) c (40 + k) (λ (bytes : List ℕ) (names : List ℕ × List ℕ). AreTwo bytes names.0 names.1)
-      (with_bytes_read s k g.header.len all is) (λ r bytes. two_read bytes) (λ r names n h. has r names (two_kept all names.0 names.1 (40 + k) n h))
+      bytes_stands (λ g. with_bytes s k g.header.len) (λ g r. two_names) c (40 + k)
+      (λ (bytes : List ℕ) (names : List ℕ × List ℕ). AreTwo bytes names.0 names.1)
+      (with_bytes_read s k g.header.len all is) (λ r bytes. two_read bytes)
+      (λ r names n h. has r names (two_kept all names.0 names.1 (40 + k) n h))
 
-  symlink_stands : ((x : NewLink) → NameStandsAt 40 all x.name × NameStandsAt (40 + (length x.name + 1)) all x.link → Has (request.symlink_call g.header x))
+  symlink_stands :
+      ((x : NewLink) → NameStandsAt 40 all x.name × NameStandsAt (40 + (length x.name + 1)) all x.link
+      → Has (request.symlink_call g.header x))
       → Stands (grammar.symlink_row g (drop 40 all))
   symlink_stands has =
-      counted_stands (new_link g.options) (request.symlink_call g.header) (λ (bytes : List ℕ) (x : NewLink). AreTwo bytes x.name x.link) (λ bytes. link_read g.options bytes)
+      counted_stands (new_link g.options) (request.symlink_call g.header) (λ (bytes : List ℕ) (x : NewLink). AreTwo bytes x.name x.link)
+      (λ bytes. link_read g.options bytes)
       (λ x n h. has x (two_kept all x.name x.link 40 n h))
 
   -- a test, and then a name
-  tested_read : (test : Bool) (e : ReadFailure) (bytes : List ℕ) → IfRead (λ (name more : List ℕ). IsName bytes name) ((needs test e >> last_name) bytes)
+  tested_read :
+      (test : Bool) (e : ReadFailure) (bytes : List ℕ)
+      → IfRead (λ (name more : List ℕ). IsName bytes name) ((needs test e >> last_name) bytes)
   tested_read test e bytes =
-      then_read (λ (u : Unit {0}) (more : List ℕ). (test ≡ true) × (more ≡ bytes)) (λ (name more : List ℕ). IsName bytes name) (needs test e bytes) (λ x. last_name x.1)
-      (needed test e bytes) (λ x h. subst (λ (b : List ℕ). IfRead (λ (name more : List ℕ). IsName b name) (last_name x.1)) h.1 (last_read x.1))
+      then_read (λ (u : Unit {0}) (more : List ℕ). (test ≡ true) × (more ≡ bytes)) (λ (name more : List ℕ). IsName bytes name)
+      (needs test e bytes) (λ x. last_name x.1)
+      (needed test e bytes)
+      (λ x h. subst (λ (b : List ℕ). IfRead (λ (name more : List ℕ). IsName b name) (last_name x.1)) h.1 (last_read x.1))
 
   getxattr_stands : Stands (grammar.getxattr_row g (drop 40 all))
   getxattr_stands =
-      bytes_stands (λ g. with_bytes inputs.getxattr_in 8 g.header.len) (λ g r. grammar.at_most_a_mebibyte r.size >> last_name) request.getxattr_call 48 IsName
-      (with_bytes_read inputs.getxattr_in 8 g.header.len all refl) (λ r bytes. tested_read (nat_le r.size (2 ^ 20)) (Sends grammar.ENOMEM) bytes)
+      bytes_stands (λ g. with_bytes inputs.getxattr_in 8 g.header.len) (λ g r. grammar.at_most_a_mebibyte r.size >> last_name)
+      request.getxattr_call 48 IsName
+      (with_bytes_read inputs.getxattr_in 8 g.header.len all refl)
+      (λ r bytes. tested_read (nat_le r.size (2 ^ 20)) (Sends grammar.ENOMEM) bytes)
       (λ r name n h. name_kept all name 48 n h)
 
   listxattr_stands : Stands (grammar.listxattr_row g (drop 40 all))
   listxattr_stands =
-      then_any (reading_of inputs.getxattr_in (drop 40 all)) (λ x. (grammar.at_most_a_mebibyte x.0.size >> one g (request.listxattr_call g.header x.0)) x.1)
+      then_any (reading_of inputs.getxattr_in (drop 40 all))
+      (λ x. (grammar.at_most_a_mebibyte x.0.size >> one g (request.listxattr_call g.header x.0)) x.1)
       (λ x. then_any (grammar.at_most_a_mebibyte x.0.size x.1) (λ y. one g (request.listxattr_call g.header x.0) y.1) (λ y. tt))
 
   read_stands : Stands (grammar.read_row g (drop 40 all))
   read_stands =
       then_any (reading_of inputs.read_in (drop 40 all)) (λ x. grammar.read_asked g x.0 x.1)
-      (λ x. then_any (needs (nat_le 16 g.room) (Faults EncodeMessage) x.1) (λ y. one g (request.read_call g.header (g.room - 16) x.0) y.1) (λ y. tt))
+      (λ x. then_any (needs (nat_le 16 g.room) (Faults EncodeMessage) x.1)
+      (λ y. one g (request.read_call g.header (g.room - 16) x.0) y.1) (λ y. tt))
 
   write_stands : Stands (grammar.write_row g (drop 40 all))
   write_stands = then_any (reading_of inputs.write_in (drop 40 all)) (λ x. one g (request.write_call g.header x.0 x.1) []) (λ x. tt)
@@ -177,20 +211,25 @@ module _ (all : List ℕ) (o : Option Opcode) (g : Given) where
   listing_stands : (with_nodes : Bool) → Stands (grammar.listing_row with_nodes g (drop 40 all))
   listing_stands with_nodes =
       then_any (reading_of inputs.read_in (drop 40 all)) (λ x. grammar.listing_asked with_nodes x.0 g x.1)
-      (λ x. then_any ((grammar.at_most_a_mebibyte x.0.size >> needs (nat_le x.0.size g.room) (Sends grammar.ENOMEM) >> needs (nat_le 16 g.room) (Faults EncodeMessage)) x.1)
+      (λ x. then_any ((grammar.at_most_a_mebibyte x.0.size >> needs (nat_le x.0.size g.room) (Sends grammar.ENOMEM)
+      >> needs (nat_le 16 g.room) (Faults EncodeMessage)) x.1)
       (λ y. give (Asks (Lists g.header.unique (listing_of with_nodes g.header x.0))) y.1) (λ y. tt))
 
   forgets_stands : Stands (grammar.batch_forget_row g (drop 40 all))
   forgets_stands =
-      then_read (IsRecord inputs.batch_forget_in (drop 40 all)) (λ (m : Meaning) (more : List ℕ). MeansNames all o g.options m) (reading_of inputs.batch_forget_in (drop 40 all))
+      then_read (IsRecord inputs.batch_forget_in (drop 40 all)) (λ (m : Meaning) (more : List ℕ). MeansNames all o g.options m)
+      (reading_of inputs.batch_forget_in (drop 40 all))
       (λ x. grammar.forgets_asked x.0.count g x.1) (record_read inputs.batch_forget_in (drop 40 all)) (λ x h.
       let there : x.1 ≡ drop 48 all = h.1 ∙ drop-drop 8 40 all in
-      then_read (λ (pairs : List (ℕ × ℕ)) (more : List ℕ). ArePairs x.0.count (drop 48 all) pairs) (λ (m : Meaning) (more : List ℕ). MeansNames all o g.options m)
-      ((grammar.at_most_a_mebibyte (x.0.count * 16) >> many x.0.count forget_pair) x.1) (λ y. one g (request.batch_forget_call g.header y.0) y.1)
+      then_read (λ (pairs : List (ℕ × ℕ)) (more : List ℕ). ArePairs x.0.count (drop 48 all) pairs)
+      (λ (m : Meaning) (more : List ℕ). MeansNames all o g.options m)
+      ((grammar.at_most_a_mebibyte (x.0.count * 16) >> many x.0.count forget_pair) x.1)
+      (λ y. one g (request.batch_forget_call g.header y.0) y.1)
       (few_read (nat_le (x.0.count * 16) (2 ^ 20)) (Sends grammar.ENOMEM) x.0.count x.1 (drop 48 all) there) (λ y i. (x.0.count, i)))
 
   -- by a test
-  if_stands : (b : Bool) (p q : Reading Meaning) (bytes : List ℕ) → Stands (p bytes) → Stands (q bytes) → Stands ((if b then p else q) bytes)
+  if_stands :
+      (b : Bool) (p q : Reading Meaning) (bytes : List ℕ) → Stands (p bytes) → Stands (q bytes) → Stands ((if b then p else q) bytes)
   if_stands true p q bytes x y = x
   if_stands false p q bytes x y = y
 
@@ -198,25 +237,33 @@ module _ (all : List ℕ) (o : Option Opcode) (g : Given) where
   init_stands =
       then_any (reading_of inputs.init_in_compat (drop 40 all)) (λ x. (flags2_of x.0 >>= λ flags2. grammar.started g x.0 flags2) x.1)
       (λ x. then_any (flags2_of x.0 x.1) (λ y. grammar.started g x.0 y.0 y.1)
-      (λ y. if_stands (nat_lt x.0.major 7) _ _ y.1 tt (if_stands (nat_lt 7 x.0.major) _ _ y.1 tt (if_stands (nat_lt x.0.minor 27) _ _ y.1 tt tt))))
+      (λ y. if_stands (nat_lt x.0.major 7) _ _ y.1 tt
+      (if_stands (nat_lt 7 x.0.major) _ _ y.1 tt (if_stands (nat_lt x.0.minor 27) _ _ y.1 tt tt))))
 
 -- SETXATTR's record, by whether it is the short one
-setxattr_read : (b : Bool) (all : List ℕ) (len : ℕ) → IfRead (λ (x : SetxattrIn × List ℕ) (more : List ℕ). StandBehind (if b then 48 else 56) all x more)
-    ((if not b then with_bytes inputs.setxattr_in 16 len else (with_bytes inputs.setxattr_in_compat 8 len >>= λ x. give (without_flags x.0, x.1))) (drop 40 all))
+setxattr_read : (b : Bool) (all : List ℕ) (len : ℕ) →
+    IfRead (λ (x : SetxattrIn × List ℕ) (more : List ℕ). StandBehind (if b then 48 else 56) all x more)
+    ((if not b then with_bytes inputs.setxattr_in 16 len
+    else (with_bytes inputs.setxattr_in_compat 8 len >>= λ x. give (without_flags x.0, x.1))) (drop 40 all))
 setxattr_read true all len =
-    then_read (λ (x : SetxattrInCompat × List ℕ) (more : List ℕ). StandBehind 48 all x more) (λ (x : SetxattrIn × List ℕ) (more : List ℕ). StandBehind 48 all x more)
-    (with_bytes inputs.setxattr_in_compat 8 len (drop 40 all)) (λ x. Ok ((without_flags x.0.0, x.0.1), x.1)) (with_bytes_read inputs.setxattr_in_compat 8 len all refl) (λ x h. h)
+    then_read (λ (x : SetxattrInCompat × List ℕ) (more : List ℕ). StandBehind 48 all x more)
+    (λ (x : SetxattrIn × List ℕ) (more : List ℕ). StandBehind 48 all x more)
+    (with_bytes inputs.setxattr_in_compat 8 len (drop 40 all)) (λ x. Ok ((without_flags x.0.0, x.0.1), x.1))
+    (with_bytes_read inputs.setxattr_in_compat 8 len all refl) (λ x h. h)
 setxattr_read false all len = with_bytes_read inputs.setxattr_in 16 len all refl
 
 setxattr_begins : (options len : ℕ) (all : List ℕ)
-    → IfRead (λ (x : SetxattrIn × List ℕ) (more : List ℕ). StandBehind (at_setxattr options) all x more) (setxattr_front options len (drop 40 all))
+    → IfRead (λ (x : SetxattrIn × List ℕ) (more : List ℕ). StandBehind (at_setxattr options) all x more)
+    (setxattr_front options len (drop 40 all))
 unfolding setxattr_front
 setxattr_begins options len all = setxattr_read (bit_and options (2 ^ 29) == 0) all len
 
 setxattr_stands : (all : List ℕ) (o : Option Opcode) (g : Given) → Stands all o g (grammar.setxattr_row g (drop 40 all))
 setxattr_stands all o g =
-    bytes_stands all o g (λ g. setxattr_front g.options g.header.len) (λ g r. name_and_value r.size) request.setxattr_call (at_setxattr g.options)
-    (λ (bytes : List ℕ) (parts : List ℕ × List ℕ). AreNameAndValue bytes parts.0 parts.1) (setxattr_begins g.options g.header.len all) (λ r bytes. value_read r.size bytes)
+    bytes_stands all o g (λ g. setxattr_front g.options g.header.len) (λ g r. name_and_value r.size) request.setxattr_call
+    (at_setxattr g.options)
+    (λ (bytes : List ℕ) (parts : List ℕ × List ℕ). AreNameAndValue bytes parts.0 parts.1) (setxattr_begins g.options g.header.len all)
+    (λ r bytes. value_read r.size bytes)
     (λ r parts n h. value_kept all parts.0 parts.1 (at_setxattr g.options) n h)
 
 row_stands : (all : List ℕ) (g : Given) (o : Opcode) → Stands all (Some o) g (row g o (drop 40 all))
@@ -257,7 +304,8 @@ row_stands all g op.Poll = tt
 row_stands all g op.NotifyReply = tt
 row_stands all g op.Fallocate = record_stands all (Some op.Fallocate) g inputs.fallocate_in request.fallocate_call (λ r. tt)
 row_stands all g op.Lseek = record_stands all (Some op.Lseek) g inputs.lseek_in request.lseek_call (λ r. tt)
-row_stands all g op.CopyFileRange = record_stands all (Some op.CopyFileRange) g inputs.copyfilerange_in request.copy_file_range_call (λ r. tt)
+row_stands all g op.CopyFileRange =
+    record_stands all (Some op.CopyFileRange) g inputs.copyfilerange_in request.copy_file_range_call (λ r. tt)
 row_stands all g op.Syncfs = tt
 row_stands all g op.TmpFile = tt
 row_stands all g op.Setxattr = setxattr_stands all (Some op.Setxattr) g
@@ -293,12 +341,14 @@ header_read short bytes = and_then (front_read short bytes) (λ x. give (made in
 pub header_opcode : (all : List ℕ) → 40 ≤ length all → (header_in all).opcode ≡ opcode_in all
 header_opcode all long =
     let test : nat_lt (length all) 16 ≡ false = le-ltb (length all) 16 (omega (arith, long)) in
-    let there : take 4 (drop 4 (take 40 all)) ≡ take 4 (drop 4 all) = ap (take 4) (drop-take 4 36 all) ∙ take-take 4 36 (drop 4 all) (omega arith) in
+    let there : take 4 (drop 4 (take 40 all)) ≡ take 4 (drop 4 all) =
+    ap (take 4) (drop-take 4 36 all) ∙ take-take 4 36 (drop 4 all) (omega arith) in
     let says : opcode_in all ≡ from_le_bytes w32 (take 4 (drop 4 all)) = rw test refl in
     ap (from_le_bytes w32) there ∙ sym says
 
 -- what holds of what each row comes to, of faults and of replies holds of what a request means
-module _ (P : Option Opcode → Meaning → Type 0) (faults : (o : Option Opcode) (e : Error) → P o (IsFault e)) (sends : (o : Option Opcode) (bytes : List ℕ) → P o (Replies bytes)) where
+module _ (P : Option Opcode → Meaning → Type 0) (faults : (o : Option Opcode) (e : Error)
+    → P o (IsFault e)) (sends : (o : Option Opcode) (bytes : List ℕ) → P o (Replies bytes)) where
   ended_is : (o : Option Opcode) (unique : ℕ) (r : Read Meaning) → IfRead (λ (m : Meaning) (more : List ℕ). P o m) r → P o (ended unique r)
   ended_is o unique (Ok x) h = h
   ended_is o unique (Err (Faults e)) h = faults o e
@@ -329,7 +379,8 @@ module _ (P : Option Opcode → Meaning → Type 0) (faults : (o : Option Opcode
 -- the names that a request means stand in it
 meaning_stands : (options room : ℕ) (all : List ℕ) → MeansNames all (opcode_of (opcode_in all)) options (meaning options all room)
 meaning_stands options room all =
-    meaning_is (λ (o : Option Opcode) (m : Meaning). MeansNames all o options m) (λ o e. tt) (λ o bytes. tt) options room all (λ h o. row_stands all (given h options room) o)
+    meaning_is (λ (o : Option Opcode) (m : Meaning). MeansNames all o options m) (λ o e. tt) (λ o bytes. tt) options room all
+    (λ h o. row_stands all (given h options room) o)
 
 -- ---- where RENAME's names stand, by the request's number
 
@@ -374,7 +425,8 @@ rename_at n = rename_by n (n == 45) refl
 -- ---- what is told of a place
 
 -- a place that is told holds the name that stands there
-held : (all name : List ℕ) (k at : ℕ) → length all < 2 ^ 32 → (k < length all → at ≡ k) → StandsAt k all name → take (low (length name)) (drop at all) ≡ name
+held : (all name : List ℕ) (k at : ℕ) → length all < 2 ^ 32 → (k < length all → at ≡ k) → StandsAt k all name →
+    take (low (length name)) (drop at all) ≡ name
 held all [] k at small is h = refl
 held all (b ∷ name) k at small is h =
     let n = length (b ∷ name) in
@@ -398,14 +450,17 @@ name_held all name k at small is h =
     let end : at + low (length name) ≡ k + length name = omega (arith, here, whole) in
     (held all name k at small is h.0, h.1, ap (slice_get all) end ∙ h.2)
 
-two_held : (all first second : List ℕ) (k : ℕ) → length all < 2 ^ 32 → low k ≡ k → NameStandsAt k all first × NameStandsAt (k + (length first + 1)) all second
+two_held : (all first second : List ℕ) (k : ℕ) → length all < 2 ^ 32 → low k ≡ k
+    → NameStandsAt k all first × NameStandsAt (k + (length first + 1)) all second
     → IsNameAt all (span k (length first)) first × IsNameAt all (span (behind k (length first)) (length second)) second
 two_held all first second k small is h = (
   name_held all first k (low k) small (λ l. is) h.0,
-  name_held all second (k + (length first + 1)) (low (behind k (length first))) small (λ l. behind_is k (length first) (length all) small l) h.1,
+  name_held all second (k + (length first + 1)) (low (behind k (length first))) small
+      (λ l. behind_is k (length first) (length all) small l) h.1,
 )
 
-value_held : (all name content : List ℕ) (k : ℕ) → length all < 2 ^ 32 → low k ≡ k → NameStandsAt k all name × StandsAt (k + (length name + 1)) all content
+value_held : (all name content : List ℕ) (k : ℕ) → length all < 2 ^ 32 → low k ≡ k
+    → NameStandsAt k all name × StandsAt (k + (length name + 1)) all content
     → IsNameAt all (span k (length name)) name × (bytes_at all (span (behind k (length name)) (length content)) ≡ content)
 value_held all name content k small is h = (
   name_held all name k (low k) small (λ l. is) h.0,
@@ -426,9 +481,12 @@ told_holds all bytes opcode options room (value.Lookup context node name) small 
 told_holds all bytes opcode options room (value.BatchForget context counts) small h =
     let left : length (drop 48 all) ≡ length all - 48 = length-drop 48 all in
     pairs_held counts.now (drop 48 all) h.0 (low (16 * (length counts.now / 16))) h.1 (λ fits. omega (arith, left, small, fits))
-told_holds all bytes opcode options room (value.Symlink context link node name extra) small h = two_held all name.now link.now 40 small refl h
-told_holds all bytes opcode options room (value.Mknod context node name mode rdev umask extra) small h = name_held all name.now 56 56 small (λ l. refl) h
-told_holds all bytes opcode options room (value.Mkdir context node name mode umask extra) small h = name_held all name.now 48 48 small (λ l. refl) h
+told_holds all bytes opcode options room (value.Symlink context link node name extra) small h =
+    two_held all name.now link.now 40 small refl h
+told_holds all bytes opcode options room (value.Mknod context node name mode rdev umask extra) small h =
+    name_held all name.now 56 56 small (λ l. refl) h
+told_holds all bytes opcode options room (value.Mkdir context node name mode umask extra) small h =
+    name_held all name.now 48 48 small (λ l. refl) h
 told_holds all bytes opcode options room (value.Unlink context node name) small h = name_held all name.now 40 40 small (λ l. refl) h
 told_holds all bytes opcode options room (value.Rmdir context node name) small h = name_held all name.now 40 40 small (λ l. refl) h
 told_holds all bytes opcode options room (value.Rename context node old new_dir new flags) small h =
@@ -440,15 +498,18 @@ told_holds all bytes opcode options room (value.Setxattr context node name conte
     value_held all name.now content.now (at_setxattr options) small (setxattr_low (bit_and options (2 ^ 29) == 0)) h
 told_holds all bytes opcode options room (value.Getxattr context node name size) small h = name_held all name.now 48 48 small (λ l. refl) h
 told_holds all bytes opcode options room (value.Removexattr context node name) small h = name_held all name.now 40 40 small (λ l. refl) h
-told_holds all bytes opcode options room (value.Create context node name mode kill flags umask extra) small h = name_held all name.now 56 56 small (λ l. refl) h
+told_holds all bytes opcode options room (value.Create context node name mode kill flags umask extra) small h =
+    name_held all name.now 56 56 small (λ l. refl) h
 told_holds all bytes opcode options room _ small h = tt
 
 -- the names of the call that a request means stand where they are told to
 pub names_hold : (all bytes : List ℕ) (options room other : ℕ) (command : FileCommand) (made : values.FileCall) → length all < 2 ^ 32
-    → meaning options all room ≡ Asks command → call_of bytes made ≡ first_call command → HasNames all made (told_call (opcode_in all) options other made)
+    → meaning options all room ≡ Asks command → call_of bytes made ≡ first_call command
+    → HasNames all made (told_call (opcode_in all) options other made)
 names_hold all bytes options room other command made small means calls =
     let o = opcode_of (opcode_in all) in
-    let stand : NamesStand all o options (first_call command) = subst (λ (m : Meaning). MeansNames all o options m) means (meaning_stands options room all) in
+    let stand : NamesStand all o options (first_call command) =
+    subst (λ (m : Meaning). MeansNames all o options m) means (meaning_stands options room all) in
     told_holds all bytes (opcode_in all) options other made small (subst (λ (c : FileCall). NamesStand all o options c) (sym calls) stand)
 
 pub spans_hold_names : SpansHoldNames

@@ -1,5 +1,6 @@
 -- One stretch more behind some.
-use Rattle.std.proofs.Common.{◌≡◌, ◌∙◌, ℕ, suc, ◌+◌, ◌-◌, ◌<◌, Bool, List, [], ◌∷◌, ◌++◌, length, drop, slice_set, refl, ap, sym, subst, arith}
+use Rattle.std.proofs.Common.{◌≡◌, ◌∙◌, ℕ, suc, ◌+◌, ◌-◌, ◌<◌, Bool, List, [], ◌∷◌, ◌++◌, length, drop, slice_set, refl, ap, sym, subst}
+use Rattle.std.proofs.Common.{arith}
 use Rattle.fs_chain.specs.declared.chain_handle.ChainHandle.{ChainHandle}
 use Rattle.fs_chain_c.specs.declared.windows.FsWindow.{FsWindow}
 use Rattle.fs_chain_c.specs.Windows.{AreStretches, IsStretch, covered}
@@ -22,7 +23,8 @@ stretches_more w d from most (x ∷ ss) s are is =
     (are.0, stretches_more w d (from + x.len) (most - x.len) ss s are.1 there)
 
 -- one more, by where the walk through the bytes stands
-pub stretches_next : (w : ChainHandle) (d : Bool) (from most : ℕ) (ss : List FsWindow) (s : FsWindow) (at left : ℕ) → AreStretches w d from most ss
+pub stretches_next :
+    (w : ChainHandle) (d : Bool) (from most : ℕ) (ss : List FsWindow) (s : FsWindow) (at left : ℕ) → AreStretches w d from most ss
     → at ≡ from + covered ss → left + covered ss ≡ most → IsStretch w d at left s → AreStretches w d from most (ss ++ s ∷ [])
 stretches_next w d from most ss s at left are here sum is =
     let rest : left ≡ most - covered ss = omega (arith, sum) in

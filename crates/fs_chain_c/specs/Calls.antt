@@ -1,5 +1,6 @@
 -- What a request asks, as C is told.
-use Rattle.std.specs.Prelude.{◌==◌, ◌+◌, ◌-◌, ◌*◌, ◌/◌, ◌^◌, ℕ, Bool, true, false, List, length, take, drop, min, nat_lt, bit_and, is_some, unwrap_or, if◌then◌else◌}
+use Rattle.std.specs.Prelude.{◌==◌, ◌+◌, ◌-◌, ◌*◌, ◌/◌, ◌^◌, ℕ, Bool, true, false, List, length, take, drop}
+use Rattle.std.specs.Prelude.{min, nat_lt, bit_and, is_some, unwrap_or, if◌then◌else◌}
 use Rattle.std.specs.Int.{w32, w64, cast_unsigned, from_le_bytes}
 use Rattle.fuse_fs.specs.declared.answers.Context.{Context}
 use Rattle.fuse_in.specs.declared.nodes.SetattrIn.{SetattrIn}
@@ -100,7 +101,8 @@ made o a = record no_call { kind = call_number o; answer = answer_number a }
 
 -- the same of a call that somebody makes of a node
 abbrev pub made_by : Opcode → AnswerKind → Context → (node : ℕ) → FsCall
-made_by o a who node = record (made o a) { uid = who.uid.0; gid = who.gid.0; pid = cast_unsigned w32 who.pid; node = node }
+made_by o a who node =
+    record (made o a) { uid = who.uid.0; gid = who.gid.0; pid = cast_unsigned w32 who.pid; node = node }
 
 -- a place in a request
 abbrev pub span : (at len : ℕ) → FsSpan
@@ -129,7 +131,8 @@ attr_told a = record no_attr {
   gid = a.gid.0;
 }
 
--- where the first name of RENAME or RENAME2 stands, by its record (struct fuse_rename_in, struct fuse_rename2_in)
+-- where the first name of RENAME or RENAME2 stands, by its record (struct fuse_rename_in, struct
+-- fuse_rename2_in)
 abbrev pub at_rename : (opcode : ℕ) → ℕ
 at_rename opcode = if opcode == call_number op.Rename2 then 56 else 48
 
@@ -137,20 +140,68 @@ at_rename opcode = if opcode == call_number op.Rename2 then 56 else 48
 abbrev pub at_setxattr : (options : ℕ) → ℕ
 at_setxattr options = if bit_and options (2 ^ 29) == 0 then 48 else 56
 
--- what is told of a call: by the opcode of its request, the options that were agreed, and the room. A first name stands behind the request's header of 40
--- bytes and the record of its kind (linux/fuse.h), data in the room behind the reply's header of 16. What a call doesn't have is 0
+-- whether the request of a call has names
+abbrev pub has_name : FileCall → Bool
+has_name (value.Lookup context node name) = true
+has_name (value.Symlink context link node name extra) = true
+has_name (value.Mknod context node name mode rdev umask extra) = true
+has_name (value.Mkdir context node name mode umask extra) = true
+has_name (value.Unlink context node name) = true
+has_name (value.Rmdir context node name) = true
+has_name (value.Rename context node old new_dir new flags) = true
+has_name (value.Setxattr context node name value flags extra) = true
+has_name (value.Getxattr context node name size) = true
+has_name (value.Removexattr context node name) = true
+has_name (value.Create context node name mode kill flags umask extra) = true
+has_name (value.Link context old_node node name) = true
+has_name _ = false
+
+-- whether a call is of an open file or directory, which it names by its handle
+abbrev pub is_of_open_file : FileCall → Bool
+is_of_open_file (value.Read context node handle most size offset owner flags) = true
+is_of_open_file (value.Write context node handle len size offset owner delayed kill flags) = true
+is_of_open_file (value.Release context node flags handle flush unlock owner) = true
+is_of_open_file (value.Fsync context node data_only handle) = true
+is_of_open_file (value.Fsyncdir context node data_only handle) = true
+is_of_open_file (value.Flush context node handle owner) = true
+is_of_open_file (value.Readdir context node handle size offset) = true
+is_of_open_file (value.Releasedir context node flags handle) = true
+is_of_open_file (value.Fallocate context node handle mode offset len) = true
+is_of_open_file (value.Lseek context node handle offset whence) = true
+is_of_open_file (value.CopyFileRange context node handle offset node_out handle_out offset_out len flags) =
+    true
+is_of_open_file _ = false
+
+-- what is told of a call: by the opcode of its request, the options that were agreed, and the room. A first
+-- name stands behind the request's header of 40 bytes and the record of its kind (linux/fuse.h), data in the
+-- room behind the reply's header of 16. What a call doesn't have is 0
 abbrev pub told_call : (opcode options room : ℕ) → FileCall → FsCall
 told_call opcode options room (value.Init capable) = record (made op.Init awaits.Init) { options = capable.0 }
 told_call opcode options room value.Destroy = made op.Destroy awaits.Done
-told_call opcode options room (value.Lookup context node name) = record (made_by op.Lookup awaits.Entry context node) { name = span 40 (length name.now) }
-told_call opcode options room (value.Forget context node count) = record (made_by op.Forget awaits.None context node) { count = count }
+told_call opcode options room (value.Lookup context node name) =
+    record (made_by op.Lookup awaits.Entry context node) { name = span 40 (length name.now) }
+told_call opcode options room (value.Forget context node count) =
+    record (made_by op.Forget awaits.None context node) { count = count }
 told_call opcode options room (value.BatchForget context counts) =
-    record (made_by op.BatchForget awaits.None context 0) { count = length counts.now / 16; value = span 48 (16 * (length counts.now / 16)) }
+    record (made_by op.BatchForget awaits.None context 0) {
+      count = length counts.now / 16;
+      value = span 48 (16 * (length counts.now / 16));
+    }
 told_call opcode options room (value.Getattr context node handle) =
-    record (made_by op.Getattr awaits.Attr context node) { has_handle = flag (is_some handle); handle = unwrap_or handle 0 }
+    record (made_by op.Getattr awaits.Attr context node) {
+      has_handle = flag (is_some handle);
+      handle = unwrap_or handle 0;
+    }
 told_call opcode options room (value.Setattr context node attr handle valid) =
-    record (made_by op.Setattr awaits.Attr context node) { has_handle = flag (is_some handle); handle = unwrap_or handle 0; valid = valid.0; owner = attr.lock_owner; attr = attr_told attr }
-told_call opcode options room (value.Readlink context node) = record (made_by op.Readlink awaits.Data context node) { data_at = 16; data_len = room - 16 }
+    record (made_by op.Setattr awaits.Attr context node) {
+      has_handle = flag (is_some handle);
+      handle = unwrap_or handle 0;
+      valid = valid.0;
+      owner = attr.lock_owner;
+      attr = attr_told attr;
+    }
+told_call opcode options room (value.Readlink context node) =
+    record (made_by op.Readlink awaits.Data context node) { data_at = 16; data_len = room - 16 }
 told_call opcode options room (value.Symlink context link node name extra) =
     record (made_by op.Symlink awaits.Entry context node) {
       name = span 40 (length name.now);
@@ -168,9 +219,17 @@ told_call opcode options room (value.Mknod context node name mode rdev umask ext
       group = unwrap_or extra.sup_gid 0;
     }
 told_call opcode options room (value.Mkdir context node name mode umask extra) =
-    record (made_by op.Mkdir awaits.Entry context node) { name = span 48 (length name.now); mode = mode; umask = umask; has_group = flag (is_some extra.sup_gid); group = unwrap_or extra.sup_gid 0 }
-told_call opcode options room (value.Unlink context node name) = record (made_by op.Unlink awaits.Done context node) { name = span 40 (length name.now) }
-told_call opcode options room (value.Rmdir context node name) = record (made_by op.Rmdir awaits.Done context node) { name = span 40 (length name.now) }
+    record (made_by op.Mkdir awaits.Entry context node) {
+      name = span 48 (length name.now);
+      mode = mode;
+      umask = umask;
+      has_group = flag (is_some extra.sup_gid);
+      group = unwrap_or extra.sup_gid 0;
+    }
+told_call opcode options room (value.Unlink context node name) =
+    record (made_by op.Unlink awaits.Done context node) { name = span 40 (length name.now) }
+told_call opcode options room (value.Rmdir context node name) =
+    record (made_by op.Rmdir awaits.Done context node) { name = span 40 (length name.now) }
 told_call opcode options room (value.Rename context node old new_dir new flags) =
     record (made_by op.Rename awaits.Done context node) {
       name = span (at_rename opcode) (length old.now);
@@ -180,7 +239,8 @@ told_call opcode options room (value.Rename context node old new_dir new flags) 
     }
 told_call opcode options room (value.Link context old_node node name) =
     record (made_by op.Link awaits.Entry context old_node) { name = span 48 (length name.now); node2 = node }
-told_call opcode options room (value.Open context node kill flags) = record (made_by op.Open awaits.Open context node) { flags = flags; kill_priv = flag kill }
+told_call opcode options room (value.Open context node kill flags) =
+    record (made_by op.Open awaits.Open context node) { flags = flags; kill_priv = flag kill }
 told_call opcode options room (value.Read context node handle most size offset owner flags) =
     record (made_by op.Read awaits.Data context node) {
       handle = handle;
@@ -234,11 +294,18 @@ told_call opcode options room (value.Getxattr context node name size) =
       data_len = data_len size room;
     }
 told_call opcode options room (value.Listxattr context node size) =
-    record (made_by op.Listxattr awaits.Data context node) { answer = answer_number (sized size); size = size; data_at = 16; data_len = data_len size room }
+    record (made_by op.Listxattr awaits.Data context node) {
+      answer = answer_number (sized size);
+      size = size;
+      data_at = 16;
+      data_len = data_len size room;
+    }
 told_call opcode options room (value.Removexattr context node name) =
     record (made_by op.Removexattr awaits.Done context node) { name = span 40 (length name.now) }
-told_call opcode options room (value.Flush context node handle owner) = record (made_by op.Flush awaits.Done context node) { handle = handle; owner = owner }
-told_call opcode options room (value.Opendir context node flags) = record (made_by op.Opendir awaits.Open context node) { flags = flags }
+told_call opcode options room (value.Flush context node handle owner) =
+    record (made_by op.Flush awaits.Done context node) { handle = handle; owner = owner }
+told_call opcode options room (value.Opendir context node flags) =
+    record (made_by op.Opendir awaits.Open context node) { flags = flags }
 told_call opcode options room (value.Readdir context node handle size offset) =
     record (made_by op.Readdir awaits.Entries context node) {
       kind = call_number (listing opcode);
@@ -250,7 +317,8 @@ told_call opcode options room (value.Readdir context node handle size offset) =
     }
 told_call opcode options room (value.Releasedir context node flags handle) =
     record (made_by op.Releasedir awaits.Done context node) { handle = handle; flags = flags }
-told_call opcode options room (value.Access context node mask) = record (made_by op.Access awaits.Done context node) { mode = mask }
+told_call opcode options room (value.Access context node mask) =
+    record (made_by op.Access awaits.Done context node) { mode = mask }
 told_call opcode options room (value.Create context node name mode kill flags umask extra) =
     record (made_by op.Create awaits.Create context node) {
       name = span 56 (length name.now);
@@ -262,11 +330,24 @@ told_call opcode options room (value.Create context node name mode kill flags um
       group = unwrap_or extra.sup_gid 0;
     }
 told_call opcode options room (value.Fallocate context node handle mode offset len) =
-    record (made_by op.Fallocate awaits.Done context node) { handle = handle; mode = mode; offset = offset; size = len }
+    record (made_by op.Fallocate awaits.Done context node) {
+      handle = handle;
+      mode = mode;
+      offset = offset;
+      size = len;
+    }
 told_call opcode options room (value.Lseek context node handle offset whence) =
     record (made_by op.Lseek awaits.Lseek context node) { handle = handle; offset = offset; flags = whence }
-told_call opcode options room (value.CopyFileRange context node handle offset node_out handle_out offset_out len flags) =
-    record (made_by op.CopyFileRange awaits.Write context node) { handle = handle; offset = offset; node2 = node_out; handle2 = handle_out; offset2 = offset_out; size = len }
+told_call opcode options room
+    (value.CopyFileRange context node handle offset node_out handle_out offset_out len flags) =
+    record (made_by op.CopyFileRange awaits.Write context node) {
+      handle = handle;
+      offset = offset;
+      node2 = node_out;
+      handle2 = handle_out;
+      offset2 = offset_out;
+      size = len;
+    }
 told_call opcode options room (value.Syncfs context node) = made_by op.Syncfs awaits.Done context node
 told_call opcode options room value.Getlk = no_call
 told_call opcode options room value.Setlk = no_call

@@ -1,5 +1,6 @@
 -- What C is told of a request, and what comes of an answer.
-use Rattle.std.specs.Prelude.{◌≡◌, ◌⊎◌, ℕ, List, length, drop, bit_and, Option, Some, None, Result, Ok, Err, IfOk, IfErr, OnOk, OnErr, if◌then◌else◌}
+use Rattle.std.specs.Prelude.{◌≡◌, ◌⊎◌, ℕ, List, length, drop, bit_and, Option, Some, None, Result, Ok, Err}
+use Rattle.std.specs.Prelude.{IfOk, IfErr, OnOk, OnErr, if◌then◌else◌}
 use Rattle.fuse_values.specs.declared.answer.FileAnswer.{FileAnswer}
 use Rattle.fuse_values.specs.declared.answer.FileAnswer.TheVariants as answer
 use Rattle.fuse_values.specs.declared.call.FileCall.{FileCall}
@@ -27,10 +28,13 @@ use Rattle.fs_chain_c.specs.Memory.{IsDevice}
 
 -- ---- an answer
 
--- what comes of an answer with a ticket in the session in which a `ChainHandle`'s chain was asked: what is given of it, or why it is refused, and then nothing changes
-pub record AnswersTicket (w : ChainHandle) (ticket : ℕ) (a : FileAnswer) (told : Result Replied ChainError) (w' : ChainHandle) : Type 0 where
+-- what comes of an answer with a ticket in the session in which a `ChainHandle`'s chain was asked: what is
+-- given of it, or why it is refused, and then nothing changes
+pub record AnswersTicket (w : ChainHandle) (ticket : ℕ) (a : FileAnswer) (told : Result Replied ChainError)
+    (w' : ChainHandle) : Type 0 where
   pub given : IfOk told (λ r. IfWaits w.state (λ out waiting.
-      IsGiven (setting w.session.page_size w.session.options.0 waiting.room) waiting a out w'.session.options.0 r w'.state))
+      IsGiven (setting w.session.page_size w.session.options.0 waiting.room) waiting a out
+      w'.session.options.0 r w'.state))
   pub mine : OnOk told (w.serial ≡ ticket)
   pub taken : OnOk told (IsWaiting w.state × IfWaits w.state (λ out waiting. CanBeGiven waiting a))
   pub refused : IfErr told (λ e. IsNotTaken w ticket a e)
@@ -69,12 +73,17 @@ abbrev pub AnswersAtOnce : ChainHandle → Option FileAnswer → ChainHandle →
 AnswersAtOnce b None b' = b' ≡ b
 AnswersAtOnce b (Some a) b' = (status : ℕ) × AnswersHandle b b.serial a status b'
 
--- a `ChainHandle` is asked in a session, which it keeps, by the first bytes of a request, and tells this: all requests that begin so, and are as long as its
--- chain's, mean it
-pub record Decodes (w : ChainHandle) (s : Session) (request : List ℕ) (made : told.Decoded) (w' : ChainHandle) : Type 0 where
+-- a `ChainHandle` is asked in a session, which it keeps, by the first bytes of a request, and tells this: all
+-- requests that begin so, and are as long as its chain's, mean it
+pub record Decodes (w : ChainHandle) (s : Session) (request : List ℕ) (made : told.Decoded)
+    (w' : ChainHandle) : Type 0 where
   pub can : ask_error w.state (length request) ≡ None
-  pub tells : IfUndecoded w.state (λ out. (all : List ℕ) → out.request_len ≡ length all → IsRequestFront request all
-      → TellsMeaning (setting s.page_size s.options.0 out.room_len) (meaning s.options.0 all out.room_len) (drop 80 all) out made w'.state)
+  pub tells :
+      IfUndecoded w.state (λ out. (all : List ℕ)
+      → out.request_len ≡ length all
+      → IsRequestFront request all
+      → TellsMeaning (setting s.page_size s.options.0 out.room_len) (meaning s.options.0 all out.room_len)
+      (drop 80 all) out made w'.state)
   pub wanted : IfUndecoded w.state (λ out. wanted_by made ≡ wanted_after request out.request_len)
   pub session : w'.session ≡ s
   pub stays : IsAllBut w w' × (w'.descriptors ≡ w.descriptors) × (w'.part ≡ w.part)
@@ -89,23 +98,39 @@ abbrev pub IsDeviceSession : FsDevice → Session → Type 0
 IsDeviceSession d s = (s.page_size ≡ d.page_size) × (s.options.0 ≡ bit_and d.options known_options)
 
 -- what C is told of what a request asks: the call, how many bytes are wanted (34), nothing, or the fault
-abbrev pub TellsAsked : ChainHandle → (request : List ℕ) → told.Decoded → FsCall → (status : ℕ) → ChainHandle → Type 0
+abbrev pub TellsAsked :
+    ChainHandle → (request : List ℕ) → told.Decoded → FsCall → (status : ℕ) → ChainHandle → Type 0
 TellsAsked b request (tells.Call made) call status b' =
-    (status ≡ 0) × (call ≡ call_fields request b.session.options.0 (room_len b.state) made) × AnswersAtOnce b (answer_unasked made) b'
-TellsAsked b request (tells.More n) call status b' = (status ≡ 34) × (call ≡ numbered request (record no_call { needed = low n })) × (b' ≡ b)
-TellsAsked b request tells.Nothing call status b' = (status ≡ 0) × (call ≡ numbered request no_call) × (b' ≡ b)
+    (status ≡ 0)
+    × (call ≡ call_fields request b.session.options.0 (room_len b.state) made)
+    × AnswersAtOnce b (answer_unasked made) b'
+TellsAsked b request (tells.More n) call status b' =
+    (status ≡ 34) × (call ≡ numbered request (record no_call { needed = low n })) × (b' ≡ b)
+TellsAsked b request tells.Nothing call status b' =
+    (status ≡ 0) × (call ≡ numbered request no_call) × (b' ≡ b)
 TellsAsked b request (tells.Fault e) call status b' =
     (status ≡ 0) × (call ≡ numbered request (record no_call { fault = error_number e })) × (b' ≡ b)
 
 -- a `ChainHandle` that was asked in the session of the device: the call, with the ticket of its chain
-abbrev pub DecodesSo : ChainHandle → FsDevice → (request : List ℕ) → FsCall → (status : ℕ) → ChainHandle → Type 0
+abbrev pub DecodesSo :
+    ChainHandle → FsDevice → (request : List ℕ) → FsCall → (status : ℕ) → ChainHandle → Type 0
 DecodesSo b d request call status b' =
-    (s : Session) × IsDeviceSession d s × (asked : ChainHandle) × (made : told.Decoded) × Decodes b s request made asked
-    × (fields : FsCall) × TellsAsked asked request made fields status b' × (call ≡ record fields { ticket = b.serial })
+    (s : Session)
+    × IsDeviceSession d s
+    × (asked : ChainHandle) × (made : told.Decoded)
+    × Decodes b s request made asked
+    × (fields : FsCall)
+    × TellsAsked asked request made fields status b'
+    × (call ≡ record fields { ticket = b.serial })
 
 -- a `ChainHandle` is asked by the first bytes of a request; a bad argument, if the device's numbers are none
-abbrev pub DecodesHandle : ChainHandle → FsDevice → (request : List ℕ) → FsCall → (status : ℕ) → ChainHandle → Type 0
+abbrev pub DecodesHandle :
+    ChainHandle → FsDevice → (request : List ℕ) → FsCall → (status : ℕ) → ChainHandle → Type 0
 DecodesHandle b d request call status b' =
     ((IsDevice d → ⊥) × (status ≡ chain_error_number BadArgument) × (call ≡ no_call) × (b' ≡ b))
-    ⊎ (IsDevice d × (e : ChainError) × CannotAsk b request e b' × (status ≡ chain_error_number e) × (call ≡ no_call))
+    ⊎ (IsDevice d
+    × (e : ChainError)
+    × CannotAsk b request e b'
+    × (status ≡ chain_error_number e)
+    × (call ≡ no_call))
     ⊎ (IsDevice d × DecodesSo b d request call status b')

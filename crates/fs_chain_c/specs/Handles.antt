@@ -4,7 +4,8 @@ use Rattle.memory_requests.specs.Refused.{RoomWasRefused}
 use Rattle.vm_memory.specs.Layout.{Region}
 use Rattle.fs_regions.specs.Places.{untranslated}
 use Rattle.fs_chain.specs.declared.error.ChainError.{ChainError}
-use Rattle.fs_chain.specs.declared.error.ChainError.TheVariants.{BadArgument, ChainInFlight, OutOfMemory, WrongOrder}
+use Rattle.fs_chain.specs.declared.error.ChainError.TheVariants.{BadArgument, ChainInFlight, OutOfMemory}
+use Rattle.fs_chain.specs.declared.error.ChainError.TheVariants.{WrongOrder}
 use Rattle.fs_chain.specs.declared.state.ChainState.TheVariants as at
 use Rattle.fs_chain.specs.Numbers.{chain_error_number}
 use Rattle.fs_chain.specs.Orders.{is_free, memory_error}
@@ -23,8 +24,10 @@ use Rattle.fs_chain_c.specs.Pushing.{DropsHandleChain, EndsHandlePush, PushesHan
 use Rattle.fs_chain_c.specs.Popping.{PopsHandle, no_step}
 use Rattle.fs_chain_c.specs.Windows.{FillsWindows}
 
--- a call does this with a handle's `ChainHandle`, or nothing if it has none; a handle neither gets a `ChainHandle` so, nor loses it
-abbrev pub OnHandle : (Does : ChainHandle → ChainHandle → Type 0) → (Nothing : Type 0) → Option ChainHandle → Option ChainHandle → Type 0
+-- a call does this with a handle's `ChainHandle`, or nothing if it has none; a handle neither gets a
+-- `ChainHandle` so, nor loses it
+abbrev pub OnHandle : (Does : ChainHandle → ChainHandle → Type 0) → (Nothing : Type 0) → Option ChainHandle →
+    Option ChainHandle → Type 0
 OnHandle Does Nothing None None = Nothing
 OnHandle Does Nothing None (Some b') = ⊥
 OnHandle Does Nothing (Some b) None = ⊥
@@ -39,27 +42,48 @@ IsZeros c = (c.value ≡ None) × (c.at ≡ null) × (c.full ≡ 0)
 -- a `ChainHandle` that no chain was on, over no memory
 abbrev pub IsNewHandle : ChainHandle → Type 0
 IsNewHandle b =
-    (b.regions ≡ untranslated []) × (b.limit ≡ 0x101000) × (b.descriptors.items ≡ []) × (b.state ≡ at.Free) × (b.part.items ≡ [])
-    × (b.session.page_size ≡ 4096) × (b.session.options.0 ≡ 0) × (b.serial ≡ 1) × (b.list_len ≡ 0)
+    (b.regions ≡ untranslated [])
+    × (b.limit ≡ 0x101000)
+    × (b.descriptors.items ≡ [])
+    × (b.state ≡ at.Free)
+    × (b.part.items ≡ [])
+    × (b.session.page_size ≡ 4096)
+    × (b.session.options.0 ≡ 0)
+    × (b.serial ≡ 1)
+    × (b.list_len ≡ 0)
 
 -- the next walks go over these regions, by the device's limit, and no table translates their addresses
 abbrev pub GoesOver : ChainHandle → FsDevice → List FsRegion → ChainHandle → Type 0
 GoesOver b d regions b' =
-    (memory_error b.state d.limit ≡ None) × IsDevice d × IsMemory regions b'.regions.layout × (b'.regions.table ≡ None) × (b'.limit ≡ d.limit)
-    × (b'.state ≡ b.state) × (b'.part ≡ b.part) × (b'.session ≡ b.session) × (b'.serial ≡ b.serial) × (b'.list_len ≡ b.list_len)
+    (memory_error b.state d.limit ≡ None)
+    × IsDevice d
+    × IsMemory regions b'.regions.layout
+    × (b'.regions.table ≡ None)
+    × (b'.limit ≡ d.limit)
+    × (b'.state ≡ b.state)
+    × (b'.part ≡ b.part)
+    × (b'.session ≡ b.session)
+    × (b'.serial ≡ b.serial)
+    × (b'.list_len ≡ b.list_len)
 
--- why they don't, in this order: the device's numbers are none, the regions are no memory, or a chain is walked or out
+-- why they don't, in this order: the device's numbers are none, the regions are no memory, or a chain is
+-- walked or out
 abbrev pub RefusesMemory : ChainHandle → FsDevice → List FsRegion → ChainError → Type 0
 RefusesMemory b d regions e =
-    ((e ≡ BadArgument) × (IsDevice d → ⊥)) ⊎ (IsDevice d × IsNoMemory regions e)
-    ⊎ (IsDevice d × ((memory : List Region) × IsMemory regions memory) × (memory_error b.state d.limit ≡ Some e))
+    ((e ≡ BadArgument) × (IsDevice d → ⊥))
+    ⊎ (IsDevice d × IsNoMemory regions e)
+    ⊎ (IsDevice d
+    × ((memory : List Region) × IsMemory regions memory)
+    × (memory_error b.state d.limit ≡ Some e))
 
 -- a `ChainHandle` is told its memory, or nothing is done
 abbrev pub SetsHandle : ChainHandle → FsDevice → List FsRegion → (status : ℕ) → ChainHandle → Type 0
 SetsHandle b d regions status b' =
-    ((status ≡ 0) × GoesOver b d regions b') ⊎ ((e : ChainError) × (status ≡ chain_error_number e) × RefusesMemory b d regions e × (b' ≡ b))
+    ((status ≡ 0) × GoesOver b d regions b')
+    ⊎ ((e : ChainError) × (status ≡ chain_error_number e) × RefusesMemory b d regions e × (b' ≡ b))
 
--- why no `ChainHandle` is made: the device's numbers are none, the regions are no memory, or they are one, and the allocator refused the `ChainHandle` its place
+-- why no `ChainHandle` is made: the device's numbers are none, the regions are no memory, or they are one,
+-- and the allocator refused the `ChainHandle` its place
 abbrev pub RefusesNew : FsDevice → List FsRegion → ChainError → Type 0
 RefusesNew d regions e =
     ((e ≡ BadArgument) × (IsDevice d → ⊥)) ⊎ (IsDevice d × IsNoMemory regions e)
@@ -67,11 +91,14 @@ RefusesNew d regions e =
 
 -- a new `ChainHandle` is told its memory, or none is made
 abbrev pub MakesHandle : FsDevice → List FsRegion → (status : ℕ) → Option ChainHandle → Type 0
-MakesHandle d regions status None = (e : ChainError) × (status ≡ chain_error_number e) × RefusesNew d regions e
-MakesHandle d regions status (Some b') = (b : ChainHandle) × IsNewHandle b × (status ≡ 0) × GoesOver b d regions b'
+MakesHandle d regions status None =
+    (e : ChainError) × (status ≡ chain_error_number e) × RefusesNew d regions e
+MakesHandle d regions status (Some b') =
+    (b : ChainHandle) × IsNewHandle b × (status ≡ 0) × GoesOver b d regions b'
 
 -- a handle's `ChainHandle` is told its memory; without one it gets a new one
-abbrev pub SetsMemory : Option ChainHandle → FsDevice → List FsRegion → (status : ℕ) → Option ChainHandle → Type 0
+abbrev pub SetsMemory :
+    Option ChainHandle → FsDevice → List FsRegion → (status : ℕ) → Option ChainHandle → Type 0
 SetsMemory None d regions status after = MakesHandle d regions status after
 SetsMemory (Some b) d regions status None = ⊥
 SetsMemory (Some b) d regions status (Some b') = SetsHandle b d regions status b'
@@ -89,29 +116,44 @@ Numbers before first status after =
     OnHandle (λ b b'. NumbersHandle b first status b') (status ≡ chain_error_number WrongOrder) before after
 
 -- a handle's chain is walked
-abbrev pub Pops : Option ChainHandle → FsQueue → (loaded : List ℕ) → (status : ℕ) → FsPop → Option ChainHandle → FsQueue → Type 0
+abbrev pub Pops : Option ChainHandle → FsQueue → (loaded : List ℕ) → (status : ℕ) → FsPop →
+    Option ChainHandle → FsQueue → Type 0
 Pops before q loaded status step after q' =
-    OnHandle (λ b b'. PopsHandle b q loaded step status b' q') ((status ≡ chain_error_number WrongOrder) × (step ≡ no_step) × (q' ≡ q)) before after
+    OnHandle (λ b b'. PopsHandle b q loaded step status b' q') ((status ≡ chain_error_number WrongOrder)
+    × (step ≡ no_step)
+    × (q' ≡ q)) before after
 
 -- it is given up
 abbrev pub DropsChain : Option ChainHandle → FsQueue → (status : ℕ) → Option ChainHandle → FsQueue → Type 0
-DropsChain before q status after q' = OnHandle (λ b b'. DropsHandleChain b q status b' q') ((status ≡ 0) × (q' ≡ q)) before after
+DropsChain before q status after q' =
+    OnHandle (λ b b'. DropsHandleChain b q status b' q') ((status ≡ 0) × (q' ≡ q)) before after
 
 -- it is freed, and no queue is told
 abbrev pub AbandonsChain : Option ChainHandle → Option ChainHandle → Type 0
 AbandonsChain before after = OnHandle IsFreed (Unit {0}) before after
 
 -- the stretches of its bytes are told, and it stays as it was
-abbrev pub TellsStretches : Option ChainHandle → (write_only : Bool) → (from most : ℕ) → (windows : List FsWindow) → (count : ℕ) → Option ChainHandle → (windows' : List FsWindow) → Type 0
+abbrev pub TellsStretches : Option ChainHandle → (write_only : Bool) → (from most : ℕ) →
+    (windows : List FsWindow) → (count : ℕ) → Option ChainHandle → (windows' : List FsWindow) → Type 0
 TellsStretches before d from most windows count after windows' =
-    OnHandle (λ b b'. FillsWindows b d from (min most (2 ^ 64 - 1 - from)) windows windows' count × (b' ≡ b)) ((count ≡ 0) × (windows' ≡ windows)) before after
+    OnHandle (λ b b'. FillsWindows b d from (min most (2 ^ 64 - 1 - from)) windows windows' count
+    × (b' ≡ b)) ((count ≡ 0)
+    × (windows' ≡ windows)) before after
 
 -- it goes back
-abbrev pub Pushes : Option ChainHandle → FsQueue → (front : List ℕ) → (status : ℕ) → FsStores → Option ChainHandle → FsQueue → (front' : List ℕ) → Type 0
+abbrev pub Pushes : Option ChainHandle → FsQueue → (front : List ℕ) → (status : ℕ) → FsStores →
+    Option ChainHandle → FsQueue → (front' : List ℕ) → Type 0
 Pushes before q front status told after q' front' =
-    OnHandle (λ b b'. PushesHandle b q front told status b' q' front') ((status ≡ chain_error_number WrongOrder) × (told ≡ no_stores) × (q' ≡ q) × (front' ≡ front)) before after
+    OnHandle (λ b b'. PushesHandle b q front told status b' q' front')
+    ((status ≡ chain_error_number WrongOrder)
+    × (told ≡ no_stores)
+    × (q' ≡ q)
+    × (front' ≡ front)) before after
 
 -- its stores are made
-abbrev pub EndsPush : Option ChainHandle → FsQueue → (seen status notify : ℕ) → Option ChainHandle → FsQueue → Type 0
+abbrev pub EndsPush :
+    Option ChainHandle → FsQueue → (seen status notify : ℕ) → Option ChainHandle → FsQueue → Type 0
 EndsPush before q seen status notify after q' =
-    OnHandle (λ b b'. EndsHandlePush b q seen notify status b' q') ((status ≡ chain_error_number WrongOrder) × (notify ≡ 0) × (q' ≡ q)) before after
+    OnHandle (λ b b'. EndsHandlePush b q seen notify status b' q') ((status ≡ chain_error_number WrongOrder)
+    × (notify ≡ 0)
+    × (q' ≡ q)) before after

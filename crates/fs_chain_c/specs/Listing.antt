@@ -1,5 +1,6 @@
 -- Listings that C answers entry by entry.
-use Rattle.std.specs.Prelude.{◌≡◌, ◌==◌, ◌/◌, ◌%◌, ◌&&◌, ◌||◌, not, nat_le, ℕ, Bool, true, false, List, length, Option, Some, None, Result, Ok, Err, OnErr, if◌then◌else◌}
+use Rattle.std.specs.Prelude.{◌≡◌, ◌==◌, ◌/◌, ◌%◌, ◌&&◌, ◌||◌, not, nat_le, ℕ, Bool, true, false, List}
+use Rattle.std.specs.Prelude.{length, Option, Some, None, Result, Ok, Err, OnErr, if◌then◌else◌}
 use Rattle.std.specs.List.{list_any}
 use Rattle.fuse_fs.specs.Calls.{Listed}
 use Rattle.fuse_fs.specs.declared.answers.Entry.{Entry}
@@ -24,7 +25,8 @@ use Rattle.fs_chain_c.specs.Handles.{OnHandle}
 
 -- ---- entries
 
--- what is told of an entry: it is in the list, it is full (36), or the listing fails (37); or why it isn't taken
+-- what is told of an entry: it is in the list, it is full (36), or the listing fails (37); or why it isn't
+-- taken
 abbrev pub added_status : Result Added ChainError → ℕ
 added_status (Ok added.In) = 0
 added_status (Ok added.Full) = 36
@@ -32,11 +34,17 @@ added_status (Ok added.NoRoom) = 37
 added_status (Ok added.TooLong) = 37
 added_status (Err e) = chain_error_number e
 
--- an entry is brought to a `ChainHandle`'s listing, by the ticket of its chain, in the list that has those before it; or it is refused, and nothing is done
-abbrev pub AddsToHandle : ChainHandle → (ticket : ℕ) → Brought → (outcome : Listing → Result (Unit {0}) reason.NotAdded) → (list : List ℕ) → (status : ℕ) → ChainHandle → (list' : List ℕ) → Type 0
+-- an entry is brought to a `ChainHandle`'s listing, by the ticket of its chain, in the list that has those
+-- before it; or it is refused, and nothing is done
+abbrev pub AddsToHandle : ChainHandle → (ticket : ℕ) → Brought → (outcome : Listing → Result (Unit {0})
+    reason.NotAdded) → (list : List ℕ) → (status : ℕ) → ChainHandle → (list' : List ℕ) → Type 0
 AddsToHandle b ticket e outcome list status b' list' =
-    (told : Result Added ChainError) × UnlessRefused (adding_error b ticket (length list)) told ((b' ≡ b) × (list' ≡ list)) (AddsTo b.state b'.state list list' e outcome told)
-    × (b'.list_len ≡ list_after b.list_len (length list) told) × IsAllButPlace b b' × (status ≡ added_status told)
+    (told : Result Added ChainError)
+    × UnlessRefused (adding_error b ticket (length list)) told ((b' ≡ b)
+    × (list' ≡ list)) (AddsTo b.state b'.state list list' e outcome told)
+    × (b'.list_len ≡ list_after b.list_len (length list) told)
+    × IsAllButPlace b b'
+    × (status ≡ added_status told)
 
 -- whether a directory may have an entry of this name: 1 to 255 bytes, and no slash among them
 abbrev pub is_name : List ℕ → Bool
@@ -55,10 +63,13 @@ abbrev pub listed_as : (name : List ℕ) → (ino offset type : ℕ) → Listed
 listed_as name ino offset type = record { ino = ino; offset = offset; kind = type; name = name }
 
 -- an entry of READDIR is brought; a bad argument, if it has no name or no type
-abbrev pub AddsEntry : (is : Bool) → Listed → (ticket : ℕ) → Option ChainHandle → (list : List ℕ) → (status : ℕ) → Option ChainHandle → (list' : List ℕ) → Type 0
-AddsEntry false d ticket before list status after list' = (status ≡ chain_error_number BadArgument) × (after ≡ before) × (list' ≡ list)
+abbrev pub AddsEntry : (is : Bool) → Listed → (ticket : ℕ) → Option ChainHandle → (list : List ℕ) →
+    (status : ℕ) → Option ChainHandle → (list' : List ℕ) → Type 0
+AddsEntry false d ticket before list status after list' =
+    (status ≡ chain_error_number BadArgument) × (after ≡ before) × (list' ≡ list)
 AddsEntry true d ticket before list status after list' =
-    OnHandle (λ b b'. AddsToHandle b ticket (d, no_node d) (λ l. added_plain l (length list) (length d.name)) list status b' list')
+    OnHandle (λ b b'. AddsToHandle b ticket (d, no_node d) (λ l. added_plain l (length list) (length d.name))
+    list status b' list')
     ((status ≡ chain_error_number WrongOrder) × (list' ≡ list)) before after
 
 -- the kind of an entry with these attributes: the bits of S_IFMT
@@ -66,16 +77,21 @@ abbrev pub type_of : FsEntry → ℕ
 type_of e = e.attr.mode / 4096 % 16
 
 -- an entry of READDIRPLUS is brought; a bad argument, if it has no name or no type, or a time isn't one
-abbrev pub AddsNode : (is : Bool) → Listed → Option (Entry ℕ) → (ticket : ℕ) → Option ChainHandle → (list : List ℕ) → (status : ℕ) → Option ChainHandle → (list' : List ℕ) → Type 0
+abbrev pub AddsNode : (is : Bool) → Listed → Option (Entry ℕ) → (ticket : ℕ) → Option ChainHandle →
+    (list : List ℕ) → (status : ℕ) → Option ChainHandle → (list' : List ℕ) → Type 0
 AddsNode true d (Some entry) ticket before list status after list' =
-    OnHandle (λ b b'. AddsToHandle b ticket (d, entry) (λ l. added_found l (length list) (length d.name)) list status b' list')
+    OnHandle (λ b b'. AddsToHandle b ticket (d, entry) (λ l. added_found l (length list) (length d.name)) list
+    status b' list')
     ((status ≡ chain_error_number WrongOrder) × (list' ≡ list)) before after
-AddsNode true d None ticket before list status after list' = (status ≡ chain_error_number BadArgument) × (after ≡ before) × (list' ≡ list)
-AddsNode false d entry ticket before list status after list' = (status ≡ chain_error_number BadArgument) × (after ≡ before) × (list' ≡ list)
+AddsNode true d None ticket before list status after list' =
+    (status ≡ chain_error_number BadArgument) × (after ≡ before) × (list' ≡ list)
+AddsNode false d entry ticket before list status after list' =
+    (status ≡ chain_error_number BadArgument) × (after ≡ before) × (list' ≡ list)
 
 -- ---- the reply
 
--- what is told of how a listing ends: done, or that it is answered by the entries that it has (38) though it failed, or why it doesn't end
+-- what is told of how a listing ends: done, or that it is answered by the entries that it has (38) though it
+-- failed, or why it doesn't end
 abbrev pub ended_status : Result ℕ ChainError → ℕ
 ended_status (Ok n) = 0
 ended_status (Err e) = chain_error_number e
@@ -92,20 +108,33 @@ ended_len (Err e) = 0
 -- a `ChainHandle`'s listing ends by the entries so far
 abbrev pub EndsListing : ChainHandle → (ticket status len : ℕ) → ChainHandle → Type 0
 EndsListing b ticket status len b' =
-    (told : Result ℕ ChainError) × UnlessRefused (serial_error b.state b.serial ticket) told (b' ≡ b) (EndsByEntries b.state b'.state told) × OnErr told (b' ≡ b) × IsAllButPlace b b' ×
-    (status ≡ ended_status told) × (len ≡ ended_len told)
+    (told : Result ℕ ChainError)
+    × UnlessRefused (serial_error b.state b.serial ticket) told (b' ≡ b) (EndsByEntries b.state b'.state told)
+    × OnErr told (b' ≡ b)
+    × IsAllButPlace b b'
+    ×
+    (status ≡ ended_status told)
+    × (len ≡ ended_len told)
 
 -- a handle's listing ends so
 abbrev pub EndsHandleList : (ticket : ℕ) → Option ChainHandle → (status len : ℕ) → Option ChainHandle → Type 0
-EndsHandleList ticket before status len after = OnHandle (λ b b'. EndsListing b ticket status len b') ((status ≡ chain_error_number WrongOrder) × (len ≡ 0)) before after
+EndsHandleList ticket before status len after =
+    OnHandle (λ b b'. EndsListing b ticket status len b') ((status ≡ chain_error_number WrongOrder)
+    × (len ≡ 0)) before after
 
 -- a `ChainHandle`'s listing fails by an errno
 abbrev pub FailsListing : (errno ticket : ℕ) → ChainHandle → (status : ℕ) → ChainHandle → Type 0
 FailsListing errno ticket b status b' =
-    (told : Result ℕ ChainError) × UnlessRefused (serial_error b.state b.serial ticket) told (b' ≡ b) (EndsByError errno b.state b'.state told) × OnErr told (b' ≡ b) × IsAllButPlace b b' × (status ≡ failed_status told)
+    (told : Result ℕ ChainError)
+    × UnlessRefused (serial_error b.state b.serial ticket) told (b' ≡ b)
+    (EndsByError errno b.state b'.state told)
+    × OnErr told (b' ≡ b)
+    × IsAllButPlace b b'
+    × (status ≡ failed_status told)
 
 -- a `ChainHandle`'s call fails by an errno: a listing by what it has, another call by its answer
-abbrev pub FailsHandle : (listing : Bool) → (errno ticket : ℕ) → ChainHandle → (status : ℕ) → ChainHandle → Type 0
+abbrev pub FailsHandle :
+    (listing : Bool) → (errno ticket : ℕ) → ChainHandle → (status : ℕ) → ChainHandle → Type 0
 FailsHandle true errno ticket b status b' = FailsListing errno ticket b status b'
 FailsHandle false errno ticket b status b' = AnswersHandle b ticket (answer.Failed errno) status b'
 
@@ -114,11 +143,17 @@ abbrev pub errno_of : ℕ → Option ℕ
 errno_of n = if nat_le 1 n && nat_le n 4095 then Some n else None
 
 -- a handle's call fails by an errno, or is done (0), or the number is a bad argument
-abbrev pub RepliesErr : (errno : Option ℕ) → (done : Bool) → (ticket : ℕ) → Option ChainHandle → (status : ℕ) → Option ChainHandle → Type 0
+abbrev pub RepliesErr : (errno : Option ℕ) → (done : Bool) → (ticket : ℕ) → Option ChainHandle →
+    (status : ℕ) → Option ChainHandle → Type 0
 RepliesErr (Some errno) done ticket before status after =
-    OnHandle (λ b b'. FailsHandle (is_listing b.state) errno ticket b status b') (status ≡ chain_error_number WrongOrder) before after
-RepliesErr None true ticket before status after = OnHandle (λ b b'. AnswersHandle b ticket answer.Done status b') (status ≡ chain_error_number WrongOrder) before after
-RepliesErr None false ticket before status after = (status ≡ chain_error_number BadArgument) × (after ≡ before)
+    OnHandle (λ b b'. FailsHandle (is_listing b.state) errno ticket b status b')
+    (status ≡ chain_error_number WrongOrder) before after
+RepliesErr None true ticket before status after =
+    OnHandle (λ b b'. AnswersHandle b ticket answer.Done status b') (status ≡ chain_error_number WrongOrder)
+    before after
+RepliesErr None false ticket before status after =
+    (status ≡ chain_error_number BadArgument) × (after ≡ before)
 
 abbrev pub RepliesError : (error ticket : ℕ) → Option ChainHandle → (status : ℕ) → Option ChainHandle → Type 0
-RepliesError error ticket before status after = RepliesErr (errno_of error) (error == 0) ticket before status after
+RepliesError error ticket before status after =
+    RepliesErr (errno_of error) (error == 0) ticket before status after

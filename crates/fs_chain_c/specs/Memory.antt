@@ -1,5 +1,6 @@
 -- The memory that C tells: regions in any order.
-use Rattle.std.specs.Prelude.{◌≡◌, ◌≤◌, ◌<◌, ◌+◌, ◌%◌, ◌^◌, ◌⊎◌, IsTrue, List, [], ◌∷◌, All, map, length, Some, None, IsPermutation}
+use Rattle.std.specs.Prelude.{◌≡◌, ◌≤◌, ◌<◌, ◌+◌, ◌%◌, ◌^◌, ◌⊎◌, IsTrue, List, [], ◌∷◌, All, map, length}
+use Rattle.std.specs.Prelude.{Some, None, IsPermutation}
 use Rattle.std.specs.List.Sorted.{IsNonDecreasingBy}
 use Rattle.vm_memory.specs.Layout.{Region}
 use Rattle.vm_memory.specs.Collecting.{RegionsWereRefused, fault_of}
@@ -31,26 +32,43 @@ StandApart (r ∷ rs) = fault_of (r ∷ rs) ≡ None
 -- a memory of these regions, by ascending address
 abbrev pub IsMemory : List FsRegion → List Region → Type 0
 IsMemory regions memory =
-    (length regions ≤ 64) × (sorted : List FsRegion) × IsPermutation regions sorted × All IsRegion sorted × (memory ≡ map region_of sorted) × StandApart memory
+    (length regions ≤ 64)
+    × (sorted : List FsRegion)
+    × IsPermutation regions sorted
+    × All IsRegion sorted
+    × (memory ≡ map region_of sorted)
+    × StandApart memory
 
 -- two regions have an address in common: there are some, and by ascending address there is a fault
 abbrev pub DoOverlap : List FsRegion → Type 0
 DoOverlap regions =
-    (0 < length regions) × (sorted : List FsRegion) × (fault : GuestRegionCollectionError) × IsPermutation regions sorted
-    × IsNonDecreasingBy (λ (r : FsRegion). r.guest) sorted × (fault_of (map region_of sorted) ≡ Some fault)
+    (0 < length regions)
+    × (sorted : List FsRegion) × (fault : GuestRegionCollectionError)
+    × IsPermutation regions sorted
+    × IsNonDecreasingBy (λ (r : FsRegion). r.guest) sorted
+    × (fault_of (map region_of sorted) ≡ Some fault)
 
--- why these regions are no memory: too many, one that is none, or two have an address in common; memory is wanting only for some that are one, and if the allocator refused it
+-- why these regions are no memory: too many, one that is none, or two have an address in common; memory is
+-- wanting only for some that are one, and if the allocator refused it
 abbrev pub IsNoMemory : List FsRegion → ChainError → Type 0
 IsNoMemory regions BadArgument = (64 < length regions) ⊎ (All IsRegion regions → ⊥) ⊎ DoOverlap regions
-IsNoMemory regions OutOfMemory = (0 < length regions) × RegionsWereRefused (length regions) × (memory : List Region) × IsMemory regions memory
+IsNoMemory regions OutOfMemory =
+    (0 < length regions)
+    × RegionsWereRefused (length regions)
+    × (memory : List Region)
+    × IsMemory regions memory
 IsNoMemory regions _ = ⊥
 
 -- there are some regions, and among them is a fault, taken in their order
 abbrev pub HaveFault : List FsRegion → Type 0
-HaveFault regions = (0 < length regions) × (fault : GuestRegionCollectionError) × (fault_of (map region_of regions) ≡ Some fault)
+HaveFault regions =
+    (0 < length regions)
+    × (fault : GuestRegionCollectionError)
+    × (fault_of (map region_of regions) ≡ Some fault)
 
 -- why these regions, taken in their order, are no memory: there is a fault, or memory is wanting
 abbrev pub IsNoSortedMemory : List FsRegion → ChainError → Type 0
 IsNoSortedMemory regions BadArgument = HaveFault regions
-IsNoSortedMemory regions OutOfMemory = (fault_of (map region_of regions) ≡ None) × RegionsWereRefused (length regions)
+IsNoSortedMemory regions OutOfMemory =
+    (fault_of (map region_of regions) ≡ None) × RegionsWereRefused (length regions)
 IsNoSortedMemory regions _ = ⊥

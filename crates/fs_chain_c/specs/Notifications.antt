@@ -19,20 +19,30 @@ use Rattle.fs_chain_c.specs.Pushing.{IsNotHere, StandsHere}
 abbrev pub no_store : FsStore
 no_store = record { at = 0; value = 0; len = 0 }
 
--- a store, told by where it is made here: two bytes; none, by length 0; if it has no place, that is told by 77
+-- a store, told by where it is made here: two bytes; none, by length 0; if it has no place, that is told by
+-- 77
 abbrev pub TellsStore : Mapped → Option Store → FsStore → (status : ℕ) → Type 0
 TellsStore regions None told status = (status ≡ 0) × (told ≡ no_store)
 TellsStore regions (Some s) told status =
-    ((status ≡ 0) × StandsHere regions Write s.address 2 told.at × (s.bytes ≡ to_le_bytes w16 told.value) × (told.len ≡ 2))
+    ((status ≡ 0)
+    × StandsHere regions Write s.address 2 told.at
+    × (s.bytes ≡ to_le_bytes w16 told.value)
+    × (told.len ≡ 2))
     ⊎ ((status ≡ 77) × IsNotHere regions Write s.address 2 × (told ≡ no_store))
 
 -- what is stored of a queue of C's; a bad argument, if its numbers are none
 abbrev pub SetsNotification : ChainHandle → FsQueue → (enabled : ℕ) → FsStore → (status : ℕ) → Type 0
 SetsNotification b q enabled told status =
     ((IsQueue q → ⊥) × (status ≡ chain_error_number BadArgument) × (told ≡ no_store))
-    ⊎ (IsQueue q × (k : QueueState) × IsQueueState q k × TellsStore b.regions (notification_store k (not (enabled == 0))) told status)
+    ⊎ (IsQueue q
+    × (k : QueueState)
+    × IsQueueState q k
+    × TellsStore b.regions (notification_store k (not (enabled == 0))) told status)
 
 -- over a handle's regions; it stays as it was
-abbrev pub AsksKicks : Option ChainHandle → FsQueue → (enabled : ℕ) → (status : ℕ) → FsStore → Option ChainHandle → Type 0
+abbrev pub AsksKicks :
+    Option ChainHandle → FsQueue → (enabled : ℕ) → (status : ℕ) → FsStore → Option ChainHandle → Type 0
 AsksKicks before q enabled status told after =
-    OnHandle (λ b b'. SetsNotification b q enabled told status × (b' ≡ b)) ((status ≡ chain_error_number WrongOrder) × (told ≡ no_store)) before after
+    OnHandle (λ b b'. SetsNotification b q enabled told status
+    × (b' ≡ b)) ((status ≡ chain_error_number WrongOrder)
+    × (told ≡ no_store)) before after

@@ -23,7 +23,8 @@ host_at v = (v.block + v.offset) % 2 ^ 64
 
 -- nothing is told
 abbrev pub no_step : FsPop
-no_step = record { load_at = 0; load_len = 0; request_len = 0; reply_len = 0; fault = 0; head = 0; ticket = 0 }
+no_step =
+    record { load_at = 0; load_len = 0; request_len = 0; reply_len = 0; fault = 0; head = 0; ticket = 0 }
 
 -- a load: where it is made here
 abbrev pub load_step : Window → FsPop
@@ -38,7 +39,8 @@ TellsLoad b step status =
 -- the load that a walk still wants, where nothing was done; nothing, if it wants none, or it has no place
 abbrev pub TellsWanted : ChainHandle → FsPop → Type 0
 TellsWanted b step =
-    ((v : Window) × IsLoadWindow b (came b) v × (step ≡ load_step v)) ⊎ (HasNoPlace b (came b) × (step ≡ no_step))
+    ((v : Window) × IsLoadWindow b (came b) v × (step ≡ load_step v))
+    ⊎ (HasNoPlace b (came b) × (step ≡ no_step))
 
 -- what is told of what a walk came to
 abbrev pub TellsWent : ChainHandle → went.LoadOutcome → FsPop → (status : ℕ) → Type 0
@@ -47,20 +49,31 @@ TellsWent b (goes.On (comes.Load n)) step status = TellsLoad b step status
 TellsWent b (goes.On comes.Idle) step status = (status ≡ 33) × (step ≡ no_step)
 TellsWent b (goes.On (comes.Refused e)) step status = (status ≡ queue_number e) × (step ≡ no_step)
 TellsWent b (goes.On (comes.Chain head request room)) step status =
-    (status ≡ 0) × (step ≡ record no_step { head = head; request_len = request; reply_len = room; ticket = b.serial })
+    (status ≡ 0)
+    × (step ≡ record no_step { head = head; request_len = request; reply_len = room; ticket = b.serial })
 TellsWent b (goes.On (comes.Faulty head fault)) step status =
     (status ≡ 0) × (step ≡ record no_step { head = head; fault = chain_fault_number fault })
 
 -- ---- a walk
 
 -- a walk over the core's queue
-abbrev pub WalksKept : ChainHandle → FsQueue → QueueState → (loaded : List ℕ) → FsPop → (status : ℕ) → ChainHandle → FsQueue → Type 0
+abbrev pub WalksKept : ChainHandle → FsQueue → QueueState → (loaded : List ℕ) → FsPop → (status : ℕ) →
+    ChainHandle → FsQueue → Type 0
 WalksKept b q k loaded step status b' q' =
-    ((told : went.LoadOutcome) × (k' : QueueState) × GoesSo b k loaded told b' k' × TellsWent b' told step status × (q' ≡ put q k'))
-    ⊎ ((e : ChainError) × RefusesWalk b k loaded e × (status ≡ chain_error_number e) × TellsWanted b' step × IsSame b b' × (q' ≡ q))
+    ((told : went.LoadOutcome) × (k' : QueueState)
+    × GoesSo b k loaded told b' k'
+    × TellsWent b' told step status
+    × (q' ≡ put q k'))
+    ⊎ ((e : ChainError)
+    × RefusesWalk b k loaded e
+    × (status ≡ chain_error_number e)
+    × TellsWanted b' step
+    × IsSame b b'
+    × (q' ≡ q))
 
 -- a walk over a queue of C's; a bad argument, if its numbers are none
-abbrev pub PopsHandle : ChainHandle → FsQueue → (loaded : List ℕ) → FsPop → (status : ℕ) → ChainHandle → FsQueue → Type 0
+abbrev pub PopsHandle :
+    ChainHandle → FsQueue → (loaded : List ℕ) → FsPop → (status : ℕ) → ChainHandle → FsQueue → Type 0
 PopsHandle b q loaded step status b' q' =
     ((IsQueue q → ⊥) × (status ≡ chain_error_number BadArgument) × (step ≡ no_step) × (b' ≡ b) × (q' ≡ q))
     ⊎ (IsQueue q × (k : QueueState) × IsQueueState q k × WalksKept b q k loaded step status b' q')

@@ -27,51 +27,98 @@ use Rattle.fs_chain_c.specs.Popping.{host_at}
 
 -- nothing is to be stored
 abbrev pub no_stores : FsStores
-no_stores = record { front_len = 0; id_at = 0; len_at = 0; id = 0; len = 0; index_at = 0; index = 0; seen_at = 0; element_guest = 0; index_guest = 0 }
+no_stores =
+    record {
+      front_len = 0;
+      id_at = 0;
+      len_at = 0;
+      id = 0;
+      len = 0;
+      index_at = 0;
+      index = 0;
+      seen_at = 0;
+      element_guest = 0;
+      index_guest = 0;
+    }
 
 -- so many bytes from a guest address on stand here from one on, for an access
 abbrev pub StandsHere : Mapped → Permissions → (guest len here : ℕ) → Type 0
 StandsHere regions access guest len here =
-    (v : Window) × IsWindowAt (location (places_in regions) access) guest len v × (v.len ≡ len) × (here ≡ host_at v)
+    (v : Window)
+    × IsWindowAt (location (places_in regions) access) guest len v
+    × (v.len ≡ len)
+    × (here ≡ host_at v)
 
 -- the stores of a return, told by where they are made here, and by the guest addresses of element and index
 abbrev pub TellsStores : Mapped → PushStores → FsStores → Type 0
 TellsStores regions s told =
-    (told.front_len ≡ s.front_len) × StandsHere regions Write s.used.head.address 4 told.id_at × (told.id ≡ s.used.head.value)
-    × StandsHere regions Write s.used.len.address 4 told.len_at × (told.len ≡ s.used.len.value)
-    × StandsHere regions Write s.used.index.address 2 told.index_at × (told.index ≡ s.used.index.value)
-    × StandsHere regions Read s.seen_at 2 told.seen_at × (told.element_guest ≡ s.used.head.address) × (told.index_guest ≡ s.used.index.address)
+    (told.front_len ≡ s.front_len)
+    × StandsHere regions Write s.used.head.address 4 told.id_at
+    × (told.id ≡ s.used.head.value)
+    × StandsHere regions Write s.used.len.address 4 told.len_at
+    × (told.len ≡ s.used.len.value)
+    × StandsHere regions Write s.used.index.address 2 told.index_at
+    × (told.index ≡ s.used.index.value)
+    × StandsHere regions Read s.seen_at 2 told.seen_at
+    × (told.element_guest ≡ s.used.head.address)
+    × (told.index_guest ≡ s.used.index.address)
 
 -- they don't: their first one has no place, or what is mapped as one with it ends before them
 abbrev pub IsNotHere : Mapped → Permissions → (guest len : ℕ) → Type 0
 IsNotHere regions access guest len =
     (location (places_in regions) access guest ≡ None)
-    ⊎ ((v : Window) × IsWindowAt (location (places_in regions) access) guest len v × (v.len ≡ min len (left_in (places_in regions) guest)) × (v.len ≡ len → ⊥))
+    ⊎ ((v : Window)
+    × IsWindowAt (location (places_in regions) access) guest len v
+    × (v.len ≡ min len (left_in (places_in regions) guest))
+    × (v.len ≡ len → ⊥))
 
 -- some of the stores have no place
 abbrev pub HaveNoPlaces : Mapped → PushStores → Type 0
 HaveNoPlaces regions s =
-    IsNotHere regions Write s.used.head.address 4 ⊎ IsNotHere regions Write s.used.len.address 4 ⊎ IsNotHere regions Write s.used.index.address 2
+    IsNotHere regions Write s.used.head.address 4
+    ⊎ IsNotHere regions Write s.used.len.address 4
+    ⊎ IsNotHere regions Write s.used.index.address 2
     ⊎ IsNotHere regions Read s.seen_at 2
 
--- a chain whose reply is known goes back to its queue by these stores, with the front at the front of the buffer; if they have no places, that is told by 77
-abbrev pub PushesSo : ChainHandle → QueueState → (front : List ℕ) → FsStores → (status : ℕ) → ChainHandle → (front' : List ℕ) → Type 0
+-- a chain whose reply is known goes back to its queue by these stores, with the front at the front of the
+-- buffer; if they have no places, that is told by 77
+abbrev pub PushesSo : ChainHandle → QueueState → (front : List ℕ) → FsStores → (status : ℕ) → ChainHandle →
+    (front' : List ℕ) → Type 0
 PushesSo b k front told status b' front' =
-    (s : PushStores) × IfHasReply b.state (λ out reply. b' ≡ record b { state = at.Pushing out })
-    × IfHasReply b.state (λ out reply. PushesBy k out reply s) × IfHasReply b.state (λ out reply. front' ≡ put_front reply front)
-    × (((status ≡ 0) × TellsStores b'.regions s told) ⊎ ((status ≡ 77) × (told ≡ no_stores) × HaveNoPlaces b'.regions s))
+    (s : PushStores)
+    × IfHasReply b.state (λ out reply. b' ≡ record b { state = at.Pushing out })
+    × IfHasReply b.state (λ out reply. PushesBy k out reply s)
+    × IfHasReply b.state (λ out reply. front' ≡ put_front reply front)
+    × (((status ≡ 0) × TellsStores b'.regions s told)
+    ⊎ ((status ≡ 77) × (told ≡ no_stores) × HaveNoPlaces b'.regions s))
 
--- over the core's queue, of which no other chain goes back then; refused by its error, and nothing is done: a buffer of 160 bytes is never too short
-abbrev pub ReturnsKept : ChainHandle → FsQueue → QueueState → (front : List ℕ) → FsStores → (status : ℕ) → ChainHandle → FsQueue → (front' : List ℕ) → Type 0
+-- over the core's queue, of which no other chain goes back then; refused by its error, and nothing is done: a
+-- buffer of 160 bytes is never too short
+abbrev pub ReturnsKept : ChainHandle → FsQueue → QueueState → (front : List ℕ) → FsStores → (status : ℕ) →
+    ChainHandle → FsQueue → (front' : List ℕ) → Type 0
 ReturnsKept b q k front told status b' q' front' =
-    ((return_error b.state k (length front) ≡ None) × PushesSo b k front told status b' front' × (q' ≡ put q (record k { pushing = true })))
-    ⊎ ((e : ChainError) × (return_error b.state k (length front) ≡ Some e) × (e ≡ ShortBuffer → length front < 160)
-    × (status ≡ chain_error_number e) × (told ≡ no_stores) × (b' ≡ b) × (q' ≡ q) × (front' ≡ front))
+    ((return_error b.state k (length front) ≡ None)
+    × PushesSo b k front told status b' front'
+    × (q' ≡ put q (record k { pushing = true })))
+    ⊎ ((e : ChainError)
+    × (return_error b.state k (length front) ≡ Some e)
+    × (e ≡ ShortBuffer → length front < 160)
+    × (status ≡ chain_error_number e)
+    × (told ≡ no_stores)
+    × (b' ≡ b)
+    × (q' ≡ q)
+    × (front' ≡ front))
 
 -- over a queue of C's; a bad argument, if its numbers are none
-abbrev pub PushesHandle : ChainHandle → FsQueue → (front : List ℕ) → FsStores → (status : ℕ) → ChainHandle → FsQueue → (front' : List ℕ) → Type 0
+abbrev pub PushesHandle : ChainHandle → FsQueue → (front : List ℕ) → FsStores → (status : ℕ) → ChainHandle →
+    FsQueue → (front' : List ℕ) → Type 0
 PushesHandle b q front told status b' q' front' =
-    ((IsQueue q → ⊥) × (status ≡ chain_error_number BadArgument) × (told ≡ no_stores) × (b' ≡ b) × (q' ≡ q) × (front' ≡ front))
+    ((IsQueue q → ⊥)
+    × (status ≡ chain_error_number BadArgument)
+    × (told ≡ no_stores)
+    × (b' ≡ b)
+    × (q' ≡ q)
+    × (front' ≡ front))
     ⊎ (IsQueue q × (k : QueueState) × IsQueueState q k × ReturnsKept b q k front told status b' q' front')
 
 -- ---- a return ends
@@ -80,10 +127,16 @@ PushesHandle b q front told status b' q' front' =
 abbrev pub RefusesPush : ChainHandle → FsQueue → ChainError → (status : ℕ) → ChainHandle → FsQueue → Type 0
 RefusesPush b q e status b' q' = (status ≡ chain_error_number e) × (b' ≡ b) × (q' ≡ q)
 
--- the stores are made, of the core's queue: its next chain goes back at the next position; refused by its error
-abbrev pub EndsKept : ChainHandle → FsQueue → QueueState → (seen notify status : ℕ) → ChainHandle → FsQueue → Type 0
+-- the stores are made, of the core's queue: its next chain goes back at the next position; refused by its
+-- error
+abbrev pub EndsKept :
+    ChainHandle → FsQueue → QueueState → (seen notify status : ℕ) → ChainHandle → FsQueue → Type 0
 EndsKept b q k seen notify status b' q' =
-    ((end_error b.state k ≡ None) × (status ≡ 0) × (notify ≡ flag (tells_of k (to_le_bytes w16 seen))) × IsFreed b b' × (q' ≡ put q (gave k)))
+    ((end_error b.state k ≡ None)
+    × (status ≡ 0)
+    × (notify ≡ flag (tells_of k (to_le_bytes w16 seen)))
+    × IsFreed b b'
+    × (q' ≡ put q (gave k)))
     ⊎ ((e : ChainError) × (end_error b.state k ≡ Some e) × (notify ≡ 0) × RefusesPush b q e status b' q')
 
 -- a return ends over a queue of C's; a bad argument, if its numbers are none
@@ -104,9 +157,14 @@ DropsKept b q k status b' q' =
     ((give_up_error b.state k ≡ None) × (status ≡ 0) × IsFreed b b' × (q' ≡ put q (dropped b k)))
     ⊎ ((e : ChainError) × (give_up_error b.state k ≡ Some e) × RefusesPush b q e status b' q')
 
--- over a queue of C's; a bad argument, if its numbers are none. If no chain is out, a walk ends, and no queue counts
+-- over a queue of C's; a bad argument, if its numbers are none. If no chain is out, a walk ends, and no queue
+-- counts
 abbrev pub DropsHandleChain : ChainHandle → FsQueue → (status : ℕ) → ChainHandle → FsQueue → Type 0
 DropsHandleChain b q status b' q' =
     ((is_out b.state ≡ false) × (status ≡ 0) × IsFreed b b' × (q' ≡ q))
     ⊎ ((is_out b.state ≡ true) × (IsQueue q → ⊥) × RefusesPush b q BadArgument status b' q')
-    ⊎ ((is_out b.state ≡ true) × IsQueue q × (k : QueueState) × IsQueueState q k × DropsKept b q k status b' q')
+    ⊎ ((is_out b.state ≡ true)
+    × IsQueue q
+    × (k : QueueState)
+    × IsQueueState q k
+    × DropsKept b q k status b' q')

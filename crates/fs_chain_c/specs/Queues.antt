@@ -1,5 +1,6 @@
 -- Queues as numbers that C keeps, and the core's.
-use Rattle.std.specs.Prelude.{◌≡◌, ◌⊎◌, ◌==◌, ◌≤◌, ◌+◌, ◌-◌, ◌%◌, ◌^◌, max, ℕ, Bool, true, false, Option, Some, None, IsSome, if◌then◌else◌}
+use Rattle.std.specs.Prelude.{◌≡◌, ◌⊎◌, ◌==◌, ◌≤◌, ◌+◌, ◌-◌, ◌%◌, ◌^◌, max, ℕ, Bool, true, false, Option}
+use Rattle.std.specs.Prelude.{Some, None, IsSome, if◌then◌else◌}
 use Rattle.fs_queue.specs.Lawful.{layout_error}
 use Rattle.fs_queue.specs.Numbers.{queue_number}
 use Rattle.fs_queue.specs.declared.fault.QueueError.{QueueError}
@@ -9,7 +10,8 @@ use Rattle.fs_chain.specs.declared.queue.QueueState.{QueueState}
 use Rattle.fs_chain.specs.Numbers.{chain_error_number}
 use Rattle.fs_chain_c.specs.declared.queue.FsQueue.{FsQueue}
 
--- the refusal that a number tells of a queue: 2 to 8 stopped it, 1 is one of these that a record doesn't tell, 0 is none, and others tell nothing
+-- the refusal that a number tells of a queue: 2 to 8 stopped it, 1 is one of these that a record doesn't
+-- tell, 0 is none, and others tell nothing
 abbrev pub stop_of : ℕ → Option (Option QueueError)
 stop_of n =
     if n == 0 then Some None
@@ -40,7 +42,12 @@ chains_in_flight q = (q.next_avail + (2 ^ 16 - q.next_used)) % 2 ^ 16
 -- these are a queue's numbers: no more chains are out, or may be, than it has descriptors
 abbrev pub IsQueue : FsQueue → Type 0
 IsQueue q =
-    (layout_error q.size q.desc q.avail q.used ≡ None) × (chains_in_flight q ≤ q.size) × (q.max_in_flight ≤ q.size) × (q.pushing ≤ 1) × (q.event_index ≤ 1) × IsSome (stop_of q.stopped)
+    (layout_error q.size q.desc q.avail q.used ≡ None)
+    × (chains_in_flight q ≤ q.size)
+    × (q.max_in_flight ≤ q.size)
+    × (q.pushing ≤ 1)
+    × (q.event_index ≤ 1)
+    × IsSome (stop_of q.stopped)
 
 -- the core's queue has these numbers
 pub record IsQueueState (q : FsQueue) (k : QueueState) : Type 0 where
@@ -62,14 +69,28 @@ pub record IsQueueState (q : FsQueue) (k : QueueState) : Type 0 where
   pub pop_count : k.pop_count ≡ q.pop_count
   pub stopped : stop_of q.stopped ≡ Some k.stopped
 
--- a queue's numbers with what a call changes: where the next chain is taken and where it goes back, whether a return was told, how often a chain was taken, and what
--- stopped it
+-- a queue's numbers with what a call changes: where the next chain is taken and where it goes back, whether a
+-- return was told, how often a chain was taken, and what stopped it
 abbrev pub put : FsQueue → QueueState → FsQueue
-put q k = record q { next_avail = k.next_avail; next_used = k.next_used; pushing = flag k.pushing; pop_count = k.pop_count; stopped = stop_number k.stopped }
+put q k =
+    record q {
+      next_avail = k.next_avail;
+      next_used = k.next_used;
+      pushing = flag k.pushing;
+      pop_count = k.pop_count;
+      stopped = stop_number k.stopped;
+    }
 
 -- a queue that is begun anew at a position: no chain is out of it, and those that were are its own no more
 abbrev pub reset_to : FsQueue → (position : ℕ) → FsQueue
-reset_to q position = record q { next_avail = position; next_used = position; pushing = 0; reset_count = (q.reset_count + 1) % 2 ^ 32; stopped = 0 }
+reset_to q position =
+    record q {
+      next_avail = position;
+      next_used = position;
+      pushing = 0;
+      reset_count = (q.reset_count + 1) % 2 ^ 32;
+      stopped = 0;
+    }
 
 -- it is begun so, if its numbers are a queue's; a bad argument, if they are none, and then nothing is done
 abbrev pub BeginsQueue : FsQueue → (position status : ℕ) → FsQueue → Type 0

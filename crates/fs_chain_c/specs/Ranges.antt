@@ -1,5 +1,6 @@
 -- Where a room's bytes stand for the guest, one stretch after another, as C is told.
-use Rattle.std.specs.Prelude.{◌≡◌, ◌≤◌, ◌<◌, ◌+◌, ◌-◌, ◌^◌, ◌++◌, ℕ, true, List, [], ◌∷◌, length, drop, min, Option}
+use Rattle.std.specs.Prelude.{◌≡◌, ◌≤◌, ◌<◌, ◌+◌, ◌-◌, ◌^◌, ◌++◌, ℕ, true, List, [], ◌∷◌, length, drop, min}
+use Rattle.std.specs.Prelude.{Option}
 use Rattle.fs_queue.specs.Taking.{total_len, of_direction}
 use Rattle.fs_regions.specs.Windows.{IsRangeFrom}
 use Rattle.fs_chain.specs.Orders.{is_out}
@@ -7,15 +8,21 @@ use Rattle.fs_chain.specs.declared.chain_handle.ChainHandle.{ChainHandle}
 use Rattle.fs_chain_c.specs.declared.ranges.FsRange.{FsRange}
 use Rattle.fs_chain_c.specs.Handles.{OnHandle}
 
--- a stretch of the guest's addresses of the room's bytes from one on, at least one and at most so many: in one descriptor, as long as it goes on
+-- a stretch of the guest's addresses of the room's bytes from one on, at least one and at most so many: in
+-- one descriptor, as long as it goes on
 abbrev pub IsReplyRange : ChainHandle → (from most : ℕ) → FsRange → Type 0
 IsReplyRange w from most told =
-    (is_out w.state ≡ true) × (n : ℕ) × IsRangeFrom true w.descriptors.items from told.guest n × (told.len ≡ min n most) × (0 < told.len)
+    (is_out w.state ≡ true)
+    × (n : ℕ)
+    × IsRangeFrom true w.descriptors.items from told.guest n
+    × (told.len ≡ min n most)
+    × (0 < told.len)
 
 -- stretches, one behind another
 abbrev pub AreReplyRanges : ChainHandle → (from most : ℕ) → List FsRange → Type 0
 AreReplyRanges w from most [] = Unit {0}
-AreReplyRanges w from most (r ∷ rs) = IsReplyRange w from most r × AreReplyRanges w (from + r.len) (most - r.len) rs
+AreReplyRanges w from most (r ∷ rs) =
+    IsReplyRange w from most r × AreReplyRanges w (from + r.len) (most - r.len) rs
 
 -- how many bytes they have
 abbrev pub range_bytes : List FsRange → ℕ
@@ -27,12 +34,20 @@ abbrev pub RoomEnds : ChainHandle → (from : ℕ) → Type 0
 RoomEnds w from = is_out w.state ≡ true → total_len (of_direction true w.descriptors.items) ≤ from
 
 -- stretches over the first ranges of some, as many as there is place for and bytes for
-abbrev pub FillsRanges : ChainHandle → (from most : ℕ) → (ranges ranges' : List FsRange) → (count : ℕ) → Type 0
+abbrev pub FillsRanges :
+    ChainHandle → (from most : ℕ) → (ranges ranges' : List FsRange) → (count : ℕ) → Type 0
 FillsRanges w from most ranges ranges' count =
-    (rs : List FsRange) × (length rs ≡ count) × (count ≤ length ranges) × (ranges' ≡ rs ++ drop count ranges) × AreReplyRanges w from most rs
+    (rs : List FsRange)
+    × (length rs ≡ count)
+    × (count ≤ length ranges)
+    × (ranges' ≡ rs ++ drop count ranges)
+    × AreReplyRanges w from most rs
     × (count < length ranges → range_bytes rs < most → RoomEnds w (from + range_bytes rs))
 
 -- the stretches of a handle's room are told, and its `ChainHandle` stays as it was
-abbrev pub TellsRanges : Option ChainHandle → (from most : ℕ) → (ranges : List FsRange) → (count : ℕ) → Option ChainHandle → (ranges' : List FsRange) → Type 0
+abbrev pub TellsRanges : Option ChainHandle → (from most : ℕ) → (ranges : List FsRange) → (count : ℕ) →
+    Option ChainHandle → (ranges' : List FsRange) → Type 0
 TellsRanges before from most ranges count after ranges' =
-    OnHandle (λ b b'. FillsRanges b from (min most (2 ^ 64 - 1 - from)) ranges ranges' count × (b' ≡ b)) ((count ≡ 0) × (ranges' ≡ ranges)) before after
+    OnHandle (λ b b'. FillsRanges b from (min most (2 ^ 64 - 1 - from)) ranges ranges' count
+    × (b' ≡ b)) ((count ≡ 0)
+    × (ranges' ≡ ranges)) before after

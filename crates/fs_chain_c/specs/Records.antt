@@ -1,5 +1,6 @@
 -- The record of a device and its queues, as C has them.
-use Rattle.std.specs.Prelude.{◌≡◌, ◌⊎◌, ◌==◌, ◌≤◌, ◌<◌, ◌+◌, ◌%◌, ◌^◌, ◌++◌, [], ◌∷◌, ℕ, false, not, List, All, map, length, drop, Option, Some, None, if◌then◌else◌}
+use Rattle.std.specs.Prelude.{◌≡◌, ◌⊎◌, ◌==◌, ◌≤◌, ◌<◌, ◌+◌, ◌%◌, ◌^◌, ◌++◌, [], ◌∷◌, ℕ, false, not, List}
+use Rattle.std.specs.Prelude.{All, map, length, drop, Option, Some, None, if◌then◌else◌}
 use Rattle.memory_requests.specs.Refused.{RoomWasRefused}
 use Rattle.fs_queue.specs.Queue.{Queue, resumed}
 use Rattle.fs_record.specs.Numbers.{restore_error_number}
@@ -7,7 +8,8 @@ use Rattle.fs_record.specs.Record.{HasKnownBits, IsRecordFor, Second, record_byt
 use Rattle.fs_record.specs.Restoring.{LeavesSource, RefusesRecord}
 use Rattle.fs_record.specs.declared.error.RestoreError.{RestoreError}
 use Rattle.fs_chain.specs.declared.error.ChainError.{ChainError}
-use Rattle.fs_chain.specs.declared.error.ChainError.TheVariants.{BadArgument, ChainInFlight, OutOfMemory, ShortBuffer}
+use Rattle.fs_chain.specs.declared.error.ChainError.TheVariants.{BadArgument, ChainInFlight, OutOfMemory}
+use Rattle.fs_chain.specs.declared.error.ChainError.TheVariants.{ShortBuffer}
 use Rattle.fs_chain.specs.Numbers.{chain_error_number}
 use Rattle.fs_chain_c.specs.declared.device.FsDevice.{FsDevice}
 use Rattle.fs_chain_c.specs.declared.queue.FsQueue.{FsQueue}
@@ -52,16 +54,29 @@ pub record RefusesQueues (qs : List FsQueue) (e : ChainError) : Type 0 where
 abbrev pub bytes_of : FsDevice → List FsQueue → List ℕ
 bytes_of d qs = record_bytes (Second d.page_size d.limit) d.options (map queue_of qs)
 
--- the record stands at the front of a buffer, or why not: device, options and count are looked at first, then each queue in order, and behind them memory and the buffer
-abbrev pub SavesSo : FsDevice → List FsQueue → (buffer : List ℕ) → Option ChainError → (len : ℕ) → (buffer' : List ℕ) → Type 0
+-- the record stands at the front of a buffer, or why not: device, options and count are looked at first, then
+-- each queue in order, and behind them memory and the buffer
+abbrev pub SavesSo :
+    FsDevice → List FsQueue → (buffer : List ℕ) → Option ChainError → (len : ℕ) → (buffer' : List ℕ) → Type 0
 SavesSo d qs buffer None len buffer' =
-    CanSave d qs × All HasNoneOut qs × (len ≡ length (bytes_of d qs)) × (buffer' ≡ bytes_of d qs ++ drop len buffer)
+    CanSave d qs
+    × All HasNoneOut qs
+    × (len ≡ length (bytes_of d qs))
+    × (buffer' ≡ bytes_of d qs ++ drop len buffer)
 SavesSo d qs buffer (Some ShortBuffer) len buffer' =
-    CanSave d qs × All HasNoneOut qs × (len ≡ length (bytes_of d qs)) × (length buffer < len) × (buffer' ≡ buffer)
+    CanSave d qs
+    × All HasNoneOut qs
+    × (len ≡ length (bytes_of d qs))
+    × (length buffer < len)
+    × (buffer' ≡ buffer)
 SavesSo d qs buffer (Some BadArgument) len buffer' =
-    ((CanSaveSome d (length qs) → ⊥) ⊎ (CanSaveSome d (length qs) × RefusesQueues qs BadArgument)) × (len ≡ 0) × (buffer' ≡ buffer)
-SavesSo d qs buffer (Some ChainInFlight) len buffer' = CanSaveSome d (length qs) × RefusesQueues qs ChainInFlight × (len ≡ 0) × (buffer' ≡ buffer)
-SavesSo d qs buffer (Some OutOfMemory) len buffer' = CanSave d qs × All HasNoneOut qs × RoomWasRefused (length qs) × (len ≡ 0) × (buffer' ≡ buffer)
+    ((CanSaveSome d (length qs) → ⊥) ⊎ (CanSaveSome d (length qs) × RefusesQueues qs BadArgument))
+    × (len ≡ 0)
+    × (buffer' ≡ buffer)
+SavesSo d qs buffer (Some ChainInFlight) len buffer' =
+    CanSaveSome d (length qs) × RefusesQueues qs ChainInFlight × (len ≡ 0) × (buffer' ≡ buffer)
+SavesSo d qs buffer (Some OutOfMemory) len buffer' =
+    CanSave d qs × All HasNoneOut qs × RoomWasRefused (length qs) × (len ≡ 0) × (buffer' ≡ buffer)
 SavesSo d qs buffer (Some _) len buffer' = ⊥
 
 -- what is told of it
@@ -69,12 +84,15 @@ abbrev pub saved_status : Option ChainError → ℕ
 saved_status None = 0
 saved_status (Some e) = chain_error_number e
 
-abbrev pub Saves : FsDevice → List FsQueue → (buffer : List ℕ) → (status len : ℕ) → (buffer' : List ℕ) → Type 0
-Saves d qs buffer status len buffer' = (how : Option ChainError) × (status ≡ saved_status how) × SavesSo d qs buffer how len buffer'
+abbrev pub Saves :
+    FsDevice → List FsQueue → (buffer : List ℕ) → (status len : ℕ) → (buffer' : List ℕ) → Type 0
+Saves d qs buffer status len buffer' =
+    (how : Option ChainError) × (status ≡ saved_status how) × SavesSo d qs buffer how len buffer'
 
 -- ---- a record is read
 
--- the numbers of a queue of a record, which is begun anew with it: what stopped it isn't told, so it is 1, and how many chains may be out stays
+-- the numbers of a queue of a record, which is begun anew with it: what stopped it isn't told, so it is 1,
+-- and how many chains may be out stays
 abbrev pub numbers_over : FsQueue → Queue → FsQueue
 numbers_over old q = record old {
   desc = q.desc;
@@ -96,12 +114,16 @@ restored_over (old ∷ olds) (q ∷ qs) = numbers_over old q ∷ restored_over o
 
 -- a record stands at the front of some bytes, which goes with the device's page size and limit
 abbrev pub HasRecord : FsDevice → (saved : List ℕ) → (options : ℕ) → List Queue → Type 0
-HasRecord d saved options qs = (taken rest : List ℕ) × (saved ≡ taken ++ rest) × IsRecordFor taken d.page_size d.limit options qs
+HasRecord d saved options qs =
+    (taken rest : List ℕ) × (saved ≡ taken ++ rest) × IsRecordFor taken d.page_size d.limit options qs
 
 -- none does
 abbrev pub HasNoRecord : FsDevice → (saved : List ℕ) → RestoreError → Type 0
 HasNoRecord d saved e =
-    (taken rest : List ℕ) × (saved ≡ taken ++ rest) × RefusesRecord taken d.page_size d.limit e × LeavesSource e (Some rest) false false
+    (taken rest : List ℕ)
+    × (saved ≡ taken ++ rest)
+    × RefusesRecord taken d.page_size d.limit e
+    × LeavesSource e (Some rest) false false
 
 -- how reading it ends
 pub data RestoreOutcome : Type 0 where
@@ -118,14 +140,28 @@ read_status (NoRecord e) = 80 + restore_error_number e
 read_status NoDevice = chain_error_number BadArgument
 
 -- and done: device and queues go on from the record, or stay as they are
-abbrev pub ReadsSo : FsDevice → List FsQueue → (saved : List ℕ) → RestoreOutcome → (count : ℕ) → FsDevice → List FsQueue → Type 0
+abbrev pub ReadsSo : FsDevice → List FsQueue → (saved : List ℕ) → RestoreOutcome → (count : ℕ) → FsDevice →
+    List FsQueue → Type 0
 ReadsSo d queues saved (Read options qs) count d' queues' =
-    IsDevice d × HasRecord d saved options qs × (count ≡ length qs) × (count ≤ length queues) × (d' ≡ record d { options = options })
+    IsDevice d
+    × HasRecord d saved options qs
+    × (count ≡ length qs)
+    × (count ≤ length queues)
+    × (d' ≡ record d { options = options })
     × (queues' ≡ restored_over queues qs)
 ReadsSo d queues saved (NoPlace options qs) count d' queues' =
-    IsDevice d × HasRecord d saved options qs × (count ≡ length qs) × (length queues < count) × (d' ≡ d) × (queues' ≡ queues)
-ReadsSo d queues saved (NoRecord e) count d' queues' = IsDevice d × HasNoRecord d saved e × (count ≡ 0) × (d' ≡ d) × (queues' ≡ queues)
-ReadsSo d queues saved NoDevice count d' queues' = (IsDevice d → ⊥) × (count ≡ 0) × (d' ≡ d) × (queues' ≡ queues)
+    IsDevice d
+    × HasRecord d saved options qs
+    × (count ≡ length qs)
+    × (length queues < count)
+    × (d' ≡ d)
+    × (queues' ≡ queues)
+ReadsSo d queues saved (NoRecord e) count d' queues' =
+    IsDevice d × HasNoRecord d saved e × (count ≡ 0) × (d' ≡ d) × (queues' ≡ queues)
+ReadsSo d queues saved NoDevice count d' queues' =
+    (IsDevice d → ⊥) × (count ≡ 0) × (d' ≡ d) × (queues' ≡ queues)
 
-abbrev pub Restores : FsDevice → List FsQueue → (saved : List ℕ) → (status count : ℕ) → FsDevice → List FsQueue → Type 0
-Restores d queues saved status count d' queues' = (how : RestoreOutcome) × (status ≡ read_status how) × ReadsSo d queues saved how count d' queues'
+abbrev pub Restores :
+    FsDevice → List FsQueue → (saved : List ℕ) → (status count : ℕ) → FsDevice → List FsQueue → Type 0
+Restores d queues saved status count d' queues' =
+    (how : RestoreOutcome) × (status ≡ read_status how) × ReadsSo d queues saved how count d' queues'

@@ -1,5 +1,6 @@
 -- What the answers of C say, and what comes of them.
-use Rattle.std.specs.Prelude.{◌≡◌, ◌⊎◌, ◌==◌, ◌&&◌, ◌||◌, ◌^◌, nat_lt, ℕ, Bool, List, Option, Some, None, if◌then◌else◌}
+use Rattle.std.specs.Prelude.{◌≡◌, ◌⊎◌, ◌==◌, ◌&&◌, ◌||◌, ◌^◌, nat_lt, ℕ, Bool, List, Option, Some, None}
+use Rattle.std.specs.Prelude.{if◌then◌else◌}
 use Rattle.fuse_base.specs.declared.records.Attr.{Attr}
 use Rattle.fuse_fs.specs.declared.answers.Entry.{Entry}
 use Rattle.fuse_values.specs.declared.answer.FileAnswer.{FileAnswer}
@@ -62,10 +63,13 @@ entry_said (Some e) = Some (answer.HasEntry e)
 
 abbrev pub create_said : Option (Entry ℕ) → (handle flags : ℕ) → Option FileAnswer
 create_said None handle flags = None
-create_said (Some e) handle flags = Some (answer.Created e (Some handle) (record { 0 = flags; 1 = record {} }))
+create_said (Some e) handle flags =
+    Some (answer.Created e (Some handle) (record { 0 = flags; 1 = record {} }))
 
 abbrev pub attr_said : FsAttr → (secs nanos : ℕ) → Option FileAnswer
-attr_said a secs nanos = if are_nanos nanos then Some (answer.HasAttr (attr_of a) (record { seconds = secs; nanos = nanos })) else None
+attr_said a secs nanos =
+    if are_nanos nanos then Some (answer.HasAttr (attr_of a) (record { seconds = secs; nanos = nanos }))
+    else None
 
 abbrev pub open_said : (handle flags : ℕ) → FileAnswer
 open_said handle flags = answer.Opened (Some handle) (record { 0 = flags; 1 = record {} })
@@ -87,16 +91,23 @@ abbrev pub wish_said : ℕ → FileAnswer
 wish_said wanted = answer.Wants (record { 0 = wanted; 1 = record {} })
 
 -- a handle's call is answered by this, with a ticket; a bad argument, if C's numbers are no answer
-abbrev pub MayReply : Option FileAnswer → (ticket : ℕ) → Option ChainHandle → (status : ℕ) → Option ChainHandle → Type 0
+abbrev pub MayReply :
+    Option FileAnswer → (ticket : ℕ) → Option ChainHandle → (status : ℕ) → Option ChainHandle → Type 0
 MayReply None ticket before status after = (status ≡ chain_error_number BadArgument) × (after ≡ before)
-MayReply (Some a) ticket before status after = OnHandle (λ b b'. AnswersHandle b ticket a status b') (status ≡ chain_error_number WrongOrder) before after
+MayReply (Some a) ticket before status after =
+    OnHandle (λ b b'. AnswersHandle b ticket a status b') (status ≡ chain_error_number WrongOrder)
+    before after
 
 -- the same by an answer that is always one
-abbrev pub RepliesWith : FileAnswer → (ticket : ℕ) → Option ChainHandle → (status : ℕ) → Option ChainHandle → Type 0
-RepliesWith a ticket before status after = OnHandle (λ b b'. AnswersHandle b ticket a status b') (status ≡ chain_error_number WrongOrder) before after
+abbrev pub RepliesWith :
+    FileAnswer → (ticket : ℕ) → Option ChainHandle → (status : ℕ) → Option ChainHandle → Type 0
+RepliesWith a ticket before status after =
+    OnHandle (λ b b'. AnswersHandle b ticket a status b') (status ≡ chain_error_number WrongOrder)
+    before after
 
 -- an INIT is answered, and the device has the options that were agreed
-abbrev pub RepliesInit : (wanted ticket : ℕ) → Option ChainHandle → FsDevice → (status : ℕ) → Option ChainHandle → FsDevice → Type 0
+abbrev pub RepliesInit : (wanted ticket : ℕ) → Option ChainHandle → FsDevice → (status : ℕ) →
+    Option ChainHandle → FsDevice → Type 0
 RepliesInit wanted ticket before d status after d' =
     OnHandle
     (λ b b'. AnswersHandle b ticket (wish_said wanted) status b'
@@ -104,9 +115,11 @@ RepliesInit wanted ticket before d status after d' =
     ((status ≡ chain_error_number WrongOrder) × (d' ≡ d)) before after
 
 -- a handle's chain is asked
-abbrev pub AsksChain : Option ChainHandle → FsDevice → (request : List ℕ) → (status : ℕ) → FsCall → Option ChainHandle → Type 0
+abbrev pub AsksChain :
+    Option ChainHandle → FsDevice → (request : List ℕ) → (status : ℕ) → FsCall → Option ChainHandle → Type 0
 AsksChain before d request status call after =
-    OnHandle (λ b b'. DecodesHandle b d request call status b') ((status ≡ chain_error_number WrongOrder) × (call ≡ no_call)) before after
+    OnHandle (λ b b'. DecodesHandle b d request call status b') ((status ≡ chain_error_number WrongOrder)
+    × (call ≡ no_call)) before after
 
 -- a `ChainHandle` keeps a reply of so many bytes of C's own, and all else as it is
 abbrev pub KeepsOwn : (len : ℕ) → ChainHandle → ChainHandle → Type 0
@@ -117,8 +130,12 @@ KeepsOwn len b b' =
 abbrev pub RepliesOwn : (ticket len : ℕ) → ChainHandle → (status : ℕ) → ChainHandle → Type 0
 RepliesOwn ticket len b status b' =
     ((own_error b.state b.serial ticket len ≡ None) × (status ≡ 0) × KeepsOwn len b b')
-    ⊎ ((e : ChainError) × (own_error b.state b.serial ticket len ≡ Some e) × (status ≡ chain_error_number e) × (b' ≡ b))
+    ⊎ ((e : ChainError)
+    × (own_error b.state b.serial ticket len ≡ Some e)
+    × (status ≡ chain_error_number e)
+    × (b' ≡ b))
 
 -- a handle's chain is replied so
 abbrev pub RepliesBytes : (ticket len : ℕ) → Option ChainHandle → (status : ℕ) → Option ChainHandle → Type 0
-RepliesBytes ticket len before status after = OnHandle (λ b b'. RepliesOwn ticket len b status b') (status ≡ chain_error_number WrongOrder) before after
+RepliesBytes ticket len before status after =
+    OnHandle (λ b b'. RepliesOwn ticket len b status b') (status ≡ chain_error_number WrongOrder) before after

@@ -24,42 +24,56 @@ IsNotZero b = b ≡ 0 → ⊥
 
 -- a name stands at a place: it has no zero byte, and one stands behind it
 abbrev pub IsNameAt : (request : List ℕ) → FsSpan → (name : List ℕ) → Type 0
-IsNameAt request place name = (bytes_at request place ≡ name) × All IsNotZero name × (slice_get request (place.at + place.len) ≡ Some 0)
+IsNameAt request place name =
+    (bytes_at request place ≡ name) × All IsNotZero name × (slice_get request (place.at + place.len) ≡ Some 0)
 
 -- these places hold the names of a call, and its value or its pairs
 abbrev pub AreNames : (request : List ℕ) → FileCall → (name name2 other : FsSpan) → Type 0
 AreNames request (value.Lookup context node name) at at2 other = IsNameAt request at name.now
-AreNames request (value.BatchForget context counts) at at2 other = pairs_in (bytes_at request other) ≡ pairs_in counts.now
-AreNames request (value.Symlink context link node name extra) at at2 other = IsNameAt request at name.now × IsNameAt request other link.now
-AreNames request (value.Mknod context node name mode rdev umask extra) at at2 other = IsNameAt request at name.now
+AreNames request (value.BatchForget context counts) at at2 other =
+    pairs_in (bytes_at request other) ≡ pairs_in counts.now
+AreNames request (value.Symlink context link node name extra) at at2 other =
+    IsNameAt request at name.now × IsNameAt request other link.now
+AreNames request (value.Mknod context node name mode rdev umask extra) at at2 other =
+    IsNameAt request at name.now
 AreNames request (value.Mkdir context node name mode umask extra) at at2 other = IsNameAt request at name.now
 AreNames request (value.Unlink context node name) at at2 other = IsNameAt request at name.now
 AreNames request (value.Rmdir context node name) at at2 other = IsNameAt request at name.now
-AreNames request (value.Rename context node old new_dir new flags) at at2 other = IsNameAt request at old.now × IsNameAt request at2 new.now
+AreNames request (value.Rename context node old new_dir new flags) at at2 other =
+    IsNameAt request at old.now × IsNameAt request at2 new.now
 AreNames request (value.Link context old_node node name) at at2 other = IsNameAt request at name.now
-AreNames request (value.Setxattr context node name content flags extra) at at2 other = IsNameAt request at name.now × (bytes_at request other ≡ content.now)
+AreNames request (value.Setxattr context node name content flags extra) at at2 other =
+    IsNameAt request at name.now × (bytes_at request other ≡ content.now)
 AreNames request (value.Getxattr context node name size) at at2 other = IsNameAt request at name.now
 AreNames request (value.Removexattr context node name) at at2 other = IsNameAt request at name.now
-AreNames request (value.Create context node name mode kill flags umask extra) at at2 other = IsNameAt request at name.now
+AreNames request (value.Create context node name mode kill flags umask extra) at at2 other =
+    IsNameAt request at name.now
 AreNames request _ at at2 other = Unit {0}
 
 -- those that are told of it do
 abbrev pub HasNames : (request : List ℕ) → FileCall → FsCall → Type 0
 HasNames request made told = AreNames request made told.name told.name2 told.value
 
--- of each request of less than 2^32 bytes, whatever was agreed, the places that are told of the call that it means hold its names
+-- of each request of less than 2^32 bytes, whatever was agreed, the places that are told of the call that it
+-- means hold its names
 abbrev pub SpansHoldNames : Type 0
 SpansHoldNames =
-    (request bytes : List ℕ) (options room : ℕ) (command : FileCommand) (made : FileCall) → length request < 2 ^ 32 → meaning options request room ≡ Asks command
-    → call_of bytes made ≡ first_call command → HasNames request made (told_call (opcode_in request) options room made)
+    (request bytes : List ℕ) (options room : ℕ) (command : FileCommand) (made : FileCall)
+    → length request < 2 ^ 32
+    → meaning options request room ≡ Asks command
+    → call_of bytes made ≡ first_call command
+    → HasNames request made (told_call (opcode_in request) options room made)
 
 -- of a call, if one is told
 abbrev pub IfCall : told.Decoded → (FileCall → Type 0) → Type 0
 IfCall (tells.Call made) P = P made
 IfCall _ P = Unit {0}
 
--- what pk_decode tells of a request, by all of its bytes or by a WRITE's first ones, has its names in the bytes that it was handed
+-- what pk_decode tells of a request, by all of its bytes or by a WRITE's first ones, has its names in the
+-- bytes that it was handed
 abbrev pub AskedSpansHoldNames : Type 0
 AskedSpansHoldNames =
-    (b : ChainHandle) (d : FsDevice) (request : List ℕ) (call : FsCall) (status : ℕ) (b' : ChainHandle) → length request < 2 ^ 32
-    → (so : DecodesSo b d request call status b') → IfCall so.3 (λ (made : FileCall). HasNames request made call)
+    (b : ChainHandle) (d : FsDevice) (request : List ℕ) (call : FsCall) (status : ℕ) (b' : ChainHandle)
+    → length request < 2 ^ 32
+    → (so : DecodesSo b d request call status b')
+    → IfCall so.3 (λ (made : FileCall). HasNames request made call)

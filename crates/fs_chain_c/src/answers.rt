@@ -1,7 +1,8 @@
 //! Answers, as C tells them.
 
 ghost use Rattle.std.specs.Prelude.{◌≡◌};
-ghost use Rattle.fs_chain_c.specs.Replies.{attr_of, attr_said, create_said, entry_of, entry_said, open_said, statfs_said, wish_said};
+ghost use Rattle.fs_chain_c.specs.Replies.{attr_of, attr_said, create_said, entry_of, entry_said, open_said};
+ghost use Rattle.fs_chain_c.specs.Replies.{statfs_said, wish_said};
 
 use crate::call::FsAttr;
 use bitflags::Flags;

@@ -1,7 +1,7 @@
 //! What C is told of each call of a file system: one row for each.
 
-ghost use Rattle.std.specs.Prelude.{◌≡◌};
-ghost use Rattle.fs_chain_c.specs.Calls.{at_rename, at_setxattr, told_call};
+ghost use Rattle.std.specs.Prelude.{◌≡◌, true};
+ghost use Rattle.fs_chain_c.specs.Calls.{at_rename, at_setxattr, has_name, is_of_open_file, told_call};
 
 use crate::answer_kind::{AnswerKind, call_number, listing, sized};
 use crate::call::{FsCall, HEADER, attr_told, behind, behind_header, data_len, span};
@@ -44,12 +44,14 @@ fn at_setxattr(options: u64) -> usize
     }
 }
 
-// A match over all calls. A row of a call that somebody makes of a node: its fields besides, what it waits for, what is told besides;
-// and one of another: its fields, what is told, what is told besides.
+// A match over all calls. A row of a call that somebody makes of a node: its fields besides, what it waits
+// for, what is told besides; and one of another: its fields, what is told, what is told besides.
+// Behind the rows other arms.
 macro_rules! told {
     ($call:expr,
         of_a_node { $($name:ident { $($part:tt)* } $kind:ident $(, $field:ident: $value:expr)*;)* }
-        others { $($other:ident { $($piece:tt)* } = $start:expr $(, $slot:ident: $given:expr)*;)* }) => {
+        others { $($other:ident { $($piece:tt)* } = $start:expr $(, $slot:ident: $given:expr)*;)* }
+        $($arm:tt)*) => {
         match $call {
             $(FileCall::$name { context, node, $($part)* } => {
                 let mut told = FsCall::made_by(Opcode::$name, AnswerKind::$kind, context, *node);
@@ -61,8 +63,80 @@ macro_rules! told {
                 $(told.$slot = $given;)*
                 told
             })*
+            $($arm)*
         }
     };
+}
+
+// A call whose request has names, as C gets it.
+fn named_call(opcode: u32, options: u64, room: usize, call: &FileCall<'_>) -> FsCall
+    requires named { has_name call.now ≡ true }
+    ensures { result ≡ told_call opcode options room call.now }
+{
+    told!(call, of_a_node {
+        Lookup { name } Entry, name: span(AT, name.len());
+        Symlink { link, name, extra } Entry,
+            name: span(AT, name.len()), value: span(behind(AT, name.len()), link.len()),
+            has_group: u8::from(extra.sup_gid.is_some()), group: extra.sup_gid.unwrap_or(0);
+        Mknod { name, mode, rdev, umask, extra } Entry,
+            name: span(AT_16, name.len()), mode: *mode, rdev: *rdev, umask: *umask,
+            has_group: u8::from(extra.sup_gid.is_some()), group: extra.sup_gid.unwrap_or(0);
+        Mkdir { name, mode, umask, extra } Entry,
+            name: span(AT_8, name.len()), mode: *mode, umask: *umask,
+            has_group: u8::from(extra.sup_gid.is_some()), group: extra.sup_gid.unwrap_or(0);
+        Unlink { name } Done, name: span(AT, name.len());
+        Rmdir { name } Done, name: span(AT, name.len());
+        Rename { old, new_dir, new, flags } Done,
+            name: span(at_rename(opcode), old.len()),
+            name2: span(behind(at_rename(opcode), old.len()), new.len()), node2: *new_dir, flags: *flags;
+        Setxattr { name, value, flags, .. } Done,
+            name: span(at_setxattr(options), name.len()),
+            value: span(behind(at_setxattr(options), name.len()), value.len()), flags: *flags;
+        Getxattr { name, size } Data,
+            answer: sized(*size).number(), name: span(AT_8, name.len()), size: u64::from(*size),
+            data_at: HEADER, data_len: data_len(*size, room);
+        Removexattr { name } Done, name: span(AT, name.len());
+        Create { name, mode, kill, flags, umask, extra } Create,
+            name: span(AT_16, name.len()), mode: *mode, flags: *flags, umask: *umask,
+            kill_priv: u8::from(*kill), has_group: u8::from(extra.sup_gid.is_some()),
+            group: extra.sup_gid.unwrap_or(0);
+    } others {
+        Link { context, old_node, node, name } = FsCall::made_by(Opcode::Link, AnswerKind::Entry, context,
+            *old_node), name: span(AT_8, name.len()), node2: *node;
+    } _ => unreachable!())
+}
+
+// A call of an open file or directory, which it names by its handle, as C gets it.
+fn open_file_call(opcode: u32, options: u64, room: usize, call: &FileCall<'_>) -> FsCall
+    requires opened { is_of_open_file call.now ≡ true }
+    ensures { result ≡ told_call opcode options room call.now }
+{
+    told!(call, of_a_node {
+        Read { handle, room: most, size, offset, owner, flags } Data,
+            handle: *handle, offset: *offset, size: u64::from(*size), data_at: HEADER, data_len: *most as u64,
+            flags: *flags, has_owner: u8::from(owner.is_some()), owner: owner.unwrap_or(0);
+        Write { handle, len, size, offset, owner, delayed, kill, flags } Write,
+            handle: *handle, offset: *offset, size: u64::from(*size), data_at: REQUEST_FRONT as u64,
+            data_len: *len as u64, flags: *flags,
+            has_owner: u8::from(owner.is_some()), owner: owner.unwrap_or(0), delayed: u8::from(*delayed),
+            kill_priv: u8::from(*kill);
+        Release { flags, handle, flush, unlock, owner } Done,
+            handle: *handle, flags: *flags, flush: u8::from(*flush), unlock: u8::from(*unlock),
+            has_owner: u8::from(owner.is_some()), owner: owner.unwrap_or(0);
+        Fsync { data_only, handle } Done, handle: *handle, data_only: u8::from(*data_only);
+        Fsyncdir { data_only, handle } Done, handle: *handle, data_only: u8::from(*data_only);
+        Flush { handle, owner } Done, handle: *handle, owner: *owner;
+        Readdir { handle, size, offset } Entries,
+            kind: call_number(listing(opcode)), handle: *handle, offset: *offset, size: u64::from(*size),
+            data_at: HEADER, data_len: data_len(*size, room);
+        Releasedir { flags, handle } Done, handle: *handle, flags: *flags;
+        Fallocate { handle, mode, offset, len } Done, handle: *handle, mode: *mode,
+            offset: *offset, size: *len;
+        Lseek { handle, offset, whence } Lseek, handle: *handle, offset: *offset, flags: *whence;
+        CopyFileRange { handle, offset, node_out, handle_out, offset_out, len, .. } Write,
+            handle: *handle, offset: *offset, node2: *node_out, handle2: *handle_out,
+            offset2: *offset_out, size: *len;
+    } others {} _ => unreachable!())
 }
 
 /// What is told of a call: by the opcode of its request, the options that were agreed, and the room.
@@ -70,58 +144,24 @@ pub(crate) fn told_call(opcode: u32, options: u64, room: usize, call: &FileCall<
     ensures { result ≡ told_call opcode options room call.now }
 {
     told!(call, of_a_node {
-        Lookup { name } Entry, name: span(AT, name.len());
         Forget { count } None, count: *count;
         Getattr { handle } Attr, has_handle: u8::from(handle.is_some()), handle: handle.unwrap_or(0);
         Setattr { attr, handle, valid } Attr,
-            has_handle: u8::from(handle.is_some()), handle: handle.unwrap_or(0), valid: valid.bits(), owner: attr.lock_owner, attr: attr_told(attr);
+            has_handle: u8::from(handle.is_some()), handle: handle.unwrap_or(0), valid: valid.bits(),
+            owner: attr.lock_owner, attr: attr_told(attr);
         Readlink {} Data, data_at: HEADER, data_len: behind_header(room);
-        Symlink { link, name, extra } Entry,
-            name: span(AT, name.len()), value: span(behind(AT, name.len()), link.len()), has_group: u8::from(extra.sup_gid.is_some()), group: extra.sup_gid.unwrap_or(0);
-        Mknod { name, mode, rdev, umask, extra } Entry,
-            name: span(AT_16, name.len()), mode: *mode, rdev: *rdev, umask: *umask, has_group: u8::from(extra.sup_gid.is_some()), group: extra.sup_gid.unwrap_or(0);
-        Mkdir { name, mode, umask, extra } Entry,
-            name: span(AT_8, name.len()), mode: *mode, umask: *umask, has_group: u8::from(extra.sup_gid.is_some()), group: extra.sup_gid.unwrap_or(0);
-        Unlink { name } Done, name: span(AT, name.len());
-        Rmdir { name } Done, name: span(AT, name.len());
-        Rename { old, new_dir, new, flags } Done,
-            name: span(at_rename(opcode), old.len()), name2: span(behind(at_rename(opcode), old.len()), new.len()), node2: *new_dir, flags: *flags;
         Open { kill, flags } Open, flags: *flags, kill_priv: u8::from(*kill);
-        Read { handle, room: most, size, offset, owner, flags } Data,
-            handle: *handle, offset: *offset, size: u64::from(*size), data_at: HEADER, data_len: *most as u64, flags: *flags, has_owner: u8::from(owner.is_some()), owner: owner.unwrap_or(0);
-        Write { handle, len, size, offset, owner, delayed, kill, flags } Write,
-            handle: *handle, offset: *offset, size: u64::from(*size), data_at: REQUEST_FRONT as u64, data_len: *len as u64, flags: *flags,
-            has_owner: u8::from(owner.is_some()), owner: owner.unwrap_or(0), delayed: u8::from(*delayed), kill_priv: u8::from(*kill);
         Statfs {} Statfs;
-        Release { flags, handle, flush, unlock, owner } Done,
-            handle: *handle, flags: *flags, flush: u8::from(*flush), unlock: u8::from(*unlock), has_owner: u8::from(owner.is_some()), owner: owner.unwrap_or(0);
-        Fsync { data_only, handle } Done, handle: *handle, data_only: u8::from(*data_only);
-        Fsyncdir { data_only, handle } Done, handle: *handle, data_only: u8::from(*data_only);
-        Setxattr { name, value, flags, .. } Done,
-            name: span(at_setxattr(options), name.len()), value: span(behind(at_setxattr(options), name.len()), value.len()), flags: *flags;
-        Getxattr { name, size } Data,
-            answer: sized(*size).number(), name: span(AT_8, name.len()), size: u64::from(*size), data_at: HEADER, data_len: data_len(*size, room);
-        Listxattr { size } Data, answer: sized(*size).number(), size: u64::from(*size), data_at: HEADER, data_len: data_len(*size, room);
-        Removexattr { name } Done, name: span(AT, name.len());
-        Flush { handle, owner } Done, handle: *handle, owner: *owner;
+        Listxattr { size } Data, answer: sized(*size).number(), size: u64::from(*size), data_at: HEADER,
+            data_len: data_len(*size, room);
         Opendir { flags } Open, flags: *flags;
-        Readdir { handle, size, offset } Entries,
-            kind: call_number(listing(opcode)), handle: *handle, offset: *offset, size: u64::from(*size), data_at: HEADER, data_len: data_len(*size, room);
-        Releasedir { flags, handle } Done, handle: *handle, flags: *flags;
         Access { mask } Done, mode: *mask;
-        Create { name, mode, kill, flags, umask, extra } Create,
-            name: span(AT_16, name.len()), mode: *mode, flags: *flags, umask: *umask, kill_priv: u8::from(*kill), has_group: u8::from(extra.sup_gid.is_some()), group: extra.sup_gid.unwrap_or(0);
-        Fallocate { handle, mode, offset, len } Done, handle: *handle, mode: *mode, offset: *offset, size: *len;
-        Lseek { handle, offset, whence } Lseek, handle: *handle, offset: *offset, flags: *whence;
-        CopyFileRange { handle, offset, node_out, handle_out, offset_out, len, .. } Write,
-            handle: *handle, offset: *offset, node2: *node_out, handle2: *handle_out, offset2: *offset_out, size: *len;
         Syncfs {} Done;
     } others {
         Init { capable } = FsCall::made(Opcode::Init, AnswerKind::Init), options: capable.bits();
         Destroy {} = FsCall::made(Opcode::Destroy, AnswerKind::Done);
         BatchForget { context, counts } = FsCall::made_by(Opcode::BatchForget, AnswerKind::None, context, 0),
             count: (counts.len() / 16) as u64, value: span(AT_8, 16 * (counts.len() / 16));
-        Link { context, old_node, node, name } = FsCall::made_by(Opcode::Link, AnswerKind::Entry, context, *old_node), name: span(AT_8, name.len()), node2: *node;
         Getlk {} = FsCall::none();
         Setlk {} = FsCall::none();
         Setlkw {} = FsCall::none();
@@ -130,5 +170,16 @@ pub(crate) fn told_call(opcode: u32, options: u64, room: usize, call: &FileCall<
         Poll {} = FsCall::none();
         NotifyReply {} = FsCall::none();
         TmpFile {} = FsCall::none();
-    })
+    }
+        FileCall::Lookup { .. } | FileCall::Symlink { .. } | FileCall::Mknod { .. }
+            | FileCall::Mkdir { .. } | FileCall::Unlink { .. } | FileCall::Rmdir { .. }
+            | FileCall::Rename { .. } | FileCall::Setxattr { .. } | FileCall::Getxattr { .. }
+            | FileCall::Removexattr { .. } | FileCall::Create { .. } | FileCall::Link { .. } =>
+            named_call(opcode, options, room, call),
+        FileCall::Read { .. } | FileCall::Write { .. } | FileCall::Release { .. }
+            | FileCall::Fsync { .. } | FileCall::Fsyncdir { .. } | FileCall::Flush { .. }
+            | FileCall::Readdir { .. } | FileCall::Releasedir { .. } | FileCall::Fallocate { .. }
+            | FileCall::Lseek { .. } | FileCall::CopyFileRange { .. } =>
+            open_file_call(opcode, options, room, call)
+    )
 }

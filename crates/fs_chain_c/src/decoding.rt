@@ -1,7 +1,8 @@
 //! What a chain's request asks.
 
 ghost use Rattle.std.specs.Prelude.{◌≡◌};
-ghost use Rattle.fs_chain_c.specs.Decoding.{AnswersHandle, DecodesHandle, AnswersAtOnce, TellsAsked, answer_unasked};
+ghost use Rattle.fs_chain_c.specs.Decoding.{AnswersHandle, DecodesHandle, AnswersAtOnce, TellsAsked};
+ghost use Rattle.fs_chain_c.specs.Decoding.{answer_unasked};
 
 use crate::call::FsCall;
 use crate::device::FsDevice;

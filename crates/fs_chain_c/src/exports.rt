@@ -1,7 +1,8 @@
 //! The functions on a chain that C calls. Each answers 0, or a number that says why not.
 
 ghost use Rattle.std.specs.Prelude.{◌≡◌, false, true, None};
-ghost use Rattle.fs_chain_c.specs.Handles.{AbandonsChain, DropsChain, EndsPush, IsZeros, Numbers, NumbersHandle, Pushes, SetsMemory, TellsStretches, Pops};
+ghost use Rattle.fs_chain_c.specs.Handles.{AbandonsChain, DropsChain, EndsPush, IsZeros, Numbers};
+ghost use Rattle.fs_chain_c.specs.Handles.{NumbersHandle, Pushes, SetsMemory, TellsStretches, Pops};
 ghost use Rattle.fs_chain_c.specs.Queues.{BeginsQueue};
 
 use crate::device::FsDevice;
@@ -33,7 +34,8 @@ pub extern "C" fn pk_version() -> u32
     VERSION
 }
 
-/// Over which memory the chain's next walks go, and the device's limit. A handle without a `ChainHandle` gets one.
+/// Over which memory the chain's next walks go, and the device's limit. A handle without a `ChainHandle` gets
+/// one.
 #[unsafe(no_mangle)]
 pub extern "C" fn pk_chain_set_memory(
     alloc: Global,
@@ -114,7 +116,8 @@ pub extern "C" fn pk_pop(
     status
 }
 
-/// Begins a queue anew at a position, by the parts that it has: its walks and its chains are refused from then on.
+/// Begins a queue anew at a position, by the parts that it has: its walks and its chains are refused from
+/// then on.
 #[unsafe(no_mangle)]
 pub extern "C" fn pk_queue_begin(queue: &mut FsQueue, next_avail: u16) -> u32
     ensures { BeginsQueue queue.old next_avail result queue.new }
@@ -189,7 +192,8 @@ pub extern "C" fn pk_reply_windows(
     count
 }
 
-/// Says how a chain goes back: its reply's front at the front of a buffer, and the stores. Until they are made no other chain of the queue goes back.
+/// Says how a chain goes back: its reply's front at the front of a buffer, and the stores. Until they are
+/// made no other chain of the queue goes back.
 #[unsafe(no_mangle)]
 pub extern "C" fn pk_push(
     alloc: Global,
@@ -198,7 +202,8 @@ pub extern "C" fn pk_push(
     front: &mut [u8],
     stores: &mut FsStores,
 ) -> u32
-    ensures { Pushes chain.old.value queue.old front.old result stores.new chain.new.value queue.new front.new }
+    ensures { Pushes chain.old.value queue.old front.old result stores.new chain.new.value
+        queue.new front.new }
 {
     let Some(mut handle) = chain.take(alloc) else {
         *stores = FsStores::nothing();
@@ -210,7 +215,8 @@ pub extern "C" fn pk_push(
     status
 }
 
-/// The stores are made, and these are the two bytes at `seen_at`: the queue's next chain goes back at the next position, and whether the driver wants to be told.
+/// The stores are made, and these are the two bytes at `seen_at`: the queue's next chain goes back at the
+/// next position, and whether the driver wants to be told.
 #[unsafe(no_mangle)]
 pub extern "C" fn pk_pushed(
     alloc: Global,

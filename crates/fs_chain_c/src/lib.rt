@@ -1,4 +1,5 @@
-//! One chain of a virtio-fs device from its walk to its return, for monitors in C: a static library, whose header is pitskhomu.h, beside it.
+//! One chain of a virtio-fs device from its walk to its return, for monitors in C: a static library, whose
+//! header is pitskhomu.h, beside it.
 #![tactic(auto)]
 
 mod answer_kind;

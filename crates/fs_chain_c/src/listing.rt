@@ -4,8 +4,10 @@ ghost use Rattle.std.specs.Prelude.{◌≡◌, true, length};
 ghost use Rattle.fuse_fs.specs.Answers.{listed};
 ghost use Rattle.server_replies.specs.Entries.{no_node};
 ghost use Rattle.server_phases.specs.Gathering.{added_found, added_plain};
-ghost use Rattle.fs_chain_c.specs.Listing.{AddsEntry, AddsNode, AddsToHandle, EndsHandleList, EndsListing, FailsListing, FailsHandle, RepliesError};
-ghost use Rattle.fs_chain_c.specs.Listing.{added_status, errno_of, is_entry, is_name, is_type, listed_as, type_of};
+ghost use Rattle.fs_chain_c.specs.Listing.{AddsEntry, AddsNode, AddsToHandle, EndsHandleList, EndsListing};
+ghost use Rattle.fs_chain_c.specs.Listing.{FailsListing, FailsHandle, RepliesError};
+ghost use Rattle.fs_chain_c.specs.Listing.{added_status, errno_of, is_entry, is_name, is_type, listed_as};
+ghost use Rattle.fs_chain_c.specs.Listing.{type_of};
 ghost use Rattle.fs_chain.specs.Orders.{is_listing};
 ghost use Rattle.fs_chain_c.specs.Handles.{OnHandle};
 ghost use Rattle.fs_chain_c.specs.Replies.{entry_of};
@@ -80,7 +82,8 @@ fn add_to_handle(
     list: &mut [u8],
     entry: &DirEntry<'_>,
 ) -> u32
-    ensures { AddsToHandle handle.old ticket (listed entry.now, no_node (listed entry.now)) (λ l. added_plain l (length list.old) (length entry.now.name.now)) list.old result handle.new list.new }
+    ensures { AddsToHandle handle.old ticket (listed entry.now, no_node (listed entry.now)) (λ l.
+        added_plain l (length list.old) (length entry.now.name.now)) list.old result handle.new list.new }
 {
     added_status(handle.add(ticket, list, entry))
 }
@@ -93,7 +96,8 @@ fn add_node_to_handle(
     entry: &DirEntry<'_>,
     node: Entry<u64>,
 ) -> u32
-    ensures { AddsToHandle handle.old ticket (listed entry.now, node) (λ l. added_found l (length list.old) (length entry.now.name.now)) list.old result handle.new list.new }
+    ensures { AddsToHandle handle.old ticket (listed entry.now, node) (λ l.
+        added_found l (length list.old) (length entry.now.name.now)) list.old result handle.new list.new }
 {
     added_status(handle.add_with_node(ticket, list, entry, node))
 }
@@ -110,7 +114,8 @@ pub extern "C" fn pk_add_direntry(
     next_offset: u64,
     type_: u32,
 ) -> u32
-    ensures { AddsEntry (is_entry name.now type_) (listed_as name.now ino next_offset type_) ticket chain.old.value list.old result chain.new.value list.new }
+    ensures { AddsEntry (is_entry name.now type_) (listed_as name.now ino next_offset type_) ticket
+        chain.old.value list.old result chain.new.value list.new }
 {
     if !is_entry(name, type_) {
         return u32::from(ChainError::BadArgument.number());
@@ -138,7 +143,8 @@ fn add_node(
     entry: &DirEntry<'_>,
     node: Option<Entry<u64>>,
 ) -> u32
-    ensures { AddsNode true (listed entry.now) node ticket chain.old.value list.old result chain.new.value list.new }
+    ensures { AddsNode true (listed entry.now) node ticket chain.old.value list.old result
+        chain.new.value list.new }
 {
     let Some(node) = node else {
         return u32::from(ChainError::BadArgument.number());
@@ -162,7 +168,8 @@ pub extern "C" fn pk_add_direntry_plus(
     entry: &FsEntry,
     next_offset: u64,
 ) -> u32
-    ensures { AddsNode (is_entry name.now (type_of entry.now)) (listed_as name.now entry.now.attr.ino next_offset (type_of entry.now)) (entry_of entry.now) ticket
+    ensures { AddsNode (is_entry name.now (type_of entry.now))
+        (listed_as name.now entry.now.attr.ino next_offset (type_of entry.now)) (entry_of entry.now) ticket
         chain.old.value list.old result chain.new.value list.new }
 {
     let type_ = entry.attr.mode / 4096 % 16;
@@ -238,7 +245,8 @@ fn errno_of(number: u32) -> Option<Errno>
 
 // A handle's call fails by an errno.
 fn fail_chain(alloc: Global, chain: &mut FsChain, ticket: u32, error: Errno) -> u32
-    ensures { OnHandle (λ b b'. FailsHandle (is_listing b.state) error ticket b result b') (result ≡ 73) chain.old.value chain.new.value }
+    ensures { OnHandle (λ b b'. FailsHandle (is_listing b.state) error ticket b result b') (result ≡ 73)
+        chain.old.value chain.new.value }
 {
     let Some(mut handle) = chain.take(alloc) else {
         return wrong_order();

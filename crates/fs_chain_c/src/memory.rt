@@ -1,11 +1,13 @@
 //! The memory over which walks go: regions that C tells, in any order.
 
-ghost use Rattle.std.specs.Prelude.{◌≡◌, ◌⊎◌, ◌<◌, ◌≤◌, true, false, Err, None, All, IsPermutation, IfOk, IfErr, IfSome, IfNone, OnOk, OnSome, map, length};
+ghost use Rattle.std.specs.Prelude.{◌≡◌, ◌⊎◌, ◌<◌, ◌≤◌, true, false, Err, None, All, IsPermutation, IfOk};
+ghost use Rattle.std.specs.Prelude.{IfErr, IfSome, IfNone, OnOk, OnSome, map, length};
 ghost use Rattle.fs_chain.specs.declared.error.ChainError.TheVariants.{BadArgument, OutOfMemory};
 ghost use Rattle.memory_requests.specs.Refused.{RoomWasRefused};
 ghost use Rattle.std.specs.List.Sorted.{IsNonDecreasingBy};
 ghost use Rattle.vm_memory.specs.Collecting.{fault_of};
-ghost use Rattle.fs_chain_c.specs.Memory.{HaveFault, IsMemory, IsNoMemory, IsNoSortedMemory, IsRegion, StandApart, region_of};
+ghost use Rattle.fs_chain_c.specs.Memory.{HaveFault, IsMemory, IsNoMemory, IsNoSortedMemory, IsRegion};
+ghost use Rattle.fs_chain_c.specs.Memory.{StandApart, region_of};
 ghost use Rattle.fs_chain_c.specs.declared.memory.FsRegion.{FsRegion};
 
 use arrayvec::ArrayVec;
@@ -63,7 +65,8 @@ fn regions_of(alloc: Global, regions: &[FsRegion]) -> Result<Vec<MemoryRegion>, 
     ensures ok { IfOk result (λ made. made.items ≡ map region_of regions.now) }
     ensures are { OnOk result (All IsRegion regions.now) }
     ensures bad { result ≡ Err BadArgument → All IsRegion regions.now → ⊥ }
-    ensures err { IfErr result (λ e. (e ≡ BadArgument) ⊎ ((e ≡ OutOfMemory) × RoomWasRefused (length regions.now))) }
+    ensures err { IfErr result (λ e. (e ≡ BadArgument)
+        ⊎ ((e ≡ OutOfMemory) × RoomWasRefused (length regions.now))) }
 {
     let Ok(mut made) = list_with_room(alloc, regions.len()) else {
         return Err(ChainError::OutOfMemory);
@@ -93,7 +96,8 @@ fn stand_apart(regions: &[FsRegion]) -> bool
     true
 }
 
-// The memory of regions that ascend: `BadArgument` if two have an address in common, which is looked for before memory is taken.
+// The memory of regions that ascend: `BadArgument` if two have an address in common, which is looked for
+// before memory is taken.
 fn memory_of_sorted(alloc: Global, regions: &[FsRegion]) -> Result<GuestRegions, ChainError>
     requires are { All IsRegion regions.now }
     ensures ok { IfOk result (λ memory. memory ≡ map region_of regions.now) }

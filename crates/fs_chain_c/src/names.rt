@@ -23,7 +23,8 @@ fn is_name(name: &[u8]) -> bool
     !is_dots(name) && !name.contains(&0) && !name.contains(&b'/')
 }
 
-/// Whether a name is one component of a path: 1, or 0 if it is empty, `.` or `..`, or has a slash or a zero byte.
+/// Whether a name is one component of a path: 1, or 0 if it is empty, `.` or `..`, or has a slash or a zero
+/// byte.
 #[unsafe(no_mangle)]
 pub extern "C" fn pk_is_name(name: &[u8]) -> u8
     ensures { result ≡ flag (is_name name.now) }

@@ -1,4 +1,5 @@
-//! A walk through what waits in a queue, by loads that C makes: in parts, if one goes over the end of a region.
+//! A walk through what waits in a queue, by loads that C makes: in parts, if one goes over the end of a
+//! region.
 
 ghost use Rattle.std.specs.Prelude.{◌≡◌};
 ghost use Rattle.fs_chain_c.specs.Popping.{TellsLoad, TellsWanted, TellsWent, PopsHandle, host_at, no_step};

@@ -1,7 +1,9 @@
 //! How a chain goes back to its queue, and how it is given up.
 
 ghost use Rattle.std.specs.Prelude.{◌≡◌, ◌<◌, None, IfSome};
-ghost use Rattle.fs_chain_c.specs.Pushing.{DropsHandleChain, DropsKept, EndsHandlePush, EndsKept, HaveNoPlaces, IsNotHere, PushesHandle, ReturnsKept, StandsHere, TellsStores, no_stores};
+ghost use Rattle.fs_chain_c.specs.Pushing.{DropsHandleChain, DropsKept, EndsHandlePush, EndsKept};
+ghost use Rattle.fs_chain_c.specs.Pushing.{HaveNoPlaces, IsNotHere, PushesHandle, ReturnsKept, StandsHere};
+ghost use Rattle.fs_chain_c.specs.Pushing.{TellsStores, no_stores};
 
 use crate::popping::{NOT_MAPPED, host_at};
 use crate::queue::FsQueue;
@@ -54,7 +56,8 @@ impl FsStores {
     }
 }
 
-// Where so many bytes from a guest address on stand here, for an access; None if they don't stand in one piece.
+// Where so many bytes from a guest address on stand here, for an access; None if they don't stand in one
+// piece.
 pub(crate) fn here(
     handle: &ChainHandle,
     guest: u64,
@@ -116,7 +119,8 @@ fn return_kept(
     mut kept: QueueState,
     front: &mut [u8],
 ) -> (FsStores, u32)
-    ensures { ReturnsKept handle.old queue.old kept front.old result.0 result.1 handle.new queue.new front.new }
+    ensures { ReturnsKept handle.old queue.old kept front.old result.0 result.1 handle.new
+        queue.new front.new }
 {
     match handle.push(&mut kept, front) {
         Ok(stores) => {
@@ -190,7 +194,8 @@ fn drop_kept(handle: &mut ChainHandle, queue: &mut FsQueue, mut kept: QueueState
     }
 }
 
-/// Gives a chain up that wasn't asked; the queue hands it out again at its next walk. A walk ends, whatever the queue is.
+/// Gives a chain up that wasn't asked; the queue hands it out again at its next walk. A walk ends, whatever
+/// the queue is.
 pub fn drop_handle_chain(handle: &mut ChainHandle, queue: &mut FsQueue) -> u32
     ensures { DropsHandleChain handle.old queue.old result handle.new queue.new }
 {

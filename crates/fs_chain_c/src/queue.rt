@@ -1,7 +1,8 @@
 //! Queues as numbers that C keeps.
 
 ghost use Rattle.std.specs.Prelude.{◌≡◌, false, true, IfSome, IfNone, OnSome};
-ghost use Rattle.fs_chain_c.specs.Queues.{IsQueueState, IsQueue, reset_to, chains_in_flight, put, stop_number, stop_of};
+ghost use Rattle.fs_chain_c.specs.Queues.{IsQueueState, IsQueue, reset_to, chains_in_flight, put};
+ghost use Rattle.fs_chain_c.specs.Queues.{stop_number, stop_of};
 
 use fs_chain::QueueState;
 use fs_queue::{QueueError, QueueLayout};
@@ -117,7 +118,8 @@ impl FsQueue {
 
     /// Begins the queue anew at a position, if its numbers are a queue's then: no chain is out of it.
     pub fn begin(&mut self, position: u16) -> bool
-        ensures begun { result ≡ true → IsQueue (reset_to self.old position) × (self.new ≡ reset_to self.old position) }
+        ensures begun { result ≡ true
+            → IsQueue (reset_to self.old position) × (self.new ≡ reset_to self.old position) }
         ensures none { result ≡ false → (IsQueue (reset_to self.old position) → ⊥) × (self.new ≡ self.old) }
     {
         let mut fresh = *self;

@@ -33,7 +33,8 @@ fn range(handle: &ChainHandle, from: u64, most: u64) -> Option<FsRange>
     }
 }
 
-// Puts the stretches of the room's bytes from one on, at most so many and none past 2^64 - 1, over the first ranges of some: how many there are.
+// Puts the stretches of the room's bytes from one on, at most so many and none past 2^64 - 1, over the first
+// ranges of some: how many there are.
 fn fill_ranges(handle: &ChainHandle, from: u64, most: u64, ranges: &mut [FsRange]) -> usize
     ensures { FillsRanges handle.now from (min most (2 ^ 64 - 1 - from)) ranges.old ranges.new result }
 {
@@ -52,7 +53,8 @@ fn fill_ranges(handle: &ChainHandle, from: u64, most: u64, ranges: &mut [FsRange
     ranges.len()
 }
 
-/// The guest's addresses of the bytes of a chain's room from one on, at most so many: how many ranges are filled.
+/// The guest's addresses of the bytes of a chain's room from one on, at most so many: how many ranges are
+/// filled.
 #[unsafe(no_mangle)]
 pub extern "C" fn pk_reply_ranges(
     alloc: Global,

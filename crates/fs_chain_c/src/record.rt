@@ -1,11 +1,13 @@
 //! The record of a device and its queues.
 
 ghost use Rattle.std.specs.Prelude.{◌≡◌, ◌⊎◌, ◌≤◌, All, Err, IfErr, IfOk, IfSome, None, OnOk, length, map};
-ghost use Rattle.fs_chain.specs.declared.error.ChainError.TheVariants.{BadArgument, ChainInFlight, OutOfMemory};
+ghost use Rattle.fs_chain.specs.declared.error.ChainError.TheVariants.{BadArgument, ChainInFlight};
+ghost use Rattle.fs_chain.specs.declared.error.ChainError.TheVariants.{OutOfMemory};
 ghost use Rattle.memory_requests.specs.Refused.{RoomWasRefused};
 ghost use Rattle.fs_record.specs.Record.{HasKnownBits};
 ghost use Rattle.fs_chain_c.specs.Queues.{IsQueue};
-ghost use Rattle.fs_chain_c.specs.Records.{HasNoneOut, RefusesToSave, RefusesQueues, Restores, Saves, SavesSo, numbers_over, queue_of, restored_over, saved_status};
+ghost use Rattle.fs_chain_c.specs.Records.{HasNoneOut, RefusesToSave, RefusesQueues, Restores, Saves};
+ghost use Rattle.fs_chain_c.specs.Records.{SavesSo, numbers_over, queue_of, restored_over, saved_status};
 
 use crate::device::FsDevice;
 use crate::queue::FsQueue;
@@ -25,7 +27,8 @@ const MOST_QUEUES: usize = 64;
 /// So much more than its number is a record's refusal.
 const OF_RECORD: u32 = 80;
 
-// The queue that a record has of some numbers: `BadArgument` if they are none, `ChainInFlight` if a chain is out.
+// The queue that a record has of some numbers: `BadArgument` if they are none, `ChainInFlight` if a chain is
+// out.
 fn queue_of(queue: &FsQueue) -> Result<Queue, ChainError>
     ensures ok { IfOk result (λ q. q ≡ queue_of queue.now) }
     ensures is { OnOk result (IsQueue queue.now × HasNoneOut queue.now) }
@@ -65,7 +68,9 @@ fn queues_of(alloc: Global, queues: &[FsQueue]) -> Result<Vec<Queue>, ChainError
     ensures none_out { OnOk result (All HasNoneOut queues.now) }
     ensures bad { result ≡ Err BadArgument → All IsQueue queues.now → ⊥ }
     ensures out { result ≡ Err ChainInFlight → All HasNoneOut queues.now → ⊥ }
-    ensures err { IfErr result (λ e. (e ≡ BadArgument) ⊎ (e ≡ ChainInFlight) ⊎ ((e ≡ OutOfMemory) × RoomWasRefused (length queues.now))) }
+    ensures err { IfErr result (λ e. (e ≡ BadArgument)
+        ⊎ (e ≡ ChainInFlight)
+        ⊎ ((e ≡ OutOfMemory) × RoomWasRefused (length queues.now))) }
 {
     let Ok(mut made) = list_with_room(alloc, queues.len()) else {
         return Err(ChainError::OutOfMemory);

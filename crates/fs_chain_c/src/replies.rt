@@ -2,7 +2,9 @@
 
 ghost use Rattle.std.specs.Prelude.{◌≡◌};
 ghost use Rattle.fuse_values.specs.declared.answer.FileAnswer.TheVariants as answer;
-ghost use Rattle.fs_chain_c.specs.Replies.{AsksChain, MayReply, RepliesWith, RepliesBytes, RepliesOwn, RepliesInit, attr_said, create_said, entry_of, entry_said, open_said, statfs_said, wish_said};
+ghost use Rattle.fs_chain_c.specs.Replies.{AsksChain, MayReply, RepliesWith, RepliesBytes, RepliesOwn};
+ghost use Rattle.fs_chain_c.specs.Replies.{RepliesInit, attr_said, create_said, entry_of, entry_said};
+ghost use Rattle.fs_chain_c.specs.Replies.{open_said, statfs_said, wish_said};
 
 use crate::answers::{
     FsEntry, FsStatfs, attr_said, create_said, entry_of, entry_said, open_said, statfs_said,
@@ -83,7 +85,8 @@ pub extern "C" fn pk_reply_create(
     handle: u64,
     open_flags: u32,
 ) -> u32
-    ensures { MayReply (create_said (entry_of entry.now) handle open_flags) ticket chain.old.value result chain.new.value }
+    ensures { MayReply (create_said (entry_of entry.now) handle open_flags) ticket chain.old.value result
+        chain.new.value }
 {
     may_reply(
         alloc,
@@ -173,8 +176,8 @@ pub extern "C" fn pk_reply_lseek(
     reply(alloc, chain, ticket, FileAnswer::Offset(offset))
 }
 
-/// Answers INIT: of the options that the guest can, these are wished for besides what is agreed on anyway. The device has then what was
-/// agreed.
+/// Answers INIT: of the options that the guest can, these are wished for besides what is agreed on anyway.
+/// The device has then what was agreed.
 #[unsafe(no_mangle)]
 pub extern "C" fn pk_reply_init(
     alloc: Global,
@@ -206,7 +209,8 @@ fn reply_own(handle: &mut ChainHandle, ticket: u32, len: usize) -> u32
     }
 }
 
-/// Replies so many bytes of C's own, which stand in the room from its first place on: in place of `pk_decode`, or of an answer.
+/// Replies so many bytes of C's own, which stand in the room from its first place on: in place of
+/// `pk_decode`, or of an answer.
 #[unsafe(no_mangle)]
 pub extern "C" fn pk_reply_bytes(alloc: Global, chain: &mut FsChain, ticket: u32, len: u64) -> u32
     ensures { RepliesBytes ticket len chain.old.value result chain.new.value }

@@ -1,7 +1,8 @@
 //! A `ChainHandle` is told its memory.
 
 ghost use Rattle.std.specs.Prelude.{◌≡◌, IfOk, IfErr, OnErr, OnOk, option_map};
-ghost use Rattle.fs_chain_c.specs.Handles.{GoesOver, IsNewHandle, MakesHandle, RefusesMemory, RefusesNew, SetsHandle};
+ghost use Rattle.fs_chain_c.specs.Handles.{GoesOver, IsNewHandle, MakesHandle, RefusesMemory, RefusesNew};
+ghost use Rattle.fs_chain_c.specs.Handles.{SetsHandle};
 
 use crate::device::FsDevice;
 use crate::memory::{FsRegion, memory_of};
@@ -51,7 +52,9 @@ fn made(
     device: &FsDevice,
     regions: &[FsRegion],
 ) -> Result<Box<ChainHandle>, ChainError>
-    ensures ok { IfOk result (λ made. (b : ChainHandle) × IsNewHandle b × GoesOver b device.now regions.now made.value) }
+    ensures ok { IfOk result (λ made. (b : ChainHandle)
+        × IsNewHandle b
+        × GoesOver b device.now regions.now made.value) }
     ensures refused { IfErr result (RefusesNew device.now regions.now) }
 {
     if !device.is_lawful() {

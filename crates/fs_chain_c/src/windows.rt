@@ -17,7 +17,8 @@ pub struct FsWindow {
     pub len: usize,
 }
 
-// The stretch of the bytes of one direction from one on, at most so many, behind the descriptors that were passed.
+// The stretch of the bytes of one direction from one on, at most so many, behind the descriptors that were
+// passed.
 fn stretch(
     handle: &ChainHandle,
     write_only: bool,
@@ -42,8 +43,8 @@ fn stretch(
     }
 }
 
-/// Puts the stretches of the bytes of one direction from one on, at most so many and none past 2^64 - 1, over the first windows of some:
-/// how many there are.
+/// Puts the stretches of the bytes of one direction from one on, at most so many and none past 2^64 - 1, over
+/// the first windows of some: how many there are.
 pub fn fill(
     handle: &ChainHandle,
     write_only: bool,
@@ -51,7 +52,8 @@ pub fn fill(
     most: u64,
     windows: &mut [FsWindow],
 ) -> usize
-    ensures { FillsWindows handle.now write_only from (min most (2 ^ 64 - 1 - from)) windows.old windows.new result }
+    ensures { FillsWindows handle.now write_only from (min most (2 ^ 64 - 1 - from)) windows.old
+        windows.new result }
 {
     let (mut at, mut left) = (from, most.min(u64::MAX - from));
     let mut passed = WindowCursor::none();

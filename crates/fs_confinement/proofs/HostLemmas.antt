@@ -1,5 +1,6 @@
 -- stores to two hosts that differ in bytes alone
-use Rattle.std.proofs.Common.{◌≡◌, ℕ, zero, suc, Bool, true, false, ◌||◌, List, [], ◌∷◌, ◌++◌, map, Option, Some, None, refl, ap, sym, ◌∙◌, subst, ⊎_elim}
+use Rattle.std.proofs.Common.{◌≡◌, ℕ, zero, suc, Bool, true, false, ◌||◌, List, [], ◌∷◌, ◌++◌, map, Option, Some, None, refl, ap, sym, ◌∙◌}
+use Rattle.std.proofs.Common.{subst, ⊎_elim}
 use Rattle.std.specs.Prelude.{◌&&◌, ◌==◌, ◌≢◌, if◌then◌else◌, slice_get, slice_set, option_map, option_and_then}
 use Rattle.std.specs.List.{flat_map}
 use Rattle.std.proofs.lemmas.Bool.{cases_eq, eq-eqb, ne_eqb}
@@ -23,7 +24,8 @@ changed_same f g [] i e = refl
 changed_same {X} {Y} f g (x ∷ l) zero e = ap (λ (y : Y). y ∷ map f l) (e x)
 changed_same {X} {Y} f g (x ∷ l) (suc i) e = ap (λ (r : List Y). f x ∷ r) (changed_same f g l i e)
 
-changed_after : {X Y : Type 0} (f : X → Y) (g : X → X) (h : Y → Y) (l : List X) (i : ℕ) → ((x : X) → f (g x) ≡ h (f x)) → map f (changed_at l i g) ≡ changed_at (map f l) i h
+changed_after : {X Y : Type 0} (f : X → Y) (g : X → X) (h : Y → Y) (l : List X) (i : ℕ) → ((x : X) → f (g x) ≡ h (f x)) →
+    map f (changed_at l i g) ≡ changed_at (map f l) i h
 changed_after f g h [] i e = refl
 changed_after {X} {Y} f g h (x ∷ l) zero e = ap (λ (y : Y). y ∷ map f l) (e x)
 changed_after {X} {Y} f g h (x ∷ l) (suc i) e = ap (λ (r : List Y). f x ∷ r) (changed_after f g h l i e)
@@ -66,15 +68,18 @@ neither : (a b : Bool) → (a || b) ≡ false → (a ≡ false) × (b ≡ false)
 neither true b e = absurd (cc)
 neither false b e = (refl, e)
 
-among-append : (block offset : ℕ) (ps qs : List Place) → is_among block offset (ps ++ qs) ≡ (is_among block offset ps || is_among block offset qs)
+among-append :
+    (block offset : ℕ) (ps qs : List Place) → is_among block offset (ps ++ qs) ≡ (is_among block offset ps || is_among block offset qs)
 among-append block offset ps qs = list_any-append (is_at block offset) ps qs
 
 -- hosts that agree on some places agree on each part of them
 pub agree_front : (g h : Host) (ps qs : List Place) → AgreeOn g h (ps ++ qs) → AgreeOn g h ps
-agree_front g h ps qs all block offset is = all block offset (among-append block offset ps qs ∙ or_left (is_among block offset ps) (is_among block offset qs) is)
+agree_front g h ps qs all block offset is =
+    all block offset (among-append block offset ps qs ∙ or_left (is_among block offset ps) (is_among block offset qs) is)
 
 pub agree_back : (g h : Host) (ps qs : List Place) → AgreeOn g h (ps ++ qs) → AgreeOn g h qs
-agree_back g h ps qs all block offset is = all block offset (among-append block offset ps qs ∙ or_right (is_among block offset ps) (is_among block offset qs) is)
+agree_back g h ps qs all block offset is =
+    all block offset (among-append block offset ps qs ∙ or_right (is_among block offset ps) (is_among block offset qs) is)
 
 at_itself : (p : Place) → is_at p.block p.offset p ≡ true
 at_itself p =
@@ -93,7 +98,8 @@ zeroed_byte offset x b = ap (λ (bytes : List ℕ). record b { bytes = bytes }) 
 mark_aside : (io : Option IoAddress) (p : Place) (h : Host) → without_bytes (with_mark_by io p h) ≡ with_mark_by io p (without_bytes h)
 mark_aside None p h =
     ap (λ (blocks : List Block). record h { blocks = blocks })
-    (changed_after zeroed (λ b. record b { marks = marked b.marks p.offset }) (λ b. record b { marks = marked b.marks p.offset }) h.blocks p.block (λ b. refl))
+    (changed_after zeroed (λ b. record b { marks = marked b.marks p.offset }) (λ b. record b { marks = marked b.marks p.offset }) h.blocks
+    p.block (λ b. refl))
 mark_aside (Some a) p h = refl
 
 put_aside : (h : Host) (p : Place) (x : ℕ) → without_bytes (put_byte h p x) ≡ with_mark_by p.io p (without_bytes h)
@@ -106,34 +112,40 @@ put_aside h p x =
 abbrev byte_in_block : ℕ → Option Block → Option ℕ
 byte_in_block offset o = option_and_then (λ (b : Block). slice_get b.bytes offset) o
 
-zeroed_at : (offset : ℕ) (o : Option Block) → byte_in_block offset (option_map zeroed o) ≡ option_map {U = ℕ} (λ _. 0) (byte_in_block offset o)
+zeroed_at :
+    (offset : ℕ) (o : Option Block) → byte_in_block offset (option_map zeroed o) ≡ option_map {U = ℕ} (λ _. 0) (byte_in_block offset o)
 zeroed_at offset None = refl
 zeroed_at offset (Some b) = slice_get-map (λ (y : ℕ). 0) b.bytes offset
 
 -- whether there is a byte is told by the host without its bytes
-there_alike : (g h : Host) → without_bytes g ≡ without_bytes h → (block offset : ℕ) → option_map {U = ℕ} (λ _. 0) (byte_of g block offset) ≡ option_map {U = ℕ} (λ _. 0) (byte_of h block offset)
+there_alike : (g h : Host) → without_bytes g ≡ without_bytes h → (block offset : ℕ) →
+    option_map {U = ℕ} (λ _. 0) (byte_of g block offset) ≡ option_map {U = ℕ} (λ _. 0) (byte_of h block offset)
 there_alike g h same block offset =
     sym (zeroed_at offset (slice_get g.blocks block))
     ∙ ap (byte_in_block offset) (sym (slice_get-map zeroed g.blocks block))
     ∙ ap (λ (k : Host). byte_of k block offset) same
     ∙ ap (byte_in_block offset) (slice_get-map zeroed h.blocks block) ∙ zeroed_at offset (slice_get h.blocks block)
 
-whatever : (x : ℕ) (o p : Option ℕ) → option_map {U = ℕ} (λ _. 0) o ≡ option_map {U = ℕ} (λ _. 0) p → option_map (λ _. x) o ≡ option_map (λ _. x) p
+whatever :
+    (x : ℕ) (o p : Option ℕ) → option_map {U = ℕ} (λ _. 0) o ≡ option_map {U = ℕ} (λ _. 0) p → option_map (λ _. x) o ≡ option_map (λ _. x) p
 whatever x None None e = refl
 whatever x None (Some b) e = absurd (cc)
 whatever x (Some a) None e = absurd (cc)
 whatever x (Some a) (Some b) e = refl
 
-marks_stay : (offset : ℕ) (marks : Block → List Bool) (o : Option Block) → byte_in_block offset (option_map (λ (b : Block). record b { marks = marks b }) o) ≡ byte_in_block offset o
+marks_stay : (offset : ℕ) (marks : Block → List Bool) (o : Option Block) →
+    byte_in_block offset (option_map (λ (b : Block). record b { marks = marks b }) o) ≡ byte_in_block offset o
 marks_stay offset marks None = refl
 marks_stay offset marks (Some b) = refl
 
-marked_byte : (io : Option IoAddress) (p : Place) (h : Host) (block offset : ℕ) → byte_of (with_mark_by io p h) block offset ≡ byte_of h block offset
+marked_byte :
+    (io : Option IoAddress) (p : Place) (h : Host) (block offset : ℕ) → byte_of (with_mark_by io p h) block offset ≡ byte_of h block offset
 marked_byte (Some a) p h block offset = refl
 marked_byte None p h block offset =
     ⊎_elim
     (λ (e : p.block ≡ block).
-    ap (byte_in_block offset) (ap (λ (j : ℕ). slice_get (changed_at h.blocks p.block (λ b. record b { marks = marked b.marks p.offset })) j) (sym e) ∙ changed_here h.blocks p.block _)
+    ap (byte_in_block offset) (ap (λ (j : ℕ). slice_get (changed_at h.blocks p.block (λ b. record b { marks = marked b.marks p.offset })) j)
+    (sym e) ∙ changed_here h.blocks p.block _)
     ∙ marks_stay offset (λ (b : Block). marked b.marks p.offset) (slice_get h.blocks p.block) ∙ ap (λ (j : ℕ). byte_of h j offset) e)
     (λ (apart : p.block ≢ block). ap (byte_in_block offset) (changed_there h.blocks p.block block _ apart))
     (cases_eq p.block block)
@@ -142,7 +154,8 @@ marked_byte None p h block offset =
 abbrev if_there : Bool → ℕ → Option ℕ → Option ℕ
 if_there here x old = if here then option_map (λ _. x) old else old
 
-byte_set : (at offset x : ℕ) (o : Option Block) → byte_in_block offset (option_map (λ (b : Block). record b { bytes = slice_set b.bytes at x }) o) ≡ if_there (at == offset) x (byte_in_block offset o)
+byte_set : (at offset x : ℕ) (o : Option Block) → byte_in_block offset
+    (option_map (λ (b : Block). record b { bytes = slice_set b.bytes at x }) o) ≡ if_there (at == offset) x (byte_in_block offset o)
 byte_set at offset x None = either (at == offset)
   where
     either : (b : Bool) → None ≡ if_there b x None
@@ -151,9 +164,11 @@ byte_set at offset x None = either (at == offset)
 byte_set at offset x (Some b) =
     ⊎_elim
     (λ (e : at ≡ offset).
-    ap (λ (j : ℕ). slice_get (slice_set b.bytes at x) j) (sym e) ∙ set_here b.bytes at x ∙ ap (λ (j : ℕ). option_map (λ _. x) (slice_get b.bytes j)) e
+    ap (λ (j : ℕ). slice_get (slice_set b.bytes at x) j) (sym e) ∙ set_here b.bytes at x
+    ∙ ap (λ (j : ℕ). option_map (λ _. x) (slice_get b.bytes j)) e
     ∙ ap (λ (c : Bool). if_there c x (slice_get b.bytes offset)) (sym (eq-eqb at offset e)))
-    (λ (apart : at ≢ offset). set_there b.bytes at offset x apart ∙ ap (λ (c : Bool). if_there c x (slice_get b.bytes offset)) (sym (ne_eqb at offset apart)))
+    (λ (apart : at ≢ offset). set_there b.bytes at offset x apart
+    ∙ ap (λ (c : Bool). if_there c x (slice_get b.bytes offset)) (sym (ne_eqb at offset apart)))
     (cases_eq at offset)
 
 both_there : (a b : Bool) (x : ℕ) (o : Option ℕ) → a ≡ true → if_there b x o ≡ if_there (a && b) x o
@@ -164,27 +179,37 @@ not_there : (a b : Bool) (x : ℕ) (o : Option ℕ) → a ≡ false → o ≡ if
 not_there true b x o e = absurd (cc)
 not_there false b x o e = refl
 
-with_byte_at : (h : Host) (p : Place) (x block offset : ℕ) → byte_of (with_byte h p x) block offset ≡ if_there (is_at block offset p) x (byte_of h block offset)
+with_byte_at : (h : Host) (p : Place) (x block offset : ℕ) →
+    byte_of (with_byte h p x) block offset ≡ if_there (is_at block offset p) x (byte_of h block offset)
 with_byte_at h p x block offset =
     ⊎_elim
     (λ (e : p.block ≡ block).
-    ap (byte_in_block offset) (ap (λ (j : ℕ). slice_get (changed_at h.blocks p.block (λ b. record b { bytes = slice_set b.bytes p.offset x })) j) (sym e) ∙ changed_here h.blocks p.block _)
+    ap (byte_in_block offset) (ap (λ (j : ℕ). slice_get (changed_at h.blocks p.block
+    (λ b. record b { bytes = slice_set b.bytes p.offset x })) j) (sym e) ∙ changed_here h.blocks p.block _)
     ∙ byte_set p.offset offset x (slice_get h.blocks p.block) ∙ ap (λ (j : ℕ). if_there (p.offset == offset) x (byte_of h j offset)) e
     ∙ both_there (p.block == block) (p.offset == offset) x (byte_of h block offset) (eq-eqb p.block block e))
     (λ (apart : p.block ≢ block).
-    ap (byte_in_block offset) (changed_there h.blocks p.block block _ apart) ∙ not_there (p.block == block) (p.offset == offset) x (byte_of h block offset) (ne_eqb p.block block apart))
+    ap (byte_in_block offset) (changed_there h.blocks p.block block _ apart)
+    ∙ not_there (p.block == block) (p.offset == offset) x (byte_of h block offset) (ne_eqb p.block block apart))
     (cases_eq p.block block)
 
-put_at : (h : Host) (p : Place) (x block offset : ℕ) → byte_of (put_byte h p x) block offset ≡ if_there (is_at block offset p) x (byte_of h block offset)
+put_at : (h : Host) (p : Place) (x block offset : ℕ) →
+    byte_of (put_byte h p x) block offset ≡ if_there (is_at block offset p) x (byte_of h block offset)
 put_at h p x block offset = marked_byte p.io p (with_byte h p x) block offset ∙ with_byte_at h p x block offset
 
 -- ---- differences that stay
 
 pub nothing_differs : (g h : Host) → KeepDifference g h g h []
-nothing_differs g h = record { same = λ block offset e. e; new = λ block offset e. absurd (cc); old = λ block offset byte e is. is; other_old = λ block offset byte e is. is }
+nothing_differs g h = record {
+  same = λ block offset e. e;
+  new = λ block offset e. absurd (cc);
+  old = λ block offset byte e is. is;
+  other_old = λ block offset byte e is. is;
+}
 
 -- one change after the other
-pub keep_both : {g h g' h' g'' h'' : Host} (ps qs : List Place) → KeepDifference g h g' h' ps → KeepDifference g' h' g'' h'' qs → KeepDifference g h g'' h'' (ps ++ qs)
+pub keep_both : {g h g' h' g'' h'' : Host} (ps qs : List Place) → KeepDifference g h g' h' ps → KeepDifference g' h' g'' h'' qs →
+    KeepDifference g h g'' h'' (ps ++ qs)
 keep_both {g} {h} {g'} {h'} {g''} {h''} ps qs first later = record {
   same = λ block offset e. later.same block offset (first.same block offset e);
   new = λ block offset e.
@@ -197,7 +222,8 @@ keep_both {g} {h} {g'} {h'} {g''} {h''} ps qs first later = record {
       later.other_old block offset byte apart.1 (first.other_old block offset byte apart.0 is);
 }
   where
-    by_part : (block offset : ℕ) (b : Bool) → is_among block offset ps ≡ b → (b || is_among block offset qs) ≡ true → byte_of g'' block offset ≡ byte_of h'' block offset
+    by_part : (block offset : ℕ) (b : Bool) → is_among block offset ps ≡ b → (b || is_among block offset qs) ≡ true →
+        byte_of g'' block offset ≡ byte_of h'' block offset
     by_part block offset true is e = later.same block offset (first.new block offset is)
     by_part block offset false is e = later.new block offset e
 
@@ -209,7 +235,8 @@ or_none : (b : Bool) → (b || false) ≡ b
 or_none true = refl
 or_none false = refl
 
-put_keeps : (g h : Host) → without_bytes g ≡ without_bytes h → (p : Place) (x : ℕ) → KeepDifference g h (put_byte g p x) (put_byte h p x) (p ∷ [])
+put_keeps :
+    (g h : Host) → without_bytes g ≡ without_bytes h → (p : Place) (x : ℕ) → KeepDifference g h (put_byte g p x) (put_byte h p x) (p ∷ [])
 put_keeps g h same p x = record {
   same = λ block offset e. put_at g p x block offset ∙ ap (if_there (is_at block offset p) x) e ∙ sym (put_at h p x block offset);
   new = λ block offset e.
@@ -237,10 +264,12 @@ same_hosts m n same = ap (λ (k : Memory). k.host) same
 stored_at_aside : (m n : Memory) → bare m ≡ bare n → (x : ℕ) (o : Option Place) → bare (stored_at m x o) ≡ bare (stored_at n x o)
 stored_at_aside m n same x None = same
 stored_at_aside m n same x (Some p) =
-    ap (λ (h : Host). record m { host = h }) (put_aside m.host p x) ∙ ap (λ (k : Memory). record k { host = with_mark_by p.io p k.host }) same
+    ap (λ (h : Host). record m { host = h }) (put_aside m.host p x)
+    ∙ ap (λ (k : Memory). record k { host = with_mark_by p.io p k.host }) same
     ∙ sym (ap (λ (h : Host). record n { host = h }) (put_aside n.host p x))
 
-stored_at_keeps : (m n : Memory) → bare m ≡ bare n → (x : ℕ) (o : Option Place) → KeepDifference m.host n.host (stored_at m x o).host (stored_at n x o).host (place_if o)
+stored_at_keeps : (m n : Memory) → bare m ≡ bare n → (x : ℕ) (o : Option Place) →
+    KeepDifference m.host n.host (stored_at m x o).host (stored_at n x o).host (place_if o)
 stored_at_keeps m n same x None = nothing_differs m.host n.host
 stored_at_keeps m n same x (Some p) = put_keeps m.host n.host (same_hosts m n same) p x
 
@@ -255,7 +284,8 @@ tables_stay (Some a) p h = refl
 
 location_stays : (m : Memory) (x : ℕ) (o : Option Place) → location (stored_at m x o) ≡ location m
 location_stays m x None = refl
-location_stays m x (Some p) = ap (λ (tables : List (List IotlbRange)). location (record m { host = record m.host { tables = tables } })) (tables_stay p.io p (with_byte m.host p x))
+location_stays m x (Some p) = ap (λ (tables : List (List IotlbRange)). location (record m { host = record m.host { tables = tables } }))
+    (tables_stay p.io p (with_byte m.host p x))
 
 abbrev places_by : (ℕ → Option Place) → List ℕ → List Place
 places_by where_is as' = flat_map (λ a. place_if (where_is a)) as'
@@ -274,11 +304,13 @@ stores_keep [] m n same = nothing_differs m.host n.host
 stores_keep (w ∷ ws) m n same =
     let there : location m Write w.0 ≡ location n Write w.0 = ap (λ (k : Memory). location k Write w.0) same in
     let first : KeepDifference m.host n.host (stored m w).host (stored n w).host (place_if (location m Write w.0)) =
-    subst (λ (o : Option Place). KeepDifference m.host n.host (stored m w).host (stored_at n w.1 o).host (place_if (location m Write w.0))) there
+    subst (λ (o : Option Place). KeepDifference m.host n.host (stored m w).host (stored_at n w.1 o).host (place_if (location m Write w.0)))
+    there
     (stored_at_keeps m n same w.1 (location m Write w.0)) in
     let later = stores_keep ws (stored m w) (stored n w) (stored_aside m n same w) in
     subst (λ (where_is : Permissions → ℕ → Option Place).
-    KeepDifference m.host n.host (stored_all (stored m w) ws).host (stored_all (stored n w) ws).host (place_if (location m Write w.0) ++ places_by (where_is Write) (map (λ w. w.0) ws)))
+    KeepDifference m.host n.host (stored_all (stored m w) ws).host (stored_all (stored n w) ws).host
+    (place_if (location m Write w.0) ++ places_by (where_is Write) (map (λ w. w.0) ws)))
     (location_stays m w.1 (location m Write w.0)) (keep_both (place_if (location m Write w.0)) _ first later)
 
 -- where addresses are doesn't change by stores
@@ -291,16 +323,19 @@ locations_stay (w ∷ ws) m = locations_stay ws (stored m w) ∙ location_stays 
 pub agree_stored : (ws : List (ℕ × ℕ)) (m n : Memory) → bare m ≡ bare n → (as' : List ℕ) → AgreeOn m.host n.host (places_for m Read as') →
     AgreeOn (stored_all m ws).host (stored_all n ws).host (places_for (stored_all m ws) Read as')
 agree_stored ws m n same as' agree =
-    subst (λ (where_is : Permissions → ℕ → Option Place). AgreeOn (stored_all m ws).host (stored_all n ws).host (places_by (where_is Read) as')) (sym (locations_stay ws m))
+    subst (λ (where_is : Permissions → ℕ → Option Place). AgreeOn (stored_all m ws).host (stored_all n ws).host
+    (places_by (where_is Read) as')) (sym (locations_stay ws m))
     (agree_later (places_for m Write (map (λ w. w.0) ws)) (places_for m Read as') (stores_keep ws m n same) agree)
 
 -- a new block is the same in both hosts, and no byte that was there changes
-block_kept : (l : List Block) (b : Block) (block offset byte : ℕ) → byte_in_block offset (slice_get l block) ≡ Some byte → byte_in_block offset (slice_get (l ++ b ∷ []) block) ≡ Some byte
+block_kept : (l : List Block) (b : Block) (block offset byte : ℕ) → byte_in_block offset (slice_get l block) ≡ Some byte →
+    byte_in_block offset (slice_get (l ++ b ∷ []) block) ≡ Some byte
 block_kept [] b block offset byte e = absurd (cc)
 block_kept (x ∷ l) b zero offset byte e = e
 block_kept (x ∷ l) b (suc block) offset byte e = block_kept l b block offset byte e
 
-more_same : (l k : List Block) (b : Block) (block offset : ℕ) → map zeroed l ≡ map zeroed k → byte_in_block offset (slice_get l block) ≡ byte_in_block offset (slice_get k block) →
+more_same : (l k : List Block) (b : Block) (block offset : ℕ) → map zeroed l ≡ map zeroed k →
+    byte_in_block offset (slice_get l block) ≡ byte_in_block offset (slice_get k block) →
     byte_in_block offset (slice_get (l ++ b ∷ []) block) ≡ byte_in_block offset (slice_get (k ++ b ∷ []) block)
 more_same [] [] b block offset same e = refl
 more_same [] (y ∷ k) b block offset same e = absurd (cc)

@@ -1,4 +1,5 @@
--- What a queue reads for an offer, beside the loads by which the offer comes: the read set of a step holds no address that wasn't loaded, and each whose byte came.
+-- What a queue reads for an offer, beside the loads by which the offer comes: the read set of a step holds no
+-- address that wasn't loaded, and each whose byte came.
 use Rattle.std.specs.Prelude.{◌≡◌, ℕ, List, [], ◌∷◌, ◌++◌, length, Option, Some, None, flat_map}
 use Rattle.vm_memory.specs.Memory.{Memory, addresses}
 use Rattle.fs_queue.specs.Queue.{Queue, avail_index_at, ring_entry_at}
@@ -31,11 +32,19 @@ request_came q ls (b ∷ bs) Idle = []
 
 -- a walk reads just where the loads came by which it finds its chain
 abbrev pub WalksReadTheirLoads : Type 0
-WalksReadTheirLoads = (m : Memory) (q : Queue) (head : ℕ) (ls : List Load) (f : Found) → AreEntriesOf m ls → chain_exactly ls q head ≡ Some f → walk_reads m q head ≡ all_came ls
+WalksReadTheirLoads =
+    (m : Memory) (q : Queue) (head : ℕ) (ls : List Load) (f : Found) →
+    AreEntriesOf m ls →
+    chain_exactly ls q head ≡ Some f →
+    walk_reads m q head ≡ all_came ls
 
--- and an offer just where its loads came: those of the index, of the ring's entry, of the tables' entries and of the request
+-- and an offer just where its loads came: those of the index, of the ring's entry, of the tables' entries and
+-- of the request
 abbrev pub OffersReadTheirLoads : Type 0
 OffersReadTheirLoads =
-    (m : Memory) (limit : ℕ) (q : Queue) (index entry : Option (List ℕ)) (ls : List Load) (request : List ℕ) (o : Offer) → AreLoadsOf m q index entry ls request →
+    (m : Memory) (limit : ℕ) (q : Queue) (index entry : Option (List ℕ)) (ls : List Load) (request : List ℕ)
+    (o : Offer) →
+    AreLoadsOf m q index entry ls request →
     offer_by m limit q index entry ls request ≡ Some o →
-    offer_reads m limit q ≡ came_at (avail_index_at q) index ++ came_at (ring_entry_at q) entry ++ all_came ls ++ request_came q ls request o
+    offer_reads m limit q ≡ came_at (avail_index_at q) index ++ came_at (ring_entry_at q) entry ++ all_came ls
+    ++ request_came q ls request o

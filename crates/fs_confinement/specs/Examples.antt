@@ -15,8 +15,11 @@ use Rattle.plain_machine.specs.declared.error.DeviceError.TheVariants as device_
 use Rattle.plain_machine.specs.declared.refusal.Refusal.TheVariants as why
 use Rattle.plain_machine.specs.Run as run
 use Rattle.plain_machine.specs.Run.{Command, Answer, Turn, KickRun, RunTold, effect}
-use Rattle.plain_machine.specs.Examples.{blank, queue, put, descriptor_bytes, with_one_request, with_descriptors, Nothing, may, device, unknown_exchange, after_reply, one_step}
-use Rattle.fs_confinement.specs.ReadSet.{is_among, offer_reads, flag_reads, places_for, nothing, kick_touches, run_touches}
+use Rattle.plain_machine.specs.Examples.{blank, queue, put, descriptor_bytes, with_one_request}
+use Rattle.plain_machine.specs.Examples.{with_descriptors, Nothing, may, device, unknown_exchange}
+use Rattle.plain_machine.specs.Examples.{after_reply, one_step}
+use Rattle.fs_confinement.specs.ReadSet.{is_among, offer_reads, flag_reads, places_for, nothing, kick_touches}
+use Rattle.fs_confinement.specs.ReadSet.{run_touches}
 use Rattle.fs_confinement.specs.Hidden.{hides, leaves_hidden}
 
 -- ---- what a step reads before its calls; the queue's table is at 0, its rings are at 0x100 and 0x200
@@ -30,12 +33,14 @@ unfolding offer place addresses stored_all path found
 index_alone = refl
 
 -- a request of 40 bytes at 0x1000: index, ring entry, two descriptors, request; the room at 0x2000 isn't read
-one_request_read : reads with_one_request ≡ addresses 0x102 2 ++ addresses 0x104 2 ++ addresses 0 16 ++ addresses 16 16 ++ addresses 0x1000 40
+one_request_read : reads with_one_request ≡ addresses 0x102 2 ++ addresses 0x104 2 ++ addresses 0 16
+    ++ addresses 16 16 ++ addresses 0x1000 40
 unfolding offer place addresses stored_all path found
 one_request_read = refl
 
 -- by a table at 0x3000: the descriptor that names it, and its entries
-by_table_read : reads with_descriptors ≡ addresses 0x102 2 ++ addresses 0x104 2 ++ addresses 0 16 ++ addresses 0x3000 16 ++ addresses 0x3010 16 ++ addresses 0x1000 40
+by_table_read : reads with_descriptors ≡ addresses 0x102 2 ++ addresses 0x104 2 ++ addresses 0 16
+    ++ addresses 0x3000 16 ++ addresses 0x3010 16 ++ addresses 0x1000 40
 unfolding offer place addresses stored_all path found
 by_table_read = refl
 
@@ -50,28 +55,34 @@ unfolding offer place addresses stored_all path found
 past_table_read = refl
 
 -- next is past the table's end: the descriptor before it is read, and no request
-past_next_read : reads (put with_one_request 0 (descriptor_bytes 0x1000 40 1 4)) ≡ addresses 0x102 2 ++ addresses 0x104 2 ++ addresses 0 16
+past_next_read : reads (put with_one_request 0 (descriptor_bytes 0x1000 40 1 4))
+    ≡ addresses 0x102 2 ++ addresses 0x104 2 ++ addresses 0 16
 unfolding offer place addresses stored_all path found
 past_next_read = refl
 
 -- the room has no place: both descriptors are read, and no request
-no_room_read : reads (put with_one_request 16 (descriptor_bytes 0x20000 16 2 0)) ≡ addresses 0x102 2 ++ addresses 0x104 2 ++ addresses 0 16 ++ addresses 16 16
+no_room_read : reads (put with_one_request 16 (descriptor_bytes 0x20000 16 2 0))
+    ≡ addresses 0x102 2 ++ addresses 0x104 2 ++ addresses 0 16 ++ addresses 16 16
 unfolding offer place addresses stored_all path found
 no_room_read = refl
 
--- a descriptor that leads to itself is read at each step: four times as one of the chain, and once more, where the chain is too long
+-- a descriptor that leads to itself is read at each step: four times as one of the chain, and once more,
+-- where the chain is too long
 loop_read : reads (put with_one_request 0 (descriptor_bytes 0x1000 40 1 0))
-    ≡ addresses 0x102 2 ++ addresses 0x104 2 ++ addresses 0 16 ++ addresses 0 16 ++ addresses 0 16 ++ addresses 0 16 ++ addresses 0 16
+    ≡ addresses 0x102 2 ++ addresses 0x104 2 ++ addresses 0 16 ++ addresses 0 16 ++ addresses 0 16
+    ++ addresses 0 16 ++ addresses 0 16
 unfolding offer place addresses stored_all path found
 loop_read = refl
 
 -- a table has no place: the descriptor that names it is read, and none of its entries
-no_table_read : reads (put with_one_request 0 (descriptor_bytes 0x20000 32 4 0)) ≡ addresses 0x102 2 ++ addresses 0x104 2 ++ addresses 0 16
+no_table_read : reads (put with_one_request 0 (descriptor_bytes 0x20000 32 4 0))
+    ≡ addresses 0x102 2 ++ addresses 0x104 2 ++ addresses 0 16
 unfolding offer place addresses stored_all path found
 no_table_read = refl
 
 -- one byte more than the limit: both descriptors are read, and no request
-over_limit_read : offer_reads with_one_request 39 queue ≡ addresses 0x102 2 ++ addresses 0x104 2 ++ addresses 0 16 ++ addresses 16 16
+over_limit_read : offer_reads with_one_request 39 queue ≡ addresses 0x102 2 ++ addresses 0x104 2
+    ++ addresses 0 16 ++ addresses 16 16
 unfolding offer place addresses stored_all path found
 over_limit_read = refl
 
@@ -101,7 +112,8 @@ twice =
     })
     (record { start = 0; size = 16; block = 0 } ∷ []) 0 0
 
-one_place : map (λ a. is_among 0 9 (places_for twice Read (a ∷ []))) (0 ∷ 1 ∷ 5 ∷ 9 ∷ []) ≡ false ∷ true ∷ true ∷ false ∷ []
+one_place : map (λ a. is_among 0 9 (places_for twice Read (a ∷ []))) (0 ∷ 1 ∷ 5 ∷ 9 ∷ [])
+    ≡ false ∷ true ∷ true ∷ false ∷ []
 unfolding place table_kept
 one_place = refl
 
@@ -110,14 +122,16 @@ abbrev translated : Memory
 translated =
     record (put with_one_request 0 (descriptor_bytes 0x8000 40 1 1)) {
       host = record (put with_one_request 0 (descriptor_bytes 0x8000 40 1 1)).host {
-        tables = (record { start = 0; end = 0x1000; target = 0; perm = ReadWrite } ∷ record { start = 0x2000; end = 0x3000; target = 0x2000; perm = Write }
+        tables = (record { start = 0; end = 0x1000; target = 0; perm = ReadWrite }
+            ∷ record { start = 0x2000; end = 0x3000; target = 0x2000; perm = Write }
             ∷ record { start = 0x8000; end = 0x9000; target = 0x1000; perm = Read } ∷ []) ∷ [];
       };
       translates = true;
     }
 
 -- it is read where it is mapped to
-translated_read : map (λ a. is_among 0 a (places_for translated Read (reads translated))) (0x1000 ∷ 0x1027 ∷ 0x1028 ∷ 0x8000 ∷ 0x2000 ∷ []) ≡ true ∷ true ∷ false ∷ false ∷ false ∷ []
+translated_read : map (λ a. is_among 0 a (places_for translated Read (reads translated)))
+    (0x1000 ∷ 0x1027 ∷ 0x1028 ∷ 0x8000 ∷ 0x2000 ∷ []) ≡ true ∷ true ∷ false ∷ false ∷ false ∷ []
 unfolding offer place addresses stored_all path found table_kept
 translated_read = refl
 
@@ -125,7 +139,9 @@ translated_read = refl
 
 -- 4 zeros from address 0 on
 abbrev small : State Nothing
-small = device (memory_of (record { blocks = new_block 4 ∷ new_block 2 ∷ []; tables = []; io_marks = [] }) (record { start = 0; size = 4; block = 0 } ∷ [])) queue
+small =
+    device (memory_of (record { blocks = new_block 4 ∷ new_block 2 ∷ []; tables = []; io_marks = [] })
+    (record { start = 0; size = 4; block = 0 } ∷ [])) queue
 
 -- a place of the first block, with the IOMMU off
 abbrev at : (offset : ℕ) → Place
@@ -133,7 +149,14 @@ at offset = record { block = 0; offset = offset; io = None }
 
 -- the state after the guest wrote 7 at address 3
 abbrev written : State Nothing
-written = record small { memory = record small.memory { host = record small.memory.host { blocks = record { bytes = 0 ∷ 0 ∷ 0 ∷ 7 ∷ []; marks = true ∷ [] } ∷ new_block 2 ∷ [] } } }
+written =
+    record small {
+      memory = record small.memory {
+        host = record small.memory.host {
+          blocks = record { bytes = 0 ∷ 0 ∷ 0 ∷ 7 ∷ []; marks = true ∷ [] } ∷ new_block 2 ∷ [];
+        };
+      };
+    }
 
 -- a guest reads two bytes and writes one
 abbrev accesses : List (Command × Answer)
@@ -143,13 +166,21 @@ accessed : RunTold may small accesses ([] ∷ [] ∷ []) written
 unfolding RunTold effect place addresses stored_all
 accessed = (small, refl, (written, refl, refl))
 
-accesses_touch : run_touches may small accesses ([] ∷ [] ∷ []) written accessed ≡ record { read = at 1 ∷ at 2 ∷ []; written = at 3 ∷ [] }
+accesses_touch : run_touches may small accesses ([] ∷ [] ∷ []) written accessed
+    ≡ record { read = at 1 ∷ at 2 ∷ []; written = at 3 ∷ [] }
 unfolding run_touches accessed place addresses
 accesses_touch = refl
 
 -- a byte that is read matters: with 9 at address 1 the same command is answered otherwise
 abbrev other : State Nothing
-other = record small { memory = record small.memory { host = record small.memory.host { blocks = record { bytes = 0 ∷ 9 ∷ 0 ∷ 0 ∷ []; marks = false ∷ [] } ∷ new_block 2 ∷ [] } } }
+other =
+    record small {
+      memory = record small.memory {
+        host = record small.memory.host {
+          blocks = record { bytes = 0 ∷ 9 ∷ 0 ∷ 0 ∷ []; marks = false ∷ [] } ∷ new_block 2 ∷ [];
+        };
+      };
+    }
 
 read_byte_matters : effect other (run.GuestRead 1 2) ≡ Some (run.Bytes (9 ∷ 0 ∷ []), other)
 unfolding effect place addresses
@@ -163,7 +194,8 @@ refused : RunTold may small past_the_end ([] ∷ []) small
 unfolding RunTold effect place addresses
 refused = (small, refl, refl)
 
-refused_touches : run_touches may small past_the_end ([] ∷ []) small refused ≡ record { read = []; written = [] }
+refused_touches :
+    run_touches may small past_the_end ([] ∷ []) small refused ≡ record { read = []; written = [] }
 unfolding run_touches refused
 refused_touches = refl
 
@@ -178,7 +210,8 @@ unfolding KickRun
 served = (after_reply with_one_request queue, one_step, refl)
 
 -- a kick of one chain writes the room, the used element and the used index
-kick_writes : (kick_touches may (device with_one_request queue) 0 1 (turn ∷ []) None (after_reply with_one_request queue) served).written
+kick_writes : (kick_touches may (device with_one_request queue) 0 1 (turn ∷ []) None
+    (after_reply with_one_request queue) served).written
     ≡ map at (addresses 0x2000 16 ++ addresses 0x204 8 ++ addresses 0x202 2)
 unfolding kick_touches served offer place addresses stored_all path found
 kick_writes = refl
@@ -188,7 +221,8 @@ abbrev all_read : List ℕ
 all_read = addresses 0x102 2 ++ addresses 0x104 2 ++ addresses 0 16 ++ addresses 16 16 ++ addresses 0x1000 40
 
 -- and it reads what its step reads, and the flags
-kick_reads : (kick_touches may (device with_one_request queue) 0 1 (turn ∷ []) None (after_reply with_one_request queue) served).read ≡ map at (all_read ++ addresses 0x100 2)
+kick_reads : (kick_touches may (device with_one_request queue) 0 1 (turn ∷ []) None
+    (after_reply with_one_request queue) served).read ≡ map at (all_read ++ addresses 0x100 2)
 unfolding kick_touches served offer place addresses stored_all path found
 kick_reads = refl
 
@@ -197,16 +231,19 @@ none_served : KickRun may (device with_one_request queue) 0 0 [] None (device wi
 unfolding KickRun
 none_served = refl
 
-none_touched : kick_touches may (device with_one_request queue) 0 0 [] None (device with_one_request queue) none_served ≡ nothing
+none_touched : kick_touches may (device with_one_request queue) 0 0 [] None (device with_one_request queue)
+    none_served ≡ nothing
 unfolding kick_touches
 none_touched = refl
 
 -- one that ends for want of memory counts as if it had read all that it was offered, and writes nothing
-lacking : KickRun may (device with_one_request queue) 0 1 [] (Some (device_error.Queue queue_error.OutOfMemory)) (device with_one_request queue)
+lacking : KickRun may (device with_one_request queue) 0 1 []
+    (Some (device_error.Queue queue_error.OutOfMemory)) (device with_one_request queue)
 unfolding KickRun offer place addresses stored_all path found
 lacking = (refl, record { same = refl; no_call = refl })
 
-lacking_touches : kick_touches may (device with_one_request queue) 0 1 [] (Some (device_error.Queue queue_error.OutOfMemory)) (device with_one_request queue) lacking
+lacking_touches : kick_touches may (device with_one_request queue) 0 1 []
+    (Some (device_error.Queue queue_error.OutOfMemory)) (device with_one_request queue) lacking
     ≡ record { read = map at all_read; written = [] }
 unfolding kick_touches offer place addresses stored_all path found
 lacking_touches = refl
@@ -217,5 +254,6 @@ second_hidden : map (λ block. hides block small.memory.layout) (0 ∷ 1 ∷ [])
 second_hidden = refl
 
 shown_by_region : map (leaves_hidden 1)
-    (run.InsertRegion 64 0 ∷ run.InsertRegion 64 1 ∷ run.SetLayout (record { start = 0; size = 2; block = 1 } ∷ []) ∷ run.Image ∷ run.Kick 0 9 ∷ []) ≡ true ∷ false ∷ false ∷ false ∷ true ∷ []
+    (run.InsertRegion 64 0 ∷ run.InsertRegion 64 1 ∷ run.SetLayout (record { start = 0; size = 2; block = 1 }
+    ∷ []) ∷ run.Image ∷ run.Kick 0 9 ∷ []) ≡ true ∷ false ∷ false ∷ false ∷ true ∷ []
 shown_by_region = refl

@@ -1,4 +1,5 @@
--- A block that no region shows is a secret: nothing that the device answers, stores or asks a file system tells what stands in it.
+-- A block that no region shows is a secret: nothing that the device answers, stores or asks a file system
+-- tells what stands in it.
 use Rattle.std.specs.Prelude.{◌≡◌, ◌≢◌, ◌==◌, ℕ, Bool, false, not, IsTrue, List, map}
 use Rattle.std.specs.List.{list_all, list_any}
 use Rattle.vm_memory.specs.Layout.{Region}
@@ -25,26 +26,38 @@ leaves_hidden block command = not (copies command)
 
 -- no region shows a block when these commands begin, and none of them shows it
 abbrev pub IsHidden : {F : Type 0} → (block : ℕ) → State F → List Command → Type 0
-IsHidden block s commands = IsTrue (hides block s.memory.layout) × IsTrue (list_all (leaves_hidden block) commands)
+IsHidden block s commands =
+    IsTrue (hides block s.memory.layout) × IsTrue (list_all (leaves_hidden block) commands)
 
 -- two states that differ only in bytes of one block
 pub record DifferInBlock {F : Type 0} (block : ℕ) (a b : State F) : Type 0 where
   pub rest : SameButBytes a b
-  pub others : (other offset : ℕ) → other ≢ block → byte_of a.memory.host other offset ≡ byte_of b.memory.host other offset
+  pub others : (other offset : ℕ) →
+      other ≢ block →
+      byte_of a.memory.host other offset ≡ byte_of b.memory.host other offset
 
 -- a run neither reads nor writes the block
-pub record TouchesNothingOf {F : Type 0} (may : May F) (block : ℕ) (a after : State F) (events : List (Command × Answer)) (tolds : List Turns) (ran : RunTold may a events tolds after) : Type 0 where
+pub record TouchesNothingOf {F : Type 0} (may : May F) (block : ℕ) (a after : State F) (events : List (Command
+    × Answer)) (tolds : List Turns) (ran : RunTold may a events tolds after) : Type 0 where
   pub unread : (offset : ℕ) → is_among block offset (read_set may a events tolds after ran) ≡ false
   pub unwritten : (offset : ℕ) → is_among block offset (written_set may a events tolds after ran) ≡ false
 
 -- so that run is allowed whatever stands in the block
 abbrev pub HiddenBlocksAreSecret : {F : Type 0} → May F → Type 0
 HiddenBlocksAreSecret {F} may =
-    (block : ℕ) (a after : State F) (events : List (Command × Answer)) (tolds : List Turns) (ran : RunTold may a events tolds after) → IsHidden block a (map (λ e. e.0) events) →
-    TouchesNothingOf may block a after events tolds ran × ((b : State F) → DifferInBlock block a b → AllowsToo may a b after events tolds ran)
+    (block : ℕ) (a after : State F) (events : List (Command
+    × Answer)) (tolds : List Turns) (ran : RunTold may a events tolds after) →
+    IsHidden block a (map (λ e. e.0) events) →
+    TouchesNothingOf may block a after events tolds ran
+    × ((b : State F) → DifferInBlock block a b → AllowsToo may a b after events tolds ran)
 
--- a run has exchanges, notices and calls behind its answers that may come with the same answers whatever stands in a block, and leave a state that again differs only there
-abbrev pub KeepsSecret : {F : Type 0} → May F → (block : ℕ) → (before after : State F) → List (Command × Answer) → Type 0
+-- a run has exchanges, notices and calls behind its answers that may come with the same answers whatever
+-- stands in a block, and leave a state that again differs only there
+abbrev pub KeepsSecret :
+    {F : Type 0} → May F → (block : ℕ) → (before after : State F) → List (Command × Answer) → Type 0
 KeepsSecret {F} may block before after events =
-    (tolds : List Turns) × RunTold may before events tolds after
-    × ((other : State F) → DifferInBlock block before other → (end : State F) × RunTold may other events tolds end × DifferInBlock block after end)
+    (tolds : List Turns)
+    × RunTold may before events tolds after
+    × ((other : State F) →
+    DifferInBlock block before other →
+    (end : State F) × RunTold may other events tolds end × DifferInBlock block after end)

@@ -1,7 +1,10 @@
--- Which places of a host's blocks a run reads, and which it writes. A step reads the available ring's index and its next entry, the entries of descriptor tables that
--- its walk visits, the request's bytes and, behind its stores, the available flags (VIRTIO 1.2, 2.7.5 to 2.7.8); a guest's read reads what it asks for. A room isn't read: a file may be lent its
--- places to be filled, but what a file system answers is told by its own relation (`May`), which has its state and the call, and none of the bytes that a room held.
-use Rattle.std.specs.Prelude.{◌==◌, ◌&&◌, ℕ, zero, suc, Bool, List, [], ◌∷◌, ◌++◌, length, Option, Some, None, if◌then◌else◌, slice_get}
+-- Which places of a host's blocks a run reads, and which it writes. A step reads the available ring's index
+-- and its next entry, the entries of descriptor tables that its walk visits, the request's bytes and, behind
+-- its stores, the available flags (VIRTIO 1.2, 2.7.5 to 2.7.8); a guest's read reads what it asks for. A room
+-- isn't read: a file may be lent its places to be filled, but what a file system answers is told by its own
+-- relation (`May`), which has its state and the call, and none of the bytes that a room held.
+use Rattle.std.specs.Prelude.{◌==◌, ◌&&◌, ℕ, zero, suc, Bool, List, [], ◌∷◌, ◌++◌, length, Option, Some, None}
+use Rattle.std.specs.Prelude.{if◌then◌else◌, slice_get}
 use Rattle.std.specs.List.{flat_map, list_any}
 use Rattle.vm_iotlb.specs.declared.permissions.Permissions.{Permissions}
 use Rattle.vm_iotlb.specs.declared.permissions.Permissions.TheVariants.{Read, Write}
@@ -13,7 +16,8 @@ use Rattle.fs_queue.specs.NextAvail.{NextAvail, next_avail}
 use Rattle.fs_queue.specs.NextAvail as avail
 use Rattle.fs_queue.specs.Chain.{Visit, entry_address, Found, IsChain, HasFault, StopsQueue, walk, chain}
 use Rattle.fs_queue.specs.Loads.{reads_entry}
-use Rattle.fs_queue.specs.Taking.{Offer, Idle, Refuses, Offers, IsRequest, CannotFetch, readable, room_of, offer, addresses_of}
+use Rattle.fs_queue.specs.Taking.{Offer, Idle, Refuses, Offers, IsRequest, CannotFetch, readable, room_of}
+use Rattle.fs_queue.specs.Taking.{offer, addresses_of}
 use Rattle.virtiofsd_fuse.specs.Serving.{May}
 use Rattle.plain_machine.specs.declared.error.DeviceError.{DeviceError}
 use Rattle.plain_machine.specs.MarkedPages.{returned_addresses}
@@ -47,17 +51,21 @@ byte_of h block offset = byte_at h (record { block = block; offset = offset; io 
 
 -- ---- what a step reads
 
--- of the available ring (2.7.6): its index, unless that has no place, and the entry of the next head, unless the index says that none waits, or too many do, or the entry has no place
+-- of the available ring (2.7.6): its index, unless that has no place, and the entry of the next head, unless
+-- the index says that none waits, or too many do, or the entry has no place
 abbrev pub ring_reads : Queue → NextAvail → List ℕ
 ring_reads q avail.Idle = addresses (avail_index_at q) 2
 ring_reads q (avail.Head head) = addresses (avail_index_at q) 2 ++ addresses (ring_entry_at q) 2
 ring_reads q (avail.Refused stop.AvailIndexUnreachable) = []
-ring_reads q (avail.Refused stop.HeadOutOfTable) = addresses (avail_index_at q) 2 ++ addresses (ring_entry_at q) 2
+ring_reads q (avail.Refused stop.HeadOutOfTable) =
+    addresses (avail_index_at q) 2 ++ addresses (ring_entry_at q) 2
 ring_reads q (avail.Refused _) = addresses (avail_index_at q) 2
 
--- of a descriptor table (2.7.5): the entry of a step of a walk, unless it is past the table's end or has no place
+-- of a descriptor table (2.7.5): the entry of a step of a walk, unless it is past the table's end or has no
+-- place
 abbrev pub entry_reads : Memory → Visit → List ℕ
-entry_reads m v = if reads_entry v && reach m Read (entry_address v) 16 then addresses (entry_address v) 16 else []
+entry_reads m v =
+    if reads_entry v && reach m Read (entry_address v) 16 then addresses (entry_address v) 16 else []
 
 -- of all tables: the entries of the steps of the walk from a head
 abbrev pub walk_reads : Memory → Queue → (head : ℕ) → List ℕ
@@ -69,9 +77,11 @@ request_reads (IsChain ds) = addresses_of (readable ds)
 request_reads (HasFault fault) = []
 request_reads StopsQueue = []
 
--- from a head on, by what is offered: the tables, unless a return has no places, and the request, if it can be fetched
+-- from a head on, by what is offered: the tables, unless a return has no places, and the request, if it can
+-- be fetched
 abbrev pub chain_reads : Memory → Queue → (head : ℕ) → Offer → List ℕ
-chain_reads m q head (Offers _ (IsRequest request room)) = walk_reads m q head ++ request_reads (chain m q head)
+chain_reads m q head (Offers _ (IsRequest request room)) =
+    walk_reads m q head ++ request_reads (chain m q head)
 chain_reads m q head (Offers _ (CannotFetch why)) = walk_reads m q head
 chain_reads m q head (Refuses stop.DescriptorUnreachable) = walk_reads m q head
 chain_reads m q head (Refuses _) = []
@@ -85,7 +95,9 @@ waiting_reads m q (avail.Refused e) offered = []
 
 -- before its calls; a stopped queue reads nothing
 abbrev pub offer_reads : Memory → (limit : ℕ) → Queue → List ℕ
-offer_reads m limit q = if q.stopped then [] else ring_reads q (next_avail m q) ++ waiting_reads m q (next_avail m q) (offer m limit q)
+offer_reads m limit q =
+    if q.stopped then []
+    else ring_reads q (next_avail m q) ++ waiting_reads m q (next_avail m q) (offer m limit q)
 
 -- behind its stores: the available flags (2.7.7), if a chain goes back
 abbrev pub flag_reads : Queue → StepEnd → List ℕ
@@ -101,7 +113,8 @@ room_in (Offers head fetched) = room_of fetched
 room_in (Refuses e) = []
 room_in Idle = []
 
--- by what is offered: the reply over the room, the used element and the used index (2.7.8), if a chain goes back
+-- by what is offered: the reply over the room, the used element and the used index (2.7.8), if a chain goes
+-- back
 abbrev pub step_writes : Queue → Offer → StepEnd → List ℕ
 step_writes q offered (Exchanged x notice) = returned_addresses q x.head (room_in offered) x.reply
 step_writes q offered step.Idle = []
@@ -126,7 +139,10 @@ and_then t u = record { read = t.read ++ u.read; written = t.written ++ u.writte
 abbrev pub step_touches : {F : Type 0} → State F → Option Queue → StepEnd → Touched
 step_touches s None outcome = nothing
 step_touches s (Some q) outcome =
-    record { read = places_for s.memory Read (offer_reads s.memory s.limit q ++ flag_reads q outcome); written = places_for s.memory Write (step_writes q (offer s.memory s.limit q) outcome) }
+    record {
+      read = places_for s.memory Read (offer_reads s.memory s.limit q ++ flag_reads q outcome);
+      written = places_for s.memory Write (step_writes q (offer s.memory s.limit q) outcome);
+    }
 
 -- by the step that ends a kick, if one does
 abbrev pub end_touches : {F : Type 0} → State F → (queue most : ℕ) → Option DeviceError → Touched
@@ -135,58 +151,71 @@ end_touches s i (suc most) None = step_touches s (slice_get s.queues i) step.Idl
 end_touches s i (suc most) (Some e) = step_touches s (slice_get s.queues i) (Refused e)
 
 -- by a kick, step by step
-unfoldable pub kick_touches : {F : Type 0} → (may : May F) → (s : State F) → (queue most : ℕ) → (told : Turns) → (refused : Option DeviceError) → (after : State F) →
+unfoldable pub kick_touches : {F : Type 0} → (may : May F) → (s : State F) → (queue most : ℕ) →
+    (told : Turns) → (refused : Option DeviceError) → (after : State F) →
     KickRun may s queue most told refused after → Touched
 unfolding KickRun
 kick_touches may s i most [] refused after ends = end_touches s i most refused
 kick_touches may s i zero (t ∷ ts) refused after none = nothing
 kick_touches may s i (suc most) (t ∷ ts) refused after (mid, first, rest) =
-    and_then (step_touches s (slice_get s.queues i) (Exchanged t.exchange t.notice)) (kick_touches may mid i most ts refused after rest)
+    and_then (step_touches s (slice_get s.queues i) (Exchanged t.exchange t.notice))
+    (kick_touches may mid i most ts refused after rest)
 
 -- by a kick of a queue that may be missing
-abbrev pub kicks_touch : {F : Type 0} → (may : May F) → (s : State F) → (queue most : ℕ) → (o : Option Queue) → (told : Turns) → (k : KickAnswer) → (after : State F) →
+abbrev pub kicks_touch : {F : Type 0} → (may : May F) → (s : State F) → (queue most : ℕ) →
+    (o : Option Queue) → (told : Turns) → (k : KickAnswer) → (after : State F) →
     Kicks may s queue most o told k after → Touched
 kicks_touch may s i most None told k after kicked = nothing
-kicks_touch may s i most (Some q) told k after kicked = kick_touches may s i most told k.refused after kicked.0
+kicks_touch may s i most (Some q) told k after kicked =
+    kick_touches may s i most told k.refused after kicked.0
 
 -- by a guest's read that was answered so: its physical addresses, unless it is refused
 abbrev pub guest_reads : {F : Type 0} → State F → (addr len : ℕ) → Answer → Touched
-guest_reads s a n (run.Bytes bytes) = record { read = places_for (physical s.memory) Read (addresses a n); written = [] }
+guest_reads s a n (run.Bytes bytes) =
+    record { read = places_for (physical s.memory) Read (addresses a n); written = [] }
 guest_reads s a n _ = nothing
 
 -- by a guest's write
 abbrev pub guest_writes : {F : Type 0} → State F → (addr len : ℕ) → Answer → Touched
-guest_writes s a n run.Done = record { read = []; written = places_for (physical s.memory) Write (addresses a n) }
+guest_writes s a n run.Done =
+    record { read = []; written = places_for (physical s.memory) Write (addresses a n) }
 guest_writes s a n _ = nothing
 
--- by a command that isn't a kick: those that change layouts, tables, queues or the IOMMU's switch look at no byte, and a new block is nothing that was there
+-- by a command that isn't a kick: those that change layouts, tables, queues or the IOMMU's switch look at no
+-- byte, and a new block is nothing that was there
 abbrev pub plain_touches : {F : Type 0} → State F → Command → Answer → Touched
 plain_touches s (run.GuestRead a n) answer = guest_reads s a n answer
 plain_touches s (run.GuestWrite a bytes) answer = guest_writes s a (length bytes) answer
 plain_touches s _ answer = nothing
 
 -- by a command
-abbrev pub command_touches : {F : Type 0} → (may : May F) → (s : State F) → (command : Command) → (told : Turns) → (answer : Answer) → (after : State F) →
+abbrev pub command_touches : {F : Type 0} → (may : May F) → (s : State F) → (command : Command) →
+    (told : Turns) → (answer : Answer) → (after : State F) →
     Performs may s command told answer after → Touched
-command_touches may s (run.Kick i most) told (run.Served k) after done = kicks_touch may s i most (slice_get s.queues i) told k after done
+command_touches may s (run.Kick i most) told (run.Served k) after done =
+    kicks_touch may s i most (slice_get s.queues i) told k after done
 command_touches may s (run.Kick i most) told _ after done = nothing
 command_touches may s command told answer after done = plain_touches s command answer
 
 -- by a run, command by command
-unfoldable pub run_touches : {F : Type 0} → (may : May F) → (s : State F) → (events : List (Command × Answer)) → (tolds : List Turns) → (after : State F) →
+unfoldable pub run_touches : {F : Type 0} → (may : May F) → (s : State F) →
+    (events : List (Command × Answer)) → (tolds : List Turns) → (after : State F) →
     RunTold may s events tolds after → Touched
 unfolding RunTold
 run_touches may s [] [] after ran = nothing
 run_touches may s [] (told ∷ tolds) after none = nothing
 run_touches may s (e ∷ es) [] after none = nothing
-run_touches may s (e ∷ es) (told ∷ tolds) after (mid, first, rest) = and_then (command_touches may s e.0 told e.1 mid first) (run_touches may mid es tolds after rest)
+run_touches may s (e ∷ es) (told ∷ tolds) after (mid, first, rest) =
+    and_then (command_touches may s e.0 told e.1 mid first) (run_touches may mid es tolds after rest)
 
 -- the read set of a run
-abbrev pub read_set : {F : Type 0} → (may : May F) → (s : State F) → (events : List (Command × Answer)) → (tolds : List Turns) → (after : State F) →
+abbrev pub read_set : {F : Type 0} → (may : May F) → (s : State F) → (events : List (Command × Answer)) →
+    (tolds : List Turns) → (after : State F) →
     RunTold may s events tolds after → List Place
 read_set may s events tolds after ran = (run_touches may s events tolds after ran).read
 
 -- the places that it writes
-abbrev pub written_set : {F : Type 0} → (may : May F) → (s : State F) → (events : List (Command × Answer)) → (tolds : List Turns) → (after : State F) →
+abbrev pub written_set : {F : Type 0} → (may : May F) → (s : State F) → (events : List (Command × Answer)) →
+    (tolds : List Turns) → (after : State F) →
     RunTold may s events tolds after → List Place
 written_set may s events tolds after ran = (run_touches may s events tolds after ran).written

@@ -12,20 +12,24 @@ use fuse_fs::FileSystem;
 use std::alloc::{AllocError, Global};
 use vm_memory::Iommu;
 
-/// Does commands one after another, as `Machine::run`, which this run is of. What stands in a block that no region shows,
-/// neither before nor by these commands, is told by none of the answers, neither by a reply nor by a notice, and by none of
-/// the calls that the file system was asked: with any other bytes there the same may come, and what the machine is then
-/// differs only there.
+/// Does commands one after another, as `Machine::run`, which this run is of. What stands in a block that no
+/// region shows, neither before nor by these commands, is told by none of the answers, neither by a reply nor
+/// by a notice, and by none of the calls that the file system was asked: with any other bytes there the same
+/// may come, and what the machine is then differs only there.
 pub fn run_beside_secrets<F: FileSystem, I: Iommu + Drop>(
     alloc: Global,
     machine: &mut Machine<F, I>,
     commands: Vec<Command>,
 ) -> Result<Vec<Answer>, AllocError>
-    ensures run { IfOk result (λ answers. Run F.may (machine_of machine.old) (zip (map command_of commands.items) (map answer_of answers.items))
+    ensures run { IfOk result (λ answers. Run F.may (machine_of machine.old)
+        (zip (map command_of commands.items) (map answer_of answers.items))
         (machine_of machine.new)) }
     ensures all { IfOk result (λ answers. length answers.items ≡ length commands.items) }
-    ensures secret { IfOk result (λ answers. (block : ℕ) → IsHidden block (machine_of machine.old) (map command_of commands.items) →
-        KeepsSecret F.may block (machine_of machine.old) (machine_of machine.new) (zip (map command_of commands.items) (map answer_of answers.items))) }
+    ensures secret { IfOk result (λ answers. (block : ℕ)
+        → IsHidden block (machine_of machine.old) (map command_of commands.items)
+        →
+        KeepsSecret F.may block (machine_of machine.old) (machine_of machine.new)
+        (zip (map command_of commands.items) (map answer_of answers.items))) }
     ensures err { OnErr result (machine_of machine.new ≡ machine_of machine.old) }
     ensures memory { OnErr result (0 < length commands.items) }
 {

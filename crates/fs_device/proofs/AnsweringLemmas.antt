@@ -20,19 +20,24 @@ request_held m h (IsRequest request room) c same held = ap (λ x. map (byte_in x
 request_held m h (CannotFetch why) c same held = absurd held
 
 -- the first bytes of what stands at some places, and the rest
-pub front_and_rest : (h : Host) (ps : List Place) (front : List ℕ) → front ≡ map (byte_in h) (take (length front) ps) → front ++ map (byte_in h) (drop (length front) ps) ≡ map (byte_in h) ps
+pub front_and_rest : (h : Host) (ps : List Place) (front : List ℕ) → front ≡ map (byte_in h) (take (length front) ps) →
+    front ++ map (byte_in h) (drop (length front) ps) ≡ map (byte_in h) ps
 front_and_rest h ps front is =
     let n = length front in
-    ap (λ l. l ++ map (byte_in h) (drop n ps)) is ∙ sym (map-append (byte_in h) (take n ps) (drop n ps)) ∙ ap (map (byte_in h)) (take-append-drop n ps)
+    ap (λ l. l ++ map (byte_in h) (drop n ps)) is ∙ sym (map-append (byte_in h) (take n ps) (drop n ps))
+    ∙ ap (map (byte_in h)) (take-append-drop n ps)
 
 -- all of them, where they are as many
-pub front_is_all : (h : Host) (ps : List Place) (front : List ℕ) → front ≡ map (byte_in h) (take (length front) ps) → length front ≡ length ps → front ≡ map (byte_in h) ps
+pub front_is_all : (h : Host) (ps : List Place) (front : List ℕ) → front ≡ map (byte_in h) (take (length front) ps) →
+    length front ≡ length ps → front ≡ map (byte_in h) ps
 front_is_all h ps front is all = is ∙ ap (map (byte_in h)) (take_all (length front) ps (omega (arith, all)))
 
 -- a step that exchanged, told by its head, its lengths, its fault and its notice
 pub told_step : {F : Type 0} (may : May F) (before : State F) (i : ℕ) (x : Exchange) (notice : Bool) (after : State F) (r : Returned) →
-    (calls : Calls) × Step may before i calls (Exchanged x notice) after → r.head ≡ x.head → r.request_len ≡ length x.request → r.reply_len ≡ length x.reply →
+    (calls : Calls) × Step may before i calls (Exchanged x notice) after → r.head ≡ x.head → r.request_len ≡ length x.request →
+    r.reply_len ≡ length x.reply →
     r.fault ≡ x.fault → r.notify ≡ notice → StepTold may before i (Ok (Some r)) after
 told_step may before i x notice after r step head request reply fault told =
-    let same : r ≡ told_exchange x notice = λ j. record { head = head j; request_len = request j; reply_len = reply j; fault = fault j; notify = told j } in
+    let same : r ≡ told_exchange x notice =
+    λ j. record { head = head j; request_len = request j; reply_len = reply j; fault = fault j; notify = told j } in
     (step.0, Exchanged x notice, step.1, ap (λ y. Ok (Some y)) same)

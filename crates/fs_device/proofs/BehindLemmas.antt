@@ -1,5 +1,6 @@
 -- What is left of a room by the window where it begins.
-use Rattle.std.proofs.Common.{◌≡◌, ℕ, zero, suc, ◌+◌, ◌-◌, ◌<◌, ◌≤◌, List, [], ◌∷◌, ◌++◌, length, map, sum, take, drop, refl, sym, ap, ◌∙◌, arith, length-append, Ok, Err, true, false, Bool, min, subst, get_or, ⊎_elim}
+use Rattle.std.proofs.Common.{◌≡◌, ℕ, zero, suc, ◌+◌, ◌-◌, ◌<◌, ◌≤◌, List, [], ◌∷◌, ◌++◌, length, map, sum, take, drop, refl, sym, ap, ◌∙◌}
+use Rattle.std.proofs.Common.{arith, length-append, Ok, Err, true, false, Bool, min, subst, get_or, ⊎_elim}
 use Rattle.std.specs.Prelude.{◌^◌, Option, nat_le, nat_lt, if◌then◌else◌}
 use Rattle.std.proofs.lemmas.Bool.{cases_lt}
 use Rattle.std.proofs.lemmas.List.{drop-drop, drop-append-le, drop_all, drop_at, length-drop, take-append-le}
@@ -38,7 +39,8 @@ part-places w at n le =
 -- windows that have a place are some
 pub some_there : (ws : List Window) (i at : ℕ) → at < length (places (drop i ws)) → i < length ws
 some_there ws i at lt =
-    ⊎_elim (λ (l : i < length ws). l) (λ (none : length ws ≤ i). absurd (omega (arith, lt, ap (λ (l : List Window). length (places l)) (drop_all i ws none)))) (cases_lt i (length ws))
+    ⊎_elim (λ (l : i < length ws). l) (λ (none : length ws ≤ i).
+    absurd (omega (arith, lt, ap (λ (l : List Window). length (places l)) (drop_all i ws none)))) (cases_lt i (length ws))
 
 -- the window that was read
 pub same_window : (ws : List Window) (i : ℕ) (w v : Window) → drop i ws ≡ w ∷ drop (i + 1) ws → drop i ws ≡ v ∷ drop (i + 1) ws → w ≡ v
@@ -50,7 +52,8 @@ module _ (ws : List Window) (i : ℕ) (w : Window) (next : drop i ws ≡ w ∷ d
   count = length-span w.len w.block w.offset w.io
 
   pub more_there : (at k : ℕ) → k ≡ w.len → at < length (places (drop i ws)) → w.len ≤ at → at - k < length (places (drop (i + 1) ws))
-  more_there at k is lt le = omega (arith, is, lt, le, count, ap (λ l. length (places l)) next, length-append (places_of w) (places (drop (i + 1) ws)))
+  more_there at k is lt le =
+      omega (arith, is, lt, le, count, ap (λ l. length (places l)) next, length-append (places_of w) (places (drop (i + 1) ws)))
 
   pub places_next : (at k : ℕ) → k ≡ w.len → w.len ≤ at → drop (at - k) (places (drop (i + 1) ws)) ≡ drop at (places (drop i ws))
   places_next at k is le =
@@ -60,7 +63,8 @@ module _ (ws : List Window) (i : ℕ) (w : Window) (next : drop i ws ≡ w ∷ d
       ∙ ap (drop (at - w.len)) (drop_at (places_of w) (places (drop (i + 1) ws)) w.len count))
 
   pub rooms_next : (at k : ℕ) → k ≡ w.len → w.len ≤ at → past (at - k) (rooms_of (drop (i + 1) ws)) ≡ past at (rooms_of (drop i ws))
-  rooms_next at k is le = ap (λ n. past (at - n) (rooms_of (drop (i + 1) ws))) is ∙ sym (ap (λ l. past at (rooms_of l)) next ∙ past_behind at w.len (map (λ v. v.len) (drop (i + 1) ws)) le)
+  rooms_next at k is le = ap (λ n. past (at - n) (rooms_of (drop (i + 1) ws))) is
+      ∙ sym (ap (λ l. past at (rooms_of l)) next ∙ past_behind at w.len (map (λ v. v.len) (drop (i + 1) ws)) le)
 
   -- the part of a window that is left
   pub part_there : (at n : ℕ) → at + n ≤ w.len → places_of (part_of w at n) ≡ take n (drop at (places (drop i ws)))
@@ -76,10 +80,18 @@ module _ (ws : List Window) (i : ℕ) (w : Window) (next : drop i ws ≡ w ∷ d
       ∙ first_of (w.len - at) (map (λ v. v.len) (drop (i + 1) ws)) (λ z. absurd (omega (arith, z, lt)))
 
   pub as_many : (at : ℕ) → at < w.len → w.len - at ≤ length (drop at (places (drop i ws)))
-  as_many at lt = omega (arith, lt, count, length-drop at (places (drop i ws)), ap (λ l. length (places l)) next, length-append (places_of w) (places (drop (i + 1) ws)))
+  as_many at lt = omega (
+    arith,
+    lt,
+    count,
+    length-drop at (places (drop i ws)),
+    ap (λ l. length (places l)) next,
+    length-append (places_of w) (places (drop (i + 1) ws)),
+  )
 
   -- the part of a window that is left, or the front of it, of what is left of a room
-  pub front_of : (r : RoomLeft) (at n most : ℕ) (f : Window) → drop at (places (drop i ws)) ≡ r.places → past at (rooms_of (drop i ws)) ≡ r.rooms → at < w.len → n ≡ min most (w.len - at) →
+  pub front_of : (r : RoomLeft) (at n most : ℕ) (f : Window) → drop at (places (drop i ws)) ≡ r.places →
+      past at (rooms_of (drop i ws)) ≡ r.rooms → at < w.len → n ≡ min most (w.len - at) →
       f ≡ part_of w at n → IsFrontWindow r most f
   front_of r at n most f left rooms lt is part =
       let size : f.len ≡ n = ap (λ (v : Window). v.len) part in
@@ -93,7 +105,8 @@ module _ (ws : List Window) (i : ℕ) (w : Window) (next : drop i ws ≡ w ∷ d
       }
 
 -- a part of a window lies where the window does
-pub part_lies : (ws : List Window) (i : ℕ) (d f : Window) (at n : ℕ) → i < length ws → at + n ≤ (get_or ws i d).len → f ≡ part_of (get_or ws i d) at n → (lengths : List ℕ) → AllLieIn lengths ws → LiesIn lengths f
+pub part_lies : (ws : List Window) (i : ℕ) (d f : Window) (at n : ℕ) → i < length ws → at + n ≤ (get_or ws i d).len →
+    f ≡ part_of (get_or ws i d) at n → (lengths : List ℕ) → AllLieIn lengths ws → LiesIn lengths f
 unfolding AllLieIn
 part_lies ws i d f at n lt le part lengths all =
     let here : LiesIn lengths (get_or ws i d) = all i d lt in
@@ -104,7 +117,13 @@ part_lies ws i d f at n lt le part lengths all =
 sum_lens : (ws : List Window) → sum (map (λ w. w.len) ws) ≡ length (places ws)
 sum_lens [] = refl
 sum_lens (w ∷ ws) =
-    omega (arith, sum-cons w.len (map (λ v. v.len) ws), sum_lens ws, length-append (places_of w) (places ws), length-span w.len w.block w.offset w.io)
+    omega (
+      arith,
+      sum-cons w.len (map (λ v. v.len) ws),
+      sum_lens ws,
+      length-append (places_of w) (places ws),
+      length-span w.len w.block w.offset w.io,
+    )
 
 pub sum_left : (ws : List Window) (at : ℕ) → sum (past at (rooms_of ws)) ≡ length (drop at (places ws))
 sum_left ws at = omega (arith, sum-past at (rooms_of ws), sum-filled (map (λ v. v.len) ws), sum_lens ws, length-drop at (places ws))
@@ -112,7 +131,8 @@ sum_left ws at = omega (arith, sum-past at (rooms_of ws), sum-filled (map (λ v.
 pub filled_left : (ws : List Window) (at : ℕ) → filled (past at (rooms_of ws)) ≡ past at (rooms_of ws)
 filled_left ws at = filled-past at (rooms_of ws) (filled-filled (map (λ v. v.len) ws))
 
-sub_by : (a b : Bool) (w f : Window) (at n : ℕ) (d e : VolatileMemoryError) → Ok f ≡ (if a then if b then Ok (part_of w at n) else Err d else Err e) → f ≡ part_of w at n
+sub_by : (a b : Bool) (w f : Window) (at n : ℕ) (d e : VolatileMemoryError) →
+    Ok f ≡ (if a then if b then Ok (part_of w at n) else Err d else Err e) → f ≡ part_of w at n
 sub_by true true w f at n d e h = let same : f ≡ part_of w at n = cc in same
 sub_by true false w f at n d e h = absurd (cc)
 sub_by false b w f at n d e h = absurd (cc)

@@ -1,5 +1,6 @@
 -- the accounts of steps, kicks and runs
-use Rattle.std.proofs.Common.{◌≡◌, ℕ, zero, suc, ◌+◌, ◌-◌, ◌≤◌, Bool, true, false, List, [], ◌∷◌, length, drop, Option, Some, None, refl, ap, sym, ◌∙◌, subst, arith}
+use Rattle.std.proofs.Common.{◌≡◌, ℕ, zero, suc, ◌+◌, ◌-◌, ◌≤◌, Bool, true, false, List, [], ◌∷◌, length, drop, Option, Some, None, refl}
+use Rattle.std.proofs.Common.{ap, sym, ◌∙◌, subst, arith}
 use Rattle.std.specs.Prelude.{◌==◌, ◌≢◌, if◌then◌else◌, IsTrue, nat_lt, sum_by, slice_get}
 use Rattle.std.proofs.lemmas.List.Sums.{sum_by-cons}
 use Rattle.std.proofs.lemmas.Bool.{le-ltb, lt-ltb}
@@ -18,17 +19,21 @@ use Rattle.fs_queue.specs.Taking as taking
 use Rattle.virtiofsd_fuse.specs.Grammar.{Meaning, IsFault, Replies, IsSilent, One, Starts, Lists, meaning}
 use Rattle.virtiofsd_fuse.specs.Grammar as grammar
 use Rattle.virtiofsd_fuse.specs.Listings.{ListRequest, list_entries, readdir_call}
-use Rattle.virtiofsd_fuse.specs.Serving.{May, ServedMessage, Setting, setting, served, no_reply, answer_bytes, start_options, start_answered, list_ended}
+use Rattle.virtiofsd_fuse.specs.Serving.{May, ServedMessage, Setting, setting, served, no_reply, answer_bytes, start_options}
+use Rattle.virtiofsd_fuse.specs.Serving.{start_answered, list_ended}
 use Rattle.server_replies.proofs.ReplyLemmas.{length_reply, length_error}
 use Rattle.plain_machine.specs.declared.error.DeviceError.{DeviceError}
 use Rattle.plain_machine.specs.declared.refusal.Refusal.TheVariants as why
-use Rattle.plain_machine.specs.Step.{State, Exchange, Calls, Exchanged, Exchanges, StepOf, faulty, served_exchange, EachSuits, calls_alone, answers_alone}
+use Rattle.plain_machine.specs.Step.{State, Exchange, Calls, Exchanged, Exchanges, StepOf, faulty, served_exchange, EachSuits, calls_alone}
+use Rattle.plain_machine.specs.Step.{answers_alone}
 use Rattle.plain_machine.specs.Run as run
 use Rattle.plain_machine.specs.Run.{Turn, Turns, Command, Answer, KickRun, Kicks, KickAnswer, Does, Performs, RunTold}
-use Rattle.fs_device.specs.Books.{answered, sent, written, accepted, nodes_in, nodes_listed, opcode_in, entry_count, forget_count, forgets_meant, IsBalanced}
+use Rattle.fs_device.specs.Books.{answered, sent, written, accepted, nodes_in, nodes_listed, opcode_in, entry_count, forget_count}
+use Rattle.fs_device.specs.Books.{forgets_meant, IsBalanced}
 use Rattle.fs_device.proofs.NodeLemmas.{drop_reply, drop_error, none_in_nothing, not_zero}
 use Rattle.fs_device.proofs.MeaningLemmas.{has_entry, no_entry, not_true, CallFits, MeaningFits, ListFits, meaning_fits}
-use Rattle.fs_device.proofs.ListBooks.{entries_in, counts_in, times, entries_more, counts_more, no_step, one_step, list_balances, list_fits, plain_asks_nothing}
+use Rattle.fs_device.proofs.ListBooks.{entries_in, counts_in, times, entries_more, counts_more, no_step, one_step, list_balances, list_fits}
+use Rattle.fs_device.proofs.ListBooks.{plain_asks_nothing}
 use Rattle.fs_device.proofs.GivenBack.{gives_back}
 
 -- ---- one request
@@ -52,38 +57,45 @@ silent : (n : ℕ) (o : Option Opcode) → times n (nodes_in o (drop 16 [])) ≡
 silent n o = ap (times n) (none_in_nothing o)
 
 -- nothing was asked, and no node is in the reply
-nothing_asked : (n : ℕ) (o : Option Opcode) (calls : Calls) (m : Meaning) (given : ServedMessage) → [] ≡ calls_alone calls → times n (nodes_in o (drop 16 given.reply)) ≡ 0 →
+nothing_asked : (n : ℕ) (o : Option Opcode) (calls : Calls) (m : Meaning) (given : ServedMessage) → [] ≡ calls_alone calls →
+    times n (nodes_in o (drop 16 given.reply)) ≡ 0 →
     Balanced n o calls (taken n calls m) given
 nothing_asked n o calls m given asks none =
     subst (λ (l : Calls). Balanced n o l (taken n l m) given) (sym (no_step calls asks)) (omega (arith, none))
 
 -- a reply goes in whole, or not at all
 abbrev in_room : Bool → List FileCall → (options : ℕ) → List ℕ → ServedMessage
-in_room long fetched options bytes = if long then no_reply fetched options (Some EncodeMessage) else record { calls = fetched; options = options; reply = bytes; fault = None }
+in_room long fetched options bytes = if long then no_reply fetched options (Some EncodeMessage)
+    else record { calls = fetched; options = options; reply = bytes; fault = None }
 
 replied_asks : (long : Bool) (fetched : List FileCall) (options : ℕ) (bytes : List ℕ) → (in_room long fetched options bytes).calls ≡ fetched
 replied_asks true fetched options bytes = refl
 replied_asks false fetched options bytes = refl
 
-replied_nodes : (n : ℕ) (o : Option Opcode) (long : Bool) (fetched : List FileCall) (options : ℕ) (bytes : List ℕ) → nodes_in o (drop 16 bytes) ≡ [] →
+replied_nodes :
+    (n : ℕ) (o : Option Opcode) (long : Bool) (fetched : List FileCall) (options : ℕ) (bytes : List ℕ) → nodes_in o (drop 16 bytes) ≡ [] →
     times n (nodes_in o (drop 16 (in_room long fetched options bytes).reply)) ≡ 0
 replied_nodes n o true fetched options bytes none = silent n o
 replied_nodes n o false fetched options bytes none = ap (times n) none
 
 -- a reply without an entry
-replied_balances : (n : ℕ) (o : Option Opcode) (calls : Calls) (back options : ℕ) (fetched : List FileCall) (bytes : List ℕ) (long : Bool) → entries_in n calls ≡ 0 →
+replied_balances : (n : ℕ) (o : Option Opcode) (calls : Calls) (back options : ℕ) (fetched : List FileCall) (bytes : List ℕ) (long : Bool) →
+    entries_in n calls ≡ 0 →
     times n (nodes_in o (drop 16 bytes)) ≡ 0 → back ≡ counts_in n calls → Balanced n o calls back (in_room long fetched options bytes)
 replied_balances n o calls back options fetched bytes true none same keeps = let silence = silent n o in omega (arith, none, silence, keeps)
 replied_balances n o calls back options fetched bytes false none same keeps = omega (arith, none, same, keeps)
 
-replied_whole : (n : ℕ) (o : Option Opcode) (calls : Calls) (back options : ℕ) (fetched : List FileCall) (bytes : List ℕ) (long : Bool) → long ≡ false →
-    entries_in n calls ≡ times n (nodes_in o (drop 16 bytes)) + counts_in n calls → back ≡ 0 → Balanced n o calls back (in_room long fetched options bytes)
+replied_whole :
+    (n : ℕ) (o : Option Opcode) (calls : Calls) (back options : ℕ) (fetched : List FileCall) (bytes : List ℕ) (long : Bool) → long ≡ false →
+    entries_in n calls ≡ times n (nodes_in o (drop 16 bytes)) + counts_in n calls → back ≡ 0 →
+    Balanced n o calls back (in_room long fetched options bytes)
 replied_whole n o calls back options fetched bytes true fits same none = not_true (sym fits)
 replied_whole n o calls back options fetched bytes false fits same none = omega (arith, same, none)
 
 -- ---- listings
 
-listing_whole : (unique : ℕ) (bytes : List ℕ) (error : Option ℕ) → (drop 16 (listing_bytes unique true bytes error) ≡ bytes) × (length (listing_bytes unique true bytes error) ≡ 16 + length bytes)
+listing_whole : (unique : ℕ) (bytes : List ℕ) (error : Option ℕ) →
+    (drop 16 (listing_bytes unique true bytes error) ≡ bytes) × (length (listing_bytes unique true bytes error) ≡ 16 + length bytes)
 listing_whole unique bytes None = (drop_reply unique bytes, length_reply unique bytes)
 listing_whole unique [] (Some errno) = (drop_error unique errno, length_error unique errno)
 listing_whole unique (b ∷ bytes) (Some errno) =
@@ -117,7 +129,8 @@ module _ (n : ℕ) (some : n ≢ 0) (s : Setting) (o : Option Opcode) where
       omega (arith, x, y, e, k, told)
 
   -- the same of the call that was made
-  one_made : (unique : ℕ) (c : FileCall) (step : FileCall × FileAnswer) (more : Calls) (long : Bool) → CallFits n o c → EachSuits (step ∷ more) →
+  one_made :
+      (unique : ℕ) (c : FileCall) (step : FileCall × FileAnswer) (more : Calls) (long : Bool) → CallFits n o c → EachSuits (step ∷ more) →
       (c ∷ (if long then given_back c step.1 else [])) ≡ step.0 ∷ calls_alone more → Balanced n o (step ∷ more) (forget_count n c)
       (in_room long (c ∷ (if long then given_back c step.1 else [])) (options_after s.options c) (answer_bytes unique c step.1))
   one_made unique c step more long fits suit asks =
@@ -127,24 +140,28 @@ module _ (n : ℕ) (some : n ≢ 0) (s : Setting) (o : Option Opcode) where
       (in_room long (c ∷ (if long then given_back c step.1 else [])) (options_after s.options c) (answer_bytes unique c step.1))) (sym same)
       (one_given unique c step.1 more long fits only (cc))
 
-  one_balances : (unique : ℕ) (c : FileCall) (calls : Calls) → CallFits n o c → EachSuits calls → (served s (grammar.Asks (One unique c)) (answers_alone calls)).calls ≡ calls_alone calls →
+  one_balances : (unique : ℕ) (c : FileCall) (calls : Calls) → CallFits n o c → EachSuits calls →
+      (served s (grammar.Asks (One unique c)) (answers_alone calls)).calls ≡ calls_alone calls →
       Balanced n o calls (taken n calls (grammar.Asks (One unique c))) (served s (grammar.Asks (One unique c)) (answers_alone calls))
   one_balances unique c [] fits suit asks = absurd (cc)
   one_balances unique c (step ∷ calls) fits suit asks =
       let bytes = answer_bytes unique c step.1 in
       let long = nat_lt s.room (length bytes) in
       let made = c ∷ (if long then given_back c step.1 else []) in
-      subst (λ (k : ℕ). Balanced n o (step ∷ calls) k (served s (grammar.Asks (One unique c)) (step.1 ∷ answers_alone calls))) (sym (taken_made n step calls (grammar.Asks (One unique c))))
+      subst (λ (k : ℕ). Balanced n o (step ∷ calls) k (served s (grammar.Asks (One unique c)) (step.1 ∷ answers_alone calls)))
+      (sym (taken_made n step calls (grammar.Asks (One unique c))))
       (one_made unique c step calls long fits suit (sym (replied_asks long made (options_after s.options c) bytes) ∙ asks))
 
-  start_given : (unique capable readahead : ℕ) (a : FileAnswer) → ((bytes : List ℕ) → nodes_in o bytes ≡ []) → IsTrue (suits (call.Init capable) a) →
+  start_given :
+      (unique capable readahead : ℕ) (a : FileAnswer) → ((bytes : List ℕ) → nodes_in o bytes ≡ []) → IsTrue (suits (call.Init capable) a) →
       Balanced n o ((call.Init capable, a) ∷ []) 0 (served s (grammar.Asks (Starts unique capable readahead)) (a ∷ []))
   start_given unique capable readahead a fits suit =
       let bytes = start_answered s.page_size unique capable readahead a in
       let x = entries_more n (call.Init capable, a) [] in
       let y = counts_more n (call.Init capable, a) [] in
       let z = no_entry n (call.Init capable) a refl suit in
-      replied_balances n o ((call.Init capable, a) ∷ []) 0 (start_options s.options capable a) (call.Init capable ∷ []) bytes (nat_lt s.room (length bytes))
+      replied_balances n o ((call.Init capable, a) ∷ []) 0 (start_options s.options capable a) (call.Init capable ∷ []) bytes
+      (nat_lt s.room (length bytes))
       (omega (arith, x, z)) (ap (times n) (fits (drop 16 bytes))) (omega (arith, y))
 
   start_balances : (unique capable readahead : ℕ) (calls : Calls) → ((bytes : List ℕ) → nodes_in o bytes ≡ []) → EachSuits calls →
@@ -153,14 +170,18 @@ module _ (n : ℕ) (some : n ≢ 0) (s : Setting) (o : Option Opcode) where
   start_balances unique capable readahead [] fits suit asks = absurd (cc)
   start_balances unique capable readahead (step ∷ calls) fits suit asks =
       let bytes = start_answered s.page_size unique capable readahead step.1 in
-      let one = one_step (call.Init capable) (step ∷ calls) (sym (replied_asks (nat_lt s.room (length bytes)) (call.Init capable ∷ []) (start_options s.options capable step.1) bytes) ∙ asks) in
+      let one = one_step (call.Init capable) (step ∷ calls)
+      (sym (replied_asks (nat_lt s.room (length bytes)) (call.Init capable ∷ []) (start_options s.options capable step.1) bytes) ∙ asks) in
       let only : EachSuits ((call.Init capable, one.0) ∷ []) = subst EachSuits one.1 suit in
-      subst (λ (l : Calls). Balanced n o l 0 (served s (grammar.Asks (Starts unique capable readahead)) (answers_alone l))) (sym one.1) (start_given unique capable readahead one.0 fits only.0)
+      subst (λ (l : Calls). Balanced n o l 0 (served s (grammar.Asks (Starts unique capable readahead)) (answers_alone l))) (sym one.1)
+      (start_given unique capable readahead one.0 fits only.0)
 
   -- a directory's entries, with the calls that come with them
-  went_balances : (unique : ℕ) (l : ListRequest) (ds : List Listed) (steps : Calls) (nodes : Bool) → l.with_nodes ≡ nodes → ListFits s.room o nodes → EachSuits steps →
+  went_balances : (unique : ℕ) (l : ListRequest) (ds : List Listed) (steps : Calls) (nodes : Bool) → l.with_nodes ≡ nodes →
+      ListFits s.room o nodes → EachSuits steps →
       (list_entries l ds l.size (s.room - 16) (answers_alone steps)).calls ≡ calls_alone steps →
-      Balanced n o ((readdir_call l, call.Entries ds) ∷ steps) 0 (list_ended s unique l (list_entries l ds l.size (s.room - 16) (answers_alone steps)))
+      Balanced n o ((readdir_call l, call.Entries ds) ∷ steps) 0
+      (list_ended s unique l (list_entries l ds l.size (s.room - 16) (answers_alone steps)))
   went_balances unique l ds steps true is fits suit asks =
       let w = list_entries l ds l.size (s.room - 16) (answers_alone steps) in
       let bytes = listing_bytes unique l.with_nodes w.bytes w.error in
@@ -176,7 +197,8 @@ module _ (n : ℕ) (some : n ≢ 0) (s : Setting) (o : Option Opcode) where
       let x = entries_more n (readdir_call l, call.Entries ds) steps in
       let y = counts_more n (readdir_call l, call.Entries ds) steps in
       let k = ap (times n) nodes in
-      replied_whole n o ((readdir_call l, call.Entries ds) ∷ steps) 0 s.options (readdir_call l ∷ w.calls) bytes (nat_lt s.room (length bytes))
+      replied_whole n o ((readdir_call l, call.Entries ds) ∷ steps) 0 s.options (readdir_call l ∷ w.calls) bytes
+      (nat_lt s.room (length bytes))
       (le-ltb s.room (length bytes) low) (omega (arith, same, x, y, k)) refl
   went_balances unique l ds steps false is fits suit asks =
       let w = list_entries l ds l.size (s.room - 16) (answers_alone steps) in
@@ -186,11 +208,13 @@ module _ (n : ℕ) (some : n ≢ 0) (s : Setting) (o : Option Opcode) where
       let y = counts_more n (readdir_call l, call.Entries ds) steps in
       let a : entries_in n steps ≡ 0 = ap (entries_in n) nothing in
       let b : counts_in n steps ≡ 0 = ap (counts_in n) nothing in
-      replied_balances n o ((readdir_call l, call.Entries ds) ∷ steps) 0 s.options (readdir_call l ∷ w.calls) bytes (nat_lt s.room (length bytes)) (omega (arith, x, a))
+      replied_balances n o ((readdir_call l, call.Entries ds) ∷ steps) 0 s.options (readdir_call l ∷ w.calls) bytes
+      (nat_lt s.room (length bytes)) (omega (arith, x, a))
       (ap (times n) (fits (drop 16 bytes))) (omega (arith, y, b))
 
   -- an answer that lists nothing
-  unlisted : (l : ListRequest) (c : FileCall) (a : FileAnswer) (steps : Calls) (bytes : List ℕ) (long : Bool) → readdir_call l ≡ c → IsTrue (suits c a) →
+  unlisted : (l : ListRequest) (c : FileCall) (a : FileAnswer) (steps : Calls) (bytes : List ℕ) (long : Bool) → readdir_call l ≡ c →
+      IsTrue (suits c a) →
       [] ≡ calls_alone steps → nodes_in o (drop 16 bytes) ≡ [] →
       Balanced n o ((c, a) ∷ steps) 0 (in_room long (readdir_call l ∷ []) s.options bytes)
   unlisted l c a steps bytes long is suit asks none =
@@ -200,32 +224,48 @@ module _ (n : ℕ) (some : n ≢ 0) (s : Setting) (o : Option Opcode) where
       let v : counts_in n steps ≡ 0 = ap (counts_in n) (no_step steps asks) in
       let f : forget_count n c ≡ 0 = ap (forget_count n) (sym is) in
       let e : entry_count n a ≡ 0 = no_entry n c a (ap (λ (c : FileCall). has_entry (kind_of c)) (sym is)) suit in
-      replied_balances n o ((c, a) ∷ steps) 0 s.options (readdir_call l ∷ []) bytes long (omega (arith, x, z, e)) (ap (times n) none) (omega (arith, y, v, f))
+      replied_balances n o ((c, a) ∷ steps) 0 s.options (readdir_call l ∷ []) bytes long (omega (arith, x, z, e)) (ap (times n) none)
+      (omega (arith, y, v, f))
 
-  list_given : (unique : ℕ) (l : ListRequest) (c : FileCall) (a : FileAnswer) (steps : Calls) → ListFits s.room o l.with_nodes → EachSuits ((c, a) ∷ steps) →
+  list_given : (unique : ℕ) (l : ListRequest) (c : FileCall) (a : FileAnswer) (steps : Calls) → ListFits s.room o l.with_nodes →
+      EachSuits ((c, a) ∷ steps) →
       (served s (grammar.Asks (Lists unique l)) (a ∷ answers_alone steps)).calls ≡ c ∷ calls_alone steps →
       Balanced n o ((c, a) ∷ steps) 0 (served s (grammar.Asks (Lists unique l)) (a ∷ answers_alone steps))
   list_given unique l c (call.Failed errno) steps fits suit asks =
       let bytes = error_bytes unique errno in
-      let all : (readdir_call l ∷ []) ≡ c ∷ calls_alone steps = sym (replied_asks (nat_lt s.room (length bytes)) (readdir_call l ∷ []) s.options bytes) ∙ asks in
-      unlisted l c (call.Failed errno) steps bytes (nat_lt s.room (length bytes)) (cc) suit.0 (cc) (ap (nodes_in o) (drop_error unique errno) ∙ none_in_nothing o)
+      let all : (readdir_call l ∷ []) ≡ c ∷ calls_alone steps =
+      sym (replied_asks (nat_lt s.room (length bytes)) (readdir_call l ∷ []) s.options bytes) ∙ asks in
+      unlisted l c (call.Failed errno) steps bytes (nat_lt s.room (length bytes)) (cc) suit.0 (cc)
+      (ap (nodes_in o) (drop_error unique errno) ∙ none_in_nothing o)
   list_given unique l c call.Done steps fits suit asks = unlisted l c call.Done steps [] false (cc) suit.0 (cc) (none_in_nothing o)
-  list_given unique l c (call.HasEntry e) steps fits suit asks = unlisted l c (call.HasEntry e) steps [] false (cc) suit.0 (cc) (none_in_nothing o)
-  list_given unique l c (call.HasAttr attr timeout) steps fits suit asks = unlisted l c (call.HasAttr attr timeout) steps [] false (cc) suit.0 (cc) (none_in_nothing o)
-  list_given unique l c (call.Opened handle options) steps fits suit asks = unlisted l c (call.Opened handle options) steps [] false (cc) suit.0 (cc) (none_in_nothing o)
-  list_given unique l c (call.Created e handle options) steps fits suit asks = unlisted l c (call.Created e handle options) steps [] false (cc) suit.0 (cc) (none_in_nothing o)
-  list_given unique l c (call.Bytes bytes) steps fits suit asks = unlisted l c (call.Bytes bytes) steps [] false (cc) suit.0 (cc) (none_in_nothing o)
-  list_given unique l c (call.Count k) steps fits suit asks = unlisted l c (call.Count k) steps [] false (cc) suit.0 (cc) (none_in_nothing o)
-  list_given unique l c (call.Stats st) steps fits suit asks = unlisted l c (call.Stats st) steps [] false (cc) suit.0 (cc) (none_in_nothing o)
-  list_given unique l c (call.Wrote k) steps fits suit asks = unlisted l c (call.Wrote k) steps [] false (cc) suit.0 (cc) (none_in_nothing o)
-  list_given unique l c (call.Offset k) steps fits suit asks = unlisted l c (call.Offset k) steps [] false (cc) suit.0 (cc) (none_in_nothing o)
+  list_given unique l c (call.HasEntry e) steps fits suit asks =
+      unlisted l c (call.HasEntry e) steps [] false (cc) suit.0 (cc) (none_in_nothing o)
+  list_given unique l c (call.HasAttr attr timeout) steps fits suit asks =
+      unlisted l c (call.HasAttr attr timeout) steps [] false (cc) suit.0 (cc) (none_in_nothing o)
+  list_given unique l c (call.Opened handle options) steps fits suit asks =
+      unlisted l c (call.Opened handle options) steps [] false (cc) suit.0 (cc) (none_in_nothing o)
+  list_given unique l c (call.Created e handle options) steps fits suit asks =
+      unlisted l c (call.Created e handle options) steps [] false (cc) suit.0 (cc) (none_in_nothing o)
+  list_given unique l c (call.Bytes bytes) steps fits suit asks =
+      unlisted l c (call.Bytes bytes) steps [] false (cc) suit.0 (cc) (none_in_nothing o)
+  list_given unique l c (call.Count k) steps fits suit asks =
+      unlisted l c (call.Count k) steps [] false (cc) suit.0 (cc) (none_in_nothing o)
+  list_given unique l c (call.Stats st) steps fits suit asks =
+      unlisted l c (call.Stats st) steps [] false (cc) suit.0 (cc) (none_in_nothing o)
+  list_given unique l c (call.Wrote k) steps fits suit asks =
+      unlisted l c (call.Wrote k) steps [] false (cc) suit.0 (cc) (none_in_nothing o)
+  list_given unique l c (call.Offset k) steps fits suit asks =
+      unlisted l c (call.Offset k) steps [] false (cc) suit.0 (cc) (none_in_nothing o)
   list_given unique l c (call.Entries ds) steps fits suit asks =
       let w = list_entries l ds l.size (s.room - 16) (answers_alone steps) in
       let bytes = listing_bytes unique l.with_nodes w.bytes w.error in
-      let all : (readdir_call l ∷ w.calls) ≡ c ∷ calls_alone steps = sym (replied_asks (nat_lt s.room (length bytes)) (readdir_call l ∷ w.calls) s.options bytes) ∙ asks in
+      let all : (readdir_call l ∷ w.calls) ≡ c ∷ calls_alone steps =
+      sym (replied_asks (nat_lt s.room (length bytes)) (readdir_call l ∷ w.calls) s.options bytes) ∙ asks in
       let same : readdir_call l ≡ c = cc in
-      subst (λ (c : FileCall). Balanced n o ((c, call.Entries ds) ∷ steps) 0 (list_ended s unique l w)) same (went_balances unique l ds steps l.with_nodes refl fits suit.1 (cc))
-  list_given unique l c (call.Wants options) steps fits suit asks = unlisted l c (call.Wants options) steps [] false (cc) suit.0 (cc) (none_in_nothing o)
+      subst (λ (c : FileCall). Balanced n o ((c, call.Entries ds) ∷ steps) 0 (list_ended s unique l w)) same
+      (went_balances unique l ds steps l.with_nodes refl fits suit.1 (cc))
+  list_given unique l c (call.Wants options) steps fits suit asks =
+      unlisted l c (call.Wants options) steps [] false (cc) suit.0 (cc) (none_in_nothing o)
 
   list_all : (unique : ℕ) (l : ListRequest) (calls : Calls) → ListFits s.room o l.with_nodes → EachSuits calls →
       (served s (grammar.Asks (Lists unique l)) (answers_alone calls)).calls ≡ calls_alone calls →
@@ -233,19 +273,25 @@ module _ (n : ℕ) (some : n ≢ 0) (s : Setting) (o : Option Opcode) where
   list_all unique l [] fits suit asks = absurd (cc)
   list_all unique l (step ∷ calls) fits suit asks = list_given unique l step.0 step.1 calls fits suit asks
 
-  meaning_balances : (m : Meaning) (calls : Calls) → MeaningFits n s.room o m → EachSuits calls → (served s m (answers_alone calls)).calls ≡ calls_alone calls →
+  meaning_balances : (m : Meaning) (calls : Calls) → MeaningFits n s.room o m → EachSuits calls →
+      (served s m (answers_alone calls)).calls ≡ calls_alone calls →
       Balanced n o calls (taken n calls m) (served s m (answers_alone calls))
-  meaning_balances (IsFault e) calls fits suit asks = nothing_asked n o calls (IsFault e) (served s (IsFault e) (answers_alone calls)) asks (silent n o)
+  meaning_balances (IsFault e) calls fits suit asks =
+      nothing_asked n o calls (IsFault e) (served s (IsFault e) (answers_alone calls)) asks (silent n o)
   meaning_balances (Replies bytes) calls fits suit asks =
-      nothing_asked n o calls (Replies bytes) (served s (Replies bytes) (answers_alone calls)) (sym (replied_asks (nat_lt s.room (length bytes)) [] s.options bytes) ∙ asks)
+      nothing_asked n o calls (Replies bytes) (served s (Replies bytes) (answers_alone calls))
+      (sym (replied_asks (nat_lt s.room (length bytes)) [] s.options bytes) ∙ asks)
       (replied_nodes n o (nat_lt s.room (length bytes)) [] s.options bytes fits)
-  meaning_balances IsSilent calls fits suit asks = nothing_asked n o calls IsSilent (served s IsSilent (answers_alone calls)) asks (silent n o)
+  meaning_balances IsSilent calls fits suit asks =
+      nothing_asked n o calls IsSilent (served s IsSilent (answers_alone calls)) asks (silent n o)
   meaning_balances (grammar.Asks (One unique c)) calls fits suit asks = one_balances unique c calls fits suit asks
   meaning_balances (grammar.Asks (Starts unique capable readahead)) calls fits suit asks =
-      subst (λ (k : ℕ). Balanced n o calls k (served s (grammar.Asks (Starts unique capable readahead)) (answers_alone calls))) (sym (either_way (length calls == 0) 0))
+      subst (λ (k : ℕ). Balanced n o calls k (served s (grammar.Asks (Starts unique capable readahead)) (answers_alone calls)))
+      (sym (either_way (length calls == 0) 0))
       (start_balances unique capable readahead calls fits suit asks)
   meaning_balances (grammar.Asks (Lists unique l)) calls fits suit asks =
-      subst (λ (k : ℕ). Balanced n o calls k (served s (grammar.Asks (Lists unique l)) (answers_alone calls))) (sym (either_way (length calls == 0) 0)) (list_all unique l calls fits suit asks)
+      subst (λ (k : ℕ). Balanced n o calls k (served s (grammar.Asks (Lists unique l)) (answers_alone calls)))
+      (sym (either_way (length calls == 0) 0)) (list_all unique l calls fits suit asks)
 
 -- ---- steps
 
@@ -263,7 +309,8 @@ pub all_suit : {F : Type 0} (may : May F) (before : F) (steps : Calls) (after : 
 all_suit may before [] after same = tt
 all_suit may before (step ∷ steps) after (between, suit, made, rest) = (suit, all_suit may between steps after rest)
 
-exchange_balances : {F : Type 0} (may : May F) (n : ℕ) → n ≢ 0 → (s : State F) (i : ℕ) (q : Queue) (o : Offer) (calls : Calls) (x : Exchange) (notice : Bool) (after : State F) →
+exchange_balances : {F : Type 0} (may : May F) (n : ℕ) → n ≢ 0 →
+    (s : State F) (i : ℕ) (q : Queue) (o : Offer) (calls : Calls) (x : Exchange) (notice : Bool) (after : State F) →
     Exchanges may s i q o calls x notice after → TurnBalances n (turn x notice calls)
 exchange_balances may n some s i q (Offers head (CannotFetch fault)) calls x notice after r =
     subst (λ (l : Calls). TurnBalances n (turn x notice l)) (sym r.no_call)
@@ -272,16 +319,19 @@ exchange_balances may n some s i q (Offers head (IsRequest request room)) calls 
     let set = setting s.page_size s.options (length room) in
     let m = meaning s.options request (length room) in
     let fits = meaning_fits n s.options (length room) request in
-    let asks : (served set m (answers_alone calls)).calls ≡ calls_alone calls = ap (λ (g : ServedMessage). g.calls) (sym r.serves.gives) ∙ r.serves.asks in
+    let asks : (served set m (answers_alone calls)).calls ≡ calls_alone calls =
+    ap (λ (g : ServedMessage). g.calls) (sym r.serves.gives) ∙ r.serves.asks in
     let bal = meaning_balances n some set (opcode_in request) m calls fits.0 (all_suit may s.files calls after.files r.serves.run) asks in
     let given = served set m (answers_alone calls) in
     let back : taken n calls m ≡ taken n calls (meaning 0 request 0) = ap (λ (k : ℕ). if length calls == 0 then 0 else k) fits.1 in
     let is : x ≡ served_exchange head request given = r.returns.exchange ∙ ap (served_exchange head request) r.serves.gives in
-    subst (λ (y : Exchange). TurnBalances n (turn y notice calls)) (sym is) (subst (λ (k : ℕ). Balanced n (opcode_in request) calls k given) back bal)
+    subst (λ (y : Exchange). TurnBalances n (turn y notice calls)) (sym is)
+    (subst (λ (k : ℕ). Balanced n (opcode_in request) calls k given) back bal)
 exchange_balances may n some s i q taking.Idle calls x notice after r = absurd r
 exchange_balances may n some s i q (Refuses e) calls x notice after r = absurd r
 
-step_balances : {F : Type 0} (may : May F) (n : ℕ) → n ≢ 0 → (s : State F) (i : ℕ) (o : Option Queue) (calls : Calls) (x : Exchange) (notice : Bool) (after : State F) →
+step_balances : {F : Type 0} (may : May F) (n : ℕ) → n ≢ 0 →
+    (s : State F) (i : ℕ) (o : Option Queue) (calls : Calls) (x : Exchange) (notice : Bool) (after : State F) →
     StepOf may s i o calls (Exchanged x notice) after → TurnBalances n (turn x notice calls)
 step_balances may n some s i None calls x notice after t = absurd (cc)
 step_balances may n some s i (Some q) calls x notice after t = exchange_balances may n some s i q _ calls x notice after t
@@ -292,7 +342,8 @@ step_balances may n some s i (Some q) calls x notice after t = exchange_balances
 abbrev ToldBalances : (n : ℕ) → Turns → Type 0
 ToldBalances n told = sum_by (answered n) told + sum_by (accepted n) told ≡ sum_by (written n) told + sum_by (sent n) told
 
-kick_balances : {F : Type 0} (may : May F) (n : ℕ) → n ≢ 0 → (s : State F) (i most : ℕ) (told : Turns) (refused : Option DeviceError) (after : State F) →
+kick_balances : {F : Type 0} (may : May F) (n : ℕ) → n ≢ 0 →
+    (s : State F) (i most : ℕ) (told : Turns) (refused : Option DeviceError) (after : State F) →
     KickRun may s i most told refused after → ToldBalances n told
 unfolding KickRun
 kick_balances may n some s i most [] refused after t = refl
@@ -306,17 +357,20 @@ kick_balances may n some s i (suc most) (x ∷ told) refused after (mid, step, r
     let d = sum_by-cons (sent n) x told in
     omega (arith, own, others, a, b, c, d)
 
-kicks_balance : {F : Type 0} (may : May F) (n : ℕ) → n ≢ 0 → (s : State F) (i most : ℕ) (o : Option Queue) (told : Turns) (k : KickAnswer) (after : State F) →
+kicks_balance : {F : Type 0} (may : May F) (n : ℕ) → n ≢ 0 →
+    (s : State F) (i most : ℕ) (o : Option Queue) (told : Turns) (k : KickAnswer) (after : State F) →
     Kicks may s i most o told k after → ToldBalances n told
 kicks_balance may n some s i most None told k after t = subst (ToldBalances n) (sym t.1) refl
 kicks_balance may n some s i most (Some q) told k after t = kick_balances may n some s i most told k.refused after t.0
 
 -- ---- runs
 
-does_balance : {F : Type 0} (may : May F) (n : ℕ) → n ≢ 0 → (s : State F) (command : Command) (told : Turns) (answer : Answer) (after : State F) →
+does_balance :
+    {F : Type 0} (may : May F) (n : ℕ) → n ≢ 0 → (s : State F) (command : Command) (told : Turns) (answer : Answer) (after : State F) →
     Does may s command told answer after → ToldBalances n told
 does_balance may n some s command [] answer after t = refl
-does_balance may n some s (run.Kick i most) (x ∷ told) (run.Served k) after t = kicks_balance may n some s i most (slice_get s.queues i) (x ∷ told) k after t
+does_balance may n some s (run.Kick i most) (x ∷ told) (run.Served k) after t =
+    kicks_balance may n some s i most (slice_get s.queues i) (x ∷ told) k after t
 does_balance may n some s (run.Kick i most) (x ∷ told) run.Done after t = absurd t
 does_balance may n some s (run.Kick i most) (x ∷ told) (run.Bytes bytes) after t = absurd t
 does_balance may n some s (run.Kick i most) (x ∷ told) (run.NewBlockIs number) after t = absurd t
@@ -337,7 +391,8 @@ does_balance may n some s (run.ResetQueue queue size desc avail used) (x ∷ tol
 does_balance may n some s run.Image (x ∷ told) answer after t = absurd t
 does_balance may n some s run.Harvest (x ∷ told) answer after t = absurd t
 
-performs_balance : {F : Type 0} (may : May F) (n : ℕ) → n ≢ 0 → (s : State F) (command : Command) (told : Turns) (answer : Answer) (after : State F) →
+performs_balance :
+    {F : Type 0} (may : May F) (n : ℕ) → n ≢ 0 → (s : State F) (command : Command) (told : Turns) (answer : Answer) (after : State F) →
     Performs may s command told answer after → ToldBalances n told
 performs_balance may n some s command [] (run.IsRefused why.OutOfMemory) after t = refl
 performs_balance may n some s command (x ∷ told) (run.IsRefused why.OutOfMemory) after t = absurd t
@@ -357,7 +412,8 @@ performs_balance may n some s command told (run.Copied host) after t = does_bala
 performs_balance may n some s command told (run.Pages pages) after t = does_balance may n some s command told _ after t
 
 -- a run balances
-pub run_balances : {F : Type 0} (may : May F) (n : ℕ) → n ≢ 0 → (s : State F) (events : List (Command × Answer)) (tolds : List Turns) (after : State F) →
+pub run_balances :
+    {F : Type 0} (may : May F) (n : ℕ) → n ≢ 0 → (s : State F) (events : List (Command × Answer)) (tolds : List Turns) (after : State F) →
     RunTold may s events tolds after → IsBalanced n tolds
 unfolding RunTold
 run_balances may n some s [] [] after t = refl

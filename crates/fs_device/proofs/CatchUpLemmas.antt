@@ -80,17 +80,20 @@ record SameOff (to from : List ℕ) (q : ℕ) (marks : List Bool) : Type 0 where
   pub before : (o : ℕ) → o < length to → o < q * 4096 → get_or to o 0 ≡ get_or from o 0
   pub off : (o : ℕ) → o < length to → q * 4096 ≤ o → get_or marks (o / 4096 - q) false ≡ false → get_or to o 0 ≡ get_or from o 0
 
-next_mark : (marks : List Bool) (m : Bool) (q o : ℕ) → (q + 1) * 4096 ≤ o → get_or marks (o / 4096 - (q + 1)) false ≡ false → get_or (m ∷ marks) (o / 4096 - q) false ≡ false
+next_mark : (marks : List Bool) (m : Bool) (q o : ℕ) → (q + 1) * 4096 ≤ o → get_or marks (o / 4096 - (q + 1)) false ≡ false →
+    get_or (m ∷ marks) (o / 4096 - q) false ≡ false
 next_mark marks m q o high e =
     let k : o / 4096 - q ≡ suc (o / 4096 - (q + 1)) = omega arith in
     ap (λ i. get_or (m ∷ marks) i false) k ∙ e
 
-first_mark : (marks : List Bool) (m : Bool) (q o : ℕ) → q * 4096 ≤ o → o < (q + 1) * 4096 → m ≡ false → get_or (m ∷ marks) (o / 4096 - q) false ≡ false
+first_mark : (marks : List Bool) (m : Bool) (q o : ℕ) → q * 4096 ≤ o → o < (q + 1) * 4096 → m ≡ false →
+    get_or (m ∷ marks) (o / 4096 - q) false ≡ false
 first_mark marks m q o low high e =
     let k : o / 4096 - q ≡ 0 = omega arith in
     ap (λ i. get_or (m ∷ marks) i false) k ∙ e
 
-turn_more : (to from : List ℕ) (q : ℕ) (marks : List Bool) → SameOff to from q (true ∷ marks) → SameOff (turned to from (q * 4096)) from (q + 1) marks
+turn_more : (to from : List ℕ) (q : ℕ) (marks : List Bool) → SameOff to from q (true ∷ marks) →
+    SameOff (turned to from (q * 4096)) from (q + 1) marks
 turn_more to from q marks s =
     let n = length-turned to from (q * 4096) s.len in
     record {
@@ -103,7 +106,8 @@ turn_more to from q marks s =
           (cases_lt o (q * 4096));
       off = λ o within high e.
           let inside : o < length to = omega (arith, n, within) in
-          after_page to from (q * 4096) o s.len inside (omega (arith, high)) ∙ s.off o inside (omega (arith, high)) (next_mark marks true q o high e);
+          after_page to from (q * 4096) o s.len inside (omega (arith, high))
+          ∙ s.off o inside (omega (arith, high)) (next_mark marks true q o high e);
     }
 
 stay_more : (to from : List ℕ) (q : ℕ) (marks : List Bool) → SameOff to from q (false ∷ marks) → SameOff to from (q + 1) marks
@@ -119,7 +123,8 @@ stay_more to from q marks s = record {
 
 all_same : (to from : List ℕ) (q : ℕ) (marks : List Bool) → SameOff to from q marks → all_turned from q marks to ≡ from
 all_same to from q [] s =
-    ext_get_or 0 to from s.len (λ o within. ⊎_elim (λ (h : o < q * 4096). s.before o within h) (λ (h : q * 4096 ≤ o). s.off o within h refl) (cases_lt o (q * 4096)))
+    ext_get_or 0 to from s.len
+    (λ o within. ⊎_elim (λ (h : o < q * 4096). s.before o within h) (λ (h : q * 4096 ≤ o). s.off o within h refl) (cases_lt o (q * 4096)))
 all_same to from q (true ∷ marks) s = all_same (turned to from (q * 4096)) from (q + 1) marks (turn_more to from q marks s)
 all_same to from q (false ∷ marks) s = all_same to from (q + 1) marks (stay_more to from q marks s)
 
@@ -162,7 +167,8 @@ at_front (x ∷ front) back b f = ap (λ (l : List Block). x ∷ l) (at_front fr
 
 -- the marked pages of others are put into a block
 pages_turn : (h : Host) (front back : List Block) (b : Block) (from : List ℕ) (q : ℕ) (marks : List Bool) →
-    pages_put (with_blocks h (front ++ b ∷ back)) (block_pages (length front) from q marks) ≡ with_blocks h (front ++ refilled b (all_turned from q marks b.bytes) ∷ back)
+    pages_put (with_blocks h (front ++ b ∷ back)) (block_pages (length front) from q marks)
+    ≡ with_blocks h (front ++ refilled b (all_turned from q marks b.bytes) ∷ back)
 unfolding pages_put block_pages
 pages_turn h front back b from q [] = refl
 pages_turn h front back b from q (true ∷ marks) =
@@ -183,7 +189,8 @@ caught_up [] bs = []
 caught_up (a ∷ as') [] = a ∷ as'
 caught_up (a ∷ as') (b ∷ bs) = refilled a b.bytes ∷ caught_up as' bs
 
-blocks_turn : (h : Host) (front xs ys : List Block) → BlocksTrack xs ys → pages_put (with_blocks h (front ++ xs)) (host_pages (length front) ys) ≡ with_blocks h (front ++ caught_up xs ys)
+blocks_turn : (h : Host) (front xs ys : List Block) → BlocksTrack xs ys →
+    pages_put (with_blocks h (front ++ xs)) (host_pages (length front) ys) ≡ with_blocks h (front ++ caught_up xs ys)
 unfolding pages_put host_pages
 blocks_turn h front [] [] f = refl
 blocks_turn h front [] (b ∷ ys) f = absurd f
@@ -194,11 +201,13 @@ blocks_turn h front (a ∷ xs) (b ∷ ys) f =
     let count = length_push front next in
     pages_put-append (with_blocks h (front ++ a ∷ xs)) (block_pages (length front) b.bytes 0 b.marks) (host_pages (length front + 1) ys)
     ∙ ap (λ (k : Host). pages_put k (host_pages (length front + 1) ys))
-    (pages_turn h front xs a b.bytes 0 b.marks ∙ ap (λ (k : Block). with_blocks h (front ++ k ∷ xs)) (block_same a b f.0) ∙ ap (with_blocks h) one)
+    (pages_turn h front xs a b.bytes 0 b.marks ∙ ap (λ (k : Block). with_blocks h (front ++ k ∷ xs)) (block_same a b f.0)
+    ∙ ap (with_blocks h) one)
     ∙ ap (λ n. pages_put (with_blocks h ((front ++ next ∷ []) ++ xs)) (host_pages n ys)) (sym count)
     ∙ blocks_turn h (front ++ next ∷ []) xs ys f.1
     ∙ ap (with_blocks h) (append_assoc front (next ∷ []) (caught_up xs ys))
 
 -- with the marked pages put in, an image has the bytes of the host
-pub harvest_restores : (image host : Host) → Tracks image host → pages_put image (harvested host) ≡ with_blocks image (caught_up image.blocks host.blocks)
+pub harvest_restores :
+    (image host : Host) → Tracks image host → pages_put image (harvested host) ≡ with_blocks image (caught_up image.blocks host.blocks)
 harvest_restores image host f = blocks_turn image [] image.blocks host.blocks f.blocks

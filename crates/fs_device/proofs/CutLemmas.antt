@@ -14,31 +14,38 @@ use Rattle.fs_device.specs.Laws.{joined_request, CutsDoNotMatter, OffersAreServe
 use Rattle.plain_machine.specs.Step.{ServesRequest}
 
 three : (a b c : Bool) (x y z : ChainFault) (request room bytes places : List ℕ) →
-    (if a then CannotFetch x else if b then CannotFetch y else if c then CannotFetch z else IsRequest bytes places) ≡ IsRequest request room → (request ≡ bytes) × (room ≡ places)
+    (if a then CannotFetch x else if b then CannotFetch y else if c then CannotFetch z else IsRequest bytes places)
+    ≡ IsRequest request room → (request ≡ bytes) × (room ≡ places)
 three true b c x y z request room bytes places e = absurd (cc)
 three false true c x y z request room bytes places e = absurd (cc)
 three false false true x y z request room bytes places e = absurd (cc)
 three false false false x y z request room bytes places e = (cc, cc)
 
-asks_joined : (m : Memory) (limit : ℕ) (ds : List Descriptor) (request room : List ℕ) → request_and_room m limit ds ≡ IsRequest request room →
+asks_joined :
+    (m : Memory) (limit : ℕ) (ds : List Descriptor) (request room : List ℕ) → request_and_room m limit ds ≡ IsRequest request room →
     (request ≡ joined_request m ds) × (room ≡ addresses_of (writable ds))
 asks_joined m limit ds request room e =
-    three (nat_lt limit (total_len (readable ds)) || nat_lt limit (total_len (writable ds))) (not (all_reach m Read (readable ds))) (not (all_reach m Write (writable ds)))
+    three (nat_lt limit (total_len (readable ds)) || nat_lt limit (total_len (writable ds))) (not (all_reach m Read (readable ds)))
+    (not (all_reach m Write (writable ds)))
     OverLimit RequestUnreachable RoomUnreachable request room (joined_request m ds) (addresses_of (writable ds)) e
 
 -- the request of a chain that can be served is its joined bytes
-request_joined : (m : Memory) (limit : ℕ) (ds : List Descriptor) (request room : List ℕ) → request_and_room m limit ds ≡ IsRequest request room → request ≡ joined_request m ds
+request_joined : (m : Memory) (limit : ℕ) (ds : List Descriptor) (request room : List ℕ) →
+    request_and_room m limit ds ≡ IsRequest request room → request ≡ joined_request m ds
 request_joined m limit ds request room e = (asks_joined m limit ds request room e).0
 
 -- and its room has as many places as the lengths come to
-room_counted : (m : Memory) (limit : ℕ) (ds : List Descriptor) (request room : List ℕ) → request_and_room m limit ds ≡ IsRequest request room → length room ≡ total_len (writable ds)
+room_counted : (m : Memory) (limit : ℕ) (ds : List Descriptor) (request room : List ℕ) →
+    request_and_room m limit ds ≡ IsRequest request room → length room ≡ total_len (writable ds)
 room_counted m limit ds request room e = ap length (asks_joined m limit ds request room e).1 ∙ length-addresses_of (writable ds)
 
 -- any two lists of descriptors
 pub cuts : {F : Type 0} (may : May F) → CutsDoNotMatter may
 cuts may m n limit other ds es request room request' room' asks asks' bytes lengths page_size options before after calls given =
-    let same : request ≡ request' = request_joined m limit ds request room asks ∙ bytes ∙ sym (request_joined n other es request' room' asks') in
-    let count : length room ≡ length room' = room_counted m limit ds request room asks ∙ lengths ∙ sym (room_counted n other es request' room' asks') in (
+    let same : request ≡ request' =
+    request_joined m limit ds request room asks ∙ bytes ∙ sym (request_joined n other es request' room' asks') in
+    let count : length room ≡ length room' =
+    room_counted m limit ds request room asks ∙ lengths ∙ sym (room_counted n other es request' room' asks') in (
       λ serves.
           subst (λ (k : ℕ). ServesRequest may page_size options request' k before calls given after) count
           (subst (λ (bs : List ℕ). ServesRequest may page_size options bs (length room) before calls given after) same serves),

@@ -12,14 +12,16 @@ use Rattle.fs_device.proofs.ListBooks.{entries_in, counts_in, entries_more, coun
 
 -- calls that give an answered entry back: there is none in their answers, and they take back as many counts as entries were answered
 abbrev GivesBack : (node : ℕ) → FileAnswer → List FileCall → Type 0
-GivesBack n a undo = (steps : Calls) → EachSuits steps → undo ≡ calls_alone steps → (entries_in n steps ≡ 0) × (counts_in n steps ≡ entry_count n a)
+GivesBack n a undo =
+    (steps : Calls) → EachSuits steps → undo ≡ calls_alone steps → (entries_in n steps ≡ 0) × (counts_in n steps ≡ entry_count n a)
 
 nothing_back : (n : ℕ) (a : FileAnswer) → entry_count n a ≡ 0 → GivesBack n a []
 nothing_back n a none steps suit asks =
     let empty = no_step steps asks in
     (ap (entries_in n) empty, ap (counts_in n) empty ∙ sym none)
 
-node_back : (n : ℕ) (who : Context) (x : ℕ) (a : FileAnswer) → entry_count n a ≡ forget_count n (call.Forget who x 1) → GivesBack n a (call.Forget who x 1 ∷ [])
+node_back : (n : ℕ) (who : Context) (x : ℕ) (a : FileAnswer) → entry_count n a ≡ forget_count n (call.Forget who x 1) →
+    GivesBack n a (call.Forget who x 1 ∷ [])
 node_back n who x a counts steps suit asks =
     let one = one_step (call.Forget who x 1) steps asks in
     let only : EachSuits ((call.Forget who x 1, one.0) ∷ []) = subst EachSuits one.1 suit in

@@ -1,9 +1,11 @@
 -- blocks and layouts that change under a machine
-use Rattle.std.proofs.Common.{◌≡◌, ℕ, zero, suc, Bool, true, false, ◌+◌, ◌<◌, ◌≤◌, ◌^◌, List, [], ◌∷◌, ◌++◌, length, map, ap, sym, ◌∙◌, refl, arith, Option, Some, None, length-append, subst}
+use Rattle.std.proofs.Common.{◌≡◌, ℕ, zero, suc, Bool, true, false, ◌+◌, ◌<◌, ◌≤◌, ◌^◌, List, [], ◌∷◌, ◌++◌, length, map, ap, sym, ◌∙◌}
+use Rattle.std.proofs.Common.{refl, arith, Option, Some, None, length-append, subst}
 use Rattle.std.specs.declared.alloc.AllocError.{AllocError}
 use Rattle.std.specs.Result.{IfOk, OnErr}
 use Rattle.std.proofs.lemmas.List.{map-append}
-use Rattle.std.specs.Prelude.{option_map, IsSome, IsTrue, Result, Ok, Err, replicate, ◌==◌, ◌||◌, not, nat_lt, cond, find, slice_get, slice_index_or, if◌then◌else◌}
+use Rattle.std.specs.Prelude.{option_map, IsSome, IsTrue, Result, Ok, Err, replicate, ◌==◌, ◌||◌, not, nat_lt, cond, find, slice_get}
+use Rattle.std.specs.Prelude.{slice_index_or, if◌then◌else◌}
 use Rattle.std.specs.List.{list_all, list_any}
 use Rattle.std.proofs.lemmas.Bool.{eqb-true, and_parts}
 use Rattle.std.proofs.lemmas.Bool.Decides.{nat_tests}
@@ -37,11 +39,13 @@ held_grown xs ys (r ∷ l) held =
 
 -- the blocks hold the layout as before, whether or not there is one more
 pub kept : (count : ℕ → ℕ) (n : ℕ) (old new : Host) (l : List Region) (made : Result ℕ AllocError) →
-    IfOk made (λ number. new ≡ with_block old (record { bytes = replicate n 0; marks = replicate (count n) false })) → OnErr made (new ≡ old) →
+    IfOk made (λ number. new ≡ with_block old (record { bytes = replicate n 0; marks = replicate (count n) false })) →
+    OnErr made (new ≡ old) →
     AreHeld (lengths old) l → AreHeld (lengths new) l
 kept count n old new l (Ok number) ok err held =
     let block : Block = record { bytes = replicate n 0; marks = replicate (count n) false } in
-    let more : lengths new ≡ lengths old ++ length block.bytes ∷ [] = ap lengths ok ∙ map-append (λ (b : Block). length b.bytes) old.blocks (block ∷ []) in
+    let more : lengths new ≡ lengths old ++ length block.bytes ∷ [] =
+    ap lengths ok ∙ map-append (λ (b : Block). length b.bytes) old.blocks (block ∷ []) in
     subst (λ (xs : List ℕ). AreHeld xs l) (sym more) (held_grown (lengths old) (length block.bytes ∷ []) l held)
 kept count n old new l (Err e) ok err held = subst (λ (h : Host). AreHeld (lengths h) l) (sym err) held
 
@@ -94,21 +98,25 @@ found_some p (y ∷ l) e =
     ] e
 
 -- a region that isn't taken out is there unless the layout has none
-pub lacks_room : (base size : ℕ) (l : List Region) (e : GuestRegionCollectionError) → (e ≡ fault.NoMemoryRegion → ⊥) → Removes base size l (Err e) → IsTrue (list_any (is_region base size) l)
+pub lacks_room : (base size : ℕ) (l : List Region) (e : GuestRegionCollectionError) → (e ≡ fault.NoMemoryRegion → ⊥) →
+    Removes base size l (Err e) → IsTrue (list_any (is_region base size) l)
 lacks_room base size l fault.NoMemoryRegion other is = absurd (other refl)
 lacks_room base size l fault.MemoryRegionOverlap other is = absurd is
 lacks_room base size l fault.UnsortedMemoryRegions other is = absurd is
 lacks_room base size l fault.OutOfMemory other is = found_some (is_region base size) l is.0
 
-pub has_none : (base size : ℕ) (l : List Region) (e : GuestRegionCollectionError) → e ≡ fault.NoMemoryRegion → Removes base size l (Err e) → list_any (is_region base size) l ≡ false
-has_none base size l e none is = found_none (is_region base size) l (subst (λ (k : GuestRegionCollectionError). Removes base size l (Err k)) none is)
+pub has_none : (base size : ℕ) (l : List Region) (e : GuestRegionCollectionError) → e ≡ fault.NoMemoryRegion → Removes base size l (Err e) →
+    list_any (is_region base size) l ≡ false
+has_none base size l e none is =
+    found_none (is_region base size) l (subst (λ (k : GuestRegionCollectionError). Removes base size l (Err k)) none is)
 
 -- ---- known blocks
 
 abbrev lengths_in : List Block → List ℕ
 lengths_in blocks = map (λ (b : Block). length b.bytes) blocks
 
-pub block_there : (blocks : List Block) (i : ℕ) (b : Block) → slice_get blocks i ≡ Some b → (i < length (lengths_in blocks)) × (slice_index_or (lengths_in blocks) i 0 ≡ length b.bytes)
+pub block_there : (blocks : List Block) (i : ℕ) (b : Block) → slice_get blocks i ≡ Some b →
+    (i < length (lengths_in blocks)) × (slice_index_or (lengths_in blocks) i 0 ≡ length b.bytes)
 block_there [] i b e = absurd (cc)
 block_there (x ∷ blocks) zero b e =
     let same : x ≡ b = cc in
@@ -117,12 +125,14 @@ block_there (x ∷ blocks) (suc i) b e =
     let more = block_there blocks i b e in
     (omega (arith, more.0), more.1)
 
-known_of : (blocks : List Block) (i n : ℕ) → i < length (lengths_in blocks) → slice_index_or (lengths_in blocks) i 0 ≡ n → has_len n (slice_get blocks i) ≡ true
+known_of : (blocks : List Block) (i n : ℕ) → i < length (lengths_in blocks) → slice_index_or (lengths_in blocks) i 0 ≡ n →
+    has_len n (slice_get blocks i) ≡ true
 known_of [] i n h e = absurd (omega arith)
 known_of (x ∷ blocks) zero n h e = grind (arith, nat_tests)
 known_of (x ∷ blocks) (suc i) n h e = known_of blocks i n (omega arith) e
 
-has_of : (blocks : List Block) (i n : ℕ) → has_len n (slice_get blocks i) ≡ true → (i < length (lengths_in blocks)) × (slice_index_or (lengths_in blocks) i 0 ≡ n)
+has_of : (blocks : List Block) (i n : ℕ) → has_len n (slice_get blocks i) ≡ true →
+    (i < length (lengths_in blocks)) × (slice_index_or (lengths_in blocks) i 0 ≡ n)
 has_of [] i n e = absurd (cc)
 has_of (x ∷ blocks) zero n e = (omega arith, eqb-true _ _ e)
 has_of (x ∷ blocks) (suc i) n e =
@@ -155,15 +165,18 @@ over base m = record { start = base; size = m.size; block = m.block }
 abbrev with_number : ℕ → Block → Backing
 with_number block b = record { size = length b.bytes; block = block }
 
-unknown_in : {F : Type 0} (s : State F) (base block : ℕ) (o : Option Block) → None ≡ option_map (with_number block) o → insert_block s base block o ≡ no why.UnknownBlock s
+unknown_in : {F : Type 0} (s : State F) (base block : ℕ) (o : Option Block) → None ≡ option_map (with_number block) o →
+    insert_block s base block o ≡ no why.UnknownBlock s
 unknown_in s base block None e = refl
 unknown_in s base block (Some b) e = absurd (cc)
 
 -- no block of this number
-pub unknown : {F : Type 0} (s : State F) (base block : ℕ) → None ≡ backing_at s.memory.host block → insert_block s base block (slice_get s.memory.host.blocks block) ≡ no why.UnknownBlock s
+pub unknown : {F : Type 0} (s : State F) (base block : ℕ) → None ≡ backing_at s.memory.host block →
+    insert_block s base block (slice_get s.memory.host.blocks block) ≡ no why.UnknownBlock s
 unknown s base block e = unknown_in s base block (slice_get s.memory.host.blocks block) e
 
-known_in : {F : Type 0} (s : State F) (base block : ℕ) (m : Backing) (o : Option Block) → Some m ≡ option_map (with_number block) o → insert_block s base block o ≡ insert s (over base m)
+known_in : {F : Type 0} (s : State F) (base block : ℕ) (m : Backing) (o : Option Block) → Some m ≡ option_map (with_number block) o →
+    insert_block s base block o ≡ insert s (over base m)
 known_in s base block m None e = absurd (cc)
 known_in s base block m (Some b) e =
     let same : with_number block b ≡ m = cc in
@@ -190,29 +203,35 @@ within base m r e =
       | false ↦ λ some. absurd (cc)
     ] e
 
-goes_of : (layout : List Region) (base block : ℕ) (m : Backing) (o : Option Block) → Some m ≡ option_map (with_number block) o → block_goes_in layout base block o ≡ goes_in layout (over base m)
+goes_of : (layout : List Region) (base block : ℕ) (m : Backing) (o : Option Block) → Some m ≡ option_map (with_number block) o →
+    block_goes_in layout base block o ≡ goes_in layout (over base m)
 goes_of layout base block m None e = absurd (cc)
 goes_of layout base block m (Some b) e =
     let same : with_number block b ≡ m = cc in
     ap (λ (k : Backing). goes_in layout (over base k)) same
 
 -- it may be there too
-pub goes : (h : Host) (layout : List Region) (base block : ℕ) (m : Backing) (r : Region) → Some m ≡ backing_at h block → Some r ≡ region_over m base → list_any (overlap r) layout ≡ false →
+pub goes : (h : Host) (layout : List Region) (base block : ℕ) (m : Backing) (r : Region) → Some m ≡ backing_at h block →
+    Some r ≡ region_over m base → list_any (overlap r) layout ≡ false →
     IsTrue (block_goes_in layout base block (slice_get h.blocks block))
 goes h layout base block m r there made apart =
     let is = within base m r made in
-    let alone : list_any (overlap (over base m)) layout ≡ false = subst (λ (k : Region). list_any (overlap k) layout ≡ false) (sym is.1) apart in
+    let alone : list_any (overlap (over base m)) layout ≡ false =
+    subst (λ (k : Region). list_any (overlap k) layout ≡ false) (sym is.1) apart in
     let enters : goes_in layout (over base m) ≡ true = rw (is.0, alone) refl in
     goes_of layout base block m (slice_get h.blocks block) there ∙ enters
 
-has_in : (blocks : List Block) (block : ℕ) (m : Backing) (o : Option Block) → slice_get blocks block ≡ o → Some m ≡ option_map (with_number block) o →
+has_in : (blocks : List Block) (block : ℕ) (m : Backing) (o : Option Block) → slice_get blocks block ≡ o →
+    Some m ≡ option_map (with_number block) o →
     (m.block < length (lengths_in blocks)) × (slice_index_or (lengths_in blocks) m.block 0 ≡ m.size)
 has_in blocks block m None there e = absurd (cc)
 has_in blocks block m (Some b) there e =
     let same : with_number block b ≡ m = cc in
-    subst (λ (k : Backing). (k.block < length (lengths_in blocks)) × (slice_index_or (lengths_in blocks) k.block 0 ≡ k.size)) same (block_there blocks block b there)
+    subst (λ (k : Backing). (k.block < length (lengths_in blocks)) × (slice_index_or (lengths_in blocks) k.block 0 ≡ k.size)) same
+    (block_there blocks block b there)
 
-pub has_block : (h : Host) (base block : ℕ) (m : Backing) (r : Region) → Some m ≡ backing_at h block → Some r ≡ region_over m base → HasBlock (lengths h) r
+pub has_block : (h : Host) (base block : ℕ) (m : Backing) (r : Region) → Some m ≡ backing_at h block → Some r ≡ region_over m base →
+    HasBlock (lengths h) r
 has_block h base block m r there e =
     subst (HasBlock (lengths h)) (within base m r e).1 (has_in h.blocks block m (slice_get h.blocks block) refl there)
 

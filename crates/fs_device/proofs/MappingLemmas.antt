@@ -1,5 +1,6 @@
 -- the table of a machine's device, and what its host holds besides
-use Rattle.std.proofs.Common.{◌≡◌, ℕ, zero, suc, Bool, true, false, ◌+◌, ◌<◌, ◌≤◌, ◌^◌, ◌&&◌, nat_lt, List, [], ◌∷◌, length, ap, sym, ◌∙◌, refl, arith, subst, inl, inr}
+use Rattle.std.proofs.Common.{◌≡◌, ℕ, zero, suc, Bool, true, false, ◌+◌, ◌<◌, ◌≤◌, ◌^◌, ◌&&◌, nat_lt, List, [], ◌∷◌, length, ap, sym, ◌∙◌}
+use Rattle.std.proofs.Common.{refl, arith, subst, inl, inr}
 use Rattle.std.specs.Prelude.{◌⊎◌, Result, Ok, Err, replicate, slice_get, slice_set, unwrap_or}
 use Rattle.std.specs.Result.{IfOk, OnErr}
 use Rattle.std.specs.declared.alloc.AllocError.{AllocError}
@@ -31,7 +32,8 @@ one_fits_not a b n (inr h) = rw (fits_not b n h) (and_false (ends_fit a n))
 
 -- ---- what changes a table
 
-pub refused : {F : Type 0} (s : State F) (fit : Bool) (table : Table) (after : State F) → fit ≡ false → after ≡ s → ChangesTable s fit table (IsRefused why.BadMapping) after
+pub refused : {F : Type 0} (s : State F) (fit : Bool) (table : Table) (after : State F) → fit ≡ false → after ≡ s →
+    ChangesTable s fit table (IsRefused why.BadMapping) after
 refused s true table after fit is = absurd (cc)
 refused {F} s false table after fit is = ap (λ (x : State F). (IsRefused why.BadMapping, x)) is
 
@@ -41,7 +43,8 @@ set-same (x ∷ l) zero = refl
 set-same (x ∷ l) (suc i) = ap (λ (r : List (List IotlbRange)). x ∷ r) (set-same l i)
 
 -- a table that is left as it was
-pub left_same : (old new : Host) (number : ℕ) (ranges : List IotlbRange) → ranges ≡ ranges_in old number → new ≡ with_table_at old number ranges → new ≡ old
+pub left_same : (old new : Host) (number : ℕ) (ranges : List IotlbRange) → ranges ≡ ranges_in old number →
+    new ≡ with_table_at old number ranges → new ≡ old
 left_same old new number ranges same is =
     is ∙ ap (with_table_at old number) same ∙ ap (λ (l : List (List IotlbRange)). record old { tables = l }) (set-same old.tables number)
 
@@ -55,20 +58,24 @@ both : (x y : Bool) → x ≡ true → y ≡ true → (x && y) ≡ true
 both x y e f = rw e f
 
 -- memory is wanted for some addresses alone, where their end fits and a range is split there
-pub wanted_to_unmap : (t : Table) (a n : ℕ) → a + n < 2 ^ 64 → 0 < n → goes_on_at t (a + n) ≡ true → ((nat_lt 0 n && ends_fit a n) && goes_on_at t (a + n)) ≡ true
-wanted_to_unmap t a n fits some on = both (nat_lt 0 n && ends_fit a n) (goes_on_at t (a + n)) (both (nat_lt 0 n) (ends_fit a n) (wanted n some) (ends a n fits)) on
+pub wanted_to_unmap : (t : Table) (a n : ℕ) → a + n < 2 ^ 64 → 0 < n → goes_on_at t (a + n) ≡ true →
+    ((nat_lt 0 n && ends_fit a n) && goes_on_at t (a + n)) ≡ true
+wanted_to_unmap t a n fits some on =
+    both (nat_lt 0 n && ends_fit a n) (goes_on_at t (a + n)) (both (nat_lt 0 n) (ends_fit a n) (wanted n some) (ends a n fits)) on
 
 pub wanted_to_map : (t u : Table) (a b n : ℕ) → a + n < 2 ^ 64 → b + n < 2 ^ 64 → 0 < n → begins_anew_about t u a (a + n) ≡ true →
     ((nat_lt 0 n && (ends_fit a n && ends_fit b n)) && begins_anew_about t u a (a + n)) ≡ true
 wanted_to_map t u a b n fits target some anew =
     both (nat_lt 0 n && (ends_fit a n && ends_fit b n)) (begins_anew_about t u a (a + n))
-    (both (nat_lt 0 n) (ends_fit a n && ends_fit b n) (wanted n some) (both (ends_fit a n) (ends_fit b n) (ends a n fits) (ends b n target))) anew
+    (both (nat_lt 0 n) (ends_fit a n && ends_fit b n) (wanted n some)
+    (both (ends_fit a n) (ends_fit b n) (ends a n fits) (ends b n target))) anew
 
 -- ---- what a host holds
 
 -- whether or not there is one more block
 pub kept_behind : (count : ℕ → ℕ) (n : ℕ) (old new : Host) (l : List Region) (number set : ℕ) (made : Result ℕ AllocError) →
-    IfOk made (λ number. new ≡ with_block old (record { bytes = replicate n 0; marks = replicate (count n) false })) → OnErr made (new ≡ old) →
+    IfOk made (λ number. new ≡ with_block old (record { bytes = replicate n 0; marks = replicate (count n) false })) →
+    OnErr made (new ≡ old) →
     HoldsBehind old l number set → HoldsBehind new l number set
 kept_behind count n old new l number set (Ok block) ok err held = (
   kept count n old new l (Ok block) ok err held.0,

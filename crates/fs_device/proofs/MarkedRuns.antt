@@ -1,5 +1,6 @@
 -- runs from states that differ in marks alone
-use Rattle.std.proofs.Common.{◌≡◌, ℕ, zero, suc, Bool, true, false, List, [], ◌∷◌, map, length, zip, Option, Some, None, refl, ap, sym, ◌∙◌, subst}
+use Rattle.std.proofs.Common.{◌≡◌, ℕ, zero, suc, Bool, true, false, List, [], ◌∷◌, map, length, zip, Option, Some, None, refl, ap, sym, ◌∙◌}
+use Rattle.std.proofs.Common.{subst}
 use Rattle.std.specs.Prelude.{◌+◌, ◌*◌, ◌==◌, ◌&&◌, IsTrue, if◌then◌else◌, slice_get, option_map, unwrap_or, nat_lt, not}
 use Rattle.std.specs.List.{list_all, list_any}
 use Rattle.std.proofs.lemmas.List.{length-map, map-append}
@@ -23,10 +24,13 @@ use Rattle.plain_machine.specs.declared.error.DeviceError.{DeviceError}
 use Rattle.plain_machine.specs.declared.error.DeviceError.TheVariants as device
 use Rattle.plain_machine.specs.declared.refusal.Refusal.{Refusal}
 use Rattle.plain_machine.specs.declared.refusal.Refusal.TheVariants as why
-use Rattle.plain_machine.specs.Step.{State, Exchange, Calls, StepEnd, Idle, Refused, Exchanged, Exchanges, Acts, StepOf, Step, Returns, after_return, faulty, served_exchange, with_queue}
+use Rattle.plain_machine.specs.Step.{State, Exchange, Calls, StepEnd, Idle, Refused, Exchanged, Exchanges, Acts, StepOf, Step, Returns}
+use Rattle.plain_machine.specs.Step.{after_return, faulty, served_exchange, with_queue}
 use Rattle.plain_machine.specs.Run as run
-use Rattle.plain_machine.specs.Run.{Turns, Command, Answer, Effect, KickEnds, KickRun, Kicks, KickAnswer, Affects, ChangesTable, HasEffect, Does, IsDecided, Performs, LacksMemory, RunTold, effect}
-use Rattle.plain_machine.specs.Run.{guest_read, guest_write, make_block, insert, insert_block, remove_region, set_layout, is_known, has_len, some_overlap, reset, with_host}
+use Rattle.plain_machine.specs.Run.{Turns, Command, Answer, Effect, KickEnds, KickRun, Kicks, KickAnswer, Affects, ChangesTable, HasEffect}
+use Rattle.plain_machine.specs.Run.{Does, IsDecided, Performs, LacksMemory, RunTold, effect}
+use Rattle.plain_machine.specs.Run.{guest_read, guest_write, make_block, insert, insert_block, remove_region, set_layout, is_known, has_len}
+use Rattle.plain_machine.specs.Run.{some_overlap, reset, with_host}
 use Rattle.plain_machine.specs.Run.{with_layout, with_ranges, goes_in, block_goes_in, command_takes_memory, ends_fit, no}
 use Rattle.fs_device.specs.Marks.{without_marks, without_its_marks, SameButMarks, SameAnswer, SameEvents}
 use Rattle.fs_device.proofs.MarkLemmas.{unmarked_memory, stores_aside, bytes_same, offers_same, notices_same}
@@ -40,7 +44,8 @@ same_rest : {F : Type 0} (s t : State F) → SameButMarks s t → with_host s t.
 same_rest {F} s t same = ap (λ (k : State F). with_host k t.memory.host) same
 
 -- so what can be done over another host can be done from it
-over_host : {F : Type 0} (s t : State F) (P : State F → Type 0) → SameButMarks s t → ((h : Host) → without_marks s.memory.host ≡ without_marks h → P (with_host s h)) → P t
+over_host : {F : Type 0} (s t : State F) (P : State F → Type 0) → SameButMarks s t →
+    ((h : Host) → without_marks s.memory.host ≡ without_marks h → P (with_host s h)) → P t
 over_host {F} s t P same each = subst P (same_rest s t same) (each t.memory.host (ap (λ (k : State F). k.memory.host) same))
 
 -- ---- steps
@@ -65,24 +70,34 @@ module _ {F : Type 0} (s : State F) (h : Host) (same : without_marks s.memory.ho
 
   returns_alike : (i : ℕ) (q : Queue) (room : List ℕ) (expected : Exchange) (options : ℕ) (x : Exchange) (notice : Bool) (after : State F) →
       Returns s i q room expected options x notice after →
-      Returns (with_host s h) i q room expected options x notice (after_return (with_host s h) i q expected.head room expected.reply options after.files)
+      Returns (with_host s h) i q room expected options x notice
+      (after_return (with_host s h) i q expected.head room expected.reply options after.files)
   returns_alike i q room expected options x notice after r =
       let end = after_return (with_host s h) i q expected.head room expected.reply options after.files in
       let alike = ap (λ (k : State F). k.memory) (return_alike i q room expected options x notice after r) in
       record { exchange = r.exchange; state = refl; told = r.told ∙ notices_same after.memory end.memory alike q }
 
 module _ {F : Type 0} (may : May F) (s : State F) (h : Host) (same : without_marks s.memory.host ≡ without_marks h) where
-  exchange_alike : (i : ℕ) (q : Queue) (o : Offer) (calls : Calls) (x : Exchange) (notice : Bool) (after : State F) → Exchanges may s i q o calls x notice after →
+  exchange_alike : (i : ℕ) (q : Queue) (o : Offer) (calls : Calls) (x : Exchange) (notice : Bool) (after : State F) →
+      Exchanges may s i q o calls x notice after →
       Matched (λ end. Exchanges may (with_host s h) i q o calls x notice end) after
   exchange_alike i q (Offers head (CannotFetch fault)) calls x notice after r = (
     after_return (with_host s h) i q head [] [] s.options after.files,
-    record { no_call = r.no_call; files = r.files; returns = returns_alike s h same i q [] (faulty head fault) s.options x notice after r.returns },
+    record {
+      no_call = r.no_call;
+      files = r.files;
+      returns = returns_alike s h same i q [] (faulty head fault) s.options x notice after r.returns;
+    },
     return_alike s h same i q [] (faulty head fault) s.options x notice after r.returns,
   )
   exchange_alike i q (Offers head (IsRequest request room)) calls x notice after r =
       let expected = served_exchange head request r.given in (
         after_return (with_host s h) i q head room expected.reply r.given.options after.files,
-        record { given = r.given; serves = r.serves; returns = returns_alike s h same i q room expected r.given.options x notice after r.returns },
+        record {
+          given = r.given;
+          serves = r.serves;
+          returns = returns_alike s h same i q room expected r.given.options x notice after r.returns;
+        },
         return_alike s h same i q room expected r.given.options x notice after r.returns,
       )
   exchange_alike i q taking.Idle calls x notice after r = absurd r
@@ -90,23 +105,28 @@ module _ {F : Type 0} (may : May F) (s : State F) (h : Host) (same : without_mar
 
   act_alike : (i : ℕ) (q : Queue) (o : Offer) (calls : Calls) (outcome : StepEnd) (after : State F) → Acts may s i q o calls outcome after →
       Matched (λ end. Acts may (with_host s h) i q o calls outcome end) after
-  act_alike i q o calls Idle after t = (with_host s h, (t.0, record { same = refl; no_call = t.1.no_call }), unchanged_alike s h same after t.1.same)
+  act_alike i q o calls Idle after t =
+      (with_host s h, (t.0, record { same = refl; no_call = t.1.no_call }), unchanged_alike s h same after t.1.same)
   act_alike i q o calls (Exchanged x notice) after t = exchange_alike i q o calls x notice after t
   act_alike i q o calls (Refused device.NoSuchQueue) after t = absurd t
   act_alike i q o calls (Refused (device.Queue stop.OutOfMemory)) after t =
       (with_host s h, (t.0, record { same = refl; no_call = t.1.no_call }), unchanged_alike s h same after t.1.same)
   act_alike i q o calls (Refused (device.Queue e)) after t =
-      let stopped = with_queue s i (after_refusal q e) in (with_host stopped h, (t.0, t.1, refl), ap without_its_marks t.2 ∙ ap (with_host stopped) same)
+      let stopped = with_queue s i (after_refusal q e) in
+      (with_host stopped h, (t.0, t.1, refl), ap without_its_marks t.2 ∙ ap (with_host stopped) same)
 
   step_of_alike : (i : ℕ) (o : Option Queue) (calls : Calls) (outcome : StepEnd) (after : State F) → StepOf may s i o calls outcome after →
       Matched (λ end. StepOf may (with_host s h) i o calls outcome end) after
-  step_of_alike i None calls outcome after t = (with_host s h, (t.0, record { same = refl; no_call = t.1.no_call }), unchanged_alike s h same after t.1.same)
+  step_of_alike i None calls outcome after t =
+      (with_host s h, (t.0, record { same = refl; no_call = t.1.no_call }), unchanged_alike s h same after t.1.same)
   step_of_alike i (Some q) calls outcome after t =
       subst (λ (o : Offer). Matched (λ end. Acts may (with_host s h) i q o calls outcome end) after)
-      (offers_same s.memory (with_host s h).memory (same_memory s h same) s.limit q) (act_alike i q (offer s.memory s.limit q) calls outcome after t)
+      (offers_same s.memory (with_host s h).memory (same_memory s h same) s.limit q)
+      (act_alike i q (offer s.memory s.limit q) calls outcome after t)
 
 module _ {F : Type 0} (may : May F) where
-  step_alike : (s t : State F) → SameButMarks s t → (i : ℕ) (calls : Calls) (outcome : StepEnd) (after : State F) → Step may s i calls outcome after →
+  step_alike : (s t : State F) → SameButMarks s t → (i : ℕ) (calls : Calls) (outcome : StepEnd) (after : State F) →
+      Step may s i calls outcome after →
       Matched (λ end. Step may t i calls outcome end) after
   step_alike s t same i calls outcome after step =
       over_host s t (λ (k : State F). Matched (λ end. Step may k i calls outcome end) after) same
@@ -114,14 +134,17 @@ module _ {F : Type 0} (may : May F) where
 
   -- ---- kicks
 
-  end_alike : (s t : State F) → SameButMarks s t → (i most : ℕ) (refused : Option DeviceError) (after : State F) → KickEnds may s i most refused after →
+  end_alike :
+      (s t : State F) → SameButMarks s t → (i most : ℕ) (refused : Option DeviceError) (after : State F) →
+      KickEnds may s i most refused after →
       Matched (λ end. KickEnds may t i most refused end) after
   end_alike s t same i zero None after is = (t, refl, ap without_its_marks is ∙ same)
   end_alike s t same i zero (Some e) after is = absurd is
   end_alike s t same i (suc most) None after step = step_alike s t same i [] Idle after step
   end_alike s t same i (suc most) (Some e) after step = step_alike s t same i [] (Refused e) after step
 
-  kick_alike : (s t : State F) → SameButMarks s t → (i most : ℕ) (told : Turns) (refused : Option DeviceError) (after : State F) → KickRun may s i most told refused after →
+  kick_alike : (s t : State F) → SameButMarks s t → (i most : ℕ) (told : Turns) (refused : Option DeviceError) (after : State F) →
+      KickRun may s i most told refused after →
       Matched (λ end. KickRun may t i most told refused end) after
   unfolding KickRun
   kick_alike s t same i most [] refused after is = end_alike s t same i most refused after is
@@ -131,7 +154,8 @@ module _ {F : Type 0} (may : May F) where
       let others = kick_alike mid first.0 first.2 i most told refused after rest in
       (others.0, (first.0, first.1, others.1), others.2)
 
-  kicks_alike : (s t : State F) → SameButMarks s t → (i most : ℕ) (o : Option Queue) (told : Turns) (k : KickAnswer) (after : State F) → Kicks may s i most o told k after →
+  kicks_alike : (s t : State F) → SameButMarks s t → (i most : ℕ) (o : Option Queue) (told : Turns) (k : KickAnswer) (after : State F) →
+      Kicks may s i most o told k after →
       Matched (λ end. Kicks may t i most o told k end) after
   kicks_alike s t same i most None told k after is = (t, (refl, is.1, is.2), ap without_its_marks is.0 ∙ same)
   kicks_alike s t same i most (Some q) told k after is =
@@ -151,12 +175,15 @@ DecidedAlike None (Some y) = ⊥
 DecidedAlike (Some x) None = ⊥
 DecidedAlike (Some x) (Some y) = EffectAlike x y
 
-either_alike : {F : Type 0} (b : Bool) (x y z w : Effect F) → EffectAlike x z → EffectAlike y w → EffectAlike (if b then x else y) (if b then z else w)
+either_alike :
+    {F : Type 0} (b : Bool) (x y z w : Effect F) → EffectAlike x z → EffectAlike y w → EffectAlike (if b then x else y) (if b then z else w)
 either_alike true x y z w p q = p
 either_alike false x y z w p q = q
 
-either_as : {F : Type 0} (b c : Bool) (x y z w : Effect F) → b ≡ c → EffectAlike x z → EffectAlike y w → EffectAlike (if b then x else y) (if c then z else w)
-either_as b c x y z w same p q = subst (λ (c : Bool). EffectAlike (if b then x else y) (if c then z else w)) same (either_alike b x y z w p q)
+either_as : {F : Type 0} (b c : Bool) (x y z w : Effect F) → b ≡ c → EffectAlike x z → EffectAlike y w →
+    EffectAlike (if b then x else y) (if c then z else w)
+either_as b c x y z w same p q =
+    subst (λ (c : Bool). EffectAlike (if b then x else y) (if c then z else w)) same (either_alike b x y z w p q)
 
 unmarked_twice : (b : Block) → unmarked (unmarked b) ≡ unmarked b
 unmarked_twice b = ap (λ (marks : List Bool). record b { marks = marks }) (map-map (λ (m : Bool). false) (λ (m : Bool). false) b.marks)
@@ -187,37 +214,46 @@ module _ {F : Type 0} (s : State F) (h : Host) (same : without_marks s.memory.ho
 
   read_alike : (a n : ℕ) → EffectAlike (guest_read s a n) (guest_read (with_host s h) a n)
   read_alike a n =
-      let told = ap (λ (f : ℕ → ℕ). run.Bytes (map f (addresses a n))) (sym (bytes_same (physical s.memory) (physical (with_host s h).memory) physical_alike)) in
-      either_alike (reach (physical s.memory) Read a n) _ _ _ _ (record { answer = told; state = same_state s h same }) (refused_alike why.NoPlace)
+      let told = ap (λ (f : ℕ → ℕ). run.Bytes (map f (addresses a n)))
+      (sym (bytes_same (physical s.memory) (physical (with_host s h).memory) physical_alike)) in
+      either_alike (reach (physical s.memory) Read a n) _ _ _ _ (record { answer = told; state = same_state s h same })
+      (refused_alike why.NoPlace)
 
   write_alike : (a : ℕ) (bs : List ℕ) → EffectAlike (guest_write s a bs) (guest_write (with_host s h) a bs)
   write_alike a bs =
       let stores = stores_aside (zip (addresses a (length bs)) bs) (physical s.memory) (physical (with_host s h).memory) physical_alike in
-      either_alike (reach (physical s.memory) Write a (length bs)) _ _ _ _ (done_alike _ _ (ap (λ (m : Memory). with_host s m.host) stores)) (refused_alike why.NoPlace)
+      either_alike (reach (physical s.memory) Write a (length bs)) _ _ _ _ (done_alike _ _ (ap (λ (m : Memory). with_host s m.host) stores))
+      (refused_alike why.NoPlace)
 
   block_alike : (n : ℕ) → EffectAlike (make_block s n) (make_block (with_host s h) n)
   block_alike n =
       let count : length h.blocks ≡ length s.memory.host.blocks =
       sym (length-map h.blocks unmarked) ∙ ap (λ (k : Host). length k.blocks) (sym same) ∙ length-map s.memory.host.blocks unmarked in
-      let more = block_aside s.memory.host (new_block n) ∙ ap (λ (k : Host). with_block k (unmarked (new_block n))) same ∙ sym (block_aside h (new_block n)) in
-      either_alike (n == 0) _ _ _ _ (refused_alike why.EmptyBlock) (record { answer = ap run.NewBlockIs count; state = ap (with_host s) more })
+      let more = block_aside s.memory.host (new_block n) ∙ ap (λ (k : Host). with_block k (unmarked (new_block n))) same
+      ∙ sym (block_aside h (new_block n)) in
+      either_alike (n == 0) _ _ _ _ (refused_alike why.EmptyBlock)
+      (record { answer = ap run.NewBlockIs count; state = ap (with_host s) more })
 
   insert_alike : (r : Region) → EffectAlike (insert s r) (insert (with_host s h) r)
   insert_alike r =
       either_alike (not (fits r)) _ _ _ _ (refused_alike why.BadRegion)
-      (either_alike (list_any (overlap r) s.memory.layout) _ _ _ _ (refused_alike why.Overlap) (done_alike _ _ (ap (with_host (with_layout s (with_region r s.memory.layout))) same)))
+      (either_alike (list_any (overlap r) s.memory.layout) _ _ _ _ (refused_alike why.Overlap)
+      (done_alike _ _ (ap (with_host (with_layout s (with_region r s.memory.layout))) same)))
 
-  region_alike : (base block : ℕ) (o p : Option Block) → option_map unmarked o ≡ option_map unmarked p → EffectAlike (insert_block s base block o) (insert_block (with_host s h) base block p)
+  region_alike : (base block : ℕ) (o p : Option Block) → option_map unmarked o ≡ option_map unmarked p →
+      EffectAlike (insert_block s base block o) (insert_block (with_host s h) base block p)
   region_alike base block None None is = refused_alike why.UnknownBlock
   region_alike base block None (Some c) is = absurd (cc)
   region_alike base block (Some b) None is = absurd (cc)
   region_alike base block (Some b) (Some c) is =
       let long : length b.bytes ≡ length c.bytes = ap (λ (o : Option Block). unwrap_or (option_map (λ b. length b.bytes) o) 0) is in
-      subst (λ (n : ℕ). EffectAlike (insert_block s base block (Some b)) (insert (with_host s h) (record { start = base; size = n; block = block }))) long
+      subst (λ (n : ℕ). EffectAlike (insert_block s base block (Some b))
+      (insert (with_host s h) (record { start = base; size = n; block = block }))) long
       (insert_alike (record { start = base; size = length b.bytes; block = block }))
 
   there_alike : (block : ℕ) → option_map unmarked (slice_get s.memory.host.blocks block) ≡ option_map unmarked (slice_get h.blocks block)
-  there_alike block = sym (slice_get-map unmarked s.memory.host.blocks block) ∙ ap (λ (k : Host). slice_get k.blocks block) same ∙ slice_get-map unmarked h.blocks block
+  there_alike block = sym (slice_get-map unmarked s.memory.host.blocks block) ∙ ap (λ (k : Host). slice_get k.blocks block) same
+      ∙ slice_get-map unmarked h.blocks block
 
   remove_alike : (base size : ℕ) → EffectAlike (remove_region s base size) (remove_region (with_host s h) base size)
   remove_alike base size =
@@ -226,10 +262,12 @@ module _ {F : Type 0} (s : State F) (h : Host) (same : without_marks s.memory.ho
 
   layout_alike : (layout : List Region) → EffectAlike (set_layout s layout) (set_layout (with_host s h) layout)
   layout_alike layout =
-      let known : is_known s.memory.host ≡ is_known h = sym (fun_ext (known_kept s.memory.host)) ∙ ap is_known same ∙ fun_ext (known_kept h) in
+      let known : is_known s.memory.host ≡ is_known h =
+      sym (fun_ext (known_kept s.memory.host)) ∙ ap is_known same ∙ fun_ext (known_kept h) in
       either_as _ _ _ _ _ _ (ap (λ (f : Region → Bool). not (list_all f layout)) known) (refused_alike why.UnknownBlock)
       (either_alike (not (list_all fits layout)) _ _ _ _ (refused_alike why.BadRegion)
-      (either_alike (some_overlap layout) _ _ _ _ (refused_alike why.Overlap) (done_alike _ _ (ap (with_host (with_layout s layout)) same))))
+      (either_alike (some_overlap layout) _ _ _ _ (refused_alike why.Overlap)
+      (done_alike _ _ (ap (with_host (with_layout s layout)) same))))
 
   reset_alike : (i : ℕ) (anew : Queue) (o : Option Queue) → EffectAlike (reset s i anew o) (reset (with_host s h) i anew o)
   reset_alike i anew None = refused_alike why.NoSuchQueue
@@ -246,7 +284,8 @@ module _ {F : Type 0} (s : State F) (h : Host) (same : without_marks s.memory.ho
   effect_alike (run.InsertRegion base block) = region_alike base block _ _ (there_alike block)
   effect_alike (run.RemoveRegion base size) = remove_alike base size
   effect_alike (run.SetLayout layout) = layout_alike layout
-  effect_alike (run.SetIommu on) = done_alike _ _ (ap (λ (k : Host). record s { memory = record s.memory { host = k; translates = on } }) same)
+  effect_alike (run.SetIommu on) =
+      done_alike _ _ (ap (λ (k : Host). record s { memory = record s.memory { host = k; translates = on } }) same)
   effect_alike (run.ResetQueue queue size desc avail used) = reset_alike queue (fresh size desc avail used) _
   effect_alike run.Image = record { answer = cleared_alike; state = ap (with_host s) cleared_alike }
   effect_alike run.Harvest = record { answer = tt; state = ap (with_host s) cleared_alike }
@@ -266,15 +305,18 @@ same_answer (run.Pages pages) = tt
 same_answer (run.Copied host) = refl
 same_answer _ = refl
 
-answered_so : {F : Type 0} (Can : Answer → State F → Type 0) (answer : Answer) (after : State F) → Matched (Can answer) after → AnsweredAlike Can answer after
+answered_so : {F : Type 0} (Can : Answer → State F → Type 0) (answer : Answer) (after : State F) → Matched (Can answer) after →
+    AnsweredAlike Can answer after
 answered_so Can answer after m = (answer, m.0, same_answer answer, m.1, m.2)
 
-goes_alike : (layout : List Region) (base block : ℕ) (o p : Option Block) → option_map unmarked o ≡ option_map unmarked p → block_goes_in layout base block o ≡ block_goes_in layout base block p
+goes_alike : (layout : List Region) (base block : ℕ) (o p : Option Block) → option_map unmarked o ≡ option_map unmarked p →
+    block_goes_in layout base block o ≡ block_goes_in layout base block p
 goes_alike layout base block None None is = refl
 goes_alike layout base block None (Some c) is = absurd (cc)
 goes_alike layout base block (Some b) None is = absurd (cc)
 goes_alike layout base block (Some b) (Some c) is =
-    ap (λ (n : ℕ). goes_in layout (record { start = base; size = n; block = block })) (ap (λ (o : Option Block). unwrap_or (option_map (λ b. length b.bytes) o) 0) is)
+    ap (λ (n : ℕ). goes_in layout (record { start = base; size = n; block = block }))
+    (ap (λ (o : Option Block). unwrap_or (option_map (λ b. length b.bytes) o) 0) is)
 
 module _ {F : Type 0} (s : State F) (h : Host) (same : without_marks s.memory.host ≡ without_marks h) where
   table_alike : table_of s.memory ≡ table_of (with_host s h).memory
@@ -283,36 +325,51 @@ module _ {F : Type 0} (s : State F) (h : Host) (same : without_marks s.memory.ho
   takes_alike : (command : Command) → command_takes_memory s command ≡ command_takes_memory (with_host s h) command
   takes_alike (run.InsertRegion base block) = goes_alike s.memory.layout base block _ _ (there_alike s h same block)
   takes_alike (run.Map iova target n perm) =
-      ap (λ (t : Table). (nat_lt 0 n && (ends_fit iova n && ends_fit target n)) && begins_anew_about t (mapped iova target n perm t) iova (iova + n)) table_alike
+      ap (λ (t : Table). (nat_lt 0 n && (ends_fit iova n && ends_fit target n))
+      && begins_anew_about t (mapped iova target n perm t) iova (iova + n)) table_alike
   takes_alike (run.Unmap iova n) = ap (λ (t : Table). (nat_lt 0 n && ends_fit iova n) && goes_on_at t (iova + n)) table_alike
   takes_alike _ = refl
 
-  change_alike : (fit : Bool) (table : Table) (answer : Answer) (after : State F) → ChangesTable s fit table answer after → Matched (λ end. ChangesTable (with_host s h) fit table answer end) after
+  change_alike : (fit : Bool) (table : Table) (answer : Answer) (after : State F) → ChangesTable s fit table answer after →
+      Matched (λ end. ChangesTable (with_host s h) fit table answer end) after
   change_alike true table answer after t =
       let moved = ap (λ (k : Host). with_host s (with_table_at k s.memory.table t.1.0)) same in
       (with_ranges (with_host s h) t.1.0, (t.0, (t.1.0, t.1.1, t.1.2, refl)), ap without_its_marks t.1.3 ∙ moved)
-  change_alike false table answer after t =
-      (with_host s h, ap {B = Effect F} (λ (x : Effect F). (x.0, with_host s h)) t, unchanged_alike s h same after (ap (λ (x : Effect F). x.1) t))
+  change_alike false table answer after t = (
+    with_host s h,
+    ap {B = Effect F} (λ (x : Effect F). (x.0, with_host s h)) t,
+    unchanged_alike s h same after (ap (λ (x : Effect F). x.1) t),
+  )
 
   -- a change that goes by the table that is there
-  change_of : (fit : Bool) (to : Table → Table) (answer : Answer) (after : State F) → ChangesTable s fit (to (table_of s.memory)) answer after →
+  change_of :
+      (fit : Bool) (to : Table → Table) (answer : Answer) (after : State F) → ChangesTable s fit (to (table_of s.memory)) answer after →
       Matched (λ end. ChangesTable (with_host s h) fit (to (table_of (with_host s h).memory)) answer end) after
   change_of fit to answer after t =
-      subst (λ (old : Table). Matched (λ end. ChangesTable (with_host s h) fit (to old) answer end) after) table_alike (change_alike fit (to (table_of s.memory)) answer after t)
+      subst (λ (old : Table). Matched (λ end. ChangesTable (with_host s h) fit (to old) answer end) after) table_alike
+      (change_alike fit (to (table_of s.memory)) answer after t)
 
   decided_alike : (old new : Option (Effect F)) (answer : Answer) (after : State F) → DecidedAlike old new → IsDecided old answer after →
       AnsweredAlike (λ other end. IsDecided new other end) answer after
   decided_alike None new answer after alike t = absurd t
   decided_alike (Some old) None answer after alike t = absurd alike
-  decided_alike (Some old) (Some new) answer after alike t =
-      (new.0, new.1, subst (λ (a : Answer). SameAnswer a new.0) (sym (ap (λ (x : Effect F). x.0) t)) alike.answer, refl, ap (λ (x : Effect F). without_its_marks x.1) t ∙ alike.state)
+  decided_alike (Some old) (Some new) answer after alike t = (
+    new.0,
+    new.1,
+    subst (λ (a : Answer). SameAnswer a new.0) (sym (ap (λ (x : Effect F). x.0) t)) alike.answer,
+    refl,
+    ap (λ (x : Effect F). without_its_marks x.1) t ∙ alike.state,
+  )
 
   answered_by_effect : (command : Command) (answer : Answer) (after : State F) → IsDecided (effect s command) answer after →
       AnsweredAlike (λ other end. IsDecided (effect (with_host s h) command) other end) answer after
-  answered_by_effect command answer after t = decided_alike (effect s command) (effect (with_host s h) command) answer after (effect_alike s h same command) t
+  answered_by_effect command answer after t =
+      decided_alike (effect s command) (effect (with_host s h) command) answer after (effect_alike s h same command) t
 
-  affect_alike : (command : Command) (answer : Answer) (after : State F) → Affects s command answer after → AnsweredAlike (λ other end. Affects (with_host s h) command other end) answer after
-  affect_alike (run.Map iova target n perm) answer after t = answered_so _ answer after (change_of (ends_fit iova n && ends_fit target n) (mapped iova target n perm) answer after t)
+  affect_alike : (command : Command) (answer : Answer) (after : State F) → Affects s command answer after →
+      AnsweredAlike (λ other end. Affects (with_host s h) command other end) answer after
+  affect_alike (run.Map iova target n perm) answer after t =
+      answered_so _ answer after (change_of (ends_fit iova n && ends_fit target n) (mapped iova target n perm) answer after t)
   affect_alike (run.Unmap iova n) answer after t = answered_so _ answer after (change_of (ends_fit iova n) (unmapped iova n) answer after t)
   affect_alike run.UnmapAll answer after t = answered_so _ answer after (change_alike true nothing_mapped answer after t)
   affect_alike (run.Kick i most) answer after t = absurd t
@@ -323,7 +380,8 @@ module _ {F : Type 0} (s : State F) (h : Host) (same : without_marks s.memory.ho
   has_effect_alike command [] answer after t = affect_alike command answer after t
   has_effect_alike command (x ∷ told) answer after t = absurd t
 
-  lack_alike : (command : Command) (told : Turns) (after : State F) → LacksMemory s command told after → Matched (λ end. LacksMemory (with_host s h) command told end) after
+  lack_alike : (command : Command) (told : Turns) (after : State F) → LacksMemory s command told after →
+      Matched (λ end. LacksMemory (with_host s h) command told end) after
   lack_alike command [] after t = (with_host s h, (subst IsTrue (takes_alike command) t.0, refl), unchanged_alike s h same after t.1)
   lack_alike command (x ∷ told) after t = absurd t
 
@@ -333,7 +391,8 @@ Suffices (run.IsRefused why.OutOfMemory) = ⊥
 Suffices answer = Unit {0}
 
 module _ {F : Type 0} (may : May F) where
-  does_alike : (s : State F) (h : Host) → without_marks s.memory.host ≡ without_marks h → (command : Command) (told : Turns) (answer : Answer) (after : State F) →
+  does_alike : (s : State F) (h : Host) → without_marks s.memory.host ≡ without_marks h →
+      (command : Command) (told : Turns) (answer : Answer) (after : State F) →
       Does may s command told answer after → AnsweredAlike (λ other end. Does may (with_host s h) command told other end) answer after
   does_alike s h same (run.Kick i most) told (run.Served k) after t =
       answered_so (λ other end. Does may (with_host s h) (run.Kick i most) told other end) (run.Served k) after
@@ -341,7 +400,8 @@ module _ {F : Type 0} (may : May F) where
   does_alike s h same (run.Kick i most) told answer after t = absurd t
   does_alike s h same command told answer after t = has_effect_alike s h same command told answer after t
 
-  performed : (s : State F) (command : Command) (told : Turns) (answer other : Answer) (end : State F) → Suffices answer → SameAnswer answer other →
+  performed :
+      (s : State F) (command : Command) (told : Turns) (answer other : Answer) (end : State F) → Suffices answer → SameAnswer answer other →
       Does may s command told other end → Performs may s command told other end
   performed s command told (run.IsRefused why.OutOfMemory) other end enough same does = absurd enough
   performed s command told (run.Pages old) (run.Pages new) end enough same does = does
@@ -351,15 +411,19 @@ module _ {F : Type 0} (may : May F) where
   performed s command told answer other end enough same does =
       subst (λ (a : Answer). Performs may s command told a end) (sym same) (subst (λ (a : Answer). Does may s command told a end) same does)
 
-  performs_over : (s : State F) (h : Host) → without_marks s.memory.host ≡ without_marks h → (command : Command) (told : Turns) (answer : Answer) (after : State F) →
-      Performs may s command told answer after → AnsweredAlike (λ other end. Performs may (with_host s h) command told other end) answer after
+  performs_over : (s : State F) (h : Host) → without_marks s.memory.host ≡ without_marks h →
+      (command : Command) (told : Turns) (answer : Answer) (after : State F) →
+      Performs may s command told answer after →
+      AnsweredAlike (λ other end. Performs may (with_host s h) command told other end) answer after
   performs_over s h same command told (run.IsRefused why.OutOfMemory) after t =
-      answered_so (λ other end. Performs may (with_host s h) command told other end) (run.IsRefused why.OutOfMemory) after (lack_alike s h same command told after t)
+      answered_so (λ other end. Performs may (with_host s h) command told other end) (run.IsRefused why.OutOfMemory) after
+      (lack_alike s h same command told after t)
   performs_over s h same command told answer after t =
       let new = does_alike s h same command told answer after t in
       (new.0, new.1, new.2, performed (with_host s h) command told answer new.0 new.1 tt new.2 new.3, new.4)
 
-  performs_alike : (s t : State F) → SameButMarks s t → (command : Command) (told : Turns) (answer : Answer) (after : State F) → Performs may s command told answer after →
+  performs_alike : (s t : State F) → SameButMarks s t → (command : Command) (told : Turns) (answer : Answer) (after : State F) →
+      Performs may s command told answer after →
       AnsweredAlike (λ other end. Performs may t command told other end) answer after
   performs_alike s t same command told answer after performs =
       over_host s t (λ (k : State F). AnsweredAlike (λ other end. Performs may k command told other end) answer after) same
@@ -368,8 +432,10 @@ module _ {F : Type 0} (may : May F) where
   -- ---- runs
 
   -- a run from a state that differs in marks alone
-  pub run_alike : (s t after : State F) (events : List (Command × Answer)) (tolds : List Turns) → SameButMarks s t → RunTold may s events tolds after →
-      (others : List (Command × Answer)) × (end : State F) × SameEvents events others × RunTold may t others tolds end × SameButMarks after end
+  pub run_alike :
+      (s t after : State F) (events : List (Command × Answer)) (tolds : List Turns) → SameButMarks s t → RunTold may s events tolds after →
+      (others : List (Command × Answer)) × (end : State F) × SameEvents events others × RunTold may t others tolds end
+      × SameButMarks after end
   unfolding RunTold
   run_alike s t after [] [] same ran = ([], t, tt, refl, ap without_its_marks ran ∙ same)
   run_alike s t after [] (told ∷ tolds) same ran = absurd ran

@@ -1,5 +1,6 @@
 -- a machine that is moved
-use Rattle.std.proofs.Common.{◌≡◌, ◌^◌, ℕ, ◌+◌, ◌≤◌, ◌<◌, Bool, true, false, List, [], ◌∷◌, ◌++◌, map, length, drop, get_or, Option, Some, None, Ok, Err, inl, inr}
+use Rattle.std.proofs.Common.{◌≡◌, ◌^◌, ℕ, ◌+◌, ◌≤◌, ◌<◌, Bool, true, false, List, [], ◌∷◌, ◌++◌, map, length, drop, get_or, Option, Some}
+use Rattle.std.proofs.Common.{None, Ok, Err, inl, inr}
 use Rattle.std.proofs.Common.{refl, ap, sym, ◌∙◌, subst, append_assoc, append-nil, arith}
 use Rattle.std.specs.Prelude.{if◌then◌else◌, slice_get, option_map, nat_le, Result, is_err, IfErr, IfOk, IfSome, IsTrue, OnOk}
 use Rattle.std.specs.List.{AllByRecursion, zip}
@@ -35,23 +36,28 @@ use Rattle.fs_device.specs.Migrating.{IsMoved, StaysHere, pages_of_answers, unti
 -- ---- each block has its marks
 
 -- what was looked at of a block
-sized_there : {X : Type 0} (o : Option X) (f : X → List ℕ) (m : X → List Bool) (b : Block) → option_map f o ≡ Some b.bytes → option_map m o ≡ Some b.marks →
+sized_there : {X : Type 0} (o : Option X) (f : X → List ℕ) (m : X → List Bool) (b : Block) → option_map f o ≡ Some b.bytes →
+    option_map m o ≡ Some b.marks →
     IfSome o (λ x. length (m x) ≡ pages_of 4096 (length (f x))) → IsSized b
 sized_there None f m b eb em h = absurd (cc)
-sized_there (Some x) f m b eb em h = ap length (sym (same_Some (m x) b.marks em)) ∙ h ∙ page_count-is (length (f x)) ∙ ap (λ (l : List ℕ). page_count (length l)) (same_Some (f x) b.bytes eb)
+sized_there (Some x) f m b eb em h = ap length (sym (same_Some (m x) b.marks em)) ∙ h ∙ page_count-is (length (f x))
+    ∙ ap (λ (l : List ℕ). page_count (length l)) (same_Some (f x) b.bytes eb)
 
 -- one block further
 pub sized_next : {X : Type 0} (o : Option X) (f : X → List ℕ) (m : X → List Bool) (blocks : List Block) (i : ℕ) → i < length blocks →
     option_map f o ≡ option_map (λ b. b.bytes) (slice_get blocks i) → option_map m o ≡ option_map (λ b. b.marks) (slice_get blocks i) →
     IfSome o (λ x. length (m x) ≡ pages_of 4096 (length (f x))) →
-    (AllByRecursion IsSized (drop i blocks) → AllByRecursion IsSized blocks) → AllByRecursion IsSized (drop (i + 1) blocks) → AllByRecursion IsSized blocks
+    (AllByRecursion IsSized (drop i blocks) → AllByRecursion IsSized blocks) → AllByRecursion IsSized (drop (i + 1) blocks) →
+    AllByRecursion IsSized blocks
 sized_next o f m blocks i lt eb em h all rest =
     let b : Block = get_or blocks i no_block in
     let found : slice_get blocks i ≡ Some b = slice_get-get_or blocks i no_block lt in
-    let here = sized_there o f m b (eb ∙ ap (option_map (λ (k : Block). k.bytes)) found) (em ∙ ap (option_map (λ (k : Block). k.marks)) found) h in
+    let here = sized_there o f m b (eb ∙ ap (option_map (λ (k : Block). k.bytes)) found)
+    (em ∙ ap (option_map (λ (k : Block). k.marks)) found) h in
     all (subst (AllByRecursion IsSized) (sym (drop_more blocks i no_block lt)) (here, rest))
 
-pub sized_all : (blocks : List Block) (i : ℕ) → length blocks ≤ i → (AllByRecursion IsSized (drop i blocks) → AllByRecursion IsSized blocks) → AllByRecursion IsSized blocks
+pub sized_all : (blocks : List Block) (i : ℕ) → length blocks ≤ i →
+    (AllByRecursion IsSized (drop i blocks) → AllByRecursion IsSized blocks) → AllByRecursion IsSized blocks
 sized_all blocks i h all = all (subst (AllByRecursion IsSized) (sym (drop_all i blocks h)) tt)
 
 -- ---- the pages of answers
@@ -70,7 +76,8 @@ unfolding first_refused
 renumbered ls [] i j e = refl
 renumbered ls (p ∷ ps) i j e =
     let both = both_none (refused_by (slice_get ls p.block) i p) (first_refused ls (i + 1) ps) e in
-    neither_none (refused_by (slice_get ls p.block) j p) (first_refused ls (j + 1) ps) (renumbered_one (slice_get ls p.block) i j p both.0) (renumbered ls ps (i + 1) (j + 1) both.1)
+    neither_none (refused_by (slice_get ls p.block) j p) (first_refused ls (j + 1) ps) (renumbered_one (slice_get ls p.block) i j p both.0)
+    (renumbered ls ps (i + 1) (j + 1) both.1)
 
 places_front : (ls : List ℕ) (xs ys : List Page) (i : ℕ) → first_refused ls i (xs ++ ys) ≡ None → first_refused ls i xs ≡ None
 unfolding first_refused
@@ -83,9 +90,11 @@ places_front ls (p ∷ xs) ys i e =
 places_back : (ls : List ℕ) (xs ys : List Page) (i : ℕ) → first_refused ls i (xs ++ ys) ≡ None → HavePlaces ls ys
 unfolding first_refused
 places_back ls [] ys i e j = renumbered ls ys i j e
-places_back ls (p ∷ xs) ys i e j = places_back ls xs ys (i + 1) (both_none (refused_by (slice_get ls p.block) i p) (first_refused ls (i + 1) (xs ++ ys)) e).1 j
+places_back ls (p ∷ xs) ys i e j =
+    places_back ls xs ys (i + 1) (both_none (refused_by (slice_get ls p.block) i p) (first_refused ls (i + 1) (xs ++ ys)) e).1 j
 
-pub places_split : (ls : List ℕ) (xs ys : List Page) → first_refused ls 0 (xs ++ ys) ≡ None → (first_refused ls 0 xs ≡ None) × (first_refused ls 0 ys ≡ None)
+pub places_split : (ls : List ℕ) (xs ys : List Page) → first_refused ls 0 (xs ++ ys) ≡ None →
+    (first_refused ls 0 xs ≡ None) × (first_refused ls 0 ys ≡ None)
 places_split ls xs ys e = (places_front ls xs ys 0 e, places_back ls xs ys 0 e 0)
 
 pub put_all : {P : Type 0} (r : Result (Unit {0}) ApplyError) (o : Option ApplyError) → r ≡ applied o → o ≡ None → OnOk r P → P
@@ -96,18 +105,23 @@ put_all (Err x) o e none p =
 
 -- what is left of answers' pages: it leaves the whole, has its places, and the host its shape
 abbrev pub LeftAnswered : (first now whole : Host) → List told.Answer → ℕ → Type 0
-LeftAnswered first now whole answers i = (pages_put now (pages_of_answers (drop i answers)) ≡ whole) × HavePlaces (lengths now) (pages_of_answers (drop i answers)) × (shape now ≡ shape first)
+LeftAnswered first now whole answers i = (pages_put now (pages_of_answers (drop i answers)) ≡ whole)
+    × HavePlaces (lengths now) (pages_of_answers (drop i answers)) × (shape now ≡ shape first)
 
 -- the pages of the answers from one on are its own and then the others'
-pages_from : (answers : List told.Answer) (i : ℕ) (a : told.Answer) (ps : List Page) → i < length answers → a ≡ get_or answers i a → pages_of_answer (answer_of a) ≡ ps →
+pages_from : (answers : List told.Answer) (i : ℕ) (a : told.Answer) (ps : List Page) → i < length answers → a ≡ get_or answers i a →
+    pages_of_answer (answer_of a) ≡ ps →
     pages_of_answers (drop i answers) ≡ ps ++ pages_of_answers (drop (i + 1) answers)
 pages_from answers i a ps lt is has =
     let rest = pages_of_answers (drop (i + 1) answers) in
-    ap pages_of_answers (drop_more answers i a lt) ∙ ap (λ (x : told.Answer). pages_of_answer (answer_of x) ++ rest) (sym is) ∙ ap (λ (l : List Page). l ++ rest) has
+    ap pages_of_answers (drop_more answers i a lt) ∙ ap (λ (x : told.Answer). pages_of_answer (answer_of x) ++ rest) (sym is)
+    ∙ ap (λ (l : List Page). l ++ rest) has
 
 -- one answer further
-answered_next : (first now new whole : Host) (answers : List told.Answer) (i : ℕ) (a : told.Answer) (ps : List Page) → i < length answers → a ≡ get_or answers i a →
-    pages_of_answer (answer_of a) ≡ ps → new ≡ pages_put now ps → shape new ≡ shape now → LeftAnswered first now whole answers i → LeftAnswered first new whole answers (i + 1)
+answered_next : (first now new whole : Host) (answers : List told.Answer) (i : ℕ) (a : told.Answer) (ps : List Page) → i < length answers →
+    a ≡ get_or answers i a →
+    pages_of_answer (answer_of a) ≡ ps → new ≡ pages_put now ps → shape new ≡ shape now → LeftAnswered first now whole answers i →
+    LeftAnswered first new whole answers (i + 1)
 answered_next first now new whole answers i a ps lt is has put same left =
     let rest = pages_of_answers (drop (i + 1) answers) in
     let next = pages_from answers i a ps lt is has in
@@ -119,7 +133,8 @@ answered_next first now new whole answers i a ps lt is has put same left =
     )
 
 -- an answer with pages, which are put in
-pub answered_put : (first now new whole : Host) (answers : List told.Answer) (i : ℕ) (a : told.Answer) (pages : List HarvestedPage) (r : Result (Unit {0}) ApplyError) →
+pub answered_put : (first now new whole : Host) (answers : List told.Answer) (i : ℕ) (a : told.Answer) (pages : List HarvestedPage)
+    (r : Result (Unit {0}) ApplyError) →
     i < length answers → a ≡ get_or answers i a →
     pages_of_answer (answer_of a) ≡ map page_view pages → r ≡ applied (first_refused (lengths now) 0 (map page_view pages)) →
     OnOk r (new ≡ pages_put now (map page_view pages)) → shape new ≡ shape now →
@@ -129,40 +144,49 @@ answered_put first now new whole answers i a pages r lt is has outcome ok same l
     let rest = pages_of_answers (drop (i + 1) answers) in
     let next = pages_from answers i a ps lt is has in
     let there = subst (HavePlaces (lengths now)) next left.1 in
-    answered_next first now new whole answers i a ps lt is has (put_all r _ outcome (places_front (lengths now) ps rest 0 (there 0)) ok) same left
+    answered_next first now new whole answers i a ps lt is has
+    (put_all r _ outcome (places_front (lengths now) ps rest 0 (there 0)) ok) same left
 
-pub answered_passed : (first now whole : Host) (answers : List told.Answer) (i : ℕ) (a : told.Answer) → i < length answers → a ≡ get_or answers i a →
+pub answered_passed :
+    (first now whole : Host) (answers : List told.Answer) (i : ℕ) (a : told.Answer) → i < length answers → a ≡ get_or answers i a →
     pages_of_answer (answer_of a) ≡ [] → LeftAnswered first now whole answers i → LeftAnswered first now whole answers (i + 1)
 unfolding pages_put
 answered_passed first now whole answers i a lt is none left = answered_next first now now whole answers i a [] lt is none refl refl left
 
-pub answered_all : (first now whole : Host) (answers : List told.Answer) (i : ℕ) → length answers ≤ i → LeftAnswered first now whole answers i → now ≡ whole
+pub answered_all : (first now whole : Host) (answers : List told.Answer) (i : ℕ) → length answers ≤ i →
+    LeftAnswered first now whole answers i → now ≡ whole
 unfolding pages_put
-answered_all first now whole answers i ge left = sym (ap (λ (l : List told.Answer). pages_put now (pages_of_answers l)) (drop_all i answers ge)) ∙ left.0
+answered_all first now whole answers i ge left =
+    sym (ap (λ (l : List told.Answer). pages_put now (pages_of_answers l)) (drop_all i answers ge)) ∙ left.0
 
 -- ---- runs
 
 -- one run after another
-runs_joined : {F : Type 0} (may : May F) (s mid after : State F) (es fs : List (Command × Answer)) (ts us : List Turns) → RunTold may s es ts mid →
+runs_joined :
+    {F : Type 0} (may : May F) (s mid after : State F) (es fs : List (Command × Answer)) (ts us : List Turns) → RunTold may s es ts mid →
     RunTold may mid fs us after → RunTold may s (es ++ fs) (ts ++ us) after
 unfolding RunTold
 runs_joined may s mid after [] fs [] us one other = subst (λ k. RunTold may k fs us after) one other
 runs_joined may s mid after [] fs (t ∷ ts) us one other = absurd one
 runs_joined may s mid after (e ∷ es) fs [] us one other = absurd one
-runs_joined may s mid after (e ∷ es) fs (t ∷ ts) us (k, performs, rest) other = (k, performs, runs_joined may k mid after es fs ts us rest other)
+runs_joined may s mid after (e ∷ es) fs (t ∷ ts) us (k, performs, rest) other =
+    (k, performs, runs_joined may k mid after es fs ts us rest other)
 
-one_command : {F : Type 0} (may : May F) (s after : State F) (e : Command × Answer) → Performs may s e.0 [] e.1 after → RunTold may s (e ∷ []) ([] ∷ []) after
+one_command : {F : Type 0} (may : May F) (s after : State F) (e : Command × Answer) → Performs may s e.0 [] e.1 after →
+    RunTold may s (e ∷ []) ([] ∷ []) after
 unfolding RunTold
 one_command may s after e performs = (after, performs, refl)
 
-one_before : {F : Type 0} (may : May F) (s mid after : State F) (e : Command × Answer) (es : List (Command × Answer)) (ts : List Turns) → Performs may s e.0 [] e.1 mid → RunTold may mid es ts after →
+one_before : {F : Type 0} (may : May F) (s mid after : State F) (e : Command × Answer) (es : List (Command × Answer)) (ts : List Turns) →
+    Performs may s e.0 [] e.1 mid → RunTold may mid es ts after →
     RunTold may s (e ∷ es) ([] ∷ ts) after
 unfolding RunTold
 one_before may s mid after e es ts performs rest = (mid, performs, rest)
 
 -- commands between an image and a harvest
 between : {F : Type 0} (may : May F) (s began mid after : State F) (image harvest : Answer) (events : List (Command × Answer)) →
-    Performs may s run.Image [] image began → Run may began events mid → Performs may mid run.Harvest [] harvest after → Run may s ((run.Image, image) ∷ events ++ (run.Harvest, harvest) ∷ []) after
+    Performs may s run.Image [] image began → Run may began events mid → Performs may mid run.Harvest [] harvest after →
+    Run may s ((run.Image, image) ∷ events ++ (run.Harvest, harvest) ∷ []) after
 between may s began mid after image harvest events imaged (tolds, did) harvested =
     let all = runs_joined may began mid after events _ tolds _ did (one_command may mid after (run.Harvest, harvest) harvested) in
     ([] ∷ (tolds ++ [] ∷ []), one_before may s began after (run.Image, image) _ _ imaged all)
@@ -175,19 +199,23 @@ CanFollow cs = AllByRecursion (λ c. IsTrue (follows_image (command_of c))) cs
 abbrev with_answers : List fetched.Command → List told.Answer → List (Command × Answer)
 with_answers cs answers = zip (map command_of cs) (map answer_of answers)
 
-all_follow : (cs : List fetched.Command) (answers : List told.Answer) → CanFollow cs → AllByRecursion (λ (e : Command × Answer). IsTrue (follows_image e.0)) (with_answers cs answers)
+all_follow : (cs : List fetched.Command) (answers : List told.Answer) → CanFollow cs →
+    AllByRecursion (λ (e : Command × Answer). IsTrue (follows_image e.0)) (with_answers cs answers)
 all_follow [] answers f = tt
 all_follow (c ∷ cs) [] f = tt
 all_follow (c ∷ cs) (a ∷ answers) f = (f.0, all_follow cs answers f.1)
 
-harvest_follows : (events : List (Command × Answer)) (last : List Page) → AllByRecursion (λ (e : Command × Answer). IsTrue (follows_image e.0)) events →
+harvest_follows :
+    (events : List (Command × Answer)) (last : List Page) → AllByRecursion (λ (e : Command × Answer). IsTrue (follows_image e.0)) events →
     AllByRecursion (λ (e : Command × Answer). IsTrue (follows_image e.0)) (until_harvest events last)
 harvest_follows [] last f = (refl, tt)
 harvest_follows (e ∷ events) last f = (f.0, harvest_follows events last f.1)
 
-pub is_run_from_image : {F : Type 0} (may : May F) (s began mid here : State F) (copy : Host) (cs : List fetched.Command) (answers : List told.Answer) (last : List Page) →
+pub is_run_from_image : {F : Type 0} (may : May F) (s began mid here : State F) (copy : Host) (cs : List fetched.Command)
+    (answers : List told.Answer) (last : List Page) →
     s.memory.translates ≡ false → HasItsMarks s.memory.host → CanFollow cs →
-    Performs may s run.Image [] (run.Copied copy) began → Run may began (with_answers cs answers) mid → Performs may mid run.Harvest [] (run.Pages last) here →
+    Performs may s run.Image [] (run.Copied copy) began → Run may began (with_answers cs answers) mid →
+    Performs may mid run.Harvest [] (run.Pages last) here →
     RunsFromImage may s copy (until_harvest (with_answers cs answers) last) here
 is_run_from_image may s began mid here copy cs answers last off marks follow imaged did harvested = record {
   off = off;
@@ -197,7 +225,8 @@ is_run_from_image may s began mid here copy cs answers last off marks follow ima
 }
 
 -- the IOMMU stays off
-pub stays_off : {F : Type 0} (may : May F) (s began mid : State F) (copy : Host) (cs : List fetched.Command) (answers : List told.Answer) → CanMoveAgain may →
+pub stays_off : {F : Type 0} (may : May F) (s began mid : State F) (copy : Host) (cs : List fetched.Command) (answers : List told.Answer) →
+    CanMoveAgain may →
     s.memory.translates ≡ false → HasItsMarks s.memory.host → CanFollow cs →
     Performs may s run.Image [] (run.Copied copy) began → Run may began (with_answers cs answers) mid → mid.memory.translates ≡ false
 stays_off may s began mid copy cs answers law off marks follow imaged (tolds, did) =
@@ -215,21 +244,27 @@ no_answer : (answers : List told.Answer) → answers ≡ [] → map answer_of an
 no_answer answers e = ap (map answer_of) e
 
 -- an image was made or refused, and nothing more was done
-pub stays_at_once : {F : Type 0} (may : May F) (s after : State F) (image : Answer) (cs : List fetched.Command) (answers : List told.Answer) → answers ≡ [] → Performs may s run.Image [] image after →
+pub stays_at_once : {F : Type 0} (may : May F) (s after : State F) (image : Answer) (cs : List fetched.Command)
+    (answers : List told.Answer) → answers ≡ [] → Performs may s run.Image [] image after →
     StaysHere may s (map command_of cs) (map answer_of answers) after
-stays_at_once may s after image cs answers empty performs = inl (no_answer answers empty, image, ([] ∷ [], one_command may s after (run.Image, image) performs))
+stays_at_once may s after image cs answers empty performs =
+    inl (no_answer answers empty, image, ([] ∷ [], one_command may s after (run.Image, image) performs))
 
 -- all was done, and a last harvest made or refused
-pub stays_at_last : {F : Type 0} (may : May F) (s began mid after : State F) (copy : Host) (harvest : Answer) (cs : List fetched.Command) (answers : List told.Answer) → length answers ≡ length cs →
-    Performs may s run.Image [] (run.Copied copy) began → Run may began (with_answers cs answers) mid → Performs may mid run.Harvest [] harvest after →
+pub stays_at_last : {F : Type 0} (may : May F) (s began mid after : State F) (copy : Host) (harvest : Answer) (cs : List fetched.Command)
+    (answers : List told.Answer) → length answers ≡ length cs →
+    Performs may s run.Image [] (run.Copied copy) began → Run may began (with_answers cs answers) mid →
+    Performs may mid run.Harvest [] harvest after →
     StaysHere may s (map command_of cs) (map answer_of answers) after
 stays_at_last may s began mid after copy harvest cs answers count imaged did harvested =
     let many = length-map answers answer_of ∙ count ∙ sym (length-map cs command_of) in
     inr (many, copy, harvest, between may s began mid after (run.Copied copy) harvest (with_answers cs answers) imaged did harvested)
 
 -- all was done, and a last harvest made
-pub stays_after : {F : Type 0} (may : May F) (s here : State F) (copy : Host) (cs : List fetched.Command) (answers : List told.Answer) (last : List Page) → length answers ≡ length cs →
-    RunsFromImage may s copy (until_harvest (with_answers cs answers) last) here → StaysHere may s (map command_of cs) (map answer_of answers) here
+pub stays_after : {F : Type 0} (may : May F) (s here : State F) (copy : Host) (cs : List fetched.Command) (answers : List told.Answer)
+    (last : List Page) → length answers ≡ length cs →
+    RunsFromImage may s copy (until_harvest (with_answers cs answers) last) here →
+    StaysHere may s (map command_of cs) (map answer_of answers) here
 stays_after may s here copy cs answers last count from =
     let many = length-map answers answer_of ∙ count ∙ sym (length-map cs command_of) in
     inr (many, copy, run.Pages last, from.run)
@@ -245,20 +280,25 @@ both_err (Err e) f p q = f e p q
 -- ---- records
 
 -- what was saved and read back is what was saved
-pub brought : {F E : Type 0} (r : Result (Unit {0}) E) (d : DeviceParts F) (page_size limit options : ℕ) (queues : List Queue) (had has left rest taken : List ℕ) (failed fails : Bool)
-    → OneReading → is_err r ≡ false → had ≡ [] → GoesOut (device_bytes d) (Some had) failed r (Some has) fails → OnOk r (IsSavable d.options d.queues) → d.page_size < 2 ^ 32 → d.limit < 2 ^ 64
+pub brought : {F E : Type 0} (r : Result (Unit {0}) E) (d : DeviceParts F) (page_size limit options : ℕ) (queues : List Queue)
+    (had has left rest taken : List ℕ) (failed fails : Bool)
+    → OneReading → is_err r ≡ false → had ≡ [] → GoesOut (device_bytes d) (Some had) failed r (Some has) fails
+    → OnOk r (IsSavable d.options d.queues) → d.page_size < 2 ^ 32 → d.limit < 2 ^ 64
     → left ≡ has → left ≡ taken ++ rest → IsRecordFor taken page_size limit options queues → (options ≡ d.options) × (queues ≡ d.queues)
-brought (Err x) d page_size limit options queues had has left rest taken failed fails law ok none out savable small low same read is = absurd (cc)
+brought (Err x) d page_size limit options queues had has left rest taken failed fails law ok none out savable small low same read is =
+    absurd (cc)
 brought (Ok u) d page_size limit options queues had has left rest taken failed fails law ok none out savable small low same read is =
     let bytes = device_bytes d in
     let all : has ≡ bytes = out.0 ∙ ap (λ (l : List ℕ). l ++ bytes) none in
-    let one = law is.0 (Second d.page_size d.limit) options d.options queues d.queues taken bytes rest [] is.2 (refl, (small, low), savable) (sym read ∙ same ∙ all ∙ sym (append-nil bytes)) in
+    let one = law is.0 (Second d.page_size d.limit) options d.options queues d.queues taken bytes rest [] is.2 (refl, (small, low), savable)
+    (sym read ∙ same ∙ all ∙ sym (append-nil bytes)) in
     (one.1, one.2)
 
 -- ---- the machine there
 
 -- some pages and then others, put into a copy
-pub put_whole : (copy one two : Host) (xs ys : List Page) (r : Result (Unit {0}) ApplyError) → one ≡ pages_put copy xs → shape one ≡ shape copy → first_refused (lengths copy) 0 (xs ++ ys) ≡ None →
+pub put_whole : (copy one two : Host) (xs ys : List Page) (r : Result (Unit {0}) ApplyError) → one ≡ pages_put copy xs →
+    shape one ≡ shape copy → first_refused (lengths copy) 0 (xs ++ ys) ≡ None →
     r ≡ applied (first_refused (lengths one) 0 ys) → OnOk r (two ≡ pages_put one ys) → two ≡ pages_put copy (xs ++ ys)
 put_whole copy one two xs ys r put same places outcome ok =
     let kept : lengths one ≡ lengths copy = ap (λ (s : Shape). s.block_lengths) same in
@@ -272,11 +312,14 @@ all_pages [] [] last e = append-nil last
 all_pages [] (a ∷ answers) last e = absurd (omega arith)
 all_pages (c ∷ cs) [] last e = absurd (omega arith)
 all_pages (c ∷ cs) (a ∷ answers) last e =
-    ap (λ (l : List Page). pages_of_answer (answer_of a) ++ l) (all_pages cs answers last (omega arith)) ∙ sym (append_assoc (pages_of_answer (answer_of a)) (pages_of_answers answers) last)
+    ap (λ (l : List Page). pages_of_answer (answer_of a) ++ l) (all_pages cs answers last (omega arith))
+    ∙ sym (append_assoc (pages_of_answer (answer_of a)) (pages_of_answers answers) last)
 
 -- the machine over the copy with these pages put in is the one here, so whatever runs there could have run here
-pub is_moved : {F : Type 0} (may : May F) (s here there : State F) (copy : Host) (events : List (Command × Answer)) (last ps : List Page) → ImageCatchesUp may →
-    RunsFromImage may s copy (until_harvest events last) here → pages_answered (until_harvest events last) ≡ ps → there ≡ with_host here (pages_put copy ps) → IsMoved may s events there
+pub is_moved : {F : Type 0} (may : May F) (s here there : State F) (copy : Host) (events : List (Command × Answer)) (last ps : List Page) →
+    ImageCatchesUp may →
+    RunsFromImage may s copy (until_harvest events last) here → pages_answered (until_harvest events last) ≡ ps →
+    there ≡ with_host here (pages_put copy ps) → IsMoved may s events there
 is_moved {F} may s here there copy events last ps law from same is =
     let over = is ∙ ap (λ (l : List Page). with_host here (pages_put copy l)) (sym same) in
     let whole : there ≡ here = over ∙ ap (with_host here) (law s here copy events last from) in
@@ -288,5 +331,6 @@ is_moved {F} may s here there copy events last ps law from same is =
       over = over;
       same = whole;
       goes_on = λ later tolds end ran.
-          runs_joined may s here end ((run.Image, run.Copied copy) ∷ until_harvest events last) later done.0 tolds done.1 (subst (λ (k : State F). RunTold may k later tolds end) whole ran);
+          runs_joined may s here end ((run.Image, run.Copied copy) ∷ until_harvest events last) later done.0 tolds done.1
+          (subst (λ (k : State F). RunTold may k later tolds end) whole ran);
     }

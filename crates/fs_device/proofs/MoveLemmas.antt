@@ -1,5 +1,6 @@
 -- an image tracks the machine through a run
-use Rattle.std.proofs.Common.{◌≡◌, ℕ, zero, suc, Bool, true, false, List, [], ◌∷◌, ◌++◌, length, Option, Some, None, refl, ap, sym, ◌∙◌, subst, append-nil}
+use Rattle.std.proofs.Common.{◌≡◌, ℕ, zero, suc, Bool, true, false, List, [], ◌∷◌, ◌++◌, length, Option, Some, None, refl, ap, sym, ◌∙◌}
+use Rattle.std.proofs.Common.{subst, append-nil}
 use Rattle.std.specs.Prelude.{if◌then◌else◌, slice_get, not, IfSome, IsTrue}
 use Rattle.std.specs.List.{AllByRecursion, list_any, list_all, zip}
 use Rattle.std.specs.Option.{option_or}
@@ -8,7 +9,8 @@ use Rattle.vm_iotlb.specs.declared.permissions.Permissions.TheVariants.{Read, Wr
 use Rattle.vm_iotlb.specs.Table.{is_within}
 use Rattle.vm_memory_core.specs.Host.{Host, Block, Place, cleared, lengths}
 use Rattle.vm_memory.specs.Layout.{Region, fits, overlap, is_region, place}
-use Rattle.vm_memory.specs.Memory.{Memory, addresses, for_io, location, physical, place_behind, reach, stored, stored_all, stored_at, table_of}
+use Rattle.vm_memory.specs.Memory.{Memory, addresses, for_io, location, physical, place_behind, reach, stored, stored_all, stored_at}
+use Rattle.vm_memory.specs.Memory.{table_of}
 use Rattle.fs_queue.specs.declared.fault.QueueError.TheVariants as stop
 use Rattle.fs_queue.specs.Queue.{Queue, fresh}
 use Rattle.fs_queue.specs.Taking.{Offer, IsRequest, CannotFetch, Refuses, Offers}
@@ -17,7 +19,8 @@ use Rattle.plain_machine.proofs.PlainPlaces.{IsPlain, plain_place}
 use Rattle.plain_machine.specs.Harvested.{Page, harvested}
 use Rattle.fs_device.specs.Applying.{first_refused, pages_put}
 use Rattle.fs_device.proofs.CatchUpLemmas.{Tracks, pages_put-append}
-use Rattle.fs_device.proofs.TrackLemmas.{HavePlaces, harvest_is_host, harvest_placed, harvest-lengths, places-append, stale_marked, tracks_copy, tracks_harvest, tracks_store, tracks-sized}
+use Rattle.fs_device.proofs.TrackLemmas.{HavePlaces, harvest_is_host, harvest_placed, harvest-lengths, places-append, stale_marked}
+use Rattle.fs_device.proofs.TrackLemmas.{tracks_copy, tracks_harvest, tracks_store, tracks-sized}
 use Rattle.fs_record.proofs.ReadingLemmas.{one_reading}
 use Rattle.virtiofsd_fuse.specs.Serving.{May}
 use Rattle.plain_machine.specs.declared.error.DeviceError.{DeviceError}
@@ -25,9 +28,11 @@ use Rattle.plain_machine.specs.declared.error.DeviceError.TheVariants as device
 use Rattle.plain_machine.specs.declared.refusal.Refusal.TheVariants as why
 use Rattle.plain_machine.specs.Step.{State, Exchange, Calls, Idle, Refused, Exchanged, Exchanges, StepOf}
 use Rattle.plain_machine.specs.Run as run
-use Rattle.plain_machine.specs.Run.{Turns, Command, Answer, Effect, KickEnds, KickRun, Kicks, KickAnswer, HasEffect, Does, Performs, RunTold, Affects, effect, insert}
+use Rattle.plain_machine.specs.Run.{Turns, Command, Answer, Effect, KickEnds, KickRun, Kicks, KickAnswer, HasEffect, Does, Performs}
+use Rattle.plain_machine.specs.Run.{RunTold, Affects, effect, insert}
 use Rattle.plain_machine.specs.Run.{insert_block, is_known, some_overlap, reset}
-use Rattle.fs_device.specs.Moving.{follows_image, made_over, pages_of_answer, pages_answered, HasItsMarks, IsStale, MovedIsLast, page_mark, RunsFromImage}
+use Rattle.fs_device.specs.Moving.{follows_image, made_over, pages_of_answer, pages_answered, HasItsMarks, IsStale, MovedIsLast, page_mark}
+use Rattle.fs_device.specs.Moving.{RunsFromImage}
 
 -- ---- stores
 
@@ -42,8 +47,10 @@ placed_held image m byte (Some p) plain h = (h.0, tracks_store image m.host p by
 store_held : (image : Host) (m : Memory) (write : ℕ × ℕ) → TracksOn image m → TracksOn image (stored m write)
 store_held image m write h =
     let here : location m Write write.0 ≡ place m.layout write.0 =
-    ap (λ (b : Bool). if b then for_io m.io_pages write.0 (place_behind m.layout Write (table_of m write.0)) else place m.layout write.0) h.0 in
-    subst (λ (o : Option Place). TracksOn image (stored_at m write.1 o)) (sym here) (placed_held image m write.1 (place m.layout write.0) (plain_place m.layout write.0) h)
+    ap (λ (b : Bool). if b then for_io m.io_pages write.0 (place_behind m.layout Write (table_of m write.0)) else place m.layout write.0)
+    h.0 in
+    subst (λ (o : Option Place). TracksOn image (stored_at m write.1 o)) (sym here)
+    (placed_held image m write.1 (place m.layout write.0) (plain_place m.layout write.0) h)
 
 stores_held : (image : Host) (m : Memory) (ws : List (ℕ × ℕ)) → TracksOn image m → TracksOn image (stored_all m ws)
 unfolding stored_all
@@ -55,7 +62,8 @@ stores_held image m (w ∷ ws) h = stores_held image (stored m w) ws (store_held
 abbrev HeldIn : {F : Type 0} → Host → State F → Type 0
 HeldIn image s = TracksOn image s.memory
 
-exchange_held : {F : Type 0} (may : May F) (image : Host) (s : State F) (i : ℕ) (q : Queue) (o : Offer) (calls : Calls) (x : Exchange) (notice : Bool) (after : State F) →
+exchange_held : {F : Type 0} (may : May F) (image : Host) (s : State F) (i : ℕ) (q : Queue) (o : Offer) (calls : Calls) (x : Exchange)
+    (notice : Bool) (after : State F) →
     Exchanges may s i q o calls x notice after → HeldIn image s → HeldIn image after
 exchange_held may image s i q (Offers head (CannotFetch fault)) calls x notice after r h =
     subst (HeldIn image) (sym r.returns.state) (stores_held image s.memory _ h)
@@ -64,7 +72,8 @@ exchange_held may image s i q (Offers head (IsRequest request room)) calls x not
 exchange_held may image s i q taking.Idle calls x notice after r h = absurd r
 exchange_held may image s i q (Refuses e) calls x notice after r h = absurd r
 
-step_held : {F : Type 0} (may : May F) (image : Host) (s : State F) (i : ℕ) (o : Option Queue) (calls : Calls) (x : Exchange) (notice : Bool) (after : State F) →
+step_held : {F : Type 0} (may : May F) (image : Host) (s : State F) (i : ℕ) (o : Option Queue) (calls : Calls) (x : Exchange)
+    (notice : Bool) (after : State F) →
     StepOf may s i o calls (Exchanged x notice) after → HeldIn image s → HeldIn image after
 step_held may image s i None calls x notice after t h = absurd (cc)
 step_held may image s i (Some q) calls x notice after t h = exchange_held may image s i q _ calls x notice after t h
@@ -74,7 +83,8 @@ idle_held : {F : Type 0} (may : May F) (image : Host) (s : State F) (i : ℕ) (o
 idle_held may image s i None calls after t h = subst (HeldIn image) (sym t.1.same) h
 idle_held may image s i (Some q) calls after t h = subst (HeldIn image) (sym t.1.same) h
 
-refused_held : {F : Type 0} (may : May F) (image : Host) (s : State F) (i : ℕ) (o : Option Queue) (calls : Calls) (e : DeviceError) (after : State F) →
+refused_held :
+    {F : Type 0} (may : May F) (image : Host) (s : State F) (i : ℕ) (o : Option Queue) (calls : Calls) (e : DeviceError) (after : State F) →
     StepOf may s i o calls (Refused e) after → HeldIn image s → HeldIn image after
 refused_held may image s i None calls e after t h = subst (HeldIn image) (sym t.1.same) h
 refused_held may image s i (Some q) calls device.NoSuchQueue after t h = absurd t
@@ -97,15 +107,18 @@ end_held may image s i zero (Some e) after t h = absurd t
 end_held may image s i (suc most) None after t h = idle_held may image s i (slice_get s.queues i) [] after t h
 end_held may image s i (suc most) (Some e) after t h = refused_held may image s i (slice_get s.queues i) [] e after t h
 
-kick_held : {F : Type 0} (may : May F) (image : Host) (s : State F) (i most : ℕ) (told : Turns) (refused : Option DeviceError) (after : State F) →
+kick_held :
+    {F : Type 0} (may : May F) (image : Host) (s : State F) (i most : ℕ) (told : Turns) (refused : Option DeviceError) (after : State F) →
     KickRun may s i most told refused after → HeldIn image s → HeldIn image after
 unfolding KickRun
 kick_held may image s i most [] refused after t h = end_held may image s i most refused after t h
 kick_held may image s i zero (x ∷ told) refused after t h = absurd t
 kick_held may image s i (suc most) (x ∷ told) refused after (mid, step, rest) h =
-    kick_held may image mid i most told refused after rest (step_held may image s i (slice_get s.queues i) x.calls x.exchange x.notice mid step h)
+    kick_held may image mid i most told refused after rest
+    (step_held may image s i (slice_get s.queues i) x.calls x.exchange x.notice mid step h)
 
-kicks_held : {F : Type 0} (may : May F) (image : Host) (s : State F) (i most : ℕ) (o : Option Queue) (told : Turns) (k : KickAnswer) (after : State F) →
+kicks_held : {F : Type 0} (may : May F) (image : Host) (s : State F) (i most : ℕ) (o : Option Queue) (told : Turns) (k : KickAnswer)
+    (after : State F) →
     Kicks may s i most o told k after → HeldIn image s → HeldIn image after
 kicks_held may image s i most None told k after t h = subst (HeldIn image) (sym t.0) h
 kicks_held may image s i most (Some q) told k after t h = kick_held may image s i most told k.refused after t.0 h
@@ -115,7 +128,8 @@ kicks_held may image s i most (Some q) told k after t h = kick_held may image s 
 -- the image with an answer's pages, which have their places and leave its lengths, tracks the state
 abbrev GoesOn : {F : Type 0} → Host → Effect F → Type 0
 GoesOn image (answer, after) =
-    HeldIn (pages_put image (pages_of_answer answer)) after × HavePlaces (lengths image) (pages_of_answer answer) × (lengths (pages_put image (pages_of_answer answer)) ≡ lengths image)
+    HeldIn (pages_put image (pages_of_answer answer)) after × HavePlaces (lengths image) (pages_of_answer answer)
+    × (lengths (pages_put image (pages_of_answer answer)) ≡ lengths image)
 
 -- if no page is answered
 goes : (image : Host) {on : Bool} {host : Host} → (on ≡ false) × Tracks image host →
@@ -128,13 +142,16 @@ whichever image true x y p q = p
 whichever image false x y p q = q
 
 insert_goes : {F : Type 0} (image : Host) (s : State F) (r : Region) → HeldIn image s → GoesOn image (insert s r)
-insert_goes image s r h = whichever image (not (fits r)) _ _ (goes image h) (whichever image (list_any (overlap r) s.memory.layout) _ _ (goes image h) (goes image h))
+insert_goes image s r h = whichever image (not (fits r)) _ _ (goes image h)
+    (whichever image (list_any (overlap r) s.memory.layout) _ _ (goes image h) (goes image h))
 
-block_goes : {F : Type 0} (image : Host) (s : State F) (base block : ℕ) (o : Option Block) → HeldIn image s → GoesOn image (insert_block s base block o)
+block_goes : {F : Type 0} (image : Host) (s : State F) (base block : ℕ) (o : Option Block) → HeldIn image s →
+    GoesOn image (insert_block s base block o)
 block_goes image s base block None h = goes image h
 block_goes image s base block (Some b) h = insert_goes image s _ h
 
-reset_goes : {F : Type 0} (image : Host) (s : State F) (i : ℕ) (anew : Queue) (o : Option Queue) → HeldIn image s → GoesOn image (reset s i anew o)
+reset_goes :
+    {F : Type 0} (image : Host) (s : State F) (i : ℕ) (anew : Queue) (o : Option Queue) → HeldIn image s → GoesOn image (reset s i anew o)
 reset_goes image s i anew None h = goes image h
 reset_goes image s i anew (Some q) h = goes image h
 
@@ -146,58 +163,77 @@ harvest_goes : {F : Type 0} (image : Host) (s : State F) → HeldIn image s → 
 harvest_goes image s h =
     ((h.0, tracks_harvest image s.memory.host h.1), harvest_placed image s.memory.host h.1, harvest-lengths image s.memory.host h.1)
 
-by_effect : {F : Type 0} (image : Host) (e : Effect F) (answer : Answer) (after : State F) → (answer, after) ≡ e → GoesOn image e → GoesOn image (answer, after)
+by_effect : {F : Type 0} (image : Host) (e : Effect F) (answer : Answer) (after : State F) → (answer, after) ≡ e → GoesOn image e →
+    GoesOn image (answer, after)
 by_effect image e answer after t h = subst (GoesOn image) (sym t) h
 
-affect_goes : {F : Type 0} (image : Host) (s : State F) (command : Command) (answer : Answer) (after : State F) → IsTrue (follows_image command) → HeldIn image s →
+affect_goes : {F : Type 0} (image : Host) (s : State F) (command : Command) (answer : Answer) (after : State F) →
+    IsTrue (follows_image command) → HeldIn image s →
     Affects s command answer after → GoesOn image (answer, after)
 unfolding effect
 affect_goes image s (run.GuestRead a n) answer after follows h t =
-    by_effect image (run.guest_read s a n) answer after t (whichever image (reach (physical s.memory) Read a n) _ _ (goes image h) (goes image h))
+    by_effect image (run.guest_read s a n) answer after t
+    (whichever image (reach (physical s.memory) Read a n) _ _ (goes image h) (goes image h))
 affect_goes image s (run.GuestWrite a bs) answer after follows h t =
     let written = stores_held image (physical s.memory) (zip (addresses a (length bs)) bs) (refl, h.1) in
-    by_effect image (run.guest_write s a bs) answer after t (whichever image (reach (physical s.memory) Write a (length bs)) _ _ (goes image (h.0, written.1)) (goes image h))
+    by_effect image (run.guest_write s a bs) answer after t
+    (whichever image (reach (physical s.memory) Write a (length bs)) _ _ (goes image (h.0, written.1)) (goes image h))
 affect_goes image s (run.NewBlock n) answer after follows h t = absurd (cc)
 affect_goes image s (run.InsertRegion base block) answer after follows h t =
-    by_effect image (insert_block s base block (slice_get s.memory.host.blocks block)) answer after t (block_goes image s base block (slice_get s.memory.host.blocks block) h)
+    by_effect image (insert_block s base block (slice_get s.memory.host.blocks block)) answer after t
+    (block_goes image s base block (slice_get s.memory.host.blocks block) h)
 affect_goes image s (run.RemoveRegion base size) answer after follows h t =
-    by_effect image (run.remove_region s base size) answer after t (whichever image (list_any (is_region base size) s.memory.layout) _ _ (goes image h) (goes image h))
+    by_effect image (run.remove_region s base size) answer after t
+    (whichever image (list_any (is_region base size) s.memory.layout) _ _ (goes image h) (goes image h))
 affect_goes image s (run.SetLayout layout) answer after follows h t =
     by_effect image (run.set_layout s layout) answer after t
     (whichever image (not (list_all (is_known s.memory.host) layout)) _ _ (goes image h)
-    (whichever image (not (list_all fits layout)) _ _ (goes image h) (whichever image (some_overlap layout) _ _ (goes image h) (goes image h))))
+    (whichever image (not (list_all fits layout)) _ _ (goes image h)
+    (whichever image (some_overlap layout) _ _ (goes image h) (goes image h))))
 affect_goes image s (run.Map iova target n perm) answer after follows h t = absurd (cc)
 affect_goes image s (run.Unmap iova n) answer after follows h t = absurd (cc)
 affect_goes image s run.UnmapAll answer after follows h t = absurd (cc)
-affect_goes image s (run.SetIommu on) answer after follows h t = by_effect image (run.set_iommu s on) answer after t (switch_goes image s on follows h)
+affect_goes image s (run.SetIommu on) answer after follows h t =
+    by_effect image (run.set_iommu s on) answer after t (switch_goes image s on follows h)
 affect_goes image s (run.Kick queue most) answer after follows h t = absurd t
 affect_goes image s (run.ResetQueue queue size desc avail used) answer after follows h t =
-    by_effect image (reset s queue (fresh size desc avail used) (slice_get s.queues queue)) answer after t (reset_goes image s queue (fresh size desc avail used) (slice_get s.queues queue) h)
+    by_effect image (reset s queue (fresh size desc avail used) (slice_get s.queues queue)) answer after t
+    (reset_goes image s queue (fresh size desc avail used) (slice_get s.queues queue) h)
 affect_goes image s run.Image answer after follows h t = absurd (cc)
 affect_goes image s run.Harvest answer after follows h t = by_effect image (run.harvest s) answer after t (harvest_goes image s h)
 
-effect_goes : {F : Type 0} (image : Host) (s : State F) (command : Command) (told : Turns) (answer : Answer) (after : State F) → IsTrue (follows_image command) → HeldIn image s →
+effect_goes : {F : Type 0} (image : Host) (s : State F) (command : Command) (told : Turns) (answer : Answer) (after : State F) →
+    IsTrue (follows_image command) → HeldIn image s →
     HasEffect s command told answer after → GoesOn image (answer, after)
 effect_goes image s command [] answer after follows h t = affect_goes image s command answer after follows h t
 effect_goes image s command (x ∷ told) answer after follows h t = absurd t
 
-does_goes : {F : Type 0} (may : May F) (image : Host) (s : State F) (command : Command) (told : Turns) (answer : Answer) (after : State F) → IsTrue (follows_image command) → HeldIn image s →
+does_goes : {F : Type 0} (may : May F) (image : Host) (s : State F) (command : Command) (told : Turns) (answer : Answer) (after : State F) →
+    IsTrue (follows_image command) → HeldIn image s →
     Does may s command told answer after → GoesOn image (answer, after)
-does_goes may image s (run.Kick i most) told (run.Served k) after follows h t = goes image (kicks_held may image s i most (slice_get s.queues i) told k after t h)
+does_goes may image s (run.Kick i most) told (run.Served k) after follows h t =
+    goes image (kicks_held may image s i most (slice_get s.queues i) told k after t h)
 does_goes may image s (run.Kick i most) told run.Done after follows h t = absurd t
 does_goes may image s (run.Kick i most) told (run.Bytes bytes) after follows h t = absurd t
 does_goes may image s (run.Kick i most) told (run.NewBlockIs number) after follows h t = absurd t
 does_goes may image s (run.Kick i most) told (run.Copied host) after follows h t = absurd t
 does_goes may image s (run.Kick i most) told (run.Pages pages) after follows h t = absurd t
 does_goes may image s (run.Kick i most) told (run.IsRefused refusal) after follows h t = absurd t
-does_goes may image s (run.GuestRead a n) told answer after follows h t = effect_goes image s (run.GuestRead a n) told answer after follows h t
-does_goes may image s (run.GuestWrite a bs) told answer after follows h t = effect_goes image s (run.GuestWrite a bs) told answer after follows h t
+does_goes may image s (run.GuestRead a n) told answer after follows h t =
+    effect_goes image s (run.GuestRead a n) told answer after follows h t
+does_goes may image s (run.GuestWrite a bs) told answer after follows h t =
+    effect_goes image s (run.GuestWrite a bs) told answer after follows h t
 does_goes may image s (run.NewBlock n) told answer after follows h t = effect_goes image s (run.NewBlock n) told answer after follows h t
-does_goes may image s (run.InsertRegion base block) told answer after follows h t = effect_goes image s (run.InsertRegion base block) told answer after follows h t
-does_goes may image s (run.RemoveRegion base size) told answer after follows h t = effect_goes image s (run.RemoveRegion base size) told answer after follows h t
-does_goes may image s (run.SetLayout layout) told answer after follows h t = effect_goes image s (run.SetLayout layout) told answer after follows h t
-does_goes may image s (run.Map iova target n perm) told answer after follows h t = effect_goes image s (run.Map iova target n perm) told answer after follows h t
-does_goes may image s (run.Unmap iova n) told answer after follows h t = effect_goes image s (run.Unmap iova n) told answer after follows h t
+does_goes may image s (run.InsertRegion base block) told answer after follows h t =
+    effect_goes image s (run.InsertRegion base block) told answer after follows h t
+does_goes may image s (run.RemoveRegion base size) told answer after follows h t =
+    effect_goes image s (run.RemoveRegion base size) told answer after follows h t
+does_goes may image s (run.SetLayout layout) told answer after follows h t =
+    effect_goes image s (run.SetLayout layout) told answer after follows h t
+does_goes may image s (run.Map iova target n perm) told answer after follows h t =
+    effect_goes image s (run.Map iova target n perm) told answer after follows h t
+does_goes may image s (run.Unmap iova n) told answer after follows h t =
+    effect_goes image s (run.Unmap iova n) told answer after follows h t
 does_goes may image s run.UnmapAll told answer after follows h t = effect_goes image s run.UnmapAll told answer after follows h t
 does_goes may image s (run.SetIommu on) told answer after follows h t = effect_goes image s (run.SetIommu on) told answer after follows h t
 does_goes may image s (run.ResetQueue queue size desc avail used) told answer after follows h t =
@@ -205,18 +241,27 @@ does_goes may image s (run.ResetQueue queue size desc avail used) told answer af
 does_goes may image s run.Image told answer after follows h t = effect_goes image s run.Image told answer after follows h t
 does_goes may image s run.Harvest told answer after follows h t = effect_goes image s run.Harvest told answer after follows h t
 
-performs_goes : {F : Type 0} (may : May F) (image : Host) (s : State F) (command : Command) (told : Turns) (answer : Answer) (after : State F) → IsTrue (follows_image command) → HeldIn image s →
+performs_goes : {F : Type 0} (may : May F) (image : Host) (s : State F) (command : Command) (told : Turns) (answer : Answer)
+    (after : State F) → IsTrue (follows_image command) → HeldIn image s →
     Performs may s command told answer after → GoesOn image (answer, after)
 performs_goes may image s command [] (run.IsRefused why.OutOfMemory) after follows h t = goes image (subst (HeldIn image) (sym t.1) h)
 performs_goes may image s command (x ∷ told) (run.IsRefused why.OutOfMemory) after follows h t = absurd t
-performs_goes may image s command told (run.IsRefused why.NoPlace) after follows h t = does_goes may image s command told _ after follows h t
-performs_goes may image s command told (run.IsRefused why.EmptyBlock) after follows h t = does_goes may image s command told _ after follows h t
-performs_goes may image s command told (run.IsRefused why.UnknownBlock) after follows h t = does_goes may image s command told _ after follows h t
-performs_goes may image s command told (run.IsRefused why.BadRegion) after follows h t = does_goes may image s command told _ after follows h t
-performs_goes may image s command told (run.IsRefused why.Overlap) after follows h t = does_goes may image s command told _ after follows h t
-performs_goes may image s command told (run.IsRefused why.NoRegion) after follows h t = does_goes may image s command told _ after follows h t
-performs_goes may image s command told (run.IsRefused why.BadMapping) after follows h t = does_goes may image s command told _ after follows h t
-performs_goes may image s command told (run.IsRefused why.NoSuchQueue) after follows h t = does_goes may image s command told _ after follows h t
+performs_goes may image s command told (run.IsRefused why.NoPlace) after follows h t =
+    does_goes may image s command told _ after follows h t
+performs_goes may image s command told (run.IsRefused why.EmptyBlock) after follows h t =
+    does_goes may image s command told _ after follows h t
+performs_goes may image s command told (run.IsRefused why.UnknownBlock) after follows h t =
+    does_goes may image s command told _ after follows h t
+performs_goes may image s command told (run.IsRefused why.BadRegion) after follows h t =
+    does_goes may image s command told _ after follows h t
+performs_goes may image s command told (run.IsRefused why.Overlap) after follows h t =
+    does_goes may image s command told _ after follows h t
+performs_goes may image s command told (run.IsRefused why.NoRegion) after follows h t =
+    does_goes may image s command told _ after follows h t
+performs_goes may image s command told (run.IsRefused why.BadMapping) after follows h t =
+    does_goes may image s command told _ after follows h t
+performs_goes may image s command told (run.IsRefused why.NoSuchQueue) after follows h t =
+    does_goes may image s command told _ after follows h t
 performs_goes may image s command told run.Done after follows h t = does_goes may image s command told _ after follows h t
 performs_goes may image s command told (run.Bytes bytes) after follows h t = does_goes may image s command told _ after follows h t
 performs_goes may image s command told (run.NewBlockIs number) after follows h t = does_goes may image s command told _ after follows h t
@@ -233,7 +278,8 @@ CanFollow events = AllByRecursion (λ e. IsTrue (follows_image e.0)) events
 abbrev Arrives : {F : Type 0} → Host → List (Command × Answer) → State F → Type 0
 Arrives image events after = HeldIn (pages_put image (pages_answered events)) after × HavePlaces (lengths image) (pages_answered events)
 
-run_goes : {F : Type 0} (may : May F) (image : Host) (s : State F) (events : List (Command × Answer)) (tolds : List Turns) (after : State F) → CanFollow events → HeldIn image s →
+run_goes : {F : Type 0} (may : May F) (image : Host) (s : State F) (events : List (Command × Answer)) (tolds : List Turns)
+    (after : State F) → CanFollow events → HeldIn image s →
     RunTold may s events tolds after → Arrives image events after
 unfolding RunTold
 run_goes may image s [] [] after follows h t = subst (λ s. Arrives image [] s) (sym t) (let now = goes image h in (now.0, now.1))
@@ -243,47 +289,57 @@ run_goes may image s (e ∷ es) (told ∷ tolds) after follows h (mid, performs,
     let now = performs_goes may image s e.0 told e.1 mid follows.0 h performs in
     let later = run_goes may (pages_put image (pages_of_answer e.1)) mid es tolds after follows.1 now.0 rest in (
       subst (λ (k : Host). HeldIn k after) (sym (pages_put-append image (pages_of_answer e.1) (pages_answered es))) later.0,
-      places-append (lengths image) (pages_of_answer e.1) (pages_answered es) now.1 (subst (λ (l : List ℕ). HavePlaces l (pages_answered es)) now.2 later.1),
+      places-append (lengths image) (pages_of_answer e.1) (pages_answered es) now.1
+          (subst (λ (l : List ℕ). HavePlaces l (pages_answered es)) now.2 later.1),
     )
 
 -- an image that answered its copy tracks the state after
-image_held : {F : Type 0} (may : May F) (s : State F) (copy : Host) (told : Turns) (after : State F) → s.memory.translates ≡ false → HasItsMarks s.memory.host →
+image_held : {F : Type 0} (may : May F) (s : State F) (copy : Host) (told : Turns) (after : State F) → s.memory.translates ≡ false →
+    HasItsMarks s.memory.host →
     Performs may s run.Image told (run.Copied copy) after → HeldIn copy after
 unfolding effect
 image_held {F} may s copy [] after off marks t =
     let answer : run.Copied copy ≡ run.Copied (cleared s.memory.host) = ap (λ (p : Effect F). p.0) t in
     let is : copy ≡ cleared s.memory.host = cc in
-    subst (λ (k : Host). HeldIn k after) (sym is) (subst (λ (p : Effect F). HeldIn (cleared s.memory.host) p.1) (sym t) (off, tracks_copy s.memory.host marks))
+    subst (λ (k : Host). HeldIn k after) (sym is)
+    (subst (λ (p : Effect F). HeldIn (cleared s.memory.host) p.1) (sym t) (off, tracks_copy s.memory.host marks))
 image_held may s copy (x ∷ told) after off marks t = absurd t
 
 -- what a run from an image begins with, once the image was made
 abbrev GoesFrom : {F : Type 0} → May F → Host → List (Command × Answer) → State F → Type 0
 GoesFrom {F} may copy events after = (mid : State F) × (tolds : List Turns) × HeldIn copy mid × RunTold may mid events tolds after
 
-begins : {F : Type 0} (may : May F) (s after : State F) (copy : Host) (events : List (Command × Answer)) (tolds : List Turns) → s.memory.translates ≡ false → HasItsMarks s.memory.host →
+begins : {F : Type 0} (may : May F) (s after : State F) (copy : Host) (events : List (Command × Answer)) (tolds : List Turns) →
+    s.memory.translates ≡ false → HasItsMarks s.memory.host →
     RunTold may s ((run.Image, run.Copied copy) ∷ events) tolds after → GoesFrom may copy events after
 unfolding RunTold
 begins may s after copy events [] off marks t = absurd t
-begins may s after copy events (told ∷ tolds) off marks (mid, performs, rest) = (mid, tolds, image_held may s copy told mid off marks performs, rest)
+begins may s after copy events (told ∷ tolds) off marks (mid, performs, rest) =
+    (mid, tolds, image_held may s copy told mid off marks performs, rest)
 
-from_image : {F : Type 0} (may : May F) (s after : State F) (copy : Host) (events : List (Command × Answer)) → RunsFromImage may s copy events after → GoesFrom may copy events after
+from_image : {F : Type 0} (may : May F) (s after : State F) (copy : Host) (events : List (Command × Answer)) →
+    RunsFromImage may s copy events after → GoesFrom may copy events after
 from_image may s after copy events r = begins may s after copy events r.run.0 r.off r.marks r.run.1
 
-arrives : {F : Type 0} (may : May F) (s after : State F) (copy : Host) (events : List (Command × Answer)) → RunsFromImage may s copy events after → Arrives copy events after
+arrives : {F : Type 0} (may : May F) (s after : State F) (copy : Host) (events : List (Command × Answer)) →
+    RunsFromImage may s copy events after → Arrives copy events after
 arrives may s after copy events r =
     let b = from_image may s after copy events r in
     run_goes may copy b.0 events b.1 after r.follow b.2 b.3
 
-pub stale_is_marked : {F : Type 0} (may : May F) (s after : State F) (copy : Host) (events : List (Command × Answer)) (p : Place) → RunsFromImage may s copy events after →
+pub stale_is_marked : {F : Type 0} (may : May F) (s after : State F) (copy : Host) (events : List (Command × Answer)) (p : Place) →
+    RunsFromImage may s copy events after →
     IsStale copy (pages_answered events) after.memory.host p → page_mark after.memory.host p ≡ Some true
 stale_is_marked may s after copy events p r stale =
     stale_marked (pages_put copy (pages_answered events)) after.memory.host p (arrives may s after copy events r).0.1 stale
 
-pub pages_have_places : {F : Type 0} (may : May F) (s after : State F) (copy : Host) (events : List (Command × Answer)) → RunsFromImage may s copy events after →
+pub pages_have_places : {F : Type 0} (may : May F) (s after : State F) (copy : Host) (events : List (Command × Answer)) →
+    RunsFromImage may s copy events after →
     first_refused (lengths copy) 0 (pages_answered events) ≡ None
 pages_have_places may s after copy events r = (arrives may s after copy events r).1 0
 
-pub can_move_again : {F : Type 0} (may : May F) (s after : State F) (copy : Host) (events : List (Command × Answer)) → RunsFromImage may s copy events after →
+pub can_move_again : {F : Type 0} (may : May F) (s after : State F) (copy : Host) (events : List (Command × Answer)) →
+    RunsFromImage may s copy events after →
     (after.memory.translates ≡ false) × HasItsMarks after.memory.host
 can_move_again may s after copy events r =
     let held = (arrives may s after copy events r).0 in
@@ -293,13 +349,15 @@ can_move_again may s after copy events r =
 
 -- a run up to its last command, and that command
 abbrev Ends : {F : Type 0} → May F → State F → List (Command × Answer) → Command × Answer → State F → Type 0
-Ends {F} may s events e after = (mid : State F) × (tolds : List Turns) × (told : Turns) × RunTold may s events tolds mid × Performs may mid e.0 told e.1 after
+Ends {F} may s events e after =
+    (mid : State F) × (tolds : List Turns) × (told : Turns) × RunTold may s events tolds mid × Performs may mid e.0 told e.1 after
 
 ends : {F : Type 0} (may : May F) (s after : State F) (events : List (Command × Answer)) (e : Command × Answer) (tolds : List Turns) →
     RunTold may s (events ++ e ∷ []) tolds after → Ends may s events e after
 unfolding RunTold
 ends may s after [] e [] t = absurd t
-ends may s after [] e (told ∷ []) (mid, performs, rest) = (s, [], told, refl, subst (λ k. Performs may s e.0 told e.1 k) (sym rest) performs)
+ends may s after [] e (told ∷ []) (mid, performs, rest) =
+    (s, [], told, refl, subst (λ k. Performs may s e.0 told e.1 k) (sym rest) performs)
 ends may s after [] e (told ∷ x ∷ tolds) (mid, performs, rest) = absurd rest
 ends may s after (x ∷ events) e [] t = absurd t
 ends may s after (x ∷ events) e (told ∷ tolds) (mid, performs, rest) =
@@ -310,7 +368,8 @@ follow_front : (events : List (Command × Answer)) (e : Command × Answer) → C
 follow_front [] e f = tt
 follow_front (x ∷ events) e f = (f.0, follow_front events e f.1)
 
-last_is_host : {F : Type 0} (may : May F) (image : Host) (mid after : State F) (told : Turns) (last : List Page) → Tracks image mid.memory.host →
+last_is_host :
+    {F : Type 0} (may : May F) (image : Host) (mid after : State F) (told : Turns) (last : List Page) → Tracks image mid.memory.host →
     Performs may mid run.Harvest told (run.Pages last) after → pages_put image last ≡ after.memory.host
 unfolding effect
 last_is_host {F} may image mid after [] last f t =
@@ -320,7 +379,8 @@ last_is_host {F} may image mid after [] last f t =
     ap (pages_put image) is ∙ harvest_is_host image mid.memory.host f ∙ sym host
 last_is_host may image mid after (x ∷ told) last f t = absurd t
 
-pages_in_all : (events : List (Command × Answer)) (last : List Page) → pages_answered (events ++ (run.Harvest, run.Pages last) ∷ []) ≡ pages_answered events ++ last
+pages_in_all : (events : List (Command × Answer)) (last : List Page) →
+    pages_answered (events ++ (run.Harvest, run.Pages last) ∷ []) ≡ pages_answered events ++ last
 pages_in_all events last =
     flat_map-append (λ (e : Command × Answer). pages_of_answer e.1) events ((run.Harvest, run.Pages last) ∷ [])
     ∙ ap (λ (l : List Page). pages_answered events ++ l) (append-nil last)

@@ -1,5 +1,6 @@
 -- the nodes in the bytes of replies
-use Rattle.std.proofs.Common.{◌≡◌, ℕ, zero, suc, ◌+◌, ◌-◌, ◌^◌, ◌<◌, ◌≤◌, Bool, true, false, List, [], ◌∷◌, ◌++◌, length, take, drop, Option, Some, None, refl, ap, ◌∙◌}
+use Rattle.std.proofs.Common.{◌≡◌, ℕ, zero, suc, ◌+◌, ◌-◌, ◌^◌, ◌<◌, ◌≤◌, Bool, true, false, List, [], ◌∷◌, ◌++◌, length, take, drop}
+use Rattle.std.proofs.Common.{Option, Some, None, refl, ap, ◌∙◌}
 use Rattle.std.proofs.Common.{arith, length-append, append_assoc}
 use Rattle.std.specs.Prelude.{◌==◌, if◌then◌else◌, replicate, pos, nat_lt, nat_le}
 use Rattle.std.specs.Int.{w32, w64, to_le_bytes, from_le_bytes}
@@ -16,7 +17,8 @@ use Rattle.fuse_fs.specs.Answers.{entry_out_of}
 use Rattle.fuse_fs.specs.Replies.{dirent_of}
 use Rattle.fuse_fs.specs.Calls.{Listed}
 use Rattle.server_replies.specs.WholeReplies.{reply_bytes, error_bytes}
-use Rattle.server_replies.specs.Entries.{dirent_len, entry_len, dirent_bytes, node_bytes, entry_bytes, fit_of, GoesIn, IsFull, IsWrong, EIO, EOVERFLOW}
+use Rattle.server_replies.specs.Entries.{dirent_len, entry_len, dirent_bytes, node_bytes, entry_bytes, fit_of, GoesIn, IsFull, IsWrong, EIO}
+use Rattle.server_replies.specs.Entries.{EOVERFLOW}
 use Rattle.server_replies.proofs.ReplyLemmas.{length_header, length_error}
 use Rattle.fs_device.specs.Books.{replies_entry, lists_nodes, first_node, name_len_of, nodes_listed, nodes_of, nodes_in}
 
@@ -54,14 +56,16 @@ pub not_zero : (n : ℕ) → 0 < n → (n == 0) ≡ false
 not_zero n h = grind (arith, nat_tests)
 
 -- fields that begin with a number of eight bytes
-front_is : (all : List Field) (n : ℕ) (fs : List Field) (more : List ℕ) → all ≡ q n ∷ fs → spelled all ++ more ≡ to_le_bytes w64 n ++ (spelled fs ++ more)
+front_is : (all : List Field) (n : ℕ) (fs : List Field) (more : List ℕ) → all ≡ q n ∷ fs →
+    spelled all ++ more ≡ to_le_bytes w64 n ++ (spelled fs ++ more)
 unfolding field_bytes
 front_is all n fs more is =
     ap (λ (fields : List Field). spelled fields ++ more) is
     ∙ ap (λ (bytes : List ℕ). bytes ++ more) (then_is (to_le_bytes w64 n) fs)
     ∙ append_assoc (to_le_bytes w64 n) (spelled fs) more
 
-number_front : (all : List Field) (n : ℕ) (fs : List Field) (more : List ℕ) → all ≡ q n ∷ fs → n < 2 ^ 64 → first_node (spelled all ++ more) ≡ n
+number_front :
+    (all : List Field) (n : ℕ) (fs : List Field) (more : List ℕ) → all ≡ q n ∷ fs → n < 2 ^ 64 → first_node (spelled all ++ more) ≡ n
 number_front all n fs more is h = ap first_node (front_is all n fs more is) ∙ from_le_bytes-to_le_bytes_8 n h
 
 longer_front : (all : List Field) (n : ℕ) (fs : List Field) (more : List ℕ) → all ≡ q n ∷ fs → 0 < length (spelled all ++ more)
@@ -72,14 +76,17 @@ longer_front all n fs more is =
     omega (arith, e, l, k)
 
 -- a reply that begins with an entry
-pub one_node : (o : Opcode) (all : List Field) (n : ℕ) (fs : List Field) (more : List ℕ) → all ≡ q n ∷ fs → replies_entry o ≡ true → n < 2 ^ 64 → nodes_of o (spelled all ++ more) ≡ n ∷ []
+pub one_node : (o : Opcode) (all : List Field) (n : ℕ) (fs : List Field) (more : List ℕ) → all ≡ q n ∷ fs → replies_entry o ≡ true →
+    n < 2 ^ 64 → nodes_of o (spelled all ++ more) ≡ n ∷ []
 one_node o all n fs more is begins small =
-    rw (not_zero (length (spelled all ++ more)) (longer_front all n fs more is), begins) (ap (λ (k : ℕ). k ∷ []) (number_front all n fs more is small))
+    rw (not_zero (length (spelled all ++ more)) (longer_front all n fs more is), begins)
+    (ap (λ (k : ℕ). k ∷ []) (number_front all n fs more is small))
 
 -- ---- the entries of READDIRPLUS
 
 -- an entry that goes in has a name whose length fits, and the room has place for it
-fits_by : (a b c : Bool) (x y : ℕ) → (if a then IsWrong x else if b then IsFull else if c then IsWrong y else GoesIn) ≡ GoesIn → (a ≡ false) × (c ≡ false)
+fits_by : (a b c : Bool) (x y : ℕ) → (if a then IsWrong x else if b then IsFull else if c then IsWrong y else GoesIn) ≡ GoesIn →
+    (a ≡ false) × (c ≡ false)
 fits_by true b c x y e = absurd (cc)
 fits_by false true c x y e = absurd (cc)
 fits_by false false true x y e = absurd (cc)
@@ -102,7 +109,8 @@ length_dirent d =
     let all = length-append (spelled (dirent (dirent_of d))) (d.name ++ zeros) in
     let head : length (spelled (dirent (dirent_of d))) ≡ 24 = refl in
     let behind = length-append d.name zeros in
-    let filled : length zeros ≡ dirent_len (length d.name) - (24 + length d.name) = length-replicate (dirent_len (length d.name) - (24 + length d.name)) 0 in
+    let filled : length zeros ≡ dirent_len (length d.name) - (24 + length d.name) =
+    length-replicate (dirent_len (length d.name) - (24 + length d.name)) 0 in
     omega (arith, all, head, behind, filled)
 
 pub length_entry : (e : Entry ℕ) (d : Listed) → length (entry_bytes true e d) ≡ entry_len true (length d.name)
@@ -111,7 +119,8 @@ length_entry e d =
     let b = length_dirent d in
     length-append (node_bytes e) (dirent_bytes d) ∙ omega (arith, a, b)
 
-name_len_there : (e : Entry ℕ) (d : Listed) (more : List ℕ) → length d.name < 2 ^ 32 → name_len_of (entry_bytes true e d ++ more) ≡ length d.name
+name_len_there :
+    (e : Entry ℕ) (d : Listed) (more : List ℕ) → length d.name < 2 ^ 32 → name_len_of (entry_bytes true e d ++ more) ≡ length d.name
 unfolding field_bytes node_bytes dirent_bytes
 name_len_there e d more small =
     let there : take 4 (drop 144 (entry_bytes true e d ++ more)) ≡ to_le_bytes w32 (length d.name) = refl in
@@ -119,7 +128,8 @@ name_len_there e d more small =
 
 node_there : (e : Entry ℕ) (d : Listed) (more : List ℕ) → e.inode < 2 ^ 64 → first_node (entry_bytes true e d ++ more) ≡ e.inode
 unfolding node_bytes
-node_there e d more small = ap first_node (append_assoc (node_bytes e) (dirent_bytes d) more) ∙ number_front (entry_out (entry_out_of e)) e.inode _ (dirent_bytes d ++ more) refl small
+node_there e d more small = ap first_node (append_assoc (node_bytes e) (dirent_bytes d) more)
+    ∙ number_front (entry_out (entry_out_of e)) e.inode _ (dirent_bytes d ++ more) refl small
 
 pub nodes_more : (most : ℕ) (e : Entry ℕ) (d : Listed) (more : List ℕ) → e.inode < 2 ^ 64 → length d.name < 2 ^ 32 →
     nodes_listed (suc most) (entry_bytes true e d ++ more) ≡ e.inode ∷ nodes_listed most more
@@ -129,6 +139,8 @@ nodes_more most e d more node name =
     let whole = length_entry e d in
     let long : 0 < length bytes = (let l = length-append (entry_bytes true e d) more in omega (arith, l, whole)) in
     let behind : drop (entry_len true (name_len_of bytes)) bytes ≡ more =
-    ap (λ (n : ℕ). drop (entry_len true n) bytes) (name_len_there e d more name) ∙ drop_at (entry_bytes true e d) more (entry_len true (length d.name)) whole in
-    rw (not_zero (length bytes) long) (ap (λ (n : ℕ). n ∷ nodes_listed most (drop (entry_len true (name_len_of bytes)) bytes)) (node_there e d more node)
+    ap (λ (n : ℕ). drop (entry_len true n) bytes) (name_len_there e d more name)
+    ∙ drop_at (entry_bytes true e d) more (entry_len true (length d.name)) whole in
+    rw (not_zero (length bytes) long)
+    (ap (λ (n : ℕ). n ∷ nodes_listed most (drop (entry_len true (name_len_of bytes)) bytes)) (node_there e d more node)
     ∙ ap (λ (l : List ℕ). e.inode ∷ nodes_listed most l) behind)

@@ -1,5 +1,6 @@
 -- which pages the commands of a run mark
-use Rattle.std.proofs.Common.{◌≡◌, ℕ, zero, suc, Bool, true, false, List, [], ◌∷◌, ◌++◌, length, map, replicate, Option, Some, None, refl, ap, sym, ◌∙◌, subst, arith}
+use Rattle.std.proofs.Common.{◌≡◌, ℕ, zero, suc, Bool, true, false, List, [], ◌∷◌, ◌++◌, length, map, replicate, Option, Some, None, refl}
+use Rattle.std.proofs.Common.{ap, sym, ◌∙◌, subst, arith}
 use Rattle.std.specs.Prelude.{◌↔◌, ◌==◌, if◌then◌else◌, not, slice_get, option_map, option_and_then}
 use Rattle.std.specs.List.{list_any, list_all, zip}
 use Rattle.std.proofs.lemmas.Option.{slice_get-map}
@@ -17,7 +18,8 @@ use Rattle.plain_machine.specs.declared.error.DeviceError.{DeviceError}
 use Rattle.plain_machine.specs.declared.refusal.Refusal.TheVariants as why
 use Rattle.plain_machine.specs.Step.{State}
 use Rattle.plain_machine.specs.Run as run
-use Rattle.plain_machine.specs.Run.{Turns, Command, Answer, Effect, ChangesTable, KickEnds, KickRun, Kicks, KickAnswer, HasEffect, Does, Performs, Affects, effect, insert}
+use Rattle.plain_machine.specs.Run.{Turns, Command, Answer, Effect, ChangesTable, KickEnds, KickRun, Kicks, KickAnswer, HasEffect, Does}
+use Rattle.plain_machine.specs.Run.{Performs, Affects, effect, insert}
 use Rattle.plain_machine.specs.Run.{insert_block, is_known, some_overlap, reset}
 use Rattle.plain_machine.specs.MarkedPages.{Marks, KickWrites, ClearsMarks, KeepsMarks, DoneMarks, AnswerMarks, CommandsMark}
 use Rattle.fs_device.proofs.TellingLemmas.{end_keeps}
@@ -32,14 +34,16 @@ keeps h = record { blocks = λ block page. ((λ e. e), (λ e. e)); io_sets = λ 
 all_unset : (marks : List Bool) (page : ℕ) → slice_get (map (λ _. false) marks) page ≡ option_map (λ was. false) (slice_get marks page)
 all_unset marks page = slice_get-map (λ (b : Bool). false) marks page
 
-block_unset : (o : Option Block) (page : ℕ) → option_and_then (λ (b : Block). slice_get b.marks page) (option_map unmarked o) ≡ option_map (λ was. false)
+block_unset : (o : Option Block) (page : ℕ) →
+    option_and_then (λ (b : Block). slice_get b.marks page) (option_map unmarked o) ≡ option_map (λ was. false)
     (option_and_then (λ (b : Block). slice_get b.marks page) o)
 block_unset None page = refl
 block_unset (Some b) page = all_unset b.marks page
 
 clears : (h : Host) → ClearsMarks h (cleared h)
 clears h = record {
-  blocks = λ block page. ap (λ (o : Option Block). option_and_then (λ b. slice_get b.marks page) o) (slice_get-map unmarked h.blocks block) ∙ block_unset (slice_get h.blocks block) page;
+  blocks = λ block page. ap (λ (o : Option Block). option_and_then (λ b. slice_get b.marks page) o) (slice_get-map unmarked h.blocks block)
+      ∙ block_unset (slice_get h.blocks block) page;
   io_sets = λ set page. refl;
 }
 
@@ -52,7 +56,8 @@ none_of_new (suc n) (suc page) e = none_of_new n page e
 abbrev listed_mark : List Block → ℕ → ℕ → Option Bool
 listed_mark blocks block page = option_and_then (λ b. slice_get b.marks page) (slice_get blocks block)
 
-grown_marks : (blocks : List Block) (n block page : ℕ) → (listed_mark (blocks ++ new_block n ∷ []) block page ≡ Some true) ↔ (listed_mark blocks block page ≡ Some true)
+grown_marks : (blocks : List Block) (n block page : ℕ) →
+    (listed_mark (blocks ++ new_block n ∷ []) block page ≡ Some true) ↔ (listed_mark blocks block page ≡ Some true)
 grown_marks [] n zero page = ((λ e. absurd (none_of_new (page_count n) page e)), (λ e. absurd (cc)))
 grown_marks [] n (suc block) page = ((λ e. absurd (cc)), (λ e. absurd (cc)))
 grown_marks (b ∷ blocks) n zero page = ((λ e. e), (λ e. e))
@@ -69,7 +74,8 @@ module _ {F : Type 0} (may : May F) where
   unfolding KickWrites
   nothing_marked s i most after same = ([], refl, subst (λ (m : Memory). Marks s.memory [] m.host) (sym same) (none_written s.memory))
 
-  kick_marks : (s : State F) (i most : ℕ) (told : Turns) (refused : Option DeviceError) (after : State F) → KickRun may s i most told refused after → Marked s i most told after
+  kick_marks : (s : State F) (i most : ℕ) (told : Turns) (refused : Option DeviceError) (after : State F) →
+      KickRun may s i most told refused after → Marked s i most told after
   unfolding KickRun KickWrites
   kick_marks s i most [] refused after t = nothing_marked s i most after (end_keeps may s i most refused after t)
   kick_marks s i zero (x ∷ told) refused after t = absurd t
@@ -78,13 +84,19 @@ module _ {F : Type 0} (may : May F) where
       let o = found.0 in
       let ws = writes o.queue x.exchange.head (room_of o.fetched) x.exchange.reply in
       let is = exchange_returns may s i o.queue x.exchange.head o.fetched x.calls x.exchange x.notice mid found.1 in
-      let here : Marks s.memory (map (λ w. w.0) ws) mid.memory.host = subst (λ (m : Memory). Marks s.memory (map (λ w. w.0) ws) m.host) (sym is) (writes_mark s.memory ws) in
+      let here : Marks s.memory (map (λ w. w.0) ws) mid.memory.host =
+      subst (λ (m : Memory). Marks s.memory (map (λ w. w.0) ws) m.host) (sym is) (writes_mark s.memory ws) in
       let same : ways mid.memory ≡ ways s.memory = ap ways is ∙ ways_stay s.memory ws in
-      let later = kick_marks mid i most told refused after rest in
-      (map (λ w. w.0) ws ++ later.0, (mid, step, o, later.0, later.1, refl), marks_join s.memory mid.memory (map (λ w. w.0) ws) later.0 after.memory.host same here later.2)
+      let later = kick_marks mid i most told refused after rest in (
+        map (λ w. w.0) ws ++ later.0,
+        (mid, step, o, later.0, later.1, refl),
+        marks_join s.memory mid.memory (map (λ w. w.0) ws) later.0 after.memory.host same here later.2,
+      )
 
-  kicks_mark : (s : State F) (i most : ℕ) (o : Option Queue) (told : Turns) (k : KickAnswer) (after : State F) → Kicks may s i most o told k after → Marked s i most told after
-  kicks_mark s i most None told k after t = subst (λ (l : Turns). Marked s i most l after) (sym t.1) (nothing_marked s i most after (ap (λ (k : State F). k.memory) t.0))
+  kicks_mark : (s : State F) (i most : ℕ) (o : Option Queue) (told : Turns) (k : KickAnswer) (after : State F) →
+      Kicks may s i most o told k after → Marked s i most told after
+  kicks_mark s i most None told k after t =
+      subst (λ (l : Turns). Marked s i most l after) (sym t.1) (nothing_marked s i most after (ap (λ (k : State F). k.memory) t.0))
   kicks_mark s i most (Some q) told k after t = kick_marks s i most told k.refused after t.0
 
 -- ---- what the other commands do
@@ -95,20 +107,24 @@ firsts [] (y ∷ ys) e = absurd (omega (arith, e))
 firsts (x ∷ xs) [] e = absurd (omega (arith, e))
 firsts (x ∷ xs) (y ∷ ys) e = ap (λ (l : List ℕ). x ∷ l) (firsts xs ys (omega (arith, e)))
 
-write_marks : (m : Memory) (a : ℕ) (bs : List ℕ) → Marks (physical m) (addresses a (length bs)) (stored_all (physical m) (zip (addresses a (length bs)) bs)).host
+write_marks : (m : Memory) (a : ℕ) (bs : List ℕ) →
+    Marks (physical m) (addresses a (length bs)) (stored_all (physical m) (zip (addresses a (length bs)) bs)).host
 write_marks m a bs =
-    subst (λ (as' : List ℕ). Marks (physical m) as' (stored_all (physical m) (zip (addresses a (length bs)) bs)).host) (firsts (addresses a (length bs)) bs (length-addresses (length bs) a))
+    subst (λ (as' : List ℕ). Marks (physical m) as' (stored_all (physical m) (zip (addresses a (length bs)) bs)).host)
+    (firsts (addresses a (length bs)) bs (length-addresses (length bs) a))
     (writes_mark (physical m) (zip (addresses a (length bs)) bs))
 
 -- what an effect does to the marks
 abbrev EffectMarks : {F : Type 0} → May F → State F → Command → Effect F → Type 0
 EffectMarks may s command (answer, after) = AnswerMarks may answer s command [] after
 
-by_effect : {F : Type 0} (may : May F) (s : State F) (command : Command) (e : Effect F) (answer : Answer) (after : State F) → (answer, after) ≡ e →
+by_effect :
+    {F : Type 0} (may : May F) (s : State F) (command : Command) (e : Effect F) (answer : Answer) (after : State F) → (answer, after) ≡ e →
     EffectMarks may s command e → AnswerMarks may answer s command [] after
 by_effect may s command e answer after t h = subst (EffectMarks may s command) (sym t) h
 
-whichever : {F : Type 0} (may : May F) (s : State F) (command : Command) (b : Bool) (x y : Effect F) → EffectMarks may s command x → EffectMarks may s command y →
+whichever : {F : Type 0} (may : May F) (s : State F) (command : Command) (b : Bool) (x y : Effect F) → EffectMarks may s command x →
+    EffectMarks may s command y →
     EffectMarks may s command (if b then x else y)
 whichever may s command true x y p q = p
 whichever may s command false x y p q = q
@@ -121,32 +137,41 @@ module _ {F : Type 0} (may : May F) (s : State F) where
   block_marks base block None = kept
   block_marks base block (Some b) =
       let r : Region = record { start = base; size = length b.bytes; block = block } in
-      whichever may s (run.InsertRegion base block) (not (fits r)) _ _ kept (whichever may s (run.InsertRegion base block) (list_any (overlap r) s.memory.layout) _ _ kept kept)
+      whichever may s (run.InsertRegion base block) (not (fits r)) _ _ kept
+      (whichever may s (run.InsertRegion base block) (list_any (overlap r) s.memory.layout) _ _ kept kept)
 
-  reset_marks : (i size desc avail used : ℕ) (o : Option Queue) → EffectMarks may s (run.ResetQueue i size desc avail used) (reset s i (fresh size desc avail used) o)
+  reset_marks : (i size desc avail used : ℕ) (o : Option Queue) →
+      EffectMarks may s (run.ResetQueue i size desc avail used) (reset s i (fresh size desc avail used) o)
   reset_marks i size desc avail used None = kept
   reset_marks i size desc avail used (Some q) = kept
 
-  table_marks : (fit : Bool) (table : Table) (answer : Answer) (after : State F) (command : Command) → ((end : State F) → KeepsMarks s.memory.host end.memory.host → DoneMarks s command end) →
+  table_marks : (fit : Bool) (table : Table) (answer : Answer) (after : State F) (command : Command) →
+      ((end : State F) → KeepsMarks s.memory.host end.memory.host → DoneMarks s command end) →
       ChangesTable s fit table answer after → AnswerMarks may answer s command [] after
   table_marks true table answer after command done t =
-      let there : KeepsMarks s.memory.host (run.with_ranges s t.1.0).memory.host = record { blocks = λ block page. ((λ e. e), (λ e. e)); io_sets = λ set page. refl } in
-      let host : KeepsMarks s.memory.host after.memory.host = subst (λ (k : State F). KeepsMarks s.memory.host k.memory.host) (sym t.1.3) there in
+      let there : KeepsMarks s.memory.host (run.with_ranges s t.1.0).memory.host =
+      record { blocks = λ block page. ((λ e. e), (λ e. e)); io_sets = λ set page. refl } in
+      let host : KeepsMarks s.memory.host after.memory.host =
+      subst (λ (k : State F). KeepsMarks s.memory.host k.memory.host) (sym t.1.3) there in
       subst (λ (a : Answer). AnswerMarks may a s command [] after) (sym t.0) (done after host)
   table_marks false table answer after command done t = by_effect may s command (run.no why.BadMapping s) answer after t kept
 
-  affect_marks : (command : Command) (answer : Answer) (after : State F) → Affects s command answer after → AnswerMarks may answer s command [] after
+  affect_marks :
+      (command : Command) (answer : Answer) (after : State F) → Affects s command answer after → AnswerMarks may answer s command [] after
   unfolding effect
   affect_marks (run.GuestRead a n) answer after t =
-      by_effect may s (run.GuestRead a n) (run.guest_read s a n) answer after t (whichever may s (run.GuestRead a n) (reach (physical s.memory) Read a n) _ _ kept kept)
+      by_effect may s (run.GuestRead a n) (run.guest_read s a n) answer after t
+      (whichever may s (run.GuestRead a n) (reach (physical s.memory) Read a n) _ _ kept kept)
   affect_marks (run.GuestWrite a bs) answer after t =
       by_effect may s (run.GuestWrite a bs) (run.guest_write s a bs) answer after t
       (whichever may s (run.GuestWrite a bs) (reach (physical s.memory) Write a (length bs)) _ _ (write_marks s.memory a bs) kept)
   affect_marks (run.NewBlock n) answer after t =
       by_effect may s (run.NewBlock n) (run.make_block s n) answer after t
-      (whichever may s (run.NewBlock n) (n == 0) _ _ kept (record { blocks = λ block page. grown_marks s.memory.host.blocks n block page; io_sets = λ set page. refl }))
+      (whichever may s (run.NewBlock n) (n == 0) _ _ kept
+      (record { blocks = λ block page. grown_marks s.memory.host.blocks n block page; io_sets = λ set page. refl }))
   affect_marks (run.InsertRegion base block) answer after t =
-      by_effect may s (run.InsertRegion base block) (insert_block s base block (slice_get s.memory.host.blocks block)) answer after t (block_marks base block (slice_get s.memory.host.blocks block))
+      by_effect may s (run.InsertRegion base block) (insert_block s base block (slice_get s.memory.host.blocks block)) answer after t
+      (block_marks base block (slice_get s.memory.host.blocks block))
   affect_marks (run.RemoveRegion base size) answer after t =
       by_effect may s (run.RemoveRegion base size) (run.remove_region s base size) answer after t
       (whichever may s (run.RemoveRegion base size) (list_any (is_region base size) s.memory.layout) _ _ kept kept)
@@ -161,15 +186,18 @@ module _ {F : Type 0} (may : May F) (s : State F) where
   affect_marks (run.SetIommu on) answer after t = by_effect may s (run.SetIommu on) (run.set_iommu s on) answer after t kept
   affect_marks (run.Kick i most) answer after t = absurd t
   affect_marks (run.ResetQueue i size desc avail used) answer after t =
-      by_effect may s (run.ResetQueue i size desc avail used) (reset s i (fresh size desc avail used) (slice_get s.queues i)) answer after t (reset_marks i size desc avail used (slice_get s.queues i))
+      by_effect may s (run.ResetQueue i size desc avail used) (reset s i (fresh size desc avail used) (slice_get s.queues i)) answer after t
+      (reset_marks i size desc avail used (slice_get s.queues i))
   affect_marks run.Image answer after t = by_effect may s run.Image (run.image s) answer after t (clears s.memory.host)
   affect_marks run.Harvest answer after t = by_effect may s run.Harvest (run.harvest s) answer after t (clears s.memory.host)
 
-  effect_marks : (command : Command) (told : Turns) (answer : Answer) (after : State F) → HasEffect s command told answer after → AnswerMarks may answer s command told after
+  effect_marks : (command : Command) (told : Turns) (answer : Answer) (after : State F) → HasEffect s command told answer after →
+      AnswerMarks may answer s command told after
   effect_marks command [] answer after t = affect_marks command answer after t
   effect_marks command (x ∷ told) answer after t = absurd t
 
-  does_mark : (command : Command) (told : Turns) (answer : Answer) (after : State F) → Does may s command told answer after → AnswerMarks may answer s command told after
+  does_mark : (command : Command) (told : Turns) (answer : Answer) (after : State F) → Does may s command told answer after →
+      AnswerMarks may answer s command told after
   does_mark (run.Kick i most) told (run.Served k) after t = kicks_mark may s i most (slice_get s.queues i) told k after t
   does_mark (run.Kick i most) told run.Done after t = absurd t
   does_mark (run.Kick i most) told (run.Bytes bytes) after t = absurd t
@@ -187,12 +215,14 @@ module _ {F : Type 0} (may : May F) (s : State F) where
   does_mark (run.Unmap iova n) told answer after t = effect_marks (run.Unmap iova n) told answer after t
   does_mark run.UnmapAll told answer after t = effect_marks run.UnmapAll told answer after t
   does_mark (run.SetIommu on) told answer after t = effect_marks (run.SetIommu on) told answer after t
-  does_mark (run.ResetQueue i size desc avail used) told answer after t = effect_marks (run.ResetQueue i size desc avail used) told answer after t
+  does_mark (run.ResetQueue i size desc avail used) told answer after t =
+      effect_marks (run.ResetQueue i size desc avail used) told answer after t
   does_mark run.Image told answer after t = effect_marks run.Image told answer after t
   does_mark run.Harvest told answer after t = effect_marks run.Harvest told answer after t
 
 pub commands_mark : {F : Type 0} (may : May F) → CommandsMark may
-commands_mark {F} may s after command [] (run.IsRefused why.OutOfMemory) t = subst (λ (k : State F). KeepsMarks s.memory.host k.memory.host) (sym t.1) (keeps s.memory.host)
+commands_mark {F} may s after command [] (run.IsRefused why.OutOfMemory) t =
+    subst (λ (k : State F). KeepsMarks s.memory.host k.memory.host) (sym t.1) (keeps s.memory.host)
 commands_mark may s after command (x ∷ told) (run.IsRefused why.OutOfMemory) t = absurd t
 commands_mark may s after command told (run.IsRefused why.NoPlace) t = does_mark may s command told _ after t
 commands_mark may s after command told (run.IsRefused why.EmptyBlock) t = does_mark may s command told _ after t

@@ -1,5 +1,6 @@
 -- A READ whose data was put where it goes.
-use Rattle.std.proofs.Common.{◌≡◌, ℕ, ◌+◌, ◌≤◌, ◌&&◌, nat_le, nat_lt, List, ◌++◌, length, map, take, drop, Ok, Err, None, refl, sym, ap, subst, ◌∙◌, arith, length-append, set, Some, Bool, true, false}
+use Rattle.std.proofs.Common.{◌≡◌, ℕ, ◌+◌, ◌≤◌, ◌&&◌, nat_le, nat_lt, List, ◌++◌, length, map, take, drop, Ok, Err, None, refl, sym, ap}
+use Rattle.std.proofs.Common.{subst, ◌∙◌, arith, length-append, set, Some, Bool, true, false}
 use Rattle.std.specs.Prelude.{IsTrue, is_ok, if◌then◌else◌, slice_get}
 use Rattle.std.proofs.lemmas.Bool.Decides.{nat_tests}
 use Rattle.std.proofs.lemmas.List.{length-drop, length-map}
@@ -50,15 +51,18 @@ not_below : (a n : ℕ) → nat_lt a n ≡ false → n ≤ a
 not_below a n is = grind (arith, nat_tests)
 
 -- if a reading that begins with n bytes gives something, there are as many, and what goes on gives something behind them
-begins_with : {A B : Type 0} (n : ℕ) (bytes : List ℕ) (make : List ℕ → A) (k : A × List ℕ → Read B) (test : Bool) → nat_lt (length bytes) n ≡ test →
-    IsTrue (is_ok (and_then (and_then {A = List ℕ × List ℕ} (if test then Err (Faults DecodeMessage) else Ok (take n bytes, drop n bytes)) (λ x. Ok (make x.0, x.1))) k)) →
+begins_with :
+    {A B : Type 0} (n : ℕ) (bytes : List ℕ) (make : List ℕ → A) (k : A × List ℕ → Read B) (test : Bool) → nat_lt (length bytes) n ≡ test →
+    IsTrue (is_ok (and_then (and_then {A = List ℕ × List ℕ} (if test then Err (Faults DecodeMessage) else Ok (take n bytes, drop n bytes))
+    (λ x. Ok (make x.0, x.1))) k)) →
     (n ≤ length bytes) × IsTrue (is_ok (k (make (take n bytes), drop n bytes)))
 begins_with n bytes make k true is ok = absurd (cc)
 begins_with n bytes make k false is ok = (not_below (length bytes) n is, ok)
 
 -- a test that was needed held
 needed : {A B : Type 0} (test : Bool) (bytes : List ℕ) (p : Reading A) (k : A × List ℕ → Read B) →
-    IsTrue (is_ok (and_then (and_then {A = Unit {0} × List ℕ} (if test then Ok (tt, bytes) else Err (Faults DecodeMessage)) (λ x. p x.1)) k)) → IsTrue (is_ok (and_then (p bytes) k))
+    IsTrue (is_ok (and_then (and_then {A = Unit {0} × List ℕ} (if test then Ok (tt, bytes) else Err (Faults DecodeMessage)) (λ x. p x.1))
+    k)) → IsTrue (is_ok (and_then (p bytes) k))
 needed true bytes p k ok = ok
 needed false bytes p k ok = absurd (cc)
 
@@ -67,12 +71,15 @@ pub read_is_long : (bytes : List ℕ) → IsTrue (is_ok (read_request bytes)) �
 unfolding reading_of
 read_is_long bytes ok =
     let after : InHeader × List ℕ → Read ReadRequest =
-    λ x. (needs (nat_le x.0.len 0x101000 && is_read (opcode_of x.0.opcode)) (Faults DecodeMessage) >> reading_of read_in >>= λ r. give (record { header = x.0; «record» = r })) x.1 in
+    λ x. (needs (nat_le x.0.len 0x101000 && is_read (opcode_of x.0.opcode)) (Faults DecodeMessage) >> reading_of read_in
+    >>= λ r. give (record { header = x.0; «record» = r })) x.1 in
     let head = begins_with 40 bytes (made in_header.parts in_header.make) after (nat_lt (length bytes) 40) refl ok in
     let header = made in_header.parts in_header.make (take 40 bytes) in
-    let body = needed (nat_le header.len 0x101000 && is_read (opcode_of header.opcode)) (drop 40 bytes) (reading_of read_in) (λ x. give (record { header = header; «record» = x.0 }) x.1) head.1 in
+    let body = needed (nat_le header.len 0x101000 && is_read (opcode_of header.opcode)) (drop 40 bytes) (reading_of read_in)
+    (λ x. give (record { header = header; «record» = x.0 }) x.1) head.1 in
     let record_there =
-    begins_with 40 (drop 40 bytes) (made read_in.parts read_in.make) (λ x. give (record { header = header; «record» = x.0 }) x.1) (nat_lt (length (drop 40 bytes)) 40) refl body in
+    begins_with 40 (drop 40 bytes) (made read_in.parts read_in.make) (λ x. give (record { header = header; «record» = x.0 }) x.1)
+    (nat_lt (length (drop 40 bytes)) 40) refl body in
     omega (arith, head.0, record_there.0, length-drop 40 bytes)
 
 -- a chain whose data may be put where it goes has a request of that length
@@ -85,19 +92,26 @@ reads_eighty h c (behind, holds) =
 pub whole_room : (ps rest : List Place) → 16 ≤ length ps → rest ≡ drop 16 ps → 16 + length rest ≡ length ps
 whole_room ps rest enough behind = omega (arith, enough, ap length behind, length-drop 16 ps)
 
-module _ {F : Type 0} (may : May F) (before after : Server F) (h new : Host) (ps room rest left : List Place) (r : ReadReply) (bytes : List ℕ) (request : ReadRequest)
+module _ {F : Type 0} (may : May F) (before after : Server F) (h new : Host) (ps room rest left : List Place) (r : ReadReply)
+    (bytes : List ℕ) (request : ReadRequest)
     (means : (options n : ℕ) → 16 ≤ n → meaning options (map (byte_in h) ps) n ≡ read_meaning request n)
-    (has : HasBehind room 16) (behind : rest ≡ drop 16 room) (fills : Fills h rest bytes new left) (long : length r.header ≡ 16) (len : r.len ≡ 16 + length bytes)
-    (handles : ServerHandles may before (16 + length rest) (read_meaning request (16 + length rest)) (Ok r.len) (r.header ++ bytes) after) where
+    (has : HasBehind room 16) (behind : rest ≡ drop 16 room) (fills : Fills h rest bytes new left) (long : length r.header ≡ 16)
+    (len : r.len ≡ 16 + length bytes)
+    (handles : ServerHandles may before (16 + length rest) (read_meaning request (16 + length rest)) (Ok r.len) (r.header ++ bytes)
+    after) where
   put : PutFrontLast h new room r.header (r.header ++ bytes)
   put =
-      front_last h new room r.header bytes (omega (arith, long, has.enough)) (subst (λ n. Apart (take n room) (drop n room)) (sym long) has.apart)
+      front_last h new room r.header bytes (omega (arith, long, has.enough))
+      (subst (λ n. Apart (take n room) (drop n room)) (sym long) has.apart)
       (fills.stored ∙ ap (λ (l : List Place). put_all h (zip l bytes)) (behind ∙ ap (λ n. drop n room) (sym long)))
 
-  served : (calls : Calls) × AnswersRequest may before.page_size (server_state before) (map (byte_in h) ps) (16 + length rest) calls (r.header ++ bytes) None (server_state after)
+  served : (calls : Calls) × AnswersRequest may before.page_size (server_state before) (map (byte_in h) ps) (16 + length rest) calls
+      (r.header ++ bytes) None (server_state after)
   served =
-      replied_ok may before.page_size before.options.0 (16 + length rest) (map (byte_in h) ps) before.fs after.fs r.len (r.header ++ bytes) after.options.0
-      (subst (λ (k : Meaning). Handles may (setting before.page_size before.options.0 (16 + length rest)) k before.fs (Ok r.len) (r.header ++ bytes) after.options.0 after.fs)
+      replied_ok may before.page_size before.options.0 (16 + length rest) (map (byte_in h) ps) before.fs after.fs r.len (r.header ++ bytes)
+      after.options.0
+      (subst (λ (k : Meaning). Handles may (setting before.page_size before.options.0 (16 + length rest)) k before.fs (Ok r.len)
+      (r.header ++ bytes) after.options.0 after.fs)
       (sym (means before.options.0 (16 + length rest) (omega arith))) handles)
 
   pub answers_read : AnswersAt may before h ps room (record { front = Header r.header; len = r.len; fault = None }) new after
@@ -107,14 +121,17 @@ module _ {F : Type 0} (may : May F) (before after : Server F) (h new : Host) (ps
     put = put;
     served = (
       served.0,
-      subst (λ n. AnswersRequest may before.page_size (server_state before) (map (byte_in h) ps) n served.0 (r.header ++ bytes) None (server_state after))
+      subst (λ n. AnswersRequest may before.page_size (server_state before) (map (byte_in h) ps) n served.0 (r.header ++ bytes) None
+          (server_state after))
           (whole_room room rest has.enough behind) served.1,
     );
   }
 
 -- what is answered for a chain's places is answered for the chain
-pub answers_chain : {F : Type 0} (may : May F) (before after : Server F) (m : Memory) (h new : Host) (q : Queue) (fetched : RequestAndRoom) (t : Taken) (c : Chain) (a : PreparedReply) →
-    m.host ≡ h → IsTaken m q fetched t → t.chain ≡ Ok c → AnswersAt may before h (places c.readable.items) (places c.writable.items) a new after → AnswersFront may before h t fetched a new after
+pub answers_chain : {F : Type 0} (may : May F) (before after : Server F) (m : Memory) (h new : Host) (q : Queue) (fetched : RequestAndRoom)
+    (t : Taken) (c : Chain) (a : PreparedReply) →
+    m.host ≡ h → IsTaken m q fetched t → t.chain ≡ Ok c →
+    AnswersAt may before h (places c.readable.items) (places c.writable.items) a new after → AnswersFront may before h t fetched a new after
 answers_chain may before after m h new q fetched t c a same taken is x =
     let held : HoldsChain m fetched (Ok c) = subst (HoldsChain m fetched) is taken.chain in
     let read : map (byte_in h) (places c.readable.items) ≡ request_of fetched = request_held m h fetched c same held in
@@ -124,19 +141,26 @@ answers_chain may before after m h new q fetched t c a same taken is x =
       put = subst (λ ch. PutFrontLast h new (chain_places ch) (front_bytes a.front) x.reply) (sym is) x.put;
       served = (
         x.served.0,
-        served_chain may before.page_size (server_state before) (server_state after) m fetched c t.head t.head (request_of fetched) a.fault x.reply x.served.0 held refl refl
-            (subst (λ (l : List ℕ). AnswersRequest may before.page_size (server_state before) l (length (places c.writable.items)) x.served.0 x.reply a.fault (server_state after)) read x.served.1),
+        served_chain may before.page_size (server_state before) (server_state after) m fetched c t.head t.head (request_of fetched) a.fault
+            x.reply x.served.0 held refl refl
+            (subst (λ (l : List ℕ). AnswersRequest may before.page_size (server_state before) l (length (places c.writable.items))
+            x.served.0 x.reply a.fault (server_state after)) read x.served.1),
       );
     }
 
 -- a step that was given back, told by its head, its lengths, its fault and its notice
-pub told_return : {F : Type 0} (may : May F) (f : Fixed) (m m' n : Memory) (queues between : List Queue) (i : ℕ) (p q' : Queue) (s s' : ℕ × F) (t : Taken)
+pub told_return :
+    {F : Type 0} (may : May F) (f : Fixed) (m m' n : Memory) (queues between : List Queue) (i : ℕ) (p q' : Queue) (s s' : ℕ × F) (t : Taken)
     (has : HasTaken m f.limit queues i t) (x : Exchange) (notice : Bool)
     (d : DeviceParts F) (page : ℕ) (r : Returned) →
     between ≡ queues → slice_get between i ≡ Some p → (calls : Calls) × ServesChain may f.page_size s t.head has.fetched calls x s' →
-    (IsTaken m p has.fetched t → m' ≡ returned m p t.head (room_of has.fetched) x.reply) → (IsTaken m p has.fetched t → notice ≡ wants_notice m' p) → q' ≡ advanced p →
+    (IsTaken m p has.fetched t → m' ≡ returned m p t.head (room_of has.fetched) x.reply) →
+    (IsTaken m p has.fetched t → notice ≡ wants_notice m' p) → q' ≡ advanced p →
     record { queues = queues; options = s.0; files = s.1; limit = f.limit; page_size = f.page_size } ≡ d → n ≡ m' → page ≡ f.page_size →
     r.head ≡ x.head → r.request_len ≡ length x.request → r.reply_len ≡ length x.reply → r.fault ≡ x.fault → r.notify ≡ notice →
-    StepTold may (state_of m d) i (Ok (Some r)) (state_of n (record { queues = set between i q'; options = s'.0; files = s'.1; limit = f.limit; page_size = page }))
-told_return may f m m' n queues between i p q' s s' t has x notice d page r kept at served stored told after is over same head request reply fault noticed =
-    rw (← is, over, same) (told_step may _ i x notice _ r (exchanges may f m m' queues between i p q' s s' t has x notice kept at served stored told after) head request reply fault noticed)
+    StepTold may (state_of m d) i (Ok (Some r))
+    (state_of n (record { queues = set between i q'; options = s'.0; files = s'.1; limit = f.limit; page_size = page }))
+told_return may f m m' n queues between i p q' s s' t has x notice d page r kept at served stored told after is over same head request reply
+    fault noticed =
+    rw (← is, over, same) (told_step may _ i x notice _ r
+    (exchanges may f m m' queues between i p q' s s' t has x notice kept at served stored told after) head request reply fault noticed)

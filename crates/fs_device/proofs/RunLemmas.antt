@@ -16,13 +16,17 @@ zip_more {X} {Y} {A} {B} f g (a ∷ xs) (b ∷ ys) x y same = ap (λ (l : List (
 abbrev Goes : {F : Type 0} → May F → State F → List (Command × Answer) → State F → Type 0
 Goes {F} may s done mid = (events : List (Command × Answer)) (after : State F) → Run may mid events after → Run may s (done ++ events) after
 
-pub run_more : {F X Y : Type 0} (may : May F) (f : X → Command) (g : Y → Answer) (s mid next : State F) (xs : List X) (ys : List Y) (x : X) (y : Y) → length ys ≡ length xs →
-    Goes may s (zip (map f xs) (map g ys)) mid → (told : Turns) × Performs may mid (f x) told (g y) next → Goes may s (zip (map f (xs ++ x ∷ [])) (map g (ys ++ y ∷ []))) next
+pub run_more : {F X Y : Type 0} (may : May F) (f : X → Command) (g : Y →
+    Answer) (s mid next : State F) (xs : List X) (ys : List Y) (x : X) (y : Y) → length ys ≡ length xs →
+    Goes may s (zip (map f xs) (map g ys)) mid → (told : Turns) × Performs may mid (f x) told (g y) next →
+    Goes may s (zip (map f (xs ++ x ∷ [])) (map g (ys ++ y ∷ []))) next
 unfolding RunTold
 run_more may f g s mid next xs ys x y same goes (told, done) events after (tolds, run) =
     let one : zip (map f (xs ++ x ∷ [])) (map g (ys ++ y ∷ [])) ++ events ≡ zip (map f xs) (map g ys) ++ (f x, g y) ∷ events =
-    ap (λ (l : List (Command × Answer)). l ++ events) (zip_more f g xs ys x y same) ∙ append_assoc (zip (map f xs) (map g ys)) ((f x, g y) ∷ []) events in
-    subst (λ (l : List (Command × Answer)). Run may s l after) (sym one) (goes ((f x, g y) ∷ events) after (told ∷ tolds, (next, done, run)))
+    ap (λ (l : List (Command × Answer)). l ++ events) (zip_more f g xs ys x y same)
+    ∙ append_assoc (zip (map f xs) (map g ys)) ((f x, g y) ∷ []) events in
+    subst (λ (l : List (Command × Answer)). Run may s l after) (sym one)
+    (goes ((f x, g y) ∷ events) after (told ∷ tolds, (next, done, run)))
 
 pub run_ends : {F : Type 0} (may : May F) (s mid : State F) (done : List (Command × Answer)) → Goes may s done mid → Run may s done mid
 unfolding RunTold
@@ -32,7 +36,8 @@ pub nothing_left : {X : Type 0} (l : List X) → length l ≡ 0 → l ≡ []
 nothing_left [] h = refl
 nothing_left (x ∷ xs) h = absurd (omega arith)
 
-pub count_more : {X Y : Type 0} (xs : List X) (ys : List Y) (x : X) (y : Y) → length ys ≡ length xs → length (ys ++ y ∷ []) ≡ length (xs ++ x ∷ [])
+pub count_more :
+    {X Y : Type 0} (xs : List X) (ys : List Y) (x : X) (y : Y) → length ys ≡ length xs → length (ys ++ y ∷ []) ≡ length (xs ++ x ∷ [])
 count_more [] [] x y same = refl
 count_more [] (b ∷ ys) x y same = absurd (omega arith)
 count_more (a ∷ xs) [] x y same = absurd (omega arith)

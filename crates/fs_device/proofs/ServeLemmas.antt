@@ -17,25 +17,45 @@ use Rattle.plain_machine.specs.Step.{Exchange, Calls, ServesRequest}
 use Rattle.fs_device.specs.DeviceView.{request_of, ServesChain, AnswersRequest}
 
 -- a reply that was written whole
-pub replied_ok : {F : Type 0} (may : May F) (page options room : ℕ) (request : List ℕ) (before after : F) (n : ℕ) (written : List ℕ) (agreed : ℕ) →
+pub replied_ok :
+    {F : Type 0} (may : May F) (page options room : ℕ) (request : List ℕ) (before after : F) (n : ℕ) (written : List ℕ) (agreed : ℕ) →
     Handles may (setting page options room) (meaning options request room) before (Ok n) written agreed after →
     (calls : Calls) × AnswersRequest may page (options, before) request room calls written None (agreed, after)
-replied_ok may page options room request before after n written agreed h =
-    (h.steps, (served_of (map (λ step. step.0) h.steps) agreed (Ok n) written, record { gives = sym h.gives; asks = refl; run = h.run }, refl, refl, refl))
+replied_ok may page options room request before after n written agreed h = (
+  h.steps,
+  (
+    served_of (map (λ step. step.0) h.steps) agreed (Ok n) written,
+    record { gives = sym h.gives; asks = refl; run = h.run },
+    refl,
+    refl,
+    refl,
+  ),
+)
 
 -- a fault
-pub replied_err : {F : Type 0} (may : May F) (page options room : ℕ) (request : List ℕ) (before after : F) (e : Error) (written : List ℕ) (agreed : ℕ) → is_memory e ≡ false →
+pub replied_err : {F : Type 0} (may : May F) (page options room : ℕ) (request : List ℕ) (before after : F) (e : Error) (written : List ℕ)
+    (agreed : ℕ) → is_memory e ≡ false →
     Handles may (setting page options room) (meaning options request room) before (Err e) written agreed after →
     (calls : Calls) × AnswersRequest may page (options, before) request room calls [] (Some (fault.Served e)) (agreed, after)
 replied_err {F} may page options room request before after e written agreed is h =
-    let s : server.Serves may (setting page options room) (meaning options request room) before (Err e) written agreed after = rw is at h in
-    (s.steps, (served_of (map (λ step. step.0) s.steps) agreed (Err e) written, record { gives = sym s.gives; asks = refl; run = s.run }, refl, refl, refl))
+    let s : server.Serves may (setting page options room) (meaning options request room) before (Err e) written agreed after =
+    rw is at h in (
+      s.steps,
+      (
+        served_of (map (λ step. step.0) s.steps) agreed (Err e) written,
+        record { gives = sym s.gives; asks = refl; run = s.run },
+        refl,
+        refl,
+        refl,
+      ),
+    )
 
 abbrev exchange : (head : ℕ) → (request reply : List ℕ) → Option Fault → Exchange
 exchange head request reply fault = record { head = head; request = request; reply = reply; fault = fault }
 
 -- the code's exchange is the one that the chain's request and room ask for
-pub served_chain : {F : Type 0} (may : May F) (page : ℕ) (old new : ℕ × F) (m : Memory) (fetched : RequestAndRoom) (c : Chain) (head at : ℕ) (request : List ℕ)
+pub served_chain : {F : Type 0} (may : May F) (page : ℕ) (old new : ℕ × F) (m : Memory) (fetched : RequestAndRoom) (c : Chain) (head at : ℕ)
+    (request : List ℕ)
     (fault : Option Fault) (reply : List ℕ) (calls : Calls) →
     HoldsChain m fetched (Ok c) → at ≡ head → request ≡ request_of fetched →
     AnswersRequest may page old request (length (places c.writable.items)) calls reply fault new →

@@ -1,5 +1,6 @@
 -- the file calls of a told run
-use Rattle.std.proofs.Common.{◌≡◌, ℕ, zero, suc, Bool, true, false, List, [], ◌∷◌, ◌++◌, map, length, Option, Some, None, refl, ap, sym, ◌∙◌, subst}
+use Rattle.std.proofs.Common.{◌≡◌, ℕ, zero, suc, Bool, true, false, List, [], ◌∷◌, ◌++◌, map, length, Option, Some, None, refl, ap, sym}
+use Rattle.std.proofs.Common.{◌∙◌, subst}
 use Rattle.std.specs.Prelude.{if◌then◌else◌, slice_get, not, IfSome, ◌==◌}
 use Rattle.std.specs.List.{AllByRecursion, list_any, list_all}
 use Rattle.vm_iotlb.specs.declared.permissions.Permissions.TheVariants.{Read, Write}
@@ -21,7 +22,8 @@ use Rattle.plain_machine.specs.declared.fault.Fault.{Fault}
 use Rattle.plain_machine.specs.declared.refusal.Refusal.TheVariants as why
 use Rattle.plain_machine.specs.Step.{State, Exchange, Calls, Idle, Refused, Exchanged, Exchanges, StepOf, served_fault, served_exchange}
 use Rattle.plain_machine.specs.Run as run
-use Rattle.plain_machine.specs.Run.{Turn, Turns, Command, Answer, Effect, KickEnds, KickRun, Kicks, KickAnswer, Affects, ChangesTable, HasEffect, Does, IsDecided, Performs}
+use Rattle.plain_machine.specs.Run.{Turn, Turns, Command, Answer, Effect, KickEnds, KickRun, Kicks, KickAnswer, Affects, ChangesTable}
+use Rattle.plain_machine.specs.Run.{HasEffect, Does, IsDecided, Performs}
 use Rattle.plain_machine.specs.Run.{RunTold, effect, insert, insert_block, is_known, some_overlap, reset}
 use Rattle.fs_device.specs.Telling.{calls_of, calls_told, IsMeant, IsServedBy, IsServed}
 
@@ -42,7 +44,8 @@ by_fault (Some e) t same is = subst (λ (f : Option Fault). IsServedBy f t) (sym
 abbrev turn : Exchange → Bool → Calls → Turn
 turn x notice calls = record { exchange = x; notice = notice; calls = calls }
 
-exchange_tells : {F : Type 0} (may : May F) (s : State F) (i : ℕ) (q : Queue) (o : Offer) (calls : Calls) (x : Exchange) (notice : Bool) (after : State F) →
+exchange_tells : {F : Type 0} (may : May F) (s : State F) (i : ℕ) (q : Queue) (o : Offer) (calls : Calls) (x : Exchange) (notice : Bool)
+    (after : State F) →
     Exchanges may s i q o calls x notice after → FileRun may s.files calls after.files × IsServed (turn x notice calls)
 exchange_tells may s i q (Offers head (CannotFetch fault)) calls x notice after r = (
   subst (λ (l : Calls). FileRun may s.files l after.files) (sym r.no_call) r.files,
@@ -53,18 +56,22 @@ exchange_tells may s i q (Offers head (IsRequest request room)) calls x notice a
     let set = setting s.page_size s.options (length room) in
     let same_head : x.head ≡ head = ap (λ (e : Exchange). e.head) r.returns.exchange in
     let same : x.request ≡ request = ap (λ (e : Exchange). e.request) r.returns.exchange in
-    let own : (served set (meaning s.options x.request (length room)) answers).calls ≡ map (λ (step : FileCall × FileAnswer). step.0) calls =
-    ap (λ (bytes : List ℕ). (served set (meaning s.options bytes (length room)) answers).calls) same ∙ ap (λ (g : ServedMessage). g.calls) (sym r.serves.gives) ∙ r.serves.asks in
+    let own : (served set (meaning s.options x.request (length room)) answers).calls
+    ≡ map (λ (step : FileCall × FileAnswer). step.0) calls =
+    ap (λ (bytes : List ℕ). (served set (meaning s.options bytes (length room)) answers).calls) same
+    ∙ ap (λ (g : ServedMessage). g.calls) (sym r.serves.gives) ∙ r.serves.asks in
     let told : x ≡ served_exchange head request (served set (meaning s.options request (length room)) answers) =
     r.returns.exchange ∙ ap (λ (g : ServedMessage). served_exchange head request g) r.serves.gives in
     let is : x ≡ served_exchange x.head x.request (served set (meaning s.options x.request (length room)) answers) =
     subst (λ (n : ℕ). x ≡ served_exchange n x.request (served set (meaning s.options x.request (length room)) answers)) (sym same_head)
-    (subst (λ (bytes : List ℕ). x ≡ served_exchange head bytes (served set (meaning s.options bytes (length room)) answers)) (sym same) told) in
+    (subst (λ (bytes : List ℕ). x ≡ served_exchange head bytes (served set (meaning s.options bytes (length room)) answers))
+    (sym same) told) in
     (r.serves.run, by_fault r.given.fault (turn x notice calls) (ap (λ (e : Exchange). e.fault) r.returns.exchange) (set, own, is))
 exchange_tells may s i q taking.Idle calls x notice after r = absurd r
 exchange_tells may s i q (Refuses e) calls x notice after r = absurd r
 
-step_tells : {F : Type 0} (may : May F) (s : State F) (i : ℕ) (o : Option Queue) (calls : Calls) (x : Exchange) (notice : Bool) (after : State F) →
+step_tells :
+    {F : Type 0} (may : May F) (s : State F) (i : ℕ) (o : Option Queue) (calls : Calls) (x : Exchange) (notice : Bool) (after : State F) →
     StepOf may s i o calls (Exchanged x notice) after → FileRun may s.files calls after.files × IsServed (turn x notice calls)
 step_tells may s i None calls x notice after t = absurd (cc)
 step_tells may s i (Some q) calls x notice after t = exchange_tells may s i q _ calls x notice after t
@@ -73,7 +80,8 @@ step_tells may s i (Some q) calls x notice after t = exchange_tells may s i q _ 
 abbrev kept_of : {F : Type 0} → State F → Memory × F
 kept_of s = (s.memory, s.files)
 
-idle_leaves : {F : Type 0} (may : May F) (s : State F) (i : ℕ) (o : Option Queue) (calls : Calls) (after : State F) → StepOf may s i o calls Idle after → kept_of after ≡ kept_of s
+idle_leaves : {F : Type 0} (may : May F) (s : State F) (i : ℕ) (o : Option Queue) (calls : Calls) (after : State F) →
+    StepOf may s i o calls Idle after → kept_of after ≡ kept_of s
 idle_leaves may s i None calls after t = ap kept_of t.1.same
 idle_leaves may s i (Some q) calls after t = ap kept_of t.1.same
 
@@ -93,18 +101,21 @@ refused_leaves may s i (Some q) calls (device.Queue stop.DescriptorUnreachable) 
 
 -- ---- kicks
 
-end_leaves : {F : Type 0} (may : May F) (s : State F) (i most : ℕ) (refused : Option DeviceError) (after : State F) → KickEnds may s i most refused after → kept_of after ≡ kept_of s
+end_leaves : {F : Type 0} (may : May F) (s : State F) (i most : ℕ) (refused : Option DeviceError) (after : State F) →
+    KickEnds may s i most refused after → kept_of after ≡ kept_of s
 end_leaves may s i zero None after same = ap kept_of same
 end_leaves may s i zero (Some e) after t = absurd t
 end_leaves may s i (suc most) None after t = idle_leaves may s i (slice_get s.queues i) [] after t
 end_leaves may s i (suc most) (Some e) after t = refused_leaves may s i (slice_get s.queues i) [] e after t
 
 -- the files
-pub end_stays : {F : Type 0} (may : May F) (s : State F) (i most : ℕ) (refused : Option DeviceError) (after : State F) → KickEnds may s i most refused after → after.files ≡ s.files
+pub end_stays : {F : Type 0} (may : May F) (s : State F) (i most : ℕ) (refused : Option DeviceError) (after : State F) →
+    KickEnds may s i most refused after → after.files ≡ s.files
 end_stays may s i most refused after t = ap (λ k. k.1) (end_leaves may s i most refused after t)
 
 -- the memory
-pub end_keeps : {F : Type 0} (may : May F) (s : State F) (i most : ℕ) (refused : Option DeviceError) (after : State F) → KickEnds may s i most refused after → after.memory ≡ s.memory
+pub end_keeps : {F : Type 0} (may : May F) (s : State F) (i most : ℕ) (refused : Option DeviceError) (after : State F) →
+    KickEnds may s i most refused after → after.memory ≡ s.memory
 end_keeps may s i most refused after t = ap (λ k. k.0) (end_leaves may s i most refused after t)
 
 kick_tells : {F : Type 0} (may : May F) (s : State F) (i most : ℕ) (told : Turns) (refused : Option DeviceError) (after : State F) →
@@ -117,14 +128,16 @@ kick_tells may s i (suc most) (x ∷ told) refused after (mid, step, rest) =
     let others = kick_tells may mid i most told refused after rest in
     (files_joined may s.files mid.files after.files x.calls (calls_of told) own.0 others.0, (own.1, others.1))
 
-kicks_tell : {F : Type 0} (may : May F) (s : State F) (i most : ℕ) (o : Option Queue) (told : Turns) (k : KickAnswer) (after : State F) → Kicks may s i most o told k after →
+kicks_tell : {F : Type 0} (may : May F) (s : State F) (i most : ℕ) (o : Option Queue) (told : Turns) (k : KickAnswer) (after : State F) →
+    Kicks may s i most o told k after →
     Tells may s.files told after.files
 kicks_tell may s i most None told k after t = subst (λ (l : Turns). Tells may s.files l after.files) (sym t.1) (ap (λ s. s.files) t.0, tt)
 kicks_tell may s i most (Some q) told k after t = kick_tells may s i most told k.refused after t.0
 
 -- ---- the other commands ask nothing
 
-whichever : {F : Type 0} (s : State F) (b : Bool) (x y : Effect F) → x.1.files ≡ s.files → y.1.files ≡ s.files → (if b then x else y).1.files ≡ s.files
+whichever : {F : Type 0} (s : State F) (b : Bool) (x y : Effect F) → x.1.files ≡ s.files → y.1.files ≡ s.files →
+    (if b then x else y).1.files ≡ s.files
 whichever s true x y p q = p
 whichever s false x y p q = q
 
@@ -158,18 +171,22 @@ effect_stays s (run.ResetQueue queue size desc avail used) = reset_stays s queue
 effect_stays s run.Image = refl
 effect_stays s run.Harvest = refl
 
-change_stays : {F : Type 0} (s : State F) (fit : Bool) (table : Table) (answer : Answer) (after : State F) → ChangesTable s fit table answer after → after.files ≡ s.files
+change_stays : {F : Type 0} (s : State F) (fit : Bool) (table : Table) (answer : Answer) (after : State F) →
+    ChangesTable s fit table answer after → after.files ≡ s.files
 change_stays s true table answer after t = ap (λ s. s.files) t.1.3
 change_stays {F} s false table answer after t = ap (λ (p : Effect F). p.1.files) t
 
-decided_stays : {F : Type 0} (s : State F) (o : Option (Effect F)) (answer : Answer) (after : State F) → IfSome o (λ e. e.1.files ≡ s.files) → IsDecided o answer after → after.files ≡ s.files
+decided_stays : {F : Type 0} (s : State F) (o : Option (Effect F)) (answer : Answer) (after : State F) →
+    IfSome o (λ e. e.1.files ≡ s.files) → IsDecided o answer after → after.files ≡ s.files
 decided_stays s None answer after stays t = absurd t
 decided_stays {F} s (Some e) answer after stays t = ap (λ (p : Effect F). p.1.files) t ∙ stays
 
-by_effect : {F : Type 0} (s : State F) (command : Command) (answer : Answer) (after : State F) → IsDecided (effect s command) answer after → after.files ≡ s.files
+by_effect : {F : Type 0} (s : State F) (command : Command) (answer : Answer) (after : State F) → IsDecided (effect s command) answer after →
+    after.files ≡ s.files
 by_effect s command answer after t = decided_stays s (effect s command) answer after (effect_stays s command) t
 
-affect_stays : {F : Type 0} (s : State F) (command : Command) (answer : Answer) (after : State F) → Affects s command answer after → after.files ≡ s.files
+affect_stays : {F : Type 0} (s : State F) (command : Command) (answer : Answer) (after : State F) → Affects s command answer after →
+    after.files ≡ s.files
 affect_stays s (run.GuestRead a n) answer after t = by_effect s (run.GuestRead a n) answer after t
 affect_stays s (run.GuestWrite a bs) answer after t = by_effect s (run.GuestWrite a bs) answer after t
 affect_stays s (run.NewBlock n) answer after t = by_effect s (run.NewBlock n) answer after t
@@ -181,18 +198,21 @@ affect_stays s (run.Unmap iova n) answer after t = change_stays s _ _ answer aft
 affect_stays s run.UnmapAll answer after t = change_stays s true nothing_mapped answer after t
 affect_stays s (run.SetIommu on) answer after t = by_effect s (run.SetIommu on) answer after t
 affect_stays s (run.Kick queue most) answer after t = absurd t
-affect_stays s (run.ResetQueue queue size desc avail used) answer after t = by_effect s (run.ResetQueue queue size desc avail used) answer after t
+affect_stays s (run.ResetQueue queue size desc avail used) answer after t =
+    by_effect s (run.ResetQueue queue size desc avail used) answer after t
 affect_stays s run.Image answer after t = by_effect s run.Image answer after t
 affect_stays s run.Harvest answer after t = by_effect s run.Harvest answer after t
 
-effect_tells : {F : Type 0} (may : May F) (s : State F) (command : Command) (told : Turns) (answer : Answer) (after : State F) → HasEffect s command told answer after →
+effect_tells : {F : Type 0} (may : May F) (s : State F) (command : Command) (told : Turns) (answer : Answer) (after : State F) →
+    HasEffect s command told answer after →
     Tells may s.files told after.files
 effect_tells may s command [] answer after t = (affect_stays s command answer after t, tt)
 effect_tells may s command (x ∷ told) answer after t = absurd t
 
 -- ---- runs
 
-does_tell : {F : Type 0} (may : May F) (s : State F) (command : Command) (told : Turns) (answer : Answer) (after : State F) → Does may s command told answer after → Tells may s.files told after.files
+does_tell : {F : Type 0} (may : May F) (s : State F) (command : Command) (told : Turns) (answer : Answer) (after : State F) →
+    Does may s command told answer after → Tells may s.files told after.files
 does_tell may s (run.Kick i most) told (run.Served k) after t = kicks_tell may s i most (slice_get s.queues i) told k after t
 does_tell may s (run.Kick i most) told run.Done after t = absurd t
 does_tell may s (run.Kick i most) told (run.Bytes bytes) after t = absurd t
@@ -210,7 +230,8 @@ does_tell may s (run.Map iova target n perm) told answer after t = effect_tells 
 does_tell may s (run.Unmap iova n) told answer after t = effect_tells may s (run.Unmap iova n) told answer after t
 does_tell may s run.UnmapAll told answer after t = effect_tells may s run.UnmapAll told answer after t
 does_tell may s (run.SetIommu on) told answer after t = effect_tells may s (run.SetIommu on) told answer after t
-does_tell may s (run.ResetQueue queue size desc avail used) told answer after t = effect_tells may s (run.ResetQueue queue size desc avail used) told answer after t
+does_tell may s (run.ResetQueue queue size desc avail used) told answer after t =
+    effect_tells may s (run.ResetQueue queue size desc avail used) told answer after t
 does_tell may s run.Image told answer after t = effect_tells may s run.Image told answer after t
 does_tell may s run.Harvest told answer after t = effect_tells may s run.Harvest told answer after t
 
@@ -234,7 +255,8 @@ performs_tell may s command told (run.Copied host) after t = does_tell may s com
 performs_tell may s command told (run.Pages pages) after t = does_tell may s command told _ after t
 
 -- a run tells its calls
-pub run_tells : {F : Type 0} (may : May F) (s : State F) (events : List (Command × Answer)) (tolds : List Turns) (after : State F) → RunTold may s events tolds after →
+pub run_tells : {F : Type 0} (may : May F) (s : State F) (events : List (Command × Answer)) (tolds : List Turns) (after : State F) →
+    RunTold may s events tolds after →
     FileRun may s.files (calls_told tolds) after.files × AllByRecursion (AllByRecursion IsServed) tolds
 unfolding RunTold
 run_tells may s [] [] after t = (ap (λ s. s.files) t, tt)

@@ -6,7 +6,8 @@ use Rattle.std.specs.List.{AllByRecursion}
 use Rattle.std.proofs.lemmas.List.{length-map, length-set, length-take, get_or-set_same, get_or-set_other, length_push, set_past}
 use Rattle.std.proofs.lemmas.Bool.{cases_lt, cases_eq, le-leb}
 use Rattle.std.proofs.lemmas.Option.{slice_get-get_or, slice_get_past}
-use Rattle.vm_memory_core.specs.Host.{Block, Host, Shape, Place, IoAddress, byte_at, changed_at, cleared, lengths, marked, page_count, unmarked, with_byte, with_mark_by}
+use Rattle.vm_memory_core.specs.Host.{Block, Host, Shape, Place, IoAddress, byte_at, changed_at, cleared, lengths, marked, page_count}
+use Rattle.vm_memory_core.specs.Host.{unmarked, with_byte, with_mark_by}
 use Rattle.vm_memory_core.specs.Window.{put_byte}
 use Rattle.fs_device.specs.declared.applying.ApplyError.{ApplyError}
 use Rattle.plain_machine.specs.Harvested.{Page, block_pages, host_pages, harvested}
@@ -29,8 +30,10 @@ IsSized b = length b.marks ≡ page_count (length b.bytes)
 blocks_begin : (l : List Block) → AllByRecursion IsSized l → BlocksTrack (map unmarked l) (map unmarked l)
 blocks_begin [] sized = tt
 blocks_begin (b ∷ l) sized =
-    let n = length-map b.marks (λ _. false) in
-    (record { len = refl; clear = all_clear b.marks (map (λ _. false) b.marks) (sym n); sized = n ∙ sized.0; same = λ o e. refl }, blocks_begin l sized.1)
+    let n = length-map b.marks (λ _. false) in (
+      record { len = refl; clear = all_clear b.marks (map (λ _. false) b.marks) (sym n); sized = n ∙ sized.0; same = λ o e. refl },
+      blocks_begin l sized.1,
+    )
 
 -- an image tracks a host from when it is made
 pub tracks_copy : (h : Host) → AllByRecursion IsSized h.blocks → Tracks (cleared h) (cleared h)
@@ -60,9 +63,11 @@ blocks_same (a ∷ xs) (b ∷ ys) f =
 pub harvest_is_host : (image host : Host) → Tracks image host → pages_put image (harvested host) ≡ cleared host
 harvest_is_host image host f =
     harvest_restores image host f
-    ∙ ap (λ (l : List Block). let k : Host = record { blocks = l; tables = image.tables; io_marks = image.io_marks } in k) (blocks_same image.blocks host.blocks f.blocks)
+    ∙ ap (λ (l : List Block). let k : Host = record { blocks = l; tables = image.tables; io_marks = image.io_marks } in k)
+    (blocks_same image.blocks host.blocks f.blocks)
     ∙ ap (λ t. let k : Host = record { blocks = map unmarked host.blocks; tables = t; io_marks = image.io_marks } in k) f.tables
-    ∙ ap (λ (m : List (List Bool)). let k : Host = record { blocks = map unmarked host.blocks; tables = host.tables; io_marks = m } in k) f.io_marks
+    ∙ ap (λ (m : List (List Bool)). let k : Host = record { blocks = map unmarked host.blocks; tables = host.tables; io_marks = m } in k)
+    f.io_marks
 
 -- so it goes on to track it
 pub tracks_harvest : (image host : Host) → Tracks image host → Tracks (pages_put image (harvested host)) (cleared host)
@@ -71,12 +76,14 @@ tracks_harvest image host f =
 
 -- ---- stores
 
-mark_stays : (marks : List Bool) (i j : ℕ) → get_or (set marks i true) j false ≡ false → (get_or marks j false ≡ false) × (i ≡ j → length marks ≤ i)
+mark_stays :
+    (marks : List Bool) (i j : ℕ) → get_or (set marks i true) j false ≡ false → (get_or marks j false ≡ false) × (i ≡ j → length marks ≤ i)
 mark_stays marks i j e =
     ⊎_elim
     (λ (h : j ≡ i).
     ⊎_elim
-    (λ (l : i < length marks). absurd (let t = get_or-set_same marks i true false l in let s : get_or (set marks i true) i false ≡ false = ap (λ k. get_or (set marks i true) k false) (sym h) ∙ e in cc))
+    (λ (l : i < length marks). absurd (let t = get_or-set_same marks i true false l in
+    let s : get_or (set marks i true) i false ≡ false = ap (λ k. get_or (set marks i true) k false) (sym h) ∙ e in cc))
     (λ (l : length marks ≤ i). (ap (λ (m : List Bool). get_or m j false) (sym (set_past marks i true l)) ∙ e, λ _. l))
     (cases_lt i (length marks)))
     (λ (h : j ≡ i → ⊥). (sym (get_or-set_other marks i j true false h) ∙ e, λ k. absurd (h (sym k))))
@@ -107,7 +114,8 @@ block_stored a b o byte f =
     }
 
 blocks_stored : (xs ys : List Block) (i o byte : ℕ) → BlocksTrack xs ys →
-    BlocksTrack xs (changed_at (changed_at ys i (λ b. record b { bytes = set b.bytes o byte })) i (λ b. record b { marks = marked b.marks o }))
+    BlocksTrack xs (changed_at (changed_at ys i (λ b. record b { bytes = set b.bytes o byte })) i
+    (λ b. record b { marks = marked b.marks o }))
 blocks_stored [] [] i o byte f = tt
 blocks_stored [] (b ∷ ys) i o byte f = absurd f
 blocks_stored (a ∷ xs) [] i o byte f = absurd f
@@ -141,7 +149,8 @@ block_stale a b o f stale =
     is_true false h = absurd (h refl)
 
 blocks_stale : (xs ys : List Block) (i o : ℕ) → BlocksTrack xs ys →
-    option_and_then (λ (b : Block). slice_get b.bytes o) (slice_get xs i) ≢ option_and_then (λ (b : Block). slice_get b.bytes o) (slice_get ys i) →
+    option_and_then (λ (b : Block). slice_get b.bytes o) (slice_get xs i)
+    ≢ option_and_then (λ (b : Block). slice_get b.bytes o) (slice_get ys i) →
     option_and_then (λ (b : Block). slice_get b.marks (o / 4096)) (slice_get ys i) ≡ Some true
 blocks_stale [] [] i o f stale = absurd (stale refl)
 blocks_stale [] (b ∷ ys) i o f stale = absurd f
@@ -186,16 +195,20 @@ pub both_none : (o later : Option ApplyError) → or_later o later ≡ None → 
 both_none None later e = (refl, e)
 both_none (Some x) later e = absurd (cc)
 
-places_more : (ls : List ℕ) (p : Page) (ps : List Page) → ((i : ℕ) → refused_by (slice_get ls p.block) i p ≡ None) → HavePlaces ls ps → HavePlaces ls (p ∷ ps)
+places_more : (ls : List ℕ) (p : Page) (ps : List Page) → ((i : ℕ) → refused_by (slice_get ls p.block) i p ≡ None) → HavePlaces ls ps →
+    HavePlaces ls (p ∷ ps)
 unfolding first_refused
-places_more ls p ps here later i = neither_none (refused_by (slice_get ls p.block) i p) (first_refused ls (i + 1) ps) (here i) (later (i + 1))
+places_more ls p ps here later i =
+    neither_none (refused_by (slice_get ls p.block) i p) (first_refused ls (i + 1) ps) (here i) (later (i + 1))
 
-places_joined : (ls : List ℕ) (xs ys : List Page) (i : ℕ) → first_refused ls i xs ≡ None → HavePlaces ls ys → first_refused ls i (xs ++ ys) ≡ None
+places_joined :
+    (ls : List ℕ) (xs ys : List Page) (i : ℕ) → first_refused ls i xs ≡ None → HavePlaces ls ys → first_refused ls i (xs ++ ys) ≡ None
 unfolding first_refused
 places_joined ls [] ys i e later = later i
 places_joined ls (p ∷ xs) ys i e later =
     let both = both_none (refused_by (slice_get ls p.block) i p) (first_refused ls (i + 1) xs) e in
-    neither_none (refused_by (slice_get ls p.block) i p) (first_refused ls (i + 1) (xs ++ ys)) both.0 (places_joined ls xs ys (i + 1) both.1 later)
+    neither_none (refused_by (slice_get ls p.block) i p) (first_refused ls (i + 1) (xs ++ ys)) both.0
+    (places_joined ls xs ys (i + 1) both.1 later)
 
 -- pages that have their places after others that have theirs
 pub places-append : (ls : List ℕ) (xs ys : List Page) → HavePlaces ls xs → HavePlaces ls ys → HavePlaces ls (xs ++ ys)
@@ -213,12 +226,14 @@ page_placed ls n from q i at low =
     let fits = le-leb (q * 4096 + length (slice_range from (q * 4096) (q * 4096 + 4096))) (length from) (omega (arith, a, b, low)) in
     rw (at, fits) refl
 
-block_placed : (ls : List ℕ) (n : ℕ) (from : List ℕ) (q : ℕ) (marks : List Bool) → slice_get ls n ≡ Some (length from) → q + length marks ≡ page_count (length from) →
+block_placed : (ls : List ℕ) (n : ℕ) (from : List ℕ) (q : ℕ) (marks : List Bool) → slice_get ls n ≡ Some (length from) →
+    q + length marks ≡ page_count (length from) →
     HavePlaces ls (block_pages n from q marks)
 unfolding block_pages
 block_placed ls n from q [] at all = no_page ls
 block_placed ls n from q (true ∷ marks) at all =
-    places_more ls (record { block = n; offset = q * 4096; bytes = slice_range from (q * 4096) (q * 4096 + 4096) }) (block_pages n from (q + 1) marks)
+    places_more ls (record { block = n; offset = q * 4096; bytes = slice_range from (q * 4096) (q * 4096 + 4096) })
+    (block_pages n from (q + 1) marks)
     (λ i. page_placed ls n from q i at (omega (arith, all))) (block_placed ls n from (q + 1) marks at (omega (arith, all)))
 block_placed ls n from q (false ∷ marks) at all = block_placed ls n from (q + 1) marks at (omega (arith, all))
 
@@ -226,7 +241,8 @@ at_seam : (front back : List ℕ) (x : ℕ) → slice_get (front ++ x ∷ back) 
 at_seam [] back x = refl
 at_seam (y ∷ front) back x = at_seam front back x
 
-blocks_placed : (front : List ℕ) (xs ys : List Block) → BlocksTrack xs ys → HavePlaces (front ++ map (λ (b : Block). length b.bytes) ys) (host_pages (length front) ys)
+blocks_placed : (front : List ℕ) (xs ys : List Block) → BlocksTrack xs ys →
+    HavePlaces (front ++ map (λ (b : Block). length b.bytes) ys) (host_pages (length front) ys)
 unfolding host_pages
 blocks_placed front [] [] f = no_page (front ++ [])
 blocks_placed front [] (b ∷ ys) f = absurd f
@@ -234,7 +250,8 @@ blocks_placed front (a ∷ xs) [] f = absurd f
 blocks_placed front (a ∷ xs) (b ∷ ys) f =
     let n = length b.bytes in
     let back = map (λ (k : Block). length k.bytes) ys in
-    let later = subst (λ k. HavePlaces ((front ++ n ∷ []) ++ back) (host_pages k ys)) (length_push front n) (blocks_placed (front ++ n ∷ []) xs ys f.1) in
+    let later = subst (λ k. HavePlaces ((front ++ n ∷ []) ++ back) (host_pages k ys)) (length_push front n)
+    (blocks_placed (front ++ n ∷ []) xs ys f.1) in
     places-append (front ++ n ∷ back) (block_pages (length front) b.bytes 0 b.marks) (host_pages (length front + 1) ys)
     (block_placed (front ++ n ∷ back) (length front) b.bytes 0 b.marks (at_seam front back n) (omega (arith, f.0.sized)))
     (subst (λ (l : List ℕ). HavePlaces l (host_pages (length front + 1) ys)) (append_assoc front (n ∷ []) back) later)
@@ -242,4 +259,5 @@ blocks_placed front (a ∷ xs) (b ∷ ys) f =
 -- the marked pages of a host have their places in an image that tracks it
 pub harvest_placed : (image host : Host) → Tracks image host → HavePlaces (lengths image) (harvested host)
 harvest_placed image host f =
-    subst (λ (l : List ℕ). HavePlaces l (harvested host)) (sym (tracks-lengths image host f)) (blocks_placed [] image.blocks host.blocks f.blocks)
+    subst (λ (l : List ℕ). HavePlaces l (harvested host)) (sym (tracks-lengths image host f))
+    (blocks_placed [] image.blocks host.blocks f.blocks)

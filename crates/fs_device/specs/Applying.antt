@@ -1,5 +1,6 @@
 -- Pages put into a host, and which one can't be.
-use Rattle.std.specs.Prelude.{ℕ, ◌+◌, nat_le, List, [], ◌∷◌, ◌++◌, length, take, drop, Option, Some, None, Result, Ok, Err, slice_get, if◌then◌else◌}
+use Rattle.std.specs.Prelude.{ℕ, ◌+◌, nat_le, List, [], ◌∷◌, ◌++◌, length, take, drop, Option, Some, None}
+use Rattle.std.specs.Prelude.{Result, Ok, Err, slice_get, if◌then◌else◌}
 use Rattle.vm_memory_core.specs.Host.{Host, changed_at, with_blocks}
 use Rattle.fs_device.specs.declared.applying.ApplyError.{ApplyError}
 use Rattle.fs_device.specs.declared.applying.ApplyError.TheVariants.{UnknownBlock, OutOfRange}
@@ -11,7 +12,8 @@ with_page bytes offset page = take offset bytes ++ page ++ drop (offset + length
 
 -- the host with a page put in; no page is marked
 abbrev pub page_put : Host → Page → Host
-page_put h p = with_blocks h (changed_at h.blocks p.block (λ b. record b { bytes = with_page b.bytes p.offset p.bytes }))
+page_put h p =
+    with_blocks h (changed_at h.blocks p.block (λ b. record b { bytes = with_page b.bytes p.offset p.bytes }))
 
 -- the host with pages put in, in order
 unfoldable pub pages_put : Host → List Page → Host
@@ -31,7 +33,8 @@ or_later None later = later
 -- why pages, numbered from i on, can't be put into blocks of these lengths: what the first says that can't be
 unfoldable pub first_refused : (lengths : List ℕ) → (i : ℕ) → List Page → Option ApplyError
 first_refused lengths i [] = None
-first_refused lengths i (p ∷ ps) = or_later (refused_by (slice_get lengths p.block) i p) (first_refused lengths (i + 1) ps)
+first_refused lengths i (p ∷ ps) =
+    or_later (refused_by (slice_get lengths p.block) i p) (first_refused lengths (i + 1) ps)
 
 -- what putting pages in comes to
 abbrev pub applied : Option ApplyError → Result (Unit {0}) ApplyError

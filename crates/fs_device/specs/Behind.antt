@@ -10,13 +10,15 @@ pub record HasBehind (room : List Place) (n : ℕ) : Type 0 where
   pub enough : n ≤ length room
   pub apart : Apart (take n room) (drop n room)
 
--- what is left of a room: its windows, the places in them that are left, in order, and how many of those each window has that has one
+-- what is left of a room: its windows, the places in them that are left, in order, and how many of those each
+-- window has that has one
 pub record RoomLeft : Type 0 where
   pub windows : List Window
   pub places : List Place
   pub rooms : List ℕ
 
--- a window is the front of what is left: of the first window that has a place, all that is left of it or `most` bytes
+-- a window is the front of what is left: of the first window that has a place, all that is left of it or
+-- `most` bytes
 pub record IsFrontWindow (r : RoomLeft) (most : ℕ) (f : Window) : Type 0 where
   pub places : places_of f ≡ take f.len r.places
   pub len : f.len ≡ min most (first r.rooms)

@@ -1,5 +1,7 @@
--- The accounts of a node over whole runs: how often the file system answered it and was sent it back, and the same by the bytes of requests and replies.
-use Rattle.std.specs.Prelude.{◌≡◌, ◌≢◌, ℕ, zero, suc, ◌+◌, Bool, true, false, ◌==◌, List, [], ◌∷◌, length, take, drop, Option, Some, None, if◌then◌else◌, sum_by, count_by}
+-- The accounts of a node over whole runs: how often the file system answered it and was sent it back, and the
+-- same by the bytes of requests and replies.
+use Rattle.std.specs.Prelude.{◌≡◌, ◌≢◌, ℕ, zero, suc, ◌+◌, Bool, true, false, ◌==◌, List, [], ◌∷◌, length}
+use Rattle.std.specs.Prelude.{take, drop, Option, Some, None, if◌then◌else◌, sum_by, count_by}
 use Rattle.std.specs.Int.{Width, w32, w64, byte_len, from_le_bytes}
 use Rattle.fuse_wire.specs.declared.opcodes.Opcode.{Opcode}
 use Rattle.fuse_wire.specs.declared.opcodes.Opcode.TheVariants as op
@@ -70,11 +72,13 @@ first_node bytes = number_at w64 bytes 0
 abbrev pub name_len_of : List ℕ → ℕ
 name_len_of bytes = number_at w32 bytes 144
 
--- the nodes of a list of struct fuse_direntplus, each with its name behind it; there are no more of them than bytes
+-- the nodes of a list of struct fuse_direntplus, each with its name behind it; there are no more of them than
+-- bytes
 unfoldable pub nodes_listed : (most : ℕ) → List ℕ → List ℕ
 nodes_listed zero bytes = []
 nodes_listed (suc most) bytes =
-    if length bytes == 0 then [] else first_node bytes ∷ nodes_listed most (drop (entry_len true (name_len_of bytes)) bytes)
+    if length bytes == 0 then []
+    else first_node bytes ∷ nodes_listed most (drop (entry_len true (name_len_of bytes)) bytes)
 
 -- the nodes of the entries in what follows the header of a reply; of an error nothing follows it
 abbrev pub nodes_of : Opcode → (body : List ℕ) → List ℕ
@@ -89,7 +93,8 @@ abbrev pub nodes_in : Option Opcode → (body : List ℕ) → List ℕ
 nodes_in None body = []
 nodes_in (Some opcode) body = nodes_of opcode body
 
--- the entries of a node that were written, by the bytes of request and reply alone; struct fuse_out_header has 16 bytes
+-- the entries of a node that were written, by the bytes of request and reply alone; struct fuse_out_header
+-- has 16 bytes
 abbrev pub written : (node : ℕ) → Turn → ℕ
 written n t = count_by (λ k. k == n) (nodes_in (opcode_in t.exchange.request) (drop 16 t.exchange.reply))
 
@@ -98,8 +103,8 @@ abbrev pub forgets_meant : (node : ℕ) → Meaning → ℕ
 forgets_meant n (Asks (One unique call)) = forget_count n call
 forgets_meant n _ = 0
 
--- the counts of a node that the driver took back by FORGET and BATCH_FORGET, where their call was made; neither the options that were
--- agreed nor the room matters to what these say
+-- the counts of a node that the driver took back by FORGET and BATCH_FORGET, where their call was made;
+-- neither the options that were agreed nor the room matters to what these say
 abbrev pub accepted : (node : ℕ) → Turn → ℕ
 accepted n t = if length t.calls == 0 then 0 else forgets_meant n (meaning 0 t.exchange.request 0)
 
@@ -111,13 +116,18 @@ over amount tolds = sum_by (λ told. sum_by amount told) tolds
 
 -- answered minus sent is written minus accepted
 abbrev pub IsBalanced : (node : ℕ) → List Turns → Type 0
-IsBalanced n tolds = over (answered n) tolds + over (accepted n) tolds ≡ over (written n) tolds + over (sent n) tolds
+IsBalanced n tolds =
+    over (answered n) tolds + over (accepted n) tolds ≡ over (written n) tolds + over (sent n) tolds
 
 -- each run balances, whatever the state that it begins in, for each node but 0, which stands for no node
 abbrev pub Balances : {F : Type 0} → May F → Type 0
 Balances {F} may =
-    (s after : State F) (events : List (Command × Answer)) (tolds : List Turns) (n : ℕ) → n ≢ 0 → RunTold may s events tolds after → IsBalanced n tolds
+    (s after : State F) (events : List (Command × Answer)) (tolds : List Turns) (n : ℕ) →
+    n ≢ 0 →
+    RunTold may s events tolds after →
+    IsBalanced n tolds
 
 -- a run that balances for each node but 0
 abbrev pub BalancedRun : {F : Type 0} → May F → State F → List (Command × Answer) → State F → Type 0
-BalancedRun may s events after = (tolds : List Turns) × RunTold may s events tolds after × ((n : ℕ) → n ≢ 0 → IsBalanced n tolds)
+BalancedRun may s events after =
+    (tolds : List Turns) × RunTold may s events tolds after × ((n : ℕ) → n ≢ 0 → IsBalanced n tolds)

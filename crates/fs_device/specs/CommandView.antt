@@ -1,5 +1,6 @@
 -- Commands, answers and kicks, as the plain machine has them.
-use Rattle.std.specs.Prelude.{◌≡◌, ◌<◌, ℕ, Bool, IsTrue, List, length, map, Option, None, Result, Ok, Err, slice_get}
+use Rattle.std.specs.Prelude.{◌≡◌, ◌<◌, ℕ, Bool, IsTrue, List, length, map, Option, None, Result, Ok, Err}
+use Rattle.std.specs.Prelude.{slice_get}
 use Rattle.fs_queue.specs.declared.fault.QueueError.TheVariants as stop
 use Rattle.fs_device.specs.PageView.{page_view}
 use Rattle.virtiofsd_fuse.specs.Serving.{May}
@@ -10,8 +11,10 @@ use Rattle.fs_device.specs.declared.command.Command as fetched
 use Rattle.fs_device.specs.declared.command.Answer as told
 use Rattle.fs_device.specs.declared.queues.QueueRun.{QueueRun}
 use Rattle.plain_machine.specs.Step.{State, Exchange}
-use Rattle.plain_machine.specs.Run.{Command, GuestRead, GuestWrite, NewBlock, InsertRegion, RemoveRegion, SetLayout, Map, Unmap, UnmapAll, SetIommu, Kick, ResetQueue}
-use Rattle.plain_machine.specs.Run.{Image, Harvest, KickAnswer, Answer, Done, Bytes, NewBlockIs, Served, Copied, Pages, IsRefused, Turns, shown, KickRun, kick_takes_memory}
+use Rattle.plain_machine.specs.Run.{Command, GuestRead, GuestWrite, NewBlock, InsertRegion, RemoveRegion}
+use Rattle.plain_machine.specs.Run.{SetLayout, Map, Unmap, UnmapAll, SetIommu, Kick, ResetQueue}
+use Rattle.plain_machine.specs.Run.{Image, Harvest, KickAnswer, Answer, Done, Bytes, NewBlockIs, Served}
+use Rattle.plain_machine.specs.Run.{Copied, Pages, IsRefused, Turns, shown, KickRun, kick_takes_memory}
 use Rattle.fs_device.specs.DeviceView.{exchange_of}
 
 -- an exchange with its notice
@@ -50,12 +53,18 @@ answer_of (told.TheVariants.Pages pages) = Pages (map page_view pages.items)
 answer_of (told.TheVariants.Refused why) = IsRefused why
 
 -- a kick of a queue that is there lists these exchanges, each with the calls that it made
-abbrev pub KickLists : {F : Type 0} → May F → State F → (queue most : ℕ) → List (Exchange × Bool) → Option DeviceError → State F → Type 0
-KickLists may s i most listed refused after = (told : Turns) × KickRun may s i most told refused after × (listed ≡ map shown told)
+abbrev pub KickLists : {F : Type 0} → May F → State F → (queue most : ℕ) → List (Exchange × Bool) →
+    Option DeviceError → State F → Type 0
+KickLists may s i most listed refused after =
+    (told : Turns) × KickRun may s i most told refused after × (listed ≡ map shown told)
 
--- what serving a queue's chains answers: of a missing queue that alone; nothing is done if there is no room for so many exchanges
-abbrev pub ServesQueue : {F : Type 0} → May F → State F → (queue most : ℕ) → Result QueueRun DeviceError → State F → Type 0
-ServesQueue may s i most (Ok run) after = (i < length s.queues) × KickLists may s i most (map exchanged_of run.done.items) run.refused after
+-- what serving a queue's chains answers: of a missing queue that alone; nothing is done if there is no room
+-- for so many exchanges
+abbrev pub ServesQueue :
+    {F : Type 0} → May F → State F → (queue most : ℕ) → Result QueueRun DeviceError → State F → Type 0
+ServesQueue may s i most (Ok run) after =
+    (i < length s.queues) × KickLists may s i most (map exchanged_of run.done.items) run.refused after
 ServesQueue may s i most (Err device.NoSuchQueue) after = (slice_get s.queues i ≡ None) × (after ≡ s)
-ServesQueue may s i most (Err (device.Queue stop.OutOfMemory)) after = IsTrue (kick_takes_memory s i most) × (after ≡ s)
+ServesQueue may s i most (Err (device.Queue stop.OutOfMemory)) after =
+    IsTrue (kick_takes_memory s i most) × (after ≡ s)
 ServesQueue may s i most (Err e) after = ⊥

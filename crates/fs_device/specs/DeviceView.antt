@@ -7,7 +7,8 @@ use Rattle.virtiofsd_fuse.specs.Serving.{May, ServedMessage}
 use Rattle.plain_machine.specs.declared.error.DeviceError.{DeviceError}
 use Rattle.fs_device.specs.declared.exchange.Exchange as code
 use Rattle.plain_machine.specs.declared.fault.Fault.{Fault}
-use Rattle.plain_machine.specs.Step.{State, Exchange, StepEnd, Idle, Refused, Exchanged, Calls, ServesRequest, faulty, served_exchange, served_fault}
+use Rattle.plain_machine.specs.Step.{State, Exchange, StepEnd, Idle, Refused, Exchanged, Calls, ServesRequest}
+use Rattle.plain_machine.specs.Step.{faulty, served_exchange, served_fault}
 use Rattle.fs_device.specs.DevicePartsView.{DeviceParts}
 
 -- an exchange
@@ -22,7 +23,15 @@ outcome_of (Err e) = Refused e
 
 -- a device over a memory, as the plain machine
 abbrev pub state_of : {F : Type 0} → Memory → DeviceParts F → State F
-state_of m d = record { memory = m; queues = d.queues; options = d.options; files = d.files; limit = d.limit; page_size = d.page_size }
+state_of m d =
+    record {
+      memory = m;
+      queues = d.queues;
+      options = d.options;
+      files = d.files;
+      limit = d.limit;
+      page_size = d.page_size;
+    }
 
 -- what a step may change of a server: the options that were agreed, and the file system
 abbrev pub server_state : {F : Type 0} → Server F → ℕ × F
@@ -34,12 +43,22 @@ request_of (IsRequest request room) = request
 request_of (CannotFetch why) = []
 
 -- serving a chain that was offered so: a faulty one makes no call
-abbrev pub ServesChain : {F : Type 0} → May F → (page_size : ℕ) → ℕ × F → (head : ℕ) → RequestAndRoom → Calls → Exchange → ℕ × F → Type 0
-ServesChain may page_size old head (CannotFetch why) calls x new = (x ≡ faulty head why) × (calls ≡ []) × (new ≡ old)
+abbrev pub ServesChain : {F : Type 0} → May F → (page_size : ℕ) → ℕ × F → (head : ℕ) → RequestAndRoom →
+    Calls → Exchange → ℕ × F → Type 0
+ServesChain may page_size old head (CannotFetch why) calls x new =
+    (x ≡ faulty head why) × (calls ≡ []) × (new ≡ old)
 ServesChain may page_size old head (IsRequest request room) calls x new =
-    (given : ServedMessage) × ServesRequest may page_size old.0 request (length room) old.1 calls given new.1 × (x ≡ served_exchange head request given) × (new.0 ≡ given.options)
+    (given : ServedMessage)
+    × ServesRequest may page_size old.0 request (length room) old.1 calls given new.1
+    × (x ≡ served_exchange head request given)
+    × (new.0 ≡ given.options)
 
 -- from these options and this file system a request is answered by this reply or fault, after these calls
-abbrev pub AnswersRequest : {F : Type 0} → May F → (page_size : ℕ) → ℕ × F → (request : List ℕ) → (room : ℕ) → Calls → (reply : List ℕ) → Option Fault → ℕ × F → Type 0
+abbrev pub AnswersRequest : {F : Type 0} → May F → (page_size : ℕ) → ℕ × F → (request : List ℕ) → (room : ℕ) →
+    Calls → (reply : List ℕ) → Option Fault → ℕ × F → Type 0
 AnswersRequest may page_size old request room calls reply fault new =
-    (given : ServedMessage) × ServesRequest may page_size old.0 request room old.1 calls given new.1 × (reply ≡ given.reply) × (fault ≡ served_fault given.fault) × (new.0 ≡ given.options)
+    (given : ServedMessage)
+    × ServesRequest may page_size old.0 request room old.1 calls given new.1
+    × (reply ≡ given.reply)
+    × (fault ≡ served_fault given.fault)
+    × (new.0 ≡ given.options)

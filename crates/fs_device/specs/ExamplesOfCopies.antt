@@ -20,7 +20,8 @@ abbrev four : Host
 four = two (1 ∷ 2 ∷ 3 ∷ 4 ∷ []) (5 ∷ 6 ∷ [])
 
 -- the last page of a place stands, and no mark changes
-puts_in_order : pages_put four (page 0 1 (7 ∷ 8 ∷ []) ∷ page 0 2 (9 ∷ []) ∷ page 1 0 (0 ∷ []) ∷ []) ≡ two (1 ∷ 7 ∷ 9 ∷ 4 ∷ []) (0 ∷ 6 ∷ [])
+puts_in_order : pages_put four (page 0 1 (7 ∷ 8 ∷ []) ∷ page 0 2 (9 ∷ []) ∷ page 1 0 (0 ∷ []) ∷ [])
+    ≡ two (1 ∷ 7 ∷ 9 ∷ 4 ∷ []) (0 ∷ 6 ∷ [])
 unfolding pages_put
 puts_in_order = refl
 
@@ -35,10 +36,12 @@ unfolding first_refused
 refuses_none = refl
 
 -- the first that has no place is named
-refuses_past_the_end : first_refused (lengths four) 0 (page 0 0 [] ∷ page 0 3 (7 ∷ 8 ∷ []) ∷ page 9 0 [] ∷ []) ≡ Some (OutOfRange 1)
+refuses_past_the_end : first_refused (lengths four) 0 (page 0 0 [] ∷ page 0 3 (7 ∷ 8 ∷ []) ∷ page 9 0 [] ∷ [])
+    ≡ Some (OutOfRange 1)
 unfolding first_refused
 refuses_past_the_end = refl
 
-refuses_unknown_blocks : first_refused (lengths four) 0 (page 9 0 (7 ∷ []) ∷ page 0 9 [] ∷ []) ≡ Some (UnknownBlock 0)
+refuses_unknown_blocks :
+    first_refused (lengths four) 0 (page 9 0 (7 ∷ []) ∷ page 0 9 [] ∷ []) ≡ Some (UnknownBlock 0)
 unfolding first_refused
 refuses_unknown_blocks = refl

@@ -1,5 +1,6 @@
 -- Worked examples that compute: the length in a reply's header, and the pages that writes mark.
-use Rattle.std.specs.Prelude.{◌≡◌, ℕ, ◌+◌, Bool, true, false, List, [], ◌∷◌, ◌++◌, length, replicate, refl, Option, Some, None}
+use Rattle.std.specs.Prelude.{◌≡◌, ℕ, ◌+◌, Bool, true, false, List, [], ◌∷◌, ◌++◌, length, replicate, refl}
+use Rattle.std.specs.Prelude.{Option, Some, None}
 use Rattle.std.specs.Int.{w32, to_le_bytes}
 use Rattle.vm_iotlb.specs.declared.permissions.Permissions.TheVariants.{ReadWrite}
 use Rattle.vm_iotlb.specs.Ranges.{table_kept}
@@ -25,8 +26,8 @@ tells_length_of_data = refl
 
 -- ---- pages
 
--- two pages at 0 behind an IOMMU that is on or off, whose table maps sixteen addresses from 0x1ff8 on to those from 0xff8 on, and a set of
--- two I/O pages
+-- two pages at 0 behind an IOMMU that is on or off, whose table maps sixteen addresses from 0x1ff8 on to
+-- those from 0xff8 on, and a set of two I/O pages
 abbrev two_pages : (on : Bool) → Memory
 two_pages on =
     memory_behind
@@ -54,11 +55,13 @@ unfolding place stored_all table_kept
 marks_page_of_address = refl
 
 -- a page past the end of the set is left out
-marks_none_past_the_set : marks_after true 0x2000 ≡ Some false ∷ Some false ∷ Some false ∷ Some false ∷ None ∷ []
+marks_none_past_the_set :
+    marks_after true 0x2000 ≡ Some false ∷ Some false ∷ Some false ∷ Some false ∷ None ∷ []
 unfolding place stored_all table_kept
 marks_none_past_the_set = refl
 
 -- an address that isn't mapped has no place: nothing is written, and nothing marked
-marks_none_without_a_place : marks_after true 0x1000 ≡ Some false ∷ Some false ∷ Some false ∷ Some false ∷ None ∷ []
+marks_none_without_a_place :
+    marks_after true 0x1000 ≡ Some false ∷ Some false ∷ Some false ∷ Some false ∷ None ∷ []
 unfolding place stored_all table_kept
 marks_none_without_a_place = refl

@@ -1,4 +1,5 @@
--- A worked move that computes: an image of eight bytes, a guest's write after it, and the harvest that brings it up to the host.
+-- A worked move that computes: an image of eight bytes, a guest's write after it, and the harvest that brings
+-- it up to the host.
 use Rattle.std.specs.Prelude.{◌≡◌, ℕ, Bool, true, false, List, [], ◌∷◌, refl, Some, None}
 use Rattle.vm_memory_core.specs.Host.{Host, Place, byte_at, lengths}
 use Rattle.vm_memory.specs.Layout.{place}
@@ -16,7 +17,8 @@ use Rattle.fs_device.specs.Migrating.{IsMoved}
 abbrev of_eight : List ℕ → Bool → State Nothing
 of_eight bytes marked =
     device
-    (memory_of (record { blocks = record { bytes = bytes; marks = marked ∷ [] } ∷ []; tables = []; io_marks = [] })
+    (memory_of
+    (record { blocks = record { bytes = bytes; marks = marked ∷ [] } ∷ []; tables = []; io_marks = [] })
     (record { start = 0; size = 8; block = 0 } ∷ []))
     queue
 
@@ -43,7 +45,10 @@ moves = record {
   off = refl;
   marks = (refl, tt);
   follow = (refl, (refl, tt));
-  run = ([] ∷ [] ∷ [] ∷ [], (of_eight old_bytes false, refl, (of_eight new_bytes true, refl, (of_eight new_bytes false, refl, refl))));
+  run = (
+    [] ∷ [] ∷ [] ∷ [],
+    (of_eight old_bytes false, refl, (of_eight new_bytes true, refl, (of_eight new_bytes false, refl, refl))),
+  );
 }
 
 -- between the two the byte at 5 is stale, and its page marked
@@ -68,8 +73,10 @@ image_is_the_host : pages_put copy (pages_answered events) ≡ (of_eight new_byt
 unfolding pages_put
 image_is_the_host = refl
 
--- so the machine is moved, the write on the way and its page harvested last, and goes on there as it would have here
-is_moved : IsMoved may (of_eight old_bytes true) ((run.GuestWrite 5 (70 ∷ 80 ∷ []), run.Done) ∷ []) (of_eight new_bytes false)
+-- so the machine is moved, the write on the way and its page harvested last, and goes on there as it would
+-- have here
+is_moved : IsMoved may (of_eight old_bytes true) ((run.GuestWrite 5 (70 ∷ 80 ∷ []), run.Done) ∷ [])
+    (of_eight new_bytes false)
 unfolding RunTold effect place addresses stored_all block_pages host_pages pages_put
 is_moved = record {
   copy = copy;
@@ -79,9 +86,20 @@ is_moved = record {
     off = refl;
     marks = (refl, tt);
     follow = (refl, (refl, tt));
-    run = ([] ∷ [] ∷ [] ∷ [], (of_eight old_bytes false, refl, (of_eight new_bytes true, refl, (of_eight new_bytes false, refl, refl))));
+    run = (
+      [] ∷ [] ∷ [] ∷ [],
+      (
+        of_eight old_bytes false,
+        refl,
+        (of_eight new_bytes true, refl, (of_eight new_bytes false, refl, refl)),
+      ),
+    );
   };
   over = refl;
   same = refl;
-  goes_on = λ later tolds end ran. (of_eight old_bytes false, refl, (of_eight new_bytes true, refl, (of_eight new_bytes false, refl, ran)));
+  goes_on = λ later tolds end ran. (
+    of_eight old_bytes false,
+    refl,
+    (of_eight new_bytes true, refl, (of_eight new_bytes false, refl, ran)),
+  );
 }

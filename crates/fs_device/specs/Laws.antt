@@ -11,18 +11,23 @@ use Rattle.plain_machine.specs.Step.{Calls, ServesRequest}
 abbrev pub joined_request : Memory → List Descriptor → List ℕ
 joined_request m ds = flat_map (λ d. bytes m d.addr d.len) (readable ds)
 
--- two chains in two memories, whose joined requests are the same bytes and whose rooms have the same length, are served alike, however they are cut
+-- two chains in two memories, whose joined requests are the same bytes and whose rooms have the same length,
+-- are served alike, however they are cut
 abbrev pub CutsDoNotMatter : {F : Type 0} → May F → Type 0
 CutsDoNotMatter {F} may =
     (m n : Memory) (limit other : ℕ) (ds es : List Descriptor) (request room request' room' : List ℕ) →
-    request_and_room m limit ds ≡ IsRequest request room → request_and_room n other es ≡ IsRequest request' room' →
-    joined_request m ds ≡ joined_request n es → total_len (writable ds) ≡ total_len (writable es) →
+    request_and_room m limit ds ≡ IsRequest request room →
+    request_and_room n other es ≡ IsRequest request' room' →
+    joined_request m ds ≡ joined_request n es →
+    total_len (writable ds) ≡ total_len (writable es) →
     (page_size options : ℕ) (before after : F) (calls : Calls) (given : ServedMessage) →
     ServesRequest may page_size options request (length room) before calls given after
     ↔ ServesRequest may page_size options request' (length room') before calls given after
 
--- a queue offers a chain of these descriptors, direct or by a table, which asks this request and has this room
-pub record OffersChain (m : Memory) (limit : ℕ) (q : Queue) (ds : List Descriptor) (request room : List ℕ) : Type 0 where
+-- a queue offers a chain of these descriptors, direct or by a table, which asks this request and has this
+-- room
+pub record OffersChain (m : Memory) (limit : ℕ) (q : Queue) (ds : List Descriptor) (request room : List ℕ) :
+    Type 0 where
   pub head : ℕ
   pub walked : chain m q head ≡ IsChain ds
   pub offered : offer m limit q ≡ Offers head (IsRequest request room)
@@ -30,9 +35,12 @@ pub record OffersChain (m : Memory) (limit : ℕ) (q : Queue) (ds : List Descrip
 -- so are two chains that two queues offer, each of its own memory
 abbrev pub OffersAreServedAlike : {F : Type 0} → May F → Type 0
 OffersAreServedAlike {F} may =
-    (m n : Memory) (limit other : ℕ) (q p : Queue) (ds es : List Descriptor) (request room request' room' : List ℕ) →
-    OffersChain m limit q ds request room → OffersChain n other p es request' room' →
-    joined_request m ds ≡ joined_request n es → total_len (writable ds) ≡ total_len (writable es) →
+    (m n : Memory) (limit other : ℕ) (q p : Queue) (ds es : List Descriptor)
+    (request room request' room' : List ℕ) →
+    OffersChain m limit q ds request room →
+    OffersChain n other p es request' room' →
+    joined_request m ds ≡ joined_request n es →
+    total_len (writable ds) ≡ total_len (writable es) →
     (page_size options : ℕ) (before after : F) (calls : Calls) (given : ServedMessage) →
     ServesRequest may page_size options request (length room) before calls given after
     ↔ ServesRequest may page_size options request' (length room') before calls given after

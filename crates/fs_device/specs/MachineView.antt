@@ -6,4 +6,6 @@ use Rattle.fs_device.specs.DeviceView.{state_of}
 
 -- its memory behind the IOMMU, and its device's parts
 abbrev pub machine_of : {F I : Type 0} {g : _} → Machine F I g → State F
-machine_of {g = g} m = state_of (memory_behind m.host m.mem.backend (g.number m.mem.iommu) m.mem.io_bitmap m.mem.use_iommu) m.device
+machine_of {g = g} m =
+    state_of (memory_behind m.host m.mem.backend (g.number m.mem.iommu) m.mem.io_bitmap m.mem.use_iommu)
+    m.device

@@ -3,7 +3,8 @@ use Rattle.std.specs.Prelude.{◌≡◌, Bool, false, List, [], ◌∷◌, map}
 use Rattle.vm_memory_core.specs.Host.{Host, unmarked}
 use Rattle.virtiofsd_fuse.specs.Serving.{May}
 use Rattle.plain_machine.specs.Step.{State}
-use Rattle.plain_machine.specs.Run.{Command, Answer, Done, Bytes, NewBlockIs, Served, Copied, Pages, IsRefused, Turns, RunTold, with_host}
+use Rattle.plain_machine.specs.Run.{Command, Answer, Done, Bytes, NewBlockIs, Served, Copied, Pages}
+use Rattle.plain_machine.specs.Run.{IsRefused, Turns, RunTold, with_host}
 
 -- as many pages, none of which is marked
 abbrev pub none_marked : List Bool → List Bool
@@ -21,7 +22,8 @@ without_its_marks s = with_host s (without_marks s.memory.host)
 abbrev pub SameButMarks : {F : Type 0} → State F → State F → Type 0
 SameButMarks a b = without_its_marks a ≡ without_its_marks b
 
--- the same answer: of a harvest only that it answers pages, and of an image a copy that differs in marks alone
+-- the same answer: of a harvest only that it answers pages, and of an image a copy that differs in marks
+-- alone
 abbrev pub SameAnswer : Answer → Answer → Type 0
 SameAnswer (Pages pages) (Pages others) = Unit {0}
 SameAnswer (Pages pages) answer = ⊥
@@ -38,11 +40,18 @@ abbrev pub SameEvents : List (Command × Answer) → List (Command × Answer) �
 SameEvents [] [] = Unit {0}
 SameEvents [] (other ∷ others) = ⊥
 SameEvents (event ∷ events) [] = ⊥
-SameEvents (event ∷ events) (other ∷ others) = (other.0 ≡ event.0) × SameAnswer event.1 other.1 × SameEvents events others
+SameEvents (event ∷ events) (other ∷ others) =
+    (other.0 ≡ event.0) × SameAnswer event.1 other.1 × SameEvents events others
 
--- from two states that differ in marks alone the same runs are allowed, what harvests answer and marks apart, with the same
--- exchanges, notices and calls behind the answers, and they end in states that differ in marks alone
+-- from two states that differ in marks alone the same runs are allowed, what harvests answer and marks apart,
+-- with the same exchanges, notices and calls behind the answers, and they end in states that differ in marks
+-- alone
 abbrev pub MarksDoNotMatter : {F : Type 0} → May F → Type 0
 MarksDoNotMatter {F} may =
-    (a b after : State F) (events : List (Command × Answer)) (tolds : List Turns) → SameButMarks a b → RunTold may a events tolds after →
-    (others : List (Command × Answer)) × (end : State F) × SameEvents events others × RunTold may b others tolds end × SameButMarks after end
+    (a b after : State F) (events : List (Command × Answer)) (tolds : List Turns) →
+    SameButMarks a b →
+    RunTold may a events tolds after →
+    (others : List (Command × Answer)) × (end : State F)
+    × SameEvents events others
+    × RunTold may b others tolds end
+    × SameButMarks after end

@@ -7,7 +7,8 @@ use Rattle.vm_memory_core.specs.Host.{Host}
 use Rattle.virtiofsd_fuse.specs.Serving.{May}
 use Rattle.fs_device.specs.declared.command.Answer as told
 use Rattle.plain_machine.specs.Step.{State}
-use Rattle.plain_machine.specs.Run.{Command, Image, Harvest, Answer, Copied, Pages, Turns, Run, RunTold, with_host}
+use Rattle.plain_machine.specs.Run.{Command, Image, Harvest, Answer, Copied, Pages, Turns, Run, RunTold}
+use Rattle.plain_machine.specs.Run.{with_host}
 use Rattle.fs_device.specs.CommandView.{answer_of}
 use Rattle.fs_device.specs.Moving.{RunsFromImage, pages_answered, pages_of_answer}
 
@@ -19,16 +20,21 @@ pages_of_answers answers = flat_map pages_of_answer (map answer_of answers)
 abbrev pub until_harvest : List (Command × Answer) → (last : List Page) → List (Command × Answer)
 until_harvest events last = events ++ (Harvest, Pages last) ∷ []
 
--- whatever runs there could have run here, after these events with this behind their answers: the same commands with the same answers, the
--- same calls, exchanges and notices behind them, and the same state at the end
-abbrev pub CouldRunHere : {F : Type 0} → May F → State F → List (Command × Answer) → (before : List Turns) → (there : State F) → Type 0
+-- whatever runs there could have run here, after these events with this behind their answers: the same
+-- commands with the same answers, the same calls, exchanges and notices behind them, and the same state at
+-- the end
+abbrev pub CouldRunHere : {F : Type 0} → May F → State F → List (Command × Answer) → (before : List Turns) →
+    (there : State F) → Type 0
 CouldRunHere {F} may s events before there =
-    (later : List (Command × Answer)) (tolds : List Turns) (end : State F) → RunTold may there later tolds end →
+    (later : List (Command × Answer)) (tolds : List Turns) (end : State F) →
+    RunTold may there later tolds end →
     RunTold may s (events ++ later) (before ++ tolds) end
 
--- by one run here, from an image that answered its copy over these events to a last harvest: the machine there is the one here over the
--- copy with all harvested pages put in, in order; this is the one here, marks and all; and whatever runs there could have run here, after that run
-pub record IsMoved {F : Type 0} (may : May F) (s : State F) (events : List (Command × Answer)) (there : State F) : Type 0 where
+-- by one run here, from an image that answered its copy over these events to a last harvest: the machine
+-- there is the one here over the copy with all harvested pages put in, in order; this is the one here, marks
+-- and all; and whatever runs there could have run here, after that run
+pub record IsMoved {F : Type 0} (may : May F) (s : State F) (events : List (Command
+    × Answer)) (there : State F) : Type 0 where
   pub copy : Host
   pub last : List Page
   pub here : State F
@@ -42,10 +48,15 @@ abbrev pub StaysAtOnce : {F : Type 0} → May F → State F → (answers : List 
 StaysAtOnce may s answers after = (answers ≡ []) × (image : Answer) × Run may s ((Image, image) ∷ []) after
 
 -- each command was done, after an image, and then a harvest was made or refused
-abbrev pub StaysAtLast : {F : Type 0} → May F → State F → List Command → (answers : List Answer) → State F → Type 0
+abbrev pub StaysAtLast :
+    {F : Type 0} → May F → State F → List Command → (answers : List Answer) → State F → Type 0
 StaysAtLast may s commands answers after =
-    (length answers ≡ length commands) × (copy : Host) × (harvest : Answer) × Run may s ((Image, Copied copy) ∷ zip commands answers ++ (Harvest, harvest) ∷ []) after
+    (length answers ≡ length commands)
+    × (copy : Host) × (harvest : Answer)
+    × Run may s ((Image, Copied copy) ∷ zip commands answers ++ (Harvest, harvest) ∷ []) after
 
 -- the machine stayed, none or all of the commands done
-abbrev pub StaysHere : {F : Type 0} → May F → State F → List Command → (answers : List Answer) → State F → Type 0
-StaysHere may s commands answers after = StaysAtOnce may s answers after ⊎ StaysAtLast may s commands answers after
+abbrev pub StaysHere :
+    {F : Type 0} → May F → State F → List Command → (answers : List Answer) → State F → Type 0
+StaysHere may s commands answers after =
+    StaysAtOnce may s answers after ⊎ StaysAtLast may s commands answers after

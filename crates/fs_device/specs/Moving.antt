@@ -1,5 +1,6 @@
 -- Moving to another host: an image, what of it grows stale, and the pages that bring it up to the host again.
-use Rattle.std.specs.Prelude.{◌≡◌, ◌≢◌, ℕ, ◌/◌, Bool, true, false, not, IsTrue, List, [], ◌∷◌, ◌++◌, length, Option, Some, None, slice_get, option_and_then}
+use Rattle.std.specs.Prelude.{◌≡◌, ◌≢◌, ℕ, ◌/◌, Bool, true, false, not, IsTrue, List, [], ◌∷◌, ◌++◌, length}
+use Rattle.std.specs.Prelude.{Option, Some, None, slice_get, option_and_then}
 use Rattle.std.specs.List.{AllByRecursion, flat_map}
 use Rattle.vm_memory_core.specs.Host.{Host, Place, byte_at, lengths, page_count}
 use Rattle.vm_memory.specs.Memory.{memory_behind}
@@ -9,7 +10,8 @@ use Rattle.plain_machine.specs.Harvested.{Page}
 use Rattle.fs_device.specs.Applying.{first_refused, pages_put}
 use Rattle.virtiofsd_fuse.specs.Serving.{May}
 use Rattle.plain_machine.specs.Step.{State}
-use Rattle.plain_machine.specs.Run.{Command, NewBlock, Map, Unmap, UnmapAll, SetIommu, Image, Harvest, Answer, Copied, Pages, Run}
+use Rattle.plain_machine.specs.Run.{Command, NewBlock, Map, Unmap, UnmapAll, SetIommu, Image, Harvest, Answer}
+use Rattle.plain_machine.specs.Run.{Copied, Pages, Run}
 
 -- a place where an image, with pages put in, differs from the host
 abbrev pub IsStale : (image : Host) → List Page → (host : Host) → Place → Type 0
@@ -23,8 +25,8 @@ page_mark h p = option_and_then (λ b. slice_get b.marks (p.offset / 4096)) (sli
 abbrev pub HasItsMarks : Host → Type 0
 HasItsMarks h = AllByRecursion (λ b. length b.marks ≡ page_count (length b.bytes)) h.blocks
 
--- the commands that may follow an image on the way to another host: no block is made, no mapping changes, the IOMMU stays
--- off, and no other image is made
+-- the commands that may follow an image on the way to another host: no block is made, no mapping changes, the
+-- IOMMU stays off, and no other image is made
 abbrev pub follows_image : Command → Bool
 follows_image (NewBlock n) = false
 follows_image (Map iova target n perm) = false
@@ -44,7 +46,8 @@ abbrev pub pages_answered : List (Command × Answer) → List Page
 pages_answered events = flat_map (λ e. pages_of_answer e.1) events
 
 -- a run in which an image answered its copy, and then such commands followed, the IOMMU off throughout
-pub record RunsFromImage {F : Type 0} (may : May F) (s : State F) (copy : Host) (events : List (Command × Answer)) (after : State F) : Type 0 where
+pub record RunsFromImage {F : Type 0} (may : May F) (s : State F) (copy : Host) (events : List (Command
+    × Answer)) (after : State F) : Type 0 where
   pub off : s.memory.translates ≡ false
   pub marks : HasItsMarks s.memory.host
   pub follow : AllByRecursion (λ e. IsTrue (follows_image e.0)) events
@@ -53,8 +56,10 @@ pub record RunsFromImage {F : Type 0} (may : May F) (s : State F) (copy : Host) 
 -- what of an image is stale, with all harvested pages put in, lies on a marked page, at each moment
 abbrev pub StaleIsMarked : {F : Type 0} → May F → Type 0
 StaleIsMarked {F} may =
-    (s after : State F) (copy : Host) (events : List (Command × Answer)) (p : Place) → RunsFromImage may s copy events after →
-    IsStale copy (pages_answered events) after.memory.host p → page_mark after.memory.host p ≡ Some true
+    (s after : State F) (copy : Host) (events : List (Command × Answer)) (p : Place) →
+    RunsFromImage may s copy events after →
+    IsStale copy (pages_answered events) after.memory.host p →
+    page_mark after.memory.host p ≡ Some true
 
 -- after a last harvest the image with all harvested pages put in, in order, is the host, marks and all
 abbrev pub ImageCatchesUp : {F : Type 0} → May F → Type 0
@@ -66,10 +71,12 @@ ImageCatchesUp {F} may =
 -- each harvested page has its place in the image
 abbrev pub PagesHavePlaces : {F : Type 0} → May F → Type 0
 PagesHavePlaces {F} may =
-    (s after : State F) (copy : Host) (events : List (Command × Answer)) → RunsFromImage may s copy events after → first_refused (lengths copy) 0 (pages_answered events) ≡ None
+    (s after : State F) (copy : Host) (events : List (Command × Answer)) →
+    RunsFromImage may s copy events after →
+    first_refused (lengths copy) 0 (pages_answered events) ≡ None
 
--- the state that is made of a host, and of the options and queues of a record, with the layout, the IOMMU, the limit, the page size and the
--- file system of a state
+-- the state that is made of a host, and of the options and queues of a record, with the layout, the IOMMU,
+-- the limit, the page size and the file system of a state
 abbrev pub made_over : {F : Type 0} → Host → (options : ℕ) → List Queue → State F → State F
 made_over host options queues s =
     record {
@@ -81,18 +88,23 @@ made_over host options queues s =
       page_size = s.page_size;
     }
 
--- after a last harvest, the state that is made of the image with all harvested pages put in, in order, and of what stands in the last
--- state's record, with its layout, limit, page size and file system, is that last state, marks and all
+-- after a last harvest, the state that is made of the image with all harvested pages put in, in order, and of
+-- what stands in the last state's record, with its layout, limit, page size and file system, is that last
+-- state, marks and all
 abbrev pub MovedIsLast : {F : Type 0} → May F → Type 0
 MovedIsLast {F} may =
-    (s after : State F) (copy : Host) (events : List (Command × Answer)) (last : List Page) (v v' : Version) (bytes : List ℕ) (options : ℕ)
+    (s after : State F) (copy : Host) (events : List (Command
+    × Answer)) (last : List Page) (v v' : Version) (bytes : List ℕ) (options : ℕ)
     (queues : List Queue) →
     let all = events ++ (Harvest, Pages last) ∷ [] in
-    RunsFromImage may s copy all after → IsRecord bytes v after.options after.queues → IsRecord bytes v' options queues →
+    RunsFromImage may s copy all after →
+    IsRecord bytes v after.options after.queues →
+    IsRecord bytes v' options queues →
     made_over (pages_put copy (pages_answered all)) options queues after ≡ after
 
 -- what such a run asks of the state that it begins in, the state has that it ends in
 abbrev pub CanMoveAgain : {F : Type 0} → May F → Type 0
 CanMoveAgain {F} may =
-    (s after : State F) (copy : Host) (events : List (Command × Answer)) → RunsFromImage may s copy events after →
+    (s after : State F) (copy : Host) (events : List (Command × Answer)) →
+    RunsFromImage may s copy events after →
     (after.memory.translates ≡ false) × HasItsMarks after.memory.host

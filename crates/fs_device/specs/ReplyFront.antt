@@ -1,4 +1,5 @@
--- What a chain is answered that is yet to be written: all of the reply, or its header, with the data in its place already.
+-- What a chain is answered that is yet to be written: all of the reply, or its header, with the data in its
+-- place already.
 use Rattle.std.specs.Prelude.{◌≡◌, ℕ, Bool, true, false, List, length, map, Option}
 use Rattle.vm_memory_core.specs.Host.{Host, Place}
 use Rattle.vm_memory_core.specs.Window.{byte_in}
@@ -32,18 +33,26 @@ whole r = record { front = front.Reply r.bytes; len = length r.bytes.items; faul
 
 -- the exchange of a chain with this head that was offered so, by this reply or fault
 abbrev pub replied : (head : ℕ) → RequestAndRoom → (reply : List ℕ) → Option Fault → Exchange
-replied head fetched reply fault = record { head = head; request = request_of fetched; reply = reply; fault = fault }
+replied head fetched reply fault =
+    record { head = head; request = request_of fetched; reply = reply; fault = fault }
 
--- the request at some places is answered by a reply of this length, which stands in its room but for its front
-pub record AnswersAt {F : Type 0} (may : May F) (before : Server F) (old : Host) (request room : List Place) (a : PreparedReply) (new : Host) (after : Server F) : Type 0 where
+-- the request at some places is answered by a reply of this length, which stands in its room but for its
+-- front
+pub record AnswersAt {F : Type 0} (may : May F) (before : Server F) (old : Host) (request room : List Place)
+    (a : PreparedReply) (new : Host) (after : Server F) : Type 0 where
   pub reply : List ℕ
   pub len : length reply ≡ a.len
   pub put : PutFrontLast old new room (front_bytes a.front) reply
-  pub served : (calls : Calls) × AnswersRequest may before.page_size (server_state before) (map (byte_in old) request) (length room) calls reply a.fault (server_state after)
+  pub served : (calls : Calls)
+      × AnswersRequest may before.page_size (server_state before) (map (byte_in old) request) (length room)
+      calls reply a.fault (server_state after)
 
 -- a chain is served by a reply of this length, which stands in its room but for its front
-pub record AnswersFront {F : Type 0} (may : May F) (before : Server F) (old : Host) (taken : Taken) (fetched : RequestAndRoom) (a : PreparedReply) (new : Host) (after : Server F) : Type 0 where
+pub record AnswersFront {F : Type 0} (may : May F) (before : Server F) (old : Host) (taken : Taken)
+    (fetched : RequestAndRoom) (a : PreparedReply) (new : Host) (after : Server F) : Type 0 where
   pub reply : List ℕ
   pub len : length reply ≡ a.len
   pub put : PutFrontLast old new (chain_places taken.chain) (front_bytes a.front) reply
-  pub served : (calls : Calls) × ServesChain may before.page_size (server_state before) taken.head fetched calls (replied taken.head fetched reply a.fault) (server_state after)
+  pub served : (calls : Calls)
+      × ServesChain may before.page_size (server_state before) taken.head fetched calls
+      (replied taken.head fetched reply a.fault) (server_state after)

@@ -5,9 +5,17 @@ use Rattle.plain_machine.specs.declared.error.DeviceError.{DeviceError}
 use Rattle.fs_device.specs.declared.returned.Returned.{Returned}
 use Rattle.plain_machine.specs.Step.{State, Exchange, StepEnd, Idle, Refused, Exchanged, Calls, Step}
 
--- an exchange: its head, the lengths of its request and its reply in bytes, its fault, and whether the driver is told (VIRTIO 1.2, 2.7.7 and 2.7.8)
+-- an exchange: its head, the lengths of its request and its reply in bytes, its fault, and whether the driver
+-- is told (VIRTIO 1.2, 2.7.7 and 2.7.8)
 abbrev pub told_exchange : Exchange → (notice : Bool) → Returned
-told_exchange x notice = record { head = x.head; request_len = length x.request; reply_len = length x.reply; fault = x.fault; notify = notice }
+told_exchange x notice =
+    record {
+      head = x.head;
+      request_len = length x.request;
+      reply_len = length x.reply;
+      fault = x.fault;
+      notify = notice;
+    }
 
 -- how a step ends: nothing waits, a chain was exchanged, or it is refused
 abbrev pub told : StepEnd → Result (Option Returned) DeviceError
@@ -16,5 +24,7 @@ told (Exchanged x notice) = Ok (Some (told_exchange x notice))
 told (Refused e) = Err e
 
 -- there are calls and an end by which a step on queue i goes so, and this tells that end
-abbrev pub StepTold : {F : Type 0} → May F → State F → ℕ → Result (Option Returned) DeviceError → State F → Type 0
-StepTold may before i result after = (calls : Calls) × (outcome : StepEnd) × Step may before i calls outcome after × (result ≡ told outcome)
+abbrev pub StepTold :
+    {F : Type 0} → May F → State F → ℕ → Result (Option Returned) DeviceError → State F → Type 0
+StepTold may before i result after =
+    (calls : Calls) × (outcome : StepEnd) × Step may before i calls outcome after × (result ≡ told outcome)

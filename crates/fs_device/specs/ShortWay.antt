@@ -7,11 +7,13 @@ use Rattle.fs_queue.specs.declared.fault.ChainFault.{ChainFault}
 use Rattle.fs_device.specs.Behind.{HasBehind}
 use Rattle.virtiofsd_fuse.specs.ReadApart.{read_request}
 
--- what stands at some places is a READ's two records and no more (linux/fuse.h, struct fuse_in_header and fuse_read_in, 80 bytes)
+-- what stands at some places is a READ's two records and no more (linux/fuse.h, struct fuse_in_header and
+-- fuse_read_in, 80 bytes)
 abbrev pub HoldARead : Host → List Place → Type 0
 HoldARead h ps = (length ps ≤ 80) × IsTrue (is_ok (read_request (map (byte_in h) ps)))
 
--- a chain asks a READ alone, and none of the bytes that follow the header in its room (struct fuse_out_header, 16 bytes) is one of the header's
+-- a chain asks a READ alone, and none of the bytes that follow the header in its room (struct
+-- fuse_out_header, 16 bytes) is one of the header's
 abbrev pub ReadsInPlace : Host → Result Chain ChainFault → Type 0
 ReadsInPlace h (Ok c) = HasBehind (places c.writable.items) 16 × HoldARead h (places c.readable.items)
 ReadsInPlace h (Err fault) = ⊥

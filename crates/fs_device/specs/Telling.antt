@@ -1,4 +1,5 @@
--- What a run tells of its file calls: in their order they are a run of the file system, and each exchange is what its request means in some setting.
+-- What a run tells of its file calls: in their order they are a run of the file system, and each exchange is
+-- what its request means in some setting.
 use Rattle.std.specs.Prelude.{◌≡◌, List, [], flat_map, Option, Some, None}
 use Rattle.std.specs.List.{AllByRecursion}
 use Rattle.fuse_fs.specs.Calls.{FileRun}
@@ -20,8 +21,10 @@ calls_told tolds = flat_map calls_of tolds
 -- in some setting the request means these calls, each by the answers before it, and they make this exchange
 abbrev pub IsMeant : Turn → Type 0
 IsMeant t = (s : Setting)
-    × ((served s (meaning s.options t.exchange.request s.room) (answers_alone t.calls)).calls ≡ calls_alone t.calls)
-    × (t.exchange ≡ served_exchange t.exchange.head t.exchange.request (served s (meaning s.options t.exchange.request s.room) (answers_alone t.calls)))
+    × ((served s (meaning s.options t.exchange.request s.room) (answers_alone t.calls)).calls
+    ≡ calls_alone t.calls)
+    × (t.exchange ≡ served_exchange t.exchange.head t.exchange.request
+    (served s (meaning s.options t.exchange.request s.room) (answers_alone t.calls)))
 
 -- by its fault: a faulty chain makes no call
 abbrev pub IsServedBy : Option Fault → Turn → Type 0
@@ -33,8 +36,10 @@ IsServedBy None t = IsMeant t
 abbrev pub IsServed : Turn → Type 0
 IsServed t = IsServedBy t.exchange.fault t
 
--- all calls of a run are a run of the file system from its first state to its last, and each exchange is what its request means in some setting
+-- all calls of a run are a run of the file system from its first state to its last, and each exchange is what
+-- its request means in some setting
 abbrev pub CallsAreTold : {F : Type 0} → May F → Type 0
 CallsAreTold {F} may =
-    (s after : State F) (events : List (Command × Answer)) (tolds : List Turns) → RunTold may s events tolds after →
+    (s after : State F) (events : List (Command × Answer)) (tolds : List Turns) →
+    RunTold may s events tolds after →
     FileRun may s.files (calls_told tolds) after.files × AllByRecursion (AllByRecursion IsServed) tolds

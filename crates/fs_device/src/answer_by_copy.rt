@@ -31,8 +31,8 @@ fn is_memory(error: Error) -> bool
     matches!(error, Error::OutOfMemory)
 }
 
-// Has the server answer what a reader has left into a writer's room; nothing if an allocation failed, and then nothing
-// changed.
+// Has the server answer what a reader has left into a writer's room; nothing if an allocation failed, and
+// then nothing changed.
 #[inline(always)]
 pub(crate) fn answer<F: FileSystem>(
     alloc: Global,
@@ -73,12 +73,15 @@ pub(crate) fn serve<F: FileSystem>(
     request: FetchedRequest,
 ) -> Result<Exchange, AllocError>
     requires { request.room.free ≡ room_places taken.now.chain }
-    ensures exchange { IfOk result (λ x. ServesTaken F.may server.old.page_size (server_state server.old) taken.now request.bytes.items (exchange_of x)
+    ensures exchange { IfOk result (λ x. ServesTaken F.may server.old.page_size (server_state server.old)
+        taken.now request.bytes.items (exchange_of x)
         (server_state server.new)) }
-    ensures bytes { IfOk result (λ x. ServesBytes F.may server.old.page_size (server_state server.old) taken.now (room_places taken.now.chain) request.bytes.items
+    ensures bytes { IfOk result (λ x. ServesBytes F.may server.old.page_size (server_state server.old)
+        taken.now (room_places taken.now.chain) request.bytes.items
         (exchange_of x) (server_state server.new)) }
     ensures fits { IfOk result (λ x. length x.reply.items ≤ room_places taken.now.chain) }
-    ensures err { OnErr result ((server.new.options.0 ≡ server.old.options.0) × (server.new.fs ≡ server.old.fs)) }
+    ensures err { OnErr result ((server.new.options.0 ≡ server.old.options.0)
+        × (server.new.fs ≡ server.old.fs)) }
     ensures memory { OnErr result (MayLackToAnswer server.old.options.0 taken.now request.bytes.items) }
     ensures page_size { server.new.page_size ≡ server.old.page_size }
 {

@@ -1,7 +1,8 @@
-//! A chain is answered by the front of its request, which is copied once and says which data may stay where it stands; no byte of
-//! the request is handed out.
+//! A chain is answered by the front of its request, which is copied once and says which data may stay where
+//! it stands; no byte of the request is handed out.
 
-ghost use Rattle.std.specs.Prelude.{◌≡◌, ◌↔◌, ℕ, ◌≤◌, ◌<◌, ◌^◌, length, map, IfNone, IfOk, IfSome, IsTrue, Ok, OnErr, []};
+ghost use Rattle.std.specs.Prelude.{◌≡◌, ◌↔◌, ℕ, ◌≤◌, ◌<◌, ◌^◌, length, map, IfNone, IfOk, IfSome, IsTrue};
+ghost use Rattle.std.specs.Prelude.{Ok, OnErr, []};
 ghost use Rattle.vm_memory_core.specs.Host.{lengths, shape};
 ghost use Rattle.vm_memory_core.specs.Window.{AllLieIn, byte_in, places};
 ghost use Rattle.vm_memory.specs.Memory.{Memory};
@@ -24,8 +25,8 @@ use std::alloc::{AllocError, Global};
 use virtiofsd_fuse::{REQUEST_FRONT, Reader, Server, Writer, writes_data};
 use vm_memory_core::HostBlocks;
 
-// Has the server answer a request by a copy of its front, and by the rest, which is read where it stands. Nothing if
-// an allocation failed, and then nothing changed.
+// Has the server answer a request by a copy of its front, and by the rest, which is read where it stands.
+// Nothing if an allocation failed, and then nothing changed.
 #[inline(always)]
 fn answer_behind<F: FileSystem, H: HostBlocks>(
     alloc: Global,
@@ -39,7 +40,8 @@ fn answer_behind<F: FileSystem, H: HostBlocks>(
     requires front { IsFetchedFront (H.host host.now) (places chain.now.readable.items) front.now }
     requires unwritten { room.written ≡ [] }
     requires short { room.free < 2 ^ 32 }
-    ensures answered { IsAnswered F.may server.old (map (byte_in (H.host host.now)) (places chain.now.readable.items)) room.free result server.new }
+    ensures answered { IsAnswered F.may server.old
+        (map (byte_in (H.host host.now)) (places chain.now.readable.items)) room.free result server.new }
     ensures page_size { server.new.page_size ≡ server.old.page_size }
 {
     let segments = segments_behind(alloc, host, &chain.readable, front)?;
@@ -51,8 +53,8 @@ fn answer_behind<F: FileSystem, H: HostBlocks>(
     }
 }
 
-// Has the server answer a request that is longer than its front: the data of a WRITE stays where it stands, and any other is
-// fetched whole. Nothing if an allocation failed, and then nothing changed.
+// Has the server answer a request that is longer than its front: the data of a WRITE stays where it stands,
+// and any other is fetched whole. Nothing if an allocation failed, and then nothing changed.
 #[inline(always)]
 fn answer_longer<F: FileSystem, H: HostBlocks>(
     alloc: Global,
@@ -66,7 +68,8 @@ fn answer_longer<F: FileSystem, H: HostBlocks>(
     requires front { IsFetchedFront (H.host host.now) (places chain.now.readable.items) front.now }
     requires unwritten { room.written ≡ [] }
     requires short { room.free < 2 ^ 32 }
-    ensures answered { IsAnswered F.may server.old (map (byte_in (H.host host.now)) (places chain.now.readable.items)) room.free result server.new }
+    ensures answered { IsAnswered F.may server.old
+        (map (byte_in (H.host host.now)) (places chain.now.readable.items)) room.free result server.new }
     ensures page_size { server.new.page_size ≡ server.old.page_size }
 {
     if writes_data(alloc, front) {
@@ -78,8 +81,8 @@ fn answer_longer<F: FileSystem, H: HostBlocks>(
     }
 }
 
-// Has the server answer a chain's request, of which these are the first bytes, into a buffer. Nothing if an allocation
-// failed, and then nothing changed.
+// Has the server answer a chain's request, of which these are the first bytes, into a buffer. Nothing if an
+// allocation failed, and then nothing changed.
 #[inline(always)]
 fn answer_in_buffer<F: FileSystem, H: HostBlocks>(
     alloc: Global,
@@ -90,7 +93,8 @@ fn answer_in_buffer<F: FileSystem, H: HostBlocks>(
 ) -> Option<CopiedReply>
     requires lie { AllLieIn (lengths (H.host host.now)) chain.now.readable.items }
     requires front { IsFetchedFront (H.host host.now) (places chain.now.readable.items) front.now }
-    ensures answered { IsAnswered F.may server.old (map (byte_in (H.host host.now)) (places chain.now.readable.items)) (length (places chain.now.writable.items)) result server.new }
+    ensures answered { IsAnswered F.may server.old (map (byte_in (H.host host.now))
+        (places chain.now.readable.items)) (length (places chain.now.writable.items)) result server.new }
     ensures page_size { server.new.page_size ≡ server.old.page_size }
 {
     let Ok(room) = Writer::of_length(alloc, chain.room_len()) else {
@@ -103,8 +107,8 @@ fn answer_in_buffer<F: FileSystem, H: HostBlocks>(
     }
 }
 
-// Copies the front of a chain's request, and has the server answer it by that: the data of a READ is put where it goes, if
-// that can be. Nothing if an allocation failed, and then nothing changed.
+// Copies the front of a chain's request, and has the server answer it by that: the data of a READ is put
+// where it goes, if that can be. Nothing if an allocation failed, and then nothing changed.
 #[inline(always)]
 fn answer_chain<F: FileSystem, H: HostBlocks>(
     alloc: Global,
@@ -114,10 +118,16 @@ fn answer_chain<F: FileSystem, H: HostBlocks>(
 ) -> Option<PreparedReply>
     requires readable { AllLieIn (lengths (H.host host.old)) chain.now.readable.items }
     requires writable { AllLieIn (lengths (H.host host.old)) chain.now.writable.items }
-    ensures some { IfSome result (λ a. AnswersAt F.may server.old (H.host host.old) (places chain.now.readable.items) (places chain.now.writable.items) a (H.host host.new) server.new) }
-    ensures fits { IfSome result (λ a. (length (front_bytes a.front) ≤ length (places chain.now.writable.items)) × (a.len ≤ length (places chain.now.writable.items))) }
-    ensures way { IfSome result (λ a. IsTrue (is_header a.front) ↔ (IsTrue (F.reads_whole server.old.fs) × ReadsInPlace (H.host host.old) (Ok chain.now))) }
-    ensures none { IfNone result ((server.new.options.0 ≡ server.old.options.0) × (server.new.fs ≡ server.old.fs) × (H.host host.new ≡ H.host host.old)) }
+    ensures some { IfSome result (λ a. AnswersAt F.may server.old (H.host host.old)
+        (places chain.now.readable.items) (places chain.now.writable.items) a (H.host host.new) server.new) }
+    ensures fits { IfSome result
+        (λ a. (length (front_bytes a.front) ≤ length (places chain.now.writable.items))
+        × (a.len ≤ length (places chain.now.writable.items))) }
+    ensures way { IfSome result (λ a. IsTrue (is_header a.front) ↔ (IsTrue (F.reads_whole server.old.fs)
+        × ReadsInPlace (H.host host.old) (Ok chain.now))) }
+    ensures none { IfNone result ((server.new.options.0 ≡ server.old.options.0)
+        × (server.new.fs ≡ server.old.fs)
+        × (H.host host.new ≡ H.host host.old)) }
     ensures shape { shape (H.host host.new) ≡ shape (H.host host.old) }
     ensures page_size { server.new.page_size ≡ server.old.page_size }
 {
@@ -137,7 +147,9 @@ fn answer_chain<F: FileSystem, H: HostBlocks>(
 /// The length of the request of a chain that was taken, in bytes; a faulty chain has none.
 #[inline(always)]
 pub(crate) fn request_len(taken: &Taken) -> usize
-    ensures { (m : Memory) (fetched : RequestAndRoom) → HoldsChain m fetched taken.now.chain → result ≡ length (request_of fetched) }
+    ensures { (m : Memory) (fetched : RequestAndRoom)
+        → HoldsChain m fetched taken.now.chain
+        → result ≡ length (request_of fetched) }
 {
     match taken.chain() {
         Ok(chain) => chain.request_len(),
@@ -145,8 +157,8 @@ pub(crate) fn request_len(taken: &Taken) -> usize
     }
 }
 
-/// Answers a chain that was taken, with what is yet to be written of its reply. Nothing is refused once the file system was
-/// asked.
+/// Answers a chain that was taken, with what is yet to be written of its reply. Nothing is refused once the
+/// file system was asked.
 #[inline(always)]
 pub(crate) fn answer_front<F: FileSystem, H: HostBlocks>(
     alloc: Global,
@@ -155,11 +167,19 @@ pub(crate) fn answer_front<F: FileSystem, H: HostBlocks>(
     taken: &Taken,
 ) -> Result<PreparedReply, AllocError>
     requires lies { TakenLiesIn (lengths (H.host host.old)) taken.now }
-    ensures exchange { (m : Memory) (q : Queue) (fetched : RequestAndRoom) → m.host ≡ H.host host.old → IsTaken m q fetched taken.now →
-        IfOk result (λ a. AnswersFront F.may server.old (H.host host.old) taken.now fetched a (H.host host.new) server.new) }
-    ensures fits { IfOk result (λ a. (length (front_bytes a.front) ≤ room_places taken.now.chain) × (a.len ≤ room_places taken.now.chain)) }
-    ensures way { IfOk result (λ a. IsTrue (is_header a.front) ↔ (IsTrue (F.reads_whole server.old.fs) × ReadsInPlace (H.host host.old) taken.now.chain)) }
-    ensures err { OnErr result ((server.new.options.0 ≡ server.old.options.0) × (server.new.fs ≡ server.old.fs) × (H.host host.new ≡ H.host host.old)) }
+    ensures exchange { (m : Memory) (q : Queue) (fetched : RequestAndRoom)
+        → m.host ≡ H.host host.old
+        → IsTaken m q fetched taken.now
+        →
+        IfOk result (λ a. AnswersFront F.may server.old (H.host host.old) taken.now fetched a
+        (H.host host.new) server.new) }
+    ensures fits { IfOk result (λ a. (length (front_bytes a.front) ≤ room_places taken.now.chain)
+        × (a.len ≤ room_places taken.now.chain)) }
+    ensures way { IfOk result (λ a. IsTrue (is_header a.front) ↔ (IsTrue (F.reads_whole server.old.fs)
+        × ReadsInPlace (H.host host.old) taken.now.chain)) }
+    ensures err { OnErr result ((server.new.options.0 ≡ server.old.options.0)
+        × (server.new.fs ≡ server.old.fs)
+        × (H.host host.new ≡ H.host host.old)) }
     ensures shape { shape (H.host host.new) ≡ shape (H.host host.old) }
     ensures page_size { server.new.page_size ≡ server.old.page_size }
 {

@@ -39,7 +39,8 @@ fn check_page(
     number: usize,
     page: &HarvestedPage,
 ) -> Result<(), ApplyError>
-    ensures { result ≡ applied (refused_by (slice_get (lengths host.now) page.now.block) number (page_view page.now)) }
+    ensures { result ≡ applied (refused_by (slice_get (lengths host.now) page.now.block) number
+        (page_view page.now)) }
 {
     let Some(len) = host.block_len(page.block) else {
         return Err(ApplyError::UnknownBlock(number));
@@ -71,8 +72,8 @@ fn put(host: &mut HostMemory<PageBitmap>, pages: &[HarvestedPage])
     }
 }
 
-/// Puts pages into a host, in order, and marks none. Where one has no place there nothing changes, and the refusal,
-/// UnknownBlock or OutOfRange, tells the first such page.
+/// Puts pages into a host, in order, and marks none. Where one has no place there nothing changes, and the
+/// refusal, UnknownBlock or OutOfRange, tells the first such page.
 pub fn apply(host: &mut HostMemory<PageBitmap>, pages: &[HarvestedPage]) -> Result<(), ApplyError>
     ensures outcome { result ≡ applied (first_refused (lengths host.old) 0 (map page_view pages.now)) }
     ensures ok { OnOk result (host.new ≡ pages_put host.old (map page_view pages.now)) }

@@ -1,6 +1,7 @@
 //! What follows the first bytes of a room, where these are apart from it.
 
-ghost use Rattle.std.specs.Prelude.{◌≡◌, ◌↔◌, ℕ, ◌<◌, ◌≤◌, ◌+◌, ◌∷◌, List, IfSome, IsSome, IsTrue, drop, length, map, sum, take};
+ghost use Rattle.std.specs.Prelude.{◌≡◌, ◌↔◌, ℕ, ◌<◌, ◌≤◌, ◌+◌, ◌∷◌, List, IfSome, IsSome, IsTrue, drop};
+ghost use Rattle.std.specs.Prelude.{length, map, sum, take};
 ghost use Rattle.fuse_fs.specs.Lengths.{filled, past};
 ghost use Rattle.vm_memory_core.specs.Window.{AllLieIn, LiesIn, Window, places, places_of};
 ghost use Rattle.plain_machine.specs.Apart.{Apart, are_apart};
@@ -12,11 +13,15 @@ use vm_memory_core::VolatileSlice;
 // The window in which a byte is that is counted from the beginning of one of them, and where it is there.
 fn window_at(windows: &[VolatileSlice], index: usize, at: usize) -> (usize, usize)
     requires { at < length (places (drop index windows.now)) }
-    ensures within { (w : Window) → drop result.0 windows.now ≡ w ∷ drop (result.0 + 1) windows.now → result.1 < w.len }
+    ensures within { (w : Window)
+        → drop result.0 windows.now ≡ w ∷ drop (result.0 + 1) windows.now
+        → result.1 < w.len }
     ensures there { result.0 < length windows.now }
     ensures before { result.1 ≤ at }
-    ensures places { drop result.1 (places (drop result.0 windows.now)) ≡ drop at (places (drop index windows.now)) }
-    ensures rooms { past result.1 (filled (map (λ w. w.len) (drop result.0 windows.now))) ≡ past at (filled (map (λ w. w.len) (drop index windows.now))) }
+    ensures places { drop result.1 (places (drop result.0 windows.now))
+        ≡ drop at (places (drop index windows.now)) }
+    ensures rooms { past result.1 (filled (map (λ w. w.len) (drop result.0 windows.now)))
+        ≡ past at (filled (map (λ w. w.len) (drop index windows.now))) }
 {
     let mut i = index;
     let mut rest = at;
@@ -46,7 +51,8 @@ impl<'a> RoomLeft<'a> {
     /// How many bytes are left.
     pub fn len(&self) -> usize
         ensures len { result ≡ length self.now.places }
-        ensures rooms { (sum self.now.rooms ≡ length self.now.places) × (filled self.now.rooms ≡ self.now.rooms) }
+        ensures rooms { (sum self.now.rooms ≡ length self.now.places)
+            × (filled self.now.rooms ≡ self.now.rooms) }
     {
         self.len
     }
@@ -125,7 +131,8 @@ fn front_is_apart(windows: &[VolatileSlice], len: usize, count: usize) -> bool
     true
 }
 
-/// What follows the first `count` bytes of a room of `len` bytes, where none of its bytes is one of those; else None.
+/// What follows the first `count` bytes of a room of `len` bytes, where none of its bytes is one of those;
+/// else None.
 pub fn room_behind<'a>(
     windows: &'a [VolatileSlice],
     len: usize,

@@ -73,8 +73,8 @@ pub enum Command {
 }
 
 impl Command {
-    /// Whether the command may follow an image on the way to another host (`Machine::migrate`): no block is made, no
-    /// mapping changes, the IOMMU isn't turned on, and no other image is made.
+    /// Whether the command may follow an image on the way to another host (`Machine::migrate`): no block is
+    /// made, no mapping changes, the IOMMU isn't turned on, and no other image is made.
     pub fn follows_image(&self) -> bool
         ensures { result ≡ follows_image (command_of self.now) }
     {
@@ -97,8 +97,8 @@ impl Command {
     }
 }
 
-/// What a command comes to: `Bytes` answers a `GuestRead`, `Block` a `NewBlock`, `Served` a `Kick`, `Copied` an `Image`
-/// and `Pages` a `Harvest`; others are `Done`. Each may be `Refused`.
+/// What a command comes to: `Bytes` answers a `GuestRead`, `Block` a `NewBlock`, `Served` a `Kick`, `Copied`
+/// an `Image` and `Pages` a `Harvest`; others are `Done`. Each may be `Refused`.
 #[derive(Debug, Drop)]
 pub enum Answer {
     Done,

@@ -14,7 +14,8 @@ use vm_memory::Iommu;
 
 impl<F: FileSystem, I: Iommu + Drop> Machine<F, I> {
     pub(crate) fn image(&mut self, alloc: Global) -> Answer
-        ensures performs { Performs F.may (machine_of self.old) Image [] (answer_of result) (machine_of self.new) }
+        ensures performs { Performs F.may (machine_of self.old) Image [] (answer_of result)
+            (machine_of self.new) }
         ensures mem { self.new.mem ≡ self.old.mem }
     {
         match crate::whole::image(alloc, &mut self.host) {
@@ -24,7 +25,8 @@ impl<F: FileSystem, I: Iommu + Drop> Machine<F, I> {
     }
 
     pub(crate) fn harvest(&mut self, alloc: Global) -> Answer
-        ensures performs { Performs F.may (machine_of self.old) Harvest [] (answer_of result) (machine_of self.new) }
+        ensures performs { Performs F.may (machine_of self.old) Harvest [] (answer_of result)
+            (machine_of self.new) }
         ensures mem { self.new.mem ≡ self.old.mem }
     {
         match crate::harvested::harvest(alloc, &mut self.host) {

@@ -1,6 +1,7 @@
 //! The device: its queues are served one chain a step.
 
-ghost use Rattle.std.specs.Prelude.{◌≡◌, ◌≤◌, ◌<◌, ◌^◌, length, set, slice_get, IfErr, None, OnOk, option_map};
+ghost use Rattle.std.specs.Prelude.{◌≡◌, ◌≤◌, ◌<◌, ◌^◌, length, set, slice_get, IfErr, None, OnOk};
+ghost use Rattle.std.specs.Prelude.{option_map};
 ghost use Rattle.vm_memory_core.specs.Host.{shape};
 ghost use Rattle.fs_record.specs.Record.{IsSavable};
 
@@ -17,12 +18,13 @@ use virtiofsd_fuse::{MAX_REQUEST_LEN, Server};
 use vm_memory::GuestMemory;
 use vm_memory_core::HostBlocks;
 
-/// The least limit that a device may have, in bytes: the longest request that its server takes, which is a WRITE of 1 MiB
-/// with a page for its headers.
+/// The least limit that a device may have, in bytes: the longest request that its server takes, which is a
+/// WRITE of 1 MiB with a page for its headers.
 pub const LEAST_LIMIT: u32 = MAX_REQUEST_LEN;
 
-/// A virtio-fs device (VIRTIO 1.2, 5.11): a server behind its queues, of which there are 1 to 64, numbered from 0. A
-/// request or a room longer than the limit, from `LEAST_LIMIT` to `fs_queue::MOST_LIMIT` bytes, makes a chain faulty (`ChainFault::OverLimit`).
+/// A virtio-fs device (VIRTIO 1.2, 5.11): a server behind its queues, of which there are 1 to 64, numbered
+/// from 0. A request or a room longer than the limit, from `LEAST_LIMIT` to `fs_queue::MOST_LIMIT` bytes,
+/// makes a chain faulty (`ChainFault::OverLimit`).
 #[derive(Drop)]
 pub struct Device<F> {
     pub(crate) server: Server<F>,
@@ -61,7 +63,13 @@ impl<F: FileSystem> Device<F> {
         requires few { length queues.items ≤ 64 }
         requires low { 0x101000 ≤ limit }
         requires high { limit ≤ 2 ^ 31 }
-        ensures { result ≡ record { queues = queues.items; options = server.options.0; files = server.fs; limit = limit; page_size = server.page_size } }
+        ensures { result ≡ record {
+          queues = queues.items;
+          options = server.options.0;
+          files = server.fs;
+          limit = limit;
+          page_size = server.page_size;
+        } }
     {
         let taken = Taken::empty(*queues.allocator());
         Device {
@@ -127,9 +135,10 @@ impl<F: FileSystem> Device<F> {
         }
     }
 
-    /// Serves the next chain of a queue, by its number from 0: what was exchanged, and whether the driver wants to be
-    /// told (VIRTIO 1.2, 2.7.7); None if no chain waits. `NoSuchQueue` and `QueueError::OutOfMemory` change nothing,
-    /// nor does `Stopped`; every other `QueueError` stops the queue, and the file system isn't asked.
+    /// Serves the next chain of a queue, by its number from 0: what was exchanged, and whether the driver
+    /// wants to be told (VIRTIO 1.2, 2.7.7); None if no chain waits. `NoSuchQueue` and
+    /// `QueueError::OutOfMemory` change nothing, nor does `Stopped`; every other `QueueError` stops the
+    /// queue, and the file system isn't asked.
     pub fn process_one<M: GuestMemory, H: HostBlocks>(
         &mut self,
         alloc: Global,
@@ -138,7 +147,9 @@ impl<F: FileSystem> Device<F> {
         queue: usize,
     ) -> Result<Option<(Exchange, bool)>, DeviceError>
         requires { M.IsHeld mem.now (H.host host.old) }
-        ensures step { (calls : Calls) × Step F.may (state_of (M.memory mem.now (H.host host.old)) self.old) queue calls (outcome_of result)
+        ensures step { (calls : Calls)
+            × Step F.may (state_of (M.memory mem.now (H.host host.old)) self.old) queue calls
+            (outcome_of result)
             (state_of (M.memory mem.now (H.host host.new)) self.new) }
         ensures shape { shape (H.host host.new) ≡ shape (H.host host.old) }
     {
@@ -160,12 +171,16 @@ impl<F: FileSystem> Device<F> {
         Ok(Some((exchange, notify)))
     }
 
-    /// Begins a queue anew, as a driver's reset does (VIRTIO 1.2, 2.6.1): its position is 0, and it isn't stopped.
-    /// `NoSuchQueue` if it is missing.
+    /// Begins a queue anew, as a driver's reset does (VIRTIO 1.2, 2.6.1): its position is 0, and it isn't
+    /// stopped. `NoSuchQueue` if it is missing.
     pub fn reset_queue(&mut self, queue: usize, layout: QueueLayout) -> Result<(), DeviceError>
-        ensures missing { IfErr result (λ e. (e ≡ NoSuchQueue) × (slice_get self.old.queues queue ≡ None) × (self.new ≡ self.old)) }
+        ensures missing { IfErr result (λ e. (e ≡ NoSuchQueue)
+            × (slice_get self.old.queues queue ≡ None)
+            × (self.new ≡ self.old)) }
         ensures there { OnOk result ((queue < length self.old.queues)
-            × (self.new ≡ record self.old { queues = set self.old.queues queue (fresh layout.size layout.desc layout.avail layout.used) })) }
+            × (self.new ≡ record self.old {
+              queues = set self.old.queues queue (fresh layout.size layout.desc layout.avail layout.used);
+            })) }
     {
         if queue < self.queues.len() {
             self.queues[queue].reset(layout);

@@ -9,8 +9,8 @@ use std::alloc::{AllocError, Global};
 use virtiofsd_fuse::Writer;
 use vm_memory_core::HostBlocks;
 
-/// The bytes of the request of a chain that was taken, and a writer as long as the room for its reply: all the memory that
-/// its exchange takes of the device.
+/// The bytes of the request of a chain that was taken, and a writer as long as the room for its reply: all
+/// the memory that its exchange takes of the device.
 #[derive(Drop)]
 pub struct FetchedRequest {
     pub(crate) bytes: Vec<u8>,
@@ -51,8 +51,8 @@ fn make_room(alloc: Global, taken: &Taken) -> Result<Writer, AllocError>
 }
 
 impl FetchedRequest {
-    /// Fetches the request of a chain that was taken, and makes room for its reply. AllocError if an allocation fails. A
-    /// faulty chain has no request and no room, and takes no memory.
+    /// Fetches the request of a chain that was taken, and makes room for its reply. AllocError if an
+    /// allocation fails. A faulty chain has no request and no room, and takes no memory.
     #[inline(always)]
     pub fn of<H: HostBlocks>(
         alloc: Global,
@@ -60,7 +60,8 @@ impl FetchedRequest {
         taken: &Taken,
     ) -> Result<FetchedRequest, AllocError>
         requires { TakenLiesIn (lengths (H.host host.now)) taken.now }
-        ensures bytes { IfOk result (λ request. HoldsRequest (H.host host.now) taken.now request.bytes.items) }
+        ensures bytes { IfOk result
+            (λ request. HoldsRequest (H.host host.now) taken.now request.bytes.items) }
         ensures room { IfOk result (λ request. request.room.free ≡ room_places taken.now.chain) }
         ensures memory { OnErr result (IsUnfaulty taken.now.chain) }
     {

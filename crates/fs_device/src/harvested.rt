@@ -51,7 +51,8 @@ fn harvest_block(
     pages: &mut Vec<HarvestedPage>,
 ) -> Result<(), AllocError>
     requires { length bitmap.now.marks ≡ pages_of 4096 (length bytes.now) }
-    ensures { OnOk result (map page_view pages.new.items ≡ map page_view pages.old.items ++ block_pages block bytes.now 0 bitmap.now.marks) }
+    ensures { OnOk result (map page_view pages.new.items ≡ map page_view pages.old.items
+        ++ block_pages block bytes.now 0 bitmap.now.marks) }
 {
     let mut from = 0;
     while let Some(page) = bitmap.next_marked(from) {
@@ -86,8 +87,8 @@ pub(crate) fn clear(host: &mut HostMemory<PageBitmap>)
     }
 }
 
-/// Each marked page with its bytes, by block and page; the marks are cleared. AllocError if an allocation fails; then
-/// nothing changes.
+/// Each marked page with its bytes, by block and page; the marks are cleared. AllocError if an allocation
+/// fails; then nothing changes.
 pub fn harvest(
     alloc: Global,
     host: &mut HostMemory<PageBitmap>,

@@ -40,7 +40,8 @@ fn overlaps_any(region: &GuestRegionMmap, layout: &GuestMemoryMmap) -> bool
 
 impl<F: FileSystem, I: Iommu + Drop> Machine<F, I> {
     pub(crate) fn new_block(&mut self, len: usize) -> Answer
-        ensures { Performs F.may (machine_of self.old) (NewBlock len) [] (answer_of result) (machine_of self.new) }
+        ensures { Performs F.may (machine_of self.old) (NewBlock len) [] (answer_of result)
+            (machine_of self.new) }
     {
         if len == 0 {
             return Answer::Refused(Refusal::EmptyBlock);
@@ -52,7 +53,8 @@ impl<F: FileSystem, I: Iommu + Drop> Machine<F, I> {
     }
 
     pub(crate) fn insert_region(&mut self, alloc: Global, base: u64, block: usize) -> Answer
-        ensures { Performs F.may (machine_of self.old) (InsertRegion base block) [] (answer_of result) (machine_of self.new) }
+        ensures { Performs F.may (machine_of self.old) (InsertRegion base block) [] (answer_of result)
+            (machine_of self.new) }
     {
         let Some(region) = MmapRegion::of_block(&self.host, block) else {
             return Answer::Refused(Refusal::UnknownBlock);
@@ -77,7 +79,8 @@ impl<F: FileSystem, I: Iommu + Drop> Machine<F, I> {
     }
 
     pub(crate) fn remove_region(&mut self, base: u64, size: u64) -> Answer
-        ensures { Performs F.may (machine_of self.old) (RemoveRegion base size) [] (answer_of result) (machine_of self.new) }
+        ensures { Performs F.may (machine_of self.old) (RemoveRegion base size) [] (answer_of result)
+            (machine_of self.new) }
     {
         match self
             .mem
@@ -95,10 +98,11 @@ impl<F: FileSystem, I: Iommu + Drop> Machine<F, I> {
         }
     }
 
-    /// Other regions take the place of all that are there: `Done`, or refused `UnknownBlock` if one of them lies over a
-    /// block that the host doesn't have so, and then nothing changed.
+    /// Other regions take the place of all that are there: `Done`, or refused `UnknownBlock` if one of them
+    /// lies over a block that the host doesn't have so, and then nothing changed.
     pub fn set_layout(&mut self, layout: GuestMemoryMmap) -> Answer
-        ensures { Performs F.may (machine_of self.old) (SetLayout layout) [] (answer_of result) (machine_of self.new) }
+        ensures { Performs F.may (machine_of self.old) (SetLayout layout) [] (answer_of result)
+            (machine_of self.new) }
     {
         if !self.host.holds(&layout) {
             return Answer::Refused(Refusal::UnknownBlock);

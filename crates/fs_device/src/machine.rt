@@ -15,12 +15,13 @@ pub struct Machine<F, I: Iommu + Drop> {
     pub host: HostMemory<PageBitmap>,
     pub mem: IommuMemory<GuestMemoryMmap, I>,
     pub device: Device<F>,
-    pub ghost held: { HoldsBehind host mem.backend (I.number mem.iommu) mem.io_bitmap } by { holds-prop host mem.backend (I.number mem.iommu) mem.io_bitmap },
+    pub ghost held: { HoldsBehind host mem.backend (I.number mem.iommu) mem.io_bitmap } by { holds-prop host
+        mem.backend (I.number mem.iommu) mem.io_bitmap },
 }
 
 impl<F: FileSystem, I: Iommu + Drop> Machine<F, I> {
-    /// A machine of a host, a layout over its blocks behind an IOMMU, and a device. The host has the IOMMU's table and
-    /// its set of I/O pages too: `HostMemory::holds` tests it.
+    /// A machine of a host, a layout over its blocks behind an IOMMU, and a device. The host has the IOMMU's
+    /// table and its set of I/O pages too: `HostMemory::holds` tests it.
     pub fn new(
         host: HostMemory<PageBitmap>,
         mem: IommuMemory<GuestMemoryMmap, I>,

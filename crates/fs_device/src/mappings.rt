@@ -36,7 +36,9 @@ fn map_in(
     perm: Permissions,
 ) -> Result<(), IommuError>
     requires { number < length host.old.tables }
-    ensures changed { (ranges : List IotlbRange) × AreRanges ranges × SetsMapping iova target len perm (ranges_in host.old number) ranges result
+    ensures changed { (ranges : List IotlbRange)
+        × AreRanges ranges
+        × SetsMapping iova target len perm (ranges_in host.old number) ranges result
         × (host.new ≡ with_table_at host.old number ranges) }
     ensures shape { shape host.new ≡ shape host.old }
 {
@@ -56,7 +58,9 @@ fn unmap_in(
     len: usize,
 ) -> Result<(), IommuError>
     requires { number < length host.old.tables }
-    ensures changed { (ranges : List IotlbRange) × AreRanges ranges × InvalidatesMapping iova len (ranges_in host.old number) ranges result
+    ensures changed { (ranges : List IotlbRange)
+        × AreRanges ranges
+        × InvalidatesMapping iova len (ranges_in host.old number) ranges result
         × (host.new ≡ with_table_at host.old number ranges) }
     ensures shape { shape host.new ≡ shape host.old }
 {
@@ -81,7 +85,8 @@ fn unmap_all_in(host: &mut HostMemory<PageBitmap>, number: usize)
 
 impl<F: FileSystem, I: Iommu + Drop> Machine<F, I> {
     pub(crate) fn map(&mut self, iova: u64, target: u64, len: usize, perm: Permissions) -> Answer
-        ensures { Performs F.may (machine_of self.old) (Map iova target len perm) [] (answer_of result) (machine_of self.new) }
+        ensures { Performs F.may (machine_of self.old) (Map iova target len perm) [] (answer_of result)
+            (machine_of self.new) }
     {
         let number = self.mem.iommu().table();
         match map_in(&mut self.host, number, iova, target, len, perm) {
@@ -93,7 +98,8 @@ impl<F: FileSystem, I: Iommu + Drop> Machine<F, I> {
     }
 
     pub(crate) fn unmap(&mut self, iova: u64, len: usize) -> Answer
-        ensures { Performs F.may (machine_of self.old) (Unmap iova len) [] (answer_of result) (machine_of self.new) }
+        ensures { Performs F.may (machine_of self.old) (Unmap iova len) [] (answer_of result)
+            (machine_of self.new) }
     {
         let number = self.mem.iommu().table();
         match unmap_in(&mut self.host, number, iova, len) {
@@ -113,7 +119,8 @@ impl<F: FileSystem, I: Iommu + Drop> Machine<F, I> {
     }
 
     pub(crate) fn set_iommu(&mut self, on: bool) -> Answer
-        ensures { Performs F.may (machine_of self.old) (SetIommu on) [] (answer_of result) (machine_of self.new) }
+        ensures { Performs F.may (machine_of self.old) (SetIommu on) [] (answer_of result)
+            (machine_of self.new) }
     {
         self.mem.set_iommu_enabled(on);
         Answer::Done

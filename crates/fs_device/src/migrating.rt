@@ -28,8 +28,8 @@ use std::alloc::{AllocError, Global};
 use vm_memory::Iommu;
 use vm_memory_core::{HostMemory, PageBitmap};
 
-/// A machine that was moved: as it goes on there, what its commands answered on the way, and its device's record,
-/// version 2, from which it goes on.
+/// A machine that was moved: as it goes on there, what its commands answered on the way, and its device's
+/// record, version 2, from which it goes on.
 #[derive(Drop)]
 pub struct Migrated<F, I: Iommu + Drop> {
     pub machine: Machine<F, I>,
@@ -37,16 +37,16 @@ pub struct Migrated<F, I: Iommu + Drop> {
     pub device_record: Vec<u8>,
 }
 
-/// A machine that wasn't moved, since an allocation failed. It goes on where it is; what was done, none of the commands
-/// or all, has its answers. Its blocks' marks may be gone, taken by the image and by harvests.
+/// A machine that wasn't moved, since an allocation failed. It goes on where it is; what was done, none of
+/// the commands or all, has its answers. Its blocks' marks may be gone, taken by the image and by harvests.
 #[derive(Drop)]
 pub struct Stayed<F, I: Iommu + Drop> {
     pub machine: Machine<F, I>,
     pub answers: Vec<Answer>,
 }
 
-// What a run from an image brings: the copy that the image answered, the answers of the commands, and the pages of the
-// last harvest.
+// What a run from an image brings: the copy that the image answered, the answers of the commands, and the
+// pages of the last harvest.
 struct ImageRun {
     copy: HostMemory<PageBitmap>,
     answers: Vec<Answer>,
@@ -68,7 +68,8 @@ fn put_answered(copy: &mut HostMemory<PageBitmap>, answers: &[Answer])
 
 // Puts the pages of answers, and then those of a last harvest, into a copy of a host, in order.
 fn put_harvested(copy: &mut HostMemory<PageBitmap>, answers: &[Answer], last: &[HarvestedPage])
-    requires { first_refused (lengths copy.old) 0 (pages_of_answers answers.now ++ map page_view last.now) ≡ None }
+    requires { first_refused (lengths copy.old) 0 (pages_of_answers answers.now ++ map page_view last.now)
+        ≡ None }
     ensures { copy.new ≡ pages_put copy.old (pages_of_answers answers.now ++ map page_view last.now) }
 {
     put_answered(copy, answers);
@@ -98,7 +99,8 @@ impl<F: FileSystem> Device<F> {
 }
 
 impl<F: FileSystem, I: Iommu + Drop> Machine<F, I> {
-    // An image, commands and a last harvest, one after another; or the commands' answers, if an allocation failed.
+    // An image, commands and a last harvest, one after another; or the commands' answers, if an allocation
+    // failed.
     fn run_from_image(
         &mut self,
         alloc: Global,
@@ -108,8 +110,10 @@ impl<F: FileSystem, I: Iommu + Drop> Machine<F, I> {
         requires follow { AllByRecursion (λ c. IsTrue (follows_image (command_of c))) commands.items }
         ensures all { IfOk result (λ r. length r.answers.items ≡ length commands.items) }
         ensures from { IfOk result (λ r. RunsFromImage F.may (machine_of self.old) r.copy
-            (until_harvest (zip (map command_of commands.items) (map answer_of r.answers.items)) (map page_view r.last.items)) (machine_of self.new)) }
-        ensures stayed { IfErr result (λ answers. StaysHere F.may (machine_of self.old) (map command_of commands.items) (map answer_of answers.items)
+            (until_harvest (zip (map command_of commands.items) (map answer_of r.answers.items))
+            (map page_view r.last.items)) (machine_of self.new)) }
+        ensures stayed { IfErr result (λ answers. StaysHere F.may (machine_of self.old)
+            (map command_of commands.items) (map answer_of answers.items)
             (machine_of self.new)) }
         ensures off { (machine_of self.new).memory.translates ≡ false }
     {
@@ -131,13 +135,16 @@ impl<F: FileSystem, I: Iommu + Drop> Machine<F, I> {
         })
     }
 
-    // The machine as it goes on over the copy of its host that a run brought, into which the harvested pages are put,
-    // with a device that goes on from its record.
+    // The machine as it goes on over the copy of its host that a run brought, into which the harvested pages
+    // are put, with a device that goes on from its record.
     fn moved_onto(self, alloc: Global, run: ImageRun) -> Result<Migrated<F, I>, Stayed<F, I>>
-        requires places { first_refused (lengths run.copy) 0 (pages_of_answers run.answers.items ++ map page_view run.last.items) ≡ None }
-        requires caught_up { pages_put run.copy (pages_of_answers run.answers.items ++ map page_view run.last.items) ≡ self.host }
+        requires places { first_refused (lengths run.copy) 0
+            (pages_of_answers run.answers.items ++ map page_view run.last.items) ≡ None }
+        requires caught_up { pages_put run.copy
+            (pages_of_answers run.answers.items ++ map page_view run.last.items) ≡ self.host }
         ensures moved { IfOk result (λ m. machine_of m.machine
-            ≡ with_host (machine_of self) (pages_put run.copy (pages_of_answers run.answers.items ++ map page_view run.last.items))) }
+            ≡ with_host (machine_of self)
+            (pages_put run.copy (pages_of_answers run.answers.items ++ map page_view run.last.items))) }
         ensures answers { IfOk result (λ m. m.answers ≡ run.answers) }
         ensures bytes { IfOk result (λ m. m.device_record.items ≡ device_bytes self.device) }
         ensures stayed { IfErr result (λ m. machine_of m.machine ≡ machine_of self) }
@@ -169,13 +176,13 @@ impl<F: FileSystem, I: Iommu + Drop> Machine<F, I> {
         })
     }
 
-    /// Moves the machine to another host, as a monitor would: an image of its host; then commands, which are what the
-    /// guest and the device do in the meantime and the harvests between (`Command::Harvest`); a last harvest; and there
-    /// the image with all harvested pages put in, in order, and a device that goes on from its record. The IOMMU is off
-    /// (`mem.get_iommu_enabled()`), and each command may follow an image (`Command::follows_image`). A command that is
-    /// refused stops nothing. There the machine is as here after the last harvest, marks and all, and whatever runs
-    /// there could have run here. If an allocation fails the machine stays, with none of the commands done or with
-    /// all. Either may be moved again.
+    /// Moves the machine to another host, as a monitor would: an image of its host; then commands, which are
+    /// what the guest and the device do in the meantime and the harvests between (`Command::Harvest`); a last
+    /// harvest; and there the image with all harvested pages put in, in order, and a device that goes on from
+    /// its record. The IOMMU is off (`mem.get_iommu_enabled()`), and each command may follow an image
+    /// (`Command::follows_image`). A command that is refused stops nothing. There the machine is as here
+    /// after the last harvest, marks and all, and whatever runs there could have run here. If an allocation
+    /// fails the machine stays, with none of the commands done or with all. Either may be moved again.
     pub fn migrate(
         mut self,
         alloc: Global,
@@ -184,11 +191,13 @@ impl<F: FileSystem, I: Iommu + Drop> Machine<F, I> {
         requires off { (machine_of self).memory.translates ≡ false }
         requires follow { AllByRecursion (λ c. IsTrue (follows_image (command_of c))) commands.items }
         ensures all { IfOk result (λ m. length m.answers.items ≡ length commands.items) }
-        ensures moved { IfOk result (λ m. IsMoved F.may (machine_of self) (zip (map command_of commands.items) (map answer_of m.answers.items))
+        ensures moved { IfOk result (λ m. IsMoved F.may (machine_of self)
+            (zip (map command_of commands.items) (map answer_of m.answers.items))
             (machine_of m.machine)) }
         ensures bytes { IfOk result (λ m. m.device_record.items ≡ device_bytes m.machine.device) }
         ensures off { IfOk result (λ m. (machine_of m.machine).memory.translates ≡ false) }
-        ensures stayed { IfErr result (λ m. StaysHere F.may (machine_of self) (map command_of commands.items) (map answer_of m.answers.items)
+        ensures stayed { IfErr result (λ m. StaysHere F.may (machine_of self) (map command_of commands.items)
+            (map answer_of m.answers.items)
             (machine_of m.machine)) }
         ensures still_off { IfErr result (λ m. (machine_of m.machine).memory.translates ≡ false) }
     {

@@ -1,6 +1,6 @@
-//! The phases of a step: a chain is taken into a place, its request is fetched (`FetchedRequest`) and answered, and it is
-//! given back. `process_one` and `serve_one` go by the functions behind them; a monitor that does something of its own in
-//! between goes by these.
+//! The phases of a step: a chain is taken into a place, its request is fetched (`FetchedRequest`) and
+//! answered, and it is given back. `process_one` and `serve_one` go by the functions behind them; a monitor
+//! that does something of its own in between goes by these.
 
 ghost use Rattle.std.specs.Prelude.{◌≡◌, ℕ, ◌<◌, ◌≤◌, length, slice_get, Some, IfOk, OnErr};
 ghost use Rattle.vm_memory_core.specs.Host.{changed_at, lengths, shape};
@@ -10,7 +10,8 @@ ghost use Rattle.fs_queue.specs.Returning.{advanced};
 ghost use Rattle.fs_queue.specs.ReturningView.{put_back, tells_by};
 ghost use Rattle.fs_queue.specs.Windows.{HasItsWindows, IsEmpty, TakenLiesIn, room_places};
 ghost use Rattle.fs_device.specs.DeviceView.{exchange_of, state_of};
-ghost use Rattle.fs_device.specs.Phases.{GoesBack, IfTaken, IsEmptyUnlessDeviceTook, IsTakenFrom, MayLackToAnswer, ServesBytes, ServesTaken, TakesOrEnds, TakesFrom};
+ghost use Rattle.fs_device.specs.Phases.{GoesBack, IfTaken, IsEmptyUnlessDeviceTook, IsTakenFrom};
+ghost use Rattle.fs_device.specs.Phases.{MayLackToAnswer, ServesBytes, ServesTaken, TakesOrEnds, TakesFrom};
 
 use crate::answer_by_copy::serve;
 use crate::device::Device;
@@ -36,9 +37,12 @@ impl<F: FileSystem> Device<F> {
         taken: &mut Taken,
     ) -> Result<bool, DeviceError>
         requires { M.IsHeld mem.now (H.host host.now) }
-        ensures takes { TakesFrom F.may (M.memory mem.now (H.host host.now)) limit queues.old.items queue taken.new result queues.new.items }
+        ensures takes { TakesFrom F.may (M.memory mem.now (H.host host.now)) limit queues.old.items queue
+            taken.new result queues.new.items }
         ensures lies { IfTaken (TakenLiesIn (lengths (H.host host.now))) taken.new result }
-        ensures windows { (q : Queue) → slice_get queues.old.items queue ≡ Some q → IfTaken (HasItsWindows (M.memory mem.now (H.host host.now)) q) taken.new result }
+        ensures windows { (q : Queue)
+            → slice_get queues.old.items queue ≡ Some q
+            → IfTaken (HasItsWindows (M.memory mem.now (H.host host.now)) q) taken.new result }
         ensures there { IfTaken (λ t. queue < length queues.new.items) taken.new result }
         ensures count { length queues.new.items ≡ length queues.old.items }
         ensures empty { IsEmptyUnlessDeviceTook result taken.new }
@@ -53,10 +57,11 @@ impl<F: FileSystem> Device<F> {
         }
     }
 
-    /// Takes the next chain of a queue, by its number from 0, into a place that the caller keeps from chain to chain; false
-    /// if no chain waits; unless a chain was taken, the place is empty then. The file system isn't asked. `NoSuchQueue` and
-    /// `QueueError::OutOfMemory` change nothing of the device, nor does `Stopped`; every other `QueueError` stops the
-    /// queue. A chain that was taken and isn't given back waits still.
+    /// Takes the next chain of a queue, by its number from 0, into a place that the caller keeps from chain
+    /// to chain; false if no chain waits; unless a chain was taken, the place is empty then. The file system
+    /// isn't asked. `NoSuchQueue` and `QueueError::OutOfMemory` change nothing of the device, nor does
+    /// `Stopped`; every other `QueueError` stops the queue. A chain that was taken and isn't given back waits
+    /// still.
     #[inline(always)]
     pub fn take<M: GuestMemory, H: HostBlocks>(
         &mut self,
@@ -67,18 +72,21 @@ impl<F: FileSystem> Device<F> {
         taken: &mut Taken,
     ) -> Result<bool, DeviceError>
         requires { M.IsHeld mem.now (H.host host.now) }
-        ensures takes { TakesOrEnds F.may (state_of (M.memory mem.now (H.host host.now)) self.old) queue taken.new result
+        ensures takes { TakesOrEnds F.may (state_of (M.memory mem.now (H.host host.now)) self.old) queue
+            taken.new result
             (state_of (M.memory mem.now (H.host host.now)) self.new) }
         ensures lies { IfTaken (TakenLiesIn (lengths (H.host host.now))) taken.new result }
-        ensures windows { (q : Queue) → slice_get self.old.queues queue ≡ Some q → IfTaken (HasItsWindows (M.memory mem.now (H.host host.now)) q) taken.new result }
+        ensures windows { (q : Queue)
+            → slice_get self.old.queues queue ≡ Some q
+            → IfTaken (HasItsWindows (M.memory mem.now (H.host host.now)) q) taken.new result }
         ensures there { IfTaken (λ t. queue < length self.new.queues) taken.new result }
         ensures empty { IsEmptyUnlessDeviceTook result taken.new }
     {
         Self::take_from(alloc, host, mem, self.limit, &mut self.queues, queue, taken)
     }
 
-    /// Has the server answer a chain that was taken, by its request. Only memory that the server wants before it asks the
-    /// file system can be lacking (`AllocError`), none for a faulty chain; then nothing changed.
+    /// Has the server answer a chain that was taken, by its request. Only memory that the server wants before
+    /// it asks the file system can be lacking (`AllocError`), none for a faulty chain; then nothing changed.
     #[inline(always)]
     pub fn answer(
         &mut self,
@@ -87,9 +95,11 @@ impl<F: FileSystem> Device<F> {
         request: FetchedRequest,
     ) -> Result<Exchange, AllocError>
         requires room { request.room.free ≡ room_places taken.now.chain }
-        ensures answers { IfOk result (λ x. ServesTaken F.may self.old.page_size (self.old.options, self.old.files) taken.now request.bytes.items
+        ensures answers { IfOk result (λ x. ServesTaken F.may self.old.page_size
+            (self.old.options, self.old.files) taken.now request.bytes.items
             (exchange_of x) (self.new.options, self.new.files)) }
-        ensures bytes { IfOk result (λ x. ServesBytes F.may self.old.page_size (self.old.options, self.old.files) taken.now (room_places taken.now.chain) request.bytes.items
+        ensures bytes { IfOk result (λ x. ServesBytes F.may self.old.page_size
+            (self.old.options, self.old.files) taken.now (room_places taken.now.chain) request.bytes.items
             (exchange_of x) (self.new.options, self.new.files)) }
         ensures fits { IfOk result (λ x. length x.reply.items ≤ room_places taken.now.chain) }
         ensures lacks { OnErr result (self.new ≡ self.old) }
@@ -99,10 +109,11 @@ impl<F: FileSystem> Device<F> {
         serve(alloc, &mut self.server, taken, request)
     }
 
-    /// Gives a chain that was taken back to its queue with a reply (VIRTIO 1.2, 2.7.8), and answers whether the driver wants
-    /// to be told (2.7.7). The place is emptied, and the queue goes on by one chain. So it is too if the queue was stopped,
-    /// or the guest's bytes changed, since the chain was taken. A chain of another queue, or of this one before it was begun
-    /// anew, is stored where it was taken, and both rings are wrong then.
+    /// Gives a chain that was taken back to its queue with a reply (VIRTIO 1.2, 2.7.8), and answers whether
+    /// the driver wants to be told (2.7.7). The place is emptied, and the queue goes on by one chain. So it
+    /// is too if the queue was stopped, or the guest's bytes changed, since the chain was taken. A chain of
+    /// another queue, or of this one before it was begun anew, is stored where it was taken, and both rings
+    /// are wrong then.
     #[inline(always)]
     pub fn give_back<H: HostBlocks>(
         &mut self,
@@ -114,8 +125,11 @@ impl<F: FileSystem> Device<F> {
         requires lies { TakenLiesIn (lengths (H.host host.old)) taken.old }
         requires there { queue < length self.old.queues }
         requires fits { length reply.now ≤ room_places taken.old.chain }
-        ensures returns { (m : Memory) (has : IsTakenFrom m self.old.queues queue taken.old) → m.host ≡ H.host host.old →
-            GoesBack (state_of m self.old) queue taken.old has reply.now result (state_of (record m { host = H.host host.new }) self.new) }
+        ensures returns { (m : Memory) (has : IsTakenFrom m self.old.queues queue taken.old)
+            → m.host ≡ H.host host.old
+            →
+            GoesBack (state_of m self.old) queue taken.old has reply.now result
+            (state_of (record m { host = H.host host.new }) self.new) }
         ensures puts { (q : Queue) → slice_get self.old.queues queue ≡ Some q →
             H.host host.new ≡ put_back (H.host host.old) q taken.old reply.now (length reply.now) }
         ensures tells { result ≡ tells_by (H.host host.new) taken.old }

@@ -12,8 +12,8 @@ use std::alloc::{AllocError, Global};
 use vm_memory::GuestMemory;
 use vm_memory_core::HostBlocks;
 
-/// The chains that were exchanged one after another, each with whether the driver is to be told, and why none came
-/// after them, if that is a refusal.
+/// The chains that were exchanged one after another, each with whether the driver is to be told, and why none
+/// came after them, if that is a refusal.
 #[derive(Debug, Drop)]
 pub struct QueueRun {
     pub done: Vec<(Exchange, bool)>,
@@ -59,9 +59,10 @@ ghost use Rattle.fs_device.specs.DeviceView.{state_of};
 ghost use Rattle.fs_device.specs.CommandView.{ServesQueue};
 
 impl<F: FileSystem> Device<F> {
-    /// Serves the next chains of a queue, by its number from 0, one after another, until `most` are done, none waits or a
-    /// step is refused, which `QueueRun` tells. `NoSuchQueue` comes first, whatever memory there is, and a stopped queue needs none;
-    /// `QueueError::OutOfMemory` if there is no memory for a list of `most` exchanges, and then nothing was done.
+    /// Serves the next chains of a queue, by its number from 0, one after another, until `most` are done,
+    /// none waits or a step is refused, which `QueueRun` tells. `NoSuchQueue` comes first, whatever memory
+    /// there is, and a stopped queue needs none; `QueueError::OutOfMemory` if there is no memory for a list
+    /// of `most` exchanges, and then nothing was done.
     #[tactic(auto, using(crate::proofs::KickLemmas::room_wanted))]
     pub fn process_queue<M: GuestMemory, H: HostBlocks>(
         &mut self,
@@ -72,7 +73,8 @@ impl<F: FileSystem> Device<F> {
         most: u16,
     ) -> Result<QueueRun, DeviceError>
         requires { M.IsHeld mem.now (H.host host.old) }
-        ensures run { ServesQueue F.may (state_of (M.memory mem.now (H.host host.old)) self.old) queue most result
+        ensures run { ServesQueue F.may (state_of (M.memory mem.now (H.host host.old)) self.old)
+            queue most result
             (state_of (M.memory mem.now (H.host host.new)) self.new) }
         ensures shape { shape (H.host host.new) ≡ shape (H.host host.old) }
     {

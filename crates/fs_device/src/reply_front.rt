@@ -27,8 +27,8 @@ impl ReplyFront {
     }
 }
 
-/// What came of a chain that was taken: what is yet to be written of its reply, the length of all of it in bytes, and why
-/// there is none.
+/// What came of a chain that was taken: what is yet to be written of its reply, the length of all of it in
+/// bytes, and why there is none.
 #[derive(Drop)]
 pub(crate) struct PreparedReply {
     pub front: ReplyFront,

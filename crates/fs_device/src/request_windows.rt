@@ -1,6 +1,7 @@
 //! A request's bytes by the windows where they stand: its front is copied, and what follows is lent.
 
-ghost use Rattle.std.specs.Prelude.{◌≡◌, ◌≤◌, ◌<◌, ◌+◌, ◌++◌, IfSome, drop, length, map, take, vec_capacity, vec_len};
+ghost use Rattle.std.specs.Prelude.{◌≡◌, ◌≤◌, ◌<◌, ◌+◌, ◌++◌, IfSome, drop, length, map, take, vec_capacity};
+ghost use Rattle.std.specs.Prelude.{vec_len};
 ghost use Rattle.server_segments.specs.Segments.{joined};
 ghost use Rattle.vm_memory_core.specs.Host.{lengths};
 ghost use Rattle.vm_memory_core.specs.Window.{AllLieIn, byte_in, places};
@@ -48,7 +49,8 @@ fn push_segment<'a>(segments: &mut Vec<&'a [u8]>, segment: &'a [u8])
     segments.push(segment).unwrap();
 }
 
-/// A front, and the bytes that follow as many of some windows, joined, as they stand; None if an allocation failed.
+/// A front, and the bytes that follow as many of some windows, joined, as they stand; None if an allocation
+/// failed.
 #[tactic(auto, unfolding(vm_memory_core::specs::Window::AllLieIn))]
 #[inline(always)]
 pub(crate) fn segments_behind<'a, H: HostBlocks>(
@@ -58,7 +60,8 @@ pub(crate) fn segments_behind<'a, H: HostBlocks>(
     front: &'a [u8],
 ) -> Option<Vec<&'a [u8]>>
     requires { AllLieIn (lengths (H.host host.now)) windows.now }
-    ensures { IfSome result (λ s. joined s.items ≡ front.now ++ map (byte_in (H.host host.now)) (drop (length front.now) (places windows.now))) }
+    ensures { IfSome result (λ s. joined s.items
+        ≡ front.now ++ map (byte_in (H.host host.now)) (drop (length front.now) (places windows.now))) }
 {
     let Ok(mut segments) = Vec::with_capacity(alloc, windows.len() + 1) else {
         return None;

@@ -28,5 +28,6 @@ impl<'a> Model for RoomLeft<'a> {
       rooms = past b.at (filled (map (λ w. w.len) (drop b.index b.windows.now)));
     } };
 
-    ghost invariant = { λ b. (b.at + b.len ≡ length (places (drop b.index b.windows.now))) × (b.at + b.len < 2 ^ 64) };
+    ghost invariant = { λ b. (b.at + b.len ≡ length (places (drop b.index b.windows.now)))
+        × (b.at + b.len < 2 ^ 64) };
 }

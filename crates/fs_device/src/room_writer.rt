@@ -14,8 +14,8 @@ use fuse_base::Errno;
 use fuse_fs::{PositionedFile, ZeroCopyWriter};
 use vm_memory_core::HostBlocks;
 
-/// A room in host memory, of which files fill one place after another: a file is asked for one window after another. It
-/// isn't dropped but ended: so who lent the memory knows what stands there.
+/// A room in host memory, of which files fill one place after another: a file is asked for one window after
+/// another. It isn't dropped but ended: so who lent the memory knows what stands there.
 pub struct RoomWriter<'a, 'b, 'c, H: HostBlocks> {
     pub host: &'a mut H,
     /// The places that are free.
@@ -34,8 +34,8 @@ impl<'a, 'b, 'c, H: HostBlocks> RoomWriter<'a, 'b, 'c, H> {
         } = self;
     }
 
-    // Puts in what one call of a file reads, at most `count` bytes, in the first window that has room; no call is made
-    // if there is no room or `count` is 0.
+    // Puts in what one call of a file reads, at most `count` bytes, in the first window that has room; no
+    // call is made if there is no room or `count` is 0.
     #[tactic(auto, unfolding(vm_memory_core::specs::Window::AllLieIn))]
     fn read_once<F: PositionedFile>(
         &mut self,
@@ -43,9 +43,12 @@ impl<'a, 'b, 'c, H: HostBlocks> RoomWriter<'a, 'b, 'c, H> {
         count: usize,
         off: u64,
     ) -> Result<usize, Errno>
-        ensures once { (bytes : List ℕ) × Fills (H.host self.old.host.now) self.old.room.now.places bytes (H.host self.new.host.now) self.new.room.now.places
+        ensures once { (bytes : List ℕ)
+            × Fills (H.host self.old.host.now) self.old.room.now.places bytes (H.host self.new.host.now)
+            self.new.room.now.places
             × (self.new.room.now.rooms ≡ past (length bytes) self.old.room.now.rooms)
-            × ReadsOnce F.read_gives file.old (min count (first self.old.room.now.rooms)) off bytes result file.new }
+            × ReadsOnce F.read_gives file.old (min count (first self.old.room.now.rooms)) off bytes
+            result file.new }
         ensures name { self.new.host.ghost_name ≡ self.old.host.ghost_name }
     {
         let most = count.min(self.room.len());
@@ -68,7 +71,8 @@ impl<'a, 'b, 'c, H: HostBlocks> ZeroCopyWriter for RoomWriter<'a, 'b, 'c, H> {
     ghost use Rattle.std.proofs.Common.{◌∙◌};
     ghost use Rattle.plain_machine.specs.FillsProof.{fills_more, fills_none};
 
-    ghost Puts = { λ old bytes new. Fills (H.host old.host.now) old.room.now.places bytes (H.host new.host.now) new.room.now.places
+    ghost Puts = { λ old bytes new. Fills (H.host old.host.now) old.room.now.places bytes
+        (H.host new.host.now) new.room.now.places
         × (new.host.ghost_name ≡ old.host.ghost_name) };
 
     ghost room = { λ w. length w.room.now.places };
@@ -78,7 +82,8 @@ impl<'a, 'b, 'c, H: HostBlocks> ZeroCopyWriter for RoomWriter<'a, 'b, 'c, H> {
     ghost puts_none = { λ w. (fills_none (H.host w.host.now) w.room.now.places, refl) };
 
     ghost puts_more = { λ a b c xs ys first second. (
-      fills_more (H.host a.host.now) (H.host b.host.now) (H.host c.host.now) a.room.now.places b.room.now.places c.room.now.places xs ys first.0 second.0,
+      fills_more (H.host a.host.now) (H.host b.host.now) (H.host c.host.now) a.room.now.places
+          b.room.now.places c.room.now.places xs ys first.0 second.0,
       second.1 ∙ first.1,
     ) };
 

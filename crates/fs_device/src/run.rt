@@ -3,7 +3,8 @@
 ghost use Rattle.std.specs.Prelude.{◌≡◌, ◌<◌, [], IfOk, OnErr, true, length, map, zip};
 ghost use Rattle.vm_iotlb.specs.declared.permissions.Permissions.TheVariants.{Read, Write};
 ghost use Rattle.vm_memory.specs.Memory.{physical, reach, bytes};
-ghost use Rattle.plain_machine.specs.Run.{Run, Performs, Turns, GuestRead, GuestWrite, Kick, ResetQueue, guest_written};
+ghost use Rattle.plain_machine.specs.Run.{Run, Performs, Turns, GuestRead, GuestWrite, Kick, ResetQueue};
+ghost use Rattle.plain_machine.specs.Run.{guest_written};
 ghost use Rattle.fs_device.specs.CommandView.{answer_of, command_of};
 ghost use Rattle.fs_device.specs.MachineView.{machine_of};
 
@@ -18,8 +19,8 @@ use vm_memory::Iommu;
 use vm_memory_core::{GuestAddress, Permissions};
 
 impl<F: FileSystem, I: Iommu + Drop> Machine<F, I> {
-    /// Whether the guest reaches that many bytes from a physical address on, all of them, by an access that its regions
-    /// allow.
+    /// Whether the guest reaches that many bytes from a physical address on, all of them, by an access that
+    /// its regions allow.
     pub fn reaches(&self, addr: u64, len: usize, access: Permissions) -> bool
         ensures { result ≡ reach (physical (machine_of self.now).memory) access addr len }
     {
@@ -41,16 +42,19 @@ impl<F: FileSystem, I: Iommu + Drop> Machine<F, I> {
     // Writes bytes that the guest reaches.
     fn store(&mut self, addr: u64, bytes: &[u8])
         requires { reach (physical (machine_of self.old).memory) Write addr (length bytes.now) ≡ true }
-        ensures { machine_of self.new ≡ record (machine_of self.old) { memory = guest_written (machine_of self.old).memory addr bytes.now } }
+        ensures { machine_of self.new ≡ record (machine_of self.old) {
+          memory = guest_written (machine_of self.old).memory addr bytes.now;
+        } }
     {
         let layout = self.mem.get_backend();
         let _ = layout.write_slice(&mut self.host, bytes, GuestAddress(addr));
     }
 
-    /// The guest reads `len` bytes from a physical address on: `Bytes`, or refused `NoPlace` if it doesn't reach all of
-    /// them, or `OutOfMemory`.
+    /// The guest reads `len` bytes from a physical address on: `Bytes`, or refused `NoPlace` if it doesn't
+    /// reach all of them, or `OutOfMemory`.
     pub fn guest_read(&self, alloc: Global, addr: u64, len: usize) -> Answer
-        ensures { Performs F.may (machine_of self.now) (GuestRead addr len) [] (answer_of result) (machine_of self.now) }
+        ensures { Performs F.may (machine_of self.now) (GuestRead addr len) [] (answer_of result)
+            (machine_of self.now) }
     {
         if !self.reaches(addr, len, Permissions::Read) {
             return Answer::Refused(Refusal::NoPlace);
@@ -65,10 +69,11 @@ impl<F: FileSystem, I: Iommu + Drop> Machine<F, I> {
         Answer::Bytes(bytes)
     }
 
-    /// The guest writes bytes from a physical address on: `Done`, or refused `NoPlace` if it doesn't reach all of them,
-    /// and then nothing changed.
+    /// The guest writes bytes from a physical address on: `Done`, or refused `NoPlace` if it doesn't reach
+    /// all of them, and then nothing changed.
     pub fn guest_write(&mut self, addr: u64, bytes: &[u8]) -> Answer
-        ensures { Performs F.may (machine_of self.old) (GuestWrite addr bytes.now) [] (answer_of result) (machine_of self.new) }
+        ensures { Performs F.may (machine_of self.old) (GuestWrite addr bytes.now) [] (answer_of result)
+            (machine_of self.new) }
     {
         if !self.reaches(addr, bytes.len(), Permissions::Write) {
             return Answer::Refused(Refusal::NoPlace);
@@ -78,7 +83,9 @@ impl<F: FileSystem, I: Iommu + Drop> Machine<F, I> {
     }
 
     fn kick(&mut self, alloc: Global, queue: usize, most: u16) -> Answer
-        ensures { (told : Turns) × Performs F.may (machine_of self.old) (Kick queue most) told (answer_of result) (machine_of self.new) }
+        ensures { (told : Turns)
+            × Performs F.may (machine_of self.old) (Kick queue most) told (answer_of result)
+            (machine_of self.new) }
     {
         match self
             .device
@@ -94,7 +101,8 @@ impl<F: FileSystem, I: Iommu + Drop> Machine<F, I> {
     }
 
     fn reset_queue(&mut self, queue: usize, layout: QueueLayout) -> Answer
-        ensures { Performs F.may (machine_of self.old) (ResetQueue queue layout.size layout.desc layout.avail layout.used) [] (answer_of result)
+        ensures { Performs F.may (machine_of self.old)
+            (ResetQueue queue layout.size layout.desc layout.avail layout.used) [] (answer_of result)
             (machine_of self.new) }
     {
         match self.device.reset_queue(queue, layout) {
@@ -105,7 +113,9 @@ impl<F: FileSystem, I: Iommu + Drop> Machine<F, I> {
 
     // Does one command.
     fn perform(&mut self, alloc: Global, command: Command) -> Answer
-        ensures { (told : Turns) × Performs F.may (machine_of self.old) (command_of command) told (answer_of result) (machine_of self.new) }
+        ensures { (told : Turns)
+            × Performs F.may (machine_of self.old) (command_of command) told (answer_of result)
+            (machine_of self.new) }
     {
         match command {
             Command::GuestRead { addr, len } => self.guest_read(alloc, addr, len),
@@ -130,10 +140,12 @@ impl<F: FileSystem, I: Iommu + Drop> Machine<F, I> {
         }
     }
 
-    /// Does commands one after another, and answers each, in order. Room for the answers is made before anything is done:
-    /// `AllocError` if there is none, and then nothing changed. No command takes no room. A command that is refused stops nothing.
+    /// Does commands one after another, and answers each, in order. Room for the answers is made before
+    /// anything is done: `AllocError` if there is none, and then nothing changed. No command takes no room. A
+    /// command that is refused stops nothing.
     pub fn run(&mut self, alloc: Global, commands: Vec<Command>) -> Result<Vec<Answer>, AllocError>
-        ensures run { IfOk result (λ answers. Run F.may (machine_of self.old) (zip (map command_of commands.items) (map answer_of answers.items))
+        ensures run { IfOk result (λ answers. Run F.may (machine_of self.old)
+            (zip (map command_of commands.items) (map answer_of answers.items))
             (machine_of self.new)) }
         ensures all { IfOk result (λ answers. length answers.items ≡ length commands.items) }
         ensures err { OnErr result (machine_of self.new ≡ machine_of self.old) }

@@ -25,11 +25,12 @@ impl<F: FileSystem> Device<F> {
         self.server().options()
     }
 
-    /// Puts the device's record, of version 2, into a sink: its queues, the options that were agreed, the bytes of a
-    /// guest's page and the limit. WriteFault if the sink answers an error or takes nothing: a part of the record
-    /// went out, and not all of it.
+    /// Puts the device's record, of version 2, into a sink: its queues, the options that were agreed, the
+    /// bytes of a guest's page and the limit. WriteFault if the sink answers an error or takes nothing: a
+    /// part of the record went out, and not all of it.
     pub fn save<S: RecordSink>(&self, sink: &mut S) -> Result<(), WriteFault>
-        ensures goes_out { GoesOut (device_bytes self.now) (S.sent sink.old) (S.failed sink.old) result (S.sent sink.new) (S.failed sink.new) }
+        ensures goes_out { GoesOut (device_bytes self.now) (S.sent sink.old) (S.failed sink.old) result
+            (S.sent sink.new) (S.failed sink.new) }
         ensures savable { OnOk result (IsSavable self.now.options self.now.queues) }
     {
         save_record(
@@ -41,10 +42,11 @@ impl<F: FileSystem> Device<F> {
         )
     }
 
-    /// A device that goes on from the record, of version 1 or 2, that stands next in a source, over a file system that
-    /// was carried over. The guest's pages have `page_size` bytes, a power of two from 4096 to 65536; the limit is from
-    /// 0x101000 to 2^31. Version 1 tells neither; Mismatch if version 2 tells another. Each refusal says what stands
-    /// in the source, as `restore_record` does, and hands the file system back.
+    /// A device that goes on from the record, of version 1 or 2, that stands next in a source, over a file
+    /// system that was carried over. The guest's pages have `page_size` bytes, a power of two from 4096 to
+    /// 65536; the limit is from 0x101000 to 2^31. Version 1 tells neither; Mismatch if version 2 tells
+    /// another. Each refusal says what stands in the source, as `restore_record` does, and hands the file
+    /// system back.
     pub fn restore<S: RecordSource>(
         alloc: Global,
         source: &mut S,
@@ -55,11 +57,15 @@ impl<F: FileSystem> Device<F> {
         requires page_size { IsTrue (is_page_size page_size) }
         requires low { 0x101000 ≤ limit }
         requires high { limit ≤ 2 ^ 31 }
-        ensures ok { IfOk result (λ d. (taken : List ℕ) × Consumes (S.left source.old) (S.left source.new) taken
-            × IsRecordFor taken page_size limit d.options d.queues × (S.failed source.new ≡ S.failed source.old)) }
+        ensures ok { IfOk result (λ d. (taken : List ℕ)
+            × Consumes (S.left source.old) (S.left source.new) taken
+            × IsRecordFor taken page_size limit d.options d.queues
+            × (S.failed source.new ≡ S.failed source.old)) }
         ensures made { IfOk result (λ d. (d.files ≡ fs) × (d.limit ≡ limit) × (d.page_size ≡ page_size)) }
-        ensures err { IfErr result (λ e. (taken : List ℕ) × Consumes (S.left source.old) (S.left source.new) taken
-            × RefusesRecord taken page_size limit e.0 × LeavesSource e.0 (S.left source.new) (S.failed source.old) (S.failed source.new)) }
+        ensures err { IfErr result (λ e. (taken : List ℕ)
+            × Consumes (S.left source.old) (S.left source.new) taken
+            × RefusesRecord taken page_size limit e.0
+            × LeavesSource e.0 (S.left source.new) (S.failed source.old) (S.failed source.new)) }
         ensures back { IfErr result (λ e. e.1 ≡ fs) }
     {
         match restore_record(alloc, source, page_size, limit) {

@@ -1,6 +1,7 @@
 //! The short way: a READ is answered with its data put where it goes.
 
-ghost use Rattle.std.specs.Prelude.{◌≡◌, ℕ, ◌+◌, ◌<◌, ◌≤◌, ◌^◌, ◌↔◌, List, ◌++◌, length, IfNone, IfSome, IsSome, IsTrue, Ok};
+ghost use Rattle.std.specs.Prelude.{◌≡◌, ℕ, ◌+◌, ◌<◌, ◌≤◌, ◌^◌, ◌↔◌, List, ◌++◌, length, IfNone, IfSome};
+ghost use Rattle.std.specs.Prelude.{IsSome, IsTrue, Ok};
 ghost use Rattle.vm_memory_core.specs.Host.{Place, lengths, shape};
 ghost use Rattle.vm_memory_core.specs.Window.{AllLieIn, places};
 ghost use Rattle.virtiofsd_fuse.specs.ReadApart.{read_meaning};
@@ -30,8 +31,11 @@ fn read_to_room<F: FileSystem, H: HostBlocks>(
     requires whole { IsTrue (F.reads_whole server.old.fs) }
     requires lie { AllLieIn (lengths (H.host host.old)) room.windows }
     requires short { 16 + length room.places < 2 ^ 32 }
-    ensures read { (bytes : List ℕ) × (left : List Place) × Fills (H.host host.old) room.entry.places bytes (H.host host.new) left × (result.len ≡ 16 + length bytes)
-        × ServerHandles F.may server.old (16 + length room.entry.places) (read_meaning request.now (16 + length room.entry.places)) (Ok result.len) (result.header ++ bytes) server.new }
+    ensures read { (bytes : List ℕ) × (left : List Place)
+        × Fills (H.host host.old) room.entry.places bytes (H.host host.new) left
+        × (result.len ≡ 16 + length bytes)
+        × ServerHandles F.may server.old (16 + length room.entry.places) (read_meaning request.now
+        (16 + length room.entry.places)) (Ok result.len) (result.header ++ bytes) server.new }
     ensures shape { shape (H.host host.new) ≡ shape (H.host host.old) }
     ensures page_size { server.new.page_size ≡ server.old.page_size }
 {
@@ -45,9 +49,9 @@ fn read_to_room<F: FileSystem, H: HostBlocks>(
     reply
 }
 
-/// Answers a chain whose request begins so, if that is all of it and a READ, and none of the bytes behind the first 16
-/// of its room is one of those: the data is put there. None of any other chain, and if reads that fail may put something
-/// in; then nothing changed.
+/// Answers a chain whose request begins so, if that is all of it and a READ, and none of the bytes behind the
+/// first 16 of its room is one of those: the data is put there. None of any other chain, and if reads that
+/// fail may put something in; then nothing changed.
 #[inline(always)]
 pub(crate) fn read_in_place<F: FileSystem, H: HostBlocks>(
     alloc: Global,
@@ -58,11 +62,15 @@ pub(crate) fn read_in_place<F: FileSystem, H: HostBlocks>(
 ) -> Option<PreparedReply>
     requires lie { AllLieIn (lengths (H.host host.old)) chain.now.writable.items }
     requires front { IsFetchedFront (H.host host.old) (places chain.now.readable.items) front.now }
-    ensures some { IfSome result (λ a. AnswersAt F.may server.old (H.host host.old) (places chain.now.readable.items) (places chain.now.writable.items) a (H.host host.new) server.new) }
+    ensures some { IfSome result (λ a. AnswersAt F.may server.old (H.host host.old)
+        (places chain.now.readable.items) (places chain.now.writable.items) a (H.host host.new) server.new) }
     ensures none { IfNone result ((server.new ≡ server.old) × (host.new ≡ host.old)) }
-    ensures taken { IsSome result ↔ (IsTrue (F.reads_whole server.old.fs) × ReadsInPlace (H.host host.old) (Ok chain.now)) }
+    ensures taken { IsSome result ↔ (IsTrue (F.reads_whole server.old.fs)
+        × ReadsInPlace (H.host host.old) (Ok chain.now)) }
     ensures header { IfSome result (λ a. IsTrue (is_header a.front)) }
-    ensures fits { IfSome result (λ a. (length (front_bytes a.front) ≤ length (places chain.now.writable.items)) × (a.len ≤ length (places chain.now.writable.items))) }
+    ensures fits { IfSome result
+        (λ a. (length (front_bytes a.front) ≤ length (places chain.now.writable.items))
+        × (a.len ≤ length (places chain.now.writable.items))) }
     ensures shape { shape (H.host host.new) ≡ shape (H.host host.old) }
     ensures page_size { server.new.page_size ≡ server.old.page_size }
 {

@@ -9,8 +9,8 @@ use fuse_base::Errno;
 use fuse_fs::PositionedFile;
 use vm_memory_core::{HostBlocks, ReadVolatile, VolatileSlice};
 
-// A file from a place on, in bytes from its start. It isn't dropped but ended: so who lent the file knows what became of
-// it.
+// A file from a place on, in bytes from its start. It isn't dropped but ended: so who lent the file knows
+// what became of it.
 struct FileAt<'a, F: PositionedFile> {
     file: &'a mut F,
     off: u64,
@@ -31,14 +31,16 @@ impl<'a, F: PositionedFile> FileAt<'a, F> {
 impl<'a, F: PositionedFile> ReadVolatile for FileAt<'a, F> {
     type Error = Errno;
 
-    ghost gives = { λ old lent answer new. F.read_gives old.file.now (length lent) old.off answer new.file.now × (new.file.ghost_name ≡ old.file.ghost_name) };
+    ghost gives = { λ old lent answer new. F.read_gives old.file.now (length lent) old.off answer new.file.now
+        × (new.file.ghost_name ≡ old.file.ghost_name) };
 
     fn read_volatile(&mut self, buf: &mut [u8]) -> Result<usize, Errno> {
         self.file.read_at(buf, self.off)
     }
 }
 
-// Has one call of a file read to the first places of a window. It is lent the window's bytes, and no other memory.
+// Has one call of a file read to the first places of a window. It is lent the window's bytes, and no other
+// memory.
 #[tactic(auto, using(crate::proofs::LentLemmas::lent_length))]
 pub(crate) fn read_to_window<H: HostBlocks, F: PositionedFile>(
     host: &mut H,
@@ -47,8 +49,11 @@ pub(crate) fn read_to_window<H: HostBlocks, F: PositionedFile>(
     off: u64,
 ) -> Result<usize, Errno>
     requires { LiesIn (lengths (H.host host.old)) window }
-    ensures reads { (bytes : List ℕ) × Stores (H.host host.old) (H.host host.new) (places_of window) bytes × (length bytes ≡ moved result)
-        × (length bytes ≤ window.len) × F.read_gives file.old window.len off (read_answer result bytes) file.new }
+    ensures reads { (bytes : List ℕ)
+        × Stores (H.host host.old) (H.host host.new) (places_of window) bytes
+        × (length bytes ≡ moved result)
+        × (length bytes ≤ window.len)
+        × F.read_gives file.old window.len off (read_answer result bytes) file.new }
     ensures shape { shape (H.host host.new) ≡ shape (H.host host.old) }
 {
     let mut source = FileAt { file, off };

@@ -1,5 +1,6 @@
 -- what a new monitor is, what is asked, and what the guest gets
-use Rattle.std.proofs.Common.{◌≡◌, ℕ, ◌+◌, ◌%◌, ◌^◌, Bool, List, [], ◌∷◌, ◌++◌, length, Option, Some, Ok, IfSome, refl, ap, ◌∙◌, subst, arith}
+use Rattle.std.proofs.Common.{◌≡◌, ℕ, ◌+◌, ◌%◌, ◌^◌, Bool, List, [], ◌∷◌, ◌++◌, length, Option, Some, Ok, IfSome, refl, ap, ◌∙◌, subst}
+use Rattle.std.proofs.Common.{arith}
 use Rattle.vm_values.specs.Fields.{AllFit, spelled}
 use Rattle.vm_memory_core.specs.Host.{Host, new_block, page_count}
 use Rattle.vm_memory.specs.Layout.{Region}
@@ -20,7 +21,8 @@ abbrev no_blocks : Host
 no_blocks = record { blocks = []; tables = []; io_marks = [] }
 
 -- memory of one range from 0 on is so many zeros
-pub zeros_made : (size : ℕ) (before after : Host) (layout : List Region) → before ≡ no_blocks → IsMadeOf page_count before after ((record { 0 = 0 }, size) ∷ []) (Ok layout) →
+pub zeros_made : (size : ℕ) (before after : Host) (layout : List Region) → before ≡ no_blocks →
+    IsMadeOf page_count before after ((record { 0 = 0 }, size) ∷ []) (Ok layout) →
     memory_of after layout ≡ zeros size
 unfolding zeros
 zeros_made size before after layout none made =
@@ -29,20 +31,30 @@ zeros_made size before after layout none made =
     ∙ ap (memory_of (record { blocks = new_block size ∷ []; tables = []; io_marks = [] })) found.0.1
 
 -- a step on what was offered
-pub is_asked : (s after : State Directory) (chain chain' : ℕ) (request reply : List ℕ) (m : Memory) (x : Exchange) (notice : Bool) → m ≡ offered s.memory chain request →
-    ReadingStep (record s { memory = m }) 0 (Exchanged x notice) after → x.request ≡ request → x.reply ≡ reply → reply_at after.memory chain ≡ Some reply → chain ≡ chain' →
+pub is_asked : (s after : State Directory) (chain chain' : ℕ) (request reply : List ℕ) (m : Memory) (x : Exchange) (notice : Bool) →
+    m ≡ offered s.memory chain request →
+    ReadingStep (record s { memory = m }) 0 (Exchanged x notice) after → x.request ≡ request → x.reply ≡ reply →
+    reply_at after.memory chain ≡ Some reply → chain ≡ chain' →
     IsAsked s chain' request reply after
 is_asked s after chain chain' request reply m x notice stored step asks replies found same =
-    subst (λ (n : ℕ). IsAsked s n request reply after) same
-    (x, notice, subst (λ (k : Memory). ReadingStep (record s { memory = k }) 0 (Exchanged x notice) after) stored step, asks, replies, found)
+    subst (λ (n : ℕ). IsAsked s n request reply after) same (
+      x,
+      notice,
+      subst (λ (k : Memory). ReadingStep (record s { memory = k }) 0 (Exchanged x notice) after) stored step,
+      asks,
+      replies,
+      found,
+    )
 
 -- a good reply, by what follows its header
-pub good_reply : (reply piece : List ℕ) (unique : ℕ) → reply ≡ good_header (16 + length piece) unique ++ piece → reply ≡ reply_bytes unique piece
+pub good_reply :
+    (reply piece : List ℕ) (unique : ℕ) → reply ≡ good_header (16 + length piece) unique ++ piece → reply ≡ reply_bytes unique piece
 unfolding reply_bytes
 good_reply reply piece unique is = is
 
 -- a piece is got by a request that is asked, if its reply is good
-pub got_piece : (s after : State Directory) (chain chain' unique : ℕ) (request request' reply piece : List ℕ) → IsAsked s chain request reply after → chain ≡ chain' % 2 ^ 16 →
+pub got_piece : (s after : State Directory) (chain chain' unique : ℕ) (request request' reply piece : List ℕ) →
+    IsAsked s chain request reply after → chain ≡ chain' % 2 ^ 16 →
     request ≡ request' → reply ≡ reply_bytes unique piece → GetsPiece s chain' unique request' piece after
 got_piece s after chain chain' unique request request' reply piece asked number same good =
     subst (λ (n : ℕ). IsAsked s n request' (reply_bytes unique piece) after) number
@@ -50,12 +62,15 @@ got_piece s after chain chain' unique request request' reply piece asked number 
     (subst (λ (r : List ℕ). IsAsked s chain request r after) good asked))
 
 -- so is one of a READ
-pub read_piece : (s after : State Directory) (chain first count unique node : ℕ) (contents piece request reply : List ℕ) → IsAsked s chain request reply after →
-    chain ≡ (first + count) % 2 ^ 16 → unique ≡ 2 + count → request ≡ read_bytes unique node 0 (length contents) 0x1000 → reply ≡ reply_bytes unique piece →
+pub read_piece : (s after : State Directory) (chain first count unique node : ℕ) (contents piece request reply : List ℕ) →
+    IsAsked s chain request reply after →
+    chain ≡ (first + count) % 2 ^ 16 → unique ≡ 2 + count → request ≡ read_bytes unique node 0 (length contents) 0x1000 →
+    reply ≡ reply_bytes unique piece →
     ReadsPiece s (first + count) (2 + count) node (length contents) piece after
 read_piece s after chain first count unique node contents piece request reply asked number own same good =
     subst (λ (u : ℕ). ReadsPiece s (first + count) u node (length contents) piece after) own
-    (got_piece s after chain (first + count) unique request (read_bytes unique node 0 (length contents) 0x1000) reply piece asked number same good)
+    (got_piece s after chain (first + count) unique request (read_bytes unique node 0 (length contents) 0x1000) reply piece asked
+    number same good)
 
 -- the entry that a look-up's reply tells
 pub told_entry : (bytes : List ℕ) (found : Option EntryOut) (entry : EntryOut) → found ≡ Some entry →

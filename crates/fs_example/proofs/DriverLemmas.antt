@@ -1,5 +1,6 @@
 -- reads and writes of all of some bytes at addresses below 2^64
-use Rattle.std.proofs.Common.{◌≡◌, ℕ, ◌+◌, ◌^◌, ◌≤◌, ◌<◌, Bool, true, false, List, [], ◌∷◌, ◌++◌, length, map, take, drop, Ok, Err, refl, ap, sym, ◌∙◌, arith}
+use Rattle.std.proofs.Common.{◌≡◌, ℕ, ◌+◌, ◌^◌, ◌≤◌, ◌<◌, Bool, true, false, List, [], ◌∷◌, ◌++◌, length, map, take, drop, Ok, Err, refl}
+use Rattle.std.proofs.Common.{ap, sym, ◌∙◌, arith}
 use Rattle.std.specs.Prelude.{nat_eq, Result, OnOk, if◌then◌else◌}
 use Rattle.std.specs.List.{zip}
 use Rattle.std.proofs.lemmas.Bool.{eqb-true}
@@ -24,18 +25,22 @@ by_done addr n done false false is ok = absurd (cc)
 pub all_done : (addr : GuestAddress) (n done : ℕ) → transferred addr n done ≡ Ok tt → done ≡ n
 all_done addr n done ok = by_done addr n done (nat_eq done n) (nat_eq done 0) refl ok
 
-pub where_ok : (addr : GuestAddress) (n done : ℕ) (answer : Result (Unit {0}) GuestMemoryError) (P : Type 0) → answer ≡ transferred addr n done → (done ≡ n → P) → OnOk answer P
+pub where_ok : (addr : GuestAddress) (n done : ℕ) (answer : Result (Unit {0}) GuestMemoryError) (P : Type 0) →
+    answer ≡ transferred addr n done → (done ≡ n → P) → OnOk answer P
 where_ok addr n done (Ok u) P is so = so (all_done addr n done (sym is))
 where_ok addr n done (Err e) P is so = tt
 
 -- they are stored one after the other
-pub stored_whole : (m : Memory) (a k : ℕ) (xs : List ℕ) → k ≡ length xs → a + length xs < 2 ^ 64 → stored_first m (circular a (length xs)) k xs ≡ put m a xs
+pub stored_whole : (m : Memory) (a k : ℕ) (xs : List ℕ) → k ≡ length xs → a + length xs < 2 ^ 64 →
+    stored_first m (circular a (length xs)) k xs ≡ put m a xs
 stored_whole m a k xs all low =
-    let front : take k (circular a (length xs)) ≡ circular a (length xs) = take_all k (circular a (length xs)) (omega (arith, all, length-circular (length xs) a)) in
+    let front : take k (circular a (length xs)) ≡ circular a (length xs) =
+    take_all k (circular a (length xs)) (omega (arith, all, length-circular (length xs) a)) in
     ap (λ (as' : List ℕ). stored_all m (zip as' xs)) (front ∙ circular-is (length xs) a low)
 
 -- and read
-pub read_whole : (m : Memory) (a n k : ℕ) (old : List ℕ) → length old ≡ n → k ≡ n → a + n < 2 ^ 64 → read_first m (circular a n) k old ≡ bytes m a n
+pub read_whole :
+    (m : Memory) (a n k : ℕ) (old : List ℕ) → length old ≡ n → k ≡ n → a + n < 2 ^ 64 → read_first m (circular a n) k old ≡ bytes m a n
 read_whole m a n k old size all low =
     let front : take k (circular a n) ≡ circular a n = take_all k (circular a n) (omega (arith, all, length-circular n a)) in
     let back : drop k old ≡ [] = drop_all k old (omega (arith, size, all)) in

@@ -1,5 +1,6 @@
 -- what a guest gets that looks at a room behind a kick
-use Rattle.std.proofs.Common.{◌≡◌, ℕ, zero, suc, ◌+◌, ◌-◌, ◌^◌, ◌≤◌, true, false, List, [], ◌∷◌, ◌++◌, length, take, drop, Option, Some, refl, ap, sym, ◌∙◌, subst, arith}
+use Rattle.std.proofs.Common.{◌≡◌, ℕ, zero, suc, ◌+◌, ◌-◌, ◌^◌, ◌≤◌, true, false, List, [], ◌∷◌, ◌++◌, length, take, drop, Option, Some}
+use Rattle.std.proofs.Common.{refl, ap, sym, ◌∙◌, subst, arith}
 use Rattle.std.specs.Prelude.{nat_lt, nat_le, is_some, slice_get, if◌then◌else◌, pos}
 use Rattle.std.specs.List.{list_all}
 use Rattle.std.specs.Int.{w16, w32, to_le_bytes}
@@ -36,7 +37,8 @@ use Rattle.fuse_fs.specs.Calls.{FileRun}
 abbrev Split : State Directory → (before behind : List (Command × Answer)) → State Directory → Type 0
 Split s before behind after = (found : State Directory) × Run DirectoryAnswers s before found × Run DirectoryAnswers found behind after
 
-split : (s after : State Directory) (before behind : List (Command × Answer)) (tolds : List Turns) → RunTold DirectoryAnswers s (before ++ behind) tolds after → Split s before behind after
+split : (s after : State Directory) (before behind : List (Command × Answer)) (tolds : List Turns) →
+    RunTold DirectoryAnswers s (before ++ behind) tolds after → Split s before behind after
 unfolding RunTold
 split s after [] behind tolds t = (s, ([], refl), (tolds, t))
 split s after (e ∷ es) behind [] t = absurd t
@@ -48,13 +50,16 @@ split s after (e ∷ es) behind (told ∷ tolds) (mid, performs, rest) =
 
 -- one exchange, which left this memory
 abbrev OneExchange : State Directory → (i : ℕ) → State Directory → Type 0
-OneExchange s i after = (t : Turn) × (mid : State Directory) × Step DirectoryAnswers s i t.calls (Exchanged t.exchange t.notice) mid × (after.memory ≡ mid.memory)
+OneExchange s i after = (t : Turn) × (mid : State Directory) × Step DirectoryAnswers s i t.calls (Exchanged t.exchange t.notice) mid
+    × (after.memory ≡ mid.memory)
 
-one_turn : (s after : State Directory) (i most : ℕ) (q : Queue) (told : Turns) (k : KickAnswer) → Kicks DirectoryAnswers s i most (Some q) told k after → length k.exchanges ≡ 1 → OneExchange s i after
+one_turn : (s after : State Directory) (i most : ℕ) (q : Queue) (told : Turns) (k : KickAnswer) →
+    Kicks DirectoryAnswers s i most (Some q) told k after → length k.exchanges ≡ 1 → OneExchange s i after
 unfolding KickRun
 one_turn s after i most q [] k (ran, shows) one = absurd (omega (arith, one, ap length shows))
 one_turn s after i zero q (t ∷ told) k (ran, shows) one = absurd ran
-one_turn s after i (suc most) q (t ∷ []) k ((mid, step, ends), shows) one = (t, mid, step, end_keeps DirectoryAnswers mid i most k.refused after ends)
+one_turn s after i (suc most) q (t ∷ []) k ((mid, step, ends), shows) one =
+    (t, mid, step, end_keeps DirectoryAnswers mid i most k.refused after ends)
 one_turn s after i (suc most) q (t ∷ u ∷ told) k (ran, shows) one = absurd (omega (arith, one, ap length shows))
 
 -- ---- the guest's look
@@ -71,7 +76,8 @@ guest_saw : (s after : State Directory) (a n : ℕ) (got : List ℕ) → IsDecid
 unfolding effect
 guest_saw s after a n got e =
     elim (reach (physical s.memory) Read a n) as
-    (λ b. reach (physical s.memory) Read a n ≡ b → (run.Bytes got, after) ≡ (if b then (run.Bytes (bytes (physical s.memory) a n), s) else run.no NoPlace s) →
+    (λ b. reach (physical s.memory) Read a n ≡ b →
+    (run.Bytes got, after) ≡ (if b then (run.Bytes (bytes (physical s.memory) a n), s) else run.no NoPlace s) →
     (got ≡ bytes (physical s.memory) a n) × (list_all (λ x. is_some (place s.memory.layout x)) (addresses a n) ≡ true)) [
       | true ↦ λ all is. (same_bytes got _ (ap (λ (p : Effect Directory). p.0) is), (and_parts (nat_lt (a + n) (2 ^ 64)) _ all).1)
       | false ↦ λ none is. absurd (not_refused got NoPlace (ap (λ (p : Effect Directory). p.0) is))
@@ -107,51 +113,72 @@ file_stands m room k a n unique file fits behind within =
     let old = bytes (physical m) a n in
     let from : k ≡ 16 + (k - 16) = omega (arith, behind) in
     let front : drop k (read_reply room unique file) ≡ drop (k - 16) file =
-    ap (drop k) (long_enough room unique file fits) ∙ ap (λ (j : ℕ). drop j (reply_bytes unique file)) from ∙ sym (drop-drop (k - 16) 16 (reply_bytes unique file))
+    ap (drop k) (long_enough room unique file fits) ∙ ap (λ (j : ℕ). drop j (reply_bytes unique file)) from
+    ∙ sym (drop-drop (k - 16) 16 (reply_bytes unique file))
     ∙ ap (drop (k - 16)) (behind_header unique file) in
     let count : length old ≡ n = length_bytes (physical m) a n in
     let left : length (drop (k - 16) file) ≡ length file - (k - 16) = length-drop (k - 16) file in
     ap (λ (new : List ℕ). laid_over new old) front ∙ laid_front (drop (k - 16) file) old (omega (arith, count, left, behind, within))
     ∙ ap (λ (j : ℕ). take j (drop (k - 16) file)) count
 
-gets_file : (m : Memory) (room k a n unique : ℕ) (file got : List ℕ) → got ≡ laid_over (drop k (read_reply room unique file)) (bytes (physical m) a n) → GetsFile m room k a n unique file got
+gets_file : (m : Memory) (room k a n unique : ℕ) (file got : List ℕ) →
+    got ≡ laid_over (drop k (read_reply room unique file)) (bytes (physical m) a n) → GetsFile m room k a n unique file got
 gets_file m room k a n unique file got is = (is, λ fits behind within. is ∙ file_stands m room k a n unique file fits behind within)
 
 -- ---- a kick, and then a look
 
-kick_gives : (s mid after : State Directory) (i most a n : ℕ) (kicked : KickAnswer) (got : List ℕ) (told : Turns) → HoldsItsBlocks s.memory →
-    Kicks DirectoryAnswers s i most (slice_get s.queues i) told kicked mid → IsDecided (effect mid (run.GuestRead a n)) (run.Bytes got) after → KickGivesFile s i kicked a n got
-kick_gives s mid after i most a n kicked got told held kicks look q head request room unique node size offset k f one there offered reads file apart looks =
+kick_gives :
+    (s mid after : State Directory) (i most a n : ℕ) (kicked : KickAnswer) (got : List ℕ) (told : Turns) → HoldsItsBlocks s.memory →
+    Kicks DirectoryAnswers s i most (slice_get s.queues i) told kicked mid →
+    IsDecided (effect mid (run.GuestRead a n)) (run.Bytes got) after → KickGivesFile s i kicked a n got
+kick_gives s mid after i most a n kicked got told held kicks look q head request room unique node size offset k f one there offered reads
+    file apart looks =
     let reply = read_reply (length room) unique (wanted f size offset) in
-    let ran : Kicks DirectoryAnswers s i most (Some q) told kicked mid = subst (λ (o : Option Queue). Kicks DirectoryAnswers s i most o told kicked mid) there kicks in
+    let ran : Kicks DirectoryAnswers s i most (Some q) told kicked mid =
+    subst (λ (o : Option Queue). Kicks DirectoryAnswers s i most o told kicked mid) there kicks in
     let turn = one_turn s mid i most q told kicked ran one in
-    let stored = step_reads s turn.1 i turn.0.calls (Exchanged turn.0.exchange turn.0.notice) turn.2 q head request room unique node size offset f there offered reads file in
+    let stored = step_reads s turn.1 i turn.0.calls (Exchanged turn.0.exchange turn.0.notice) turn.2 q head request room unique node size
+    offset f there offered reads file in
     let is : mid.memory ≡ returned s.memory q head room reply = turn.3 ∙ stored.1 in
     let saw = guest_saw mid after a n got look in
-    let layout : mid.memory.layout ≡ s.memory.layout = ap (λ (m : Memory). m.layout) is ∙ (all_keep (writes q head room reply) s.memory).1 in
+    let layout : mid.memory.layout ≡ s.memory.layout =
+    ap (λ (m : Memory). m.layout) is ∙ (all_keep (writes q head room reply) s.memory).1 in
     let places : list_all (λ x. is_some (place s.memory.layout x)) (addresses a n) ≡ true =
     subst (λ (l : List Region). list_all (λ x. is_some (place l x)) (addresses a n) ≡ true) layout saw.1 in
     gets_file s.memory (length room) k a n unique (wanted f size offset) got
     (saw.0 ∙ ap (λ (m : Memory). bytes (physical m) a n) is
-    ∙ room_seen s.memory room reply (addresses (element_at q) 8) (to_le_bytes w32 head ++ to_le_bytes w32 (length reply)) (addresses (index_at q) 2) (to_le_bytes w16 (next_position q)) a n k
+    ∙ room_seen s.memory room reply (addresses (element_at q) 8) (to_le_bytes w32 head ++ to_le_bytes w32 (length reply))
+    (addresses (index_at q) 2) (to_le_bytes w16 (next_position q)) a n k
     held places apart looks)
 
-both_give : (s after : State Directory) (i most a n : ℕ) (kicked : KickAnswer) (got : List ℕ) (later : List (Command × Answer)) (tolds : List Turns) →
-    RunTold DirectoryAnswers s (kick_and_look i most kicked a n got ++ later) tolds after → HoldsItsBlocks s.memory → KickGivesFile s i kicked a n got
+both_give : (s after : State Directory) (i most a n : ℕ) (kicked : KickAnswer) (got : List ℕ) (later : List (Command × Answer))
+    (tolds : List Turns) →
+    RunTold DirectoryAnswers s (kick_and_look i most kicked a n got ++ later) tolds after → HoldsItsBlocks s.memory →
+    KickGivesFile s i kicked a n got
 unfolding RunTold
 both_give s after i most a n kicked got later [] t held = absurd t
 both_give s after i most a n kicked got later (told ∷ []) (mid, kicks, rest) held = absurd rest
-both_give s after i most a n kicked got later (told ∷ [] ∷ tolds) (mid, kicks, (next, look, rest)) held = kick_gives s mid next i most a n kicked got told held kicks look
+both_give s after i most a n kicked got later (told ∷ [] ∷ tolds) (mid, kicks, (next, look, rest)) held =
+    kick_gives s mid next i most a n kicked got told held kicks look
 both_give s after i most a n kicked got later (told ∷ (t ∷ ts) ∷ tolds) (mid, kicks, (next, look, rest)) held = absurd look
 
 -- ---- runs
 
-pub run_gives : (s after : State Directory) (events : List (Command × Answer)) (tolds : List Turns) → RunTold DirectoryAnswers s events tolds after → HoldsItsBlocks s.memory →
-    ((end : State Directory) (part : List (Command × Answer)) (told : List Turns) → RunTold DirectoryAnswers s part told end → FileRun DirectoryAnswers s.files (calls_told told) end.files) →
+pub run_gives : (s after : State Directory) (events : List (Command × Answer)) (tolds : List Turns) →
+    RunTold DirectoryAnswers s events tolds after → HoldsItsBlocks s.memory →
+    ((end : State Directory) (part : List (Command × Answer)) (told : List Turns) → RunTold DirectoryAnswers s part told end →
+    FileRun DirectoryAnswers s.files (calls_told told) end.files) →
     GuestGetsTheFile s events after
 run_gives s after events tolds ran held calls before later i most a n kicked got is =
     let behind = kick_and_look i most kicked a n got ++ later in
-    let cut : RunTold DirectoryAnswers s (before ++ behind) tolds after = subst (λ (es : List (Command × Answer)). RunTold DirectoryAnswers s es tolds after) is ran in
+    let cut : RunTold DirectoryAnswers s (before ++ behind) tolds after =
+    subst (λ (es : List (Command × Answer)). RunTold DirectoryAnswers s es tolds after) is ran in
     let parts = split s after before behind tolds cut in
-    let same = (serves_each s.files (calls_told parts.1.0) parts.0.files (calls parts.0 before parts.1.0 parts.1.1)).1 in
-    (parts.0, same, parts.1, parts.2, both_give parts.0 after i most a n kicked got later parts.2.0 parts.2.1 (run_holds DirectoryAnswers s before parts.1.0 parts.0 parts.1.1 held))
+    let same = (serves_each s.files (calls_told parts.1.0) parts.0.files (calls parts.0 before parts.1.0 parts.1.1)).1 in (
+      parts.0,
+      same,
+      parts.1,
+      parts.2,
+      both_give parts.0 after i most a n kicked got later parts.2.0 parts.2.1
+          (run_holds DirectoryAnswers s before parts.1.0 parts.0 parts.1.1 held),
+    )

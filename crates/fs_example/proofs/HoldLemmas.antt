@@ -1,5 +1,6 @@
 -- the blocks hold the layout, whatever a run does
-use Rattle.std.proofs.Common.{◌≡◌, ℕ, zero, suc, Bool, true, false, List, [], ◌∷◌, ◌++◌, map, length, Option, Some, None, refl, ap, sym, ◌∙◌, subst}
+use Rattle.std.proofs.Common.{◌≡◌, ℕ, zero, suc, Bool, true, false, List, [], ◌∷◌, ◌++◌, map, length, Option, Some, None, refl, ap, sym}
+use Rattle.std.proofs.Common.{◌∙◌, subst}
 use Rattle.std.specs.Prelude.{◌==◌, ◌<◌, not, IfSome, if◌then◌else◌, slice_get, slice_index_or}
 use Rattle.std.specs.List.{list_all, list_any}
 use Rattle.std.proofs.Common.{arith, zip}
@@ -21,7 +22,8 @@ use Rattle.plain_machine.specs.declared.error.DeviceError.{DeviceError}
 use Rattle.plain_machine.specs.declared.refusal.Refusal.TheVariants as why
 use Rattle.plain_machine.specs.Step.{State, Exchange, Calls, Exchanged, Exchanges, StepOf}
 use Rattle.plain_machine.specs.Run as run
-use Rattle.plain_machine.specs.Run.{Turns, Command, Answer, Effect, KickRun, Kicks, KickAnswer, Affects, ChangesTable, HasEffect, Does, Performs, RunTold}
+use Rattle.plain_machine.specs.Run.{Turns, Command, Answer, Effect, KickRun, Kicks, KickAnswer, Affects, ChangesTable, HasEffect, Does}
+use Rattle.plain_machine.specs.Run.{Performs, RunTold}
 use Rattle.plain_machine.specs.Run.{effect, IsDecided, insert, insert_block, is_known, has_len, some_overlap, reset}
 use Rattle.fs_device.proofs.TellingLemmas.{end_keeps}
 use Rattle.fs_device.proofs.LayoutLemmas.{held_grown, held_with, held_without, block_there}
@@ -55,7 +57,8 @@ stores_hold ws m n is held = held_same (stored_all m ws) n is (held_by m (stored
 
 -- ---- steps
 
-exchange_holds : {F : Type 0} (may : May F) (s : State F) (i : ℕ) (q : Queue) (o : Offer) (calls : Calls) (x : Exchange) (notice : Bool) (after : State F) →
+exchange_holds : {F : Type 0} (may : May F) (s : State F) (i : ℕ) (q : Queue) (o : Offer) (calls : Calls) (x : Exchange) (notice : Bool)
+    (after : State F) →
     Exchanges may s i q o calls x notice after → HoldsItsBlocks s.memory → HoldsItsBlocks after.memory
 exchange_holds {F} may s i q (Offers head (CannotFetch fault)) calls x notice after r held =
     stores_hold (writes q head [] []) s.memory after.memory (ap (λ (t : State F). t.memory) r.returns.state) held
@@ -64,14 +67,16 @@ exchange_holds {F} may s i q (Offers head (IsRequest request room)) calls x noti
 exchange_holds may s i q taking.Idle calls x notice after r held = absurd r
 exchange_holds may s i q (Refuses e) calls x notice after r held = absurd r
 
-step_holds : {F : Type 0} (may : May F) (s : State F) (i : ℕ) (o : Option Queue) (calls : Calls) (x : Exchange) (notice : Bool) (after : State F) →
+step_holds :
+    {F : Type 0} (may : May F) (s : State F) (i : ℕ) (o : Option Queue) (calls : Calls) (x : Exchange) (notice : Bool) (after : State F) →
     StepOf may s i o calls (Exchanged x notice) after → HoldsItsBlocks s.memory → HoldsItsBlocks after.memory
 step_holds may s i None calls x notice after t held = absurd (cc)
 step_holds may s i (Some q) calls x notice after t held = exchange_holds may s i q _ calls x notice after t held
 
 -- ---- kicks
 
-kick_holds : {F : Type 0} (may : May F) (s : State F) (i most : ℕ) (told : Turns) (refused : Option DeviceError) (after : State F) → KickRun may s i most told refused after → HoldsItsBlocks s.memory →
+kick_holds : {F : Type 0} (may : May F) (s : State F) (i most : ℕ) (told : Turns) (refused : Option DeviceError) (after : State F) →
+    KickRun may s i most told refused after → HoldsItsBlocks s.memory →
     HoldsItsBlocks after.memory
 unfolding KickRun
 kick_holds may s i most [] refused after t held = held_same s.memory after.memory (end_keeps may s i most refused after t) held
@@ -79,32 +84,40 @@ kick_holds may s i zero (x ∷ told) refused after t held = absurd t
 kick_holds may s i (suc most) (x ∷ told) refused after (mid, step, rest) held =
     kick_holds may mid i most told refused after rest (step_holds may s i (slice_get s.queues i) x.calls x.exchange x.notice mid step held)
 
-kicks_hold : {F : Type 0} (may : May F) (s : State F) (i most : ℕ) (o : Option Queue) (told : Turns) (k : KickAnswer) (after : State F) → Kicks may s i most o told k after → HoldsItsBlocks s.memory →
+kicks_hold : {F : Type 0} (may : May F) (s : State F) (i most : ℕ) (o : Option Queue) (told : Turns) (k : KickAnswer) (after : State F) →
+    Kicks may s i most o told k after → HoldsItsBlocks s.memory →
     HoldsItsBlocks after.memory
 kicks_hold may s i most None told k after t held = held_same s.memory after.memory (ap (λ s. s.memory) t.0) held
 kicks_hold may s i most (Some q) told k after t held = kick_holds may s i most told k.refused after t.0 held
 
 -- ---- the other commands
 
-whichever : {F : Type 0} (b : Bool) (x y : Effect F) → HoldsItsBlocks x.1.memory → HoldsItsBlocks y.1.memory → HoldsItsBlocks (if b then x else y).1.memory
+whichever : {F : Type 0} (b : Bool) (x y : Effect F) → HoldsItsBlocks x.1.memory → HoldsItsBlocks y.1.memory →
+    HoldsItsBlocks (if b then x else y).1.memory
 whichever true x y p q = p
 whichever false x y p q = q
 
 -- if the test says no, the second has what it needs
-unless : {F : Type 0} (b : Bool) (x y : Effect F) → HoldsItsBlocks x.1.memory → (b ≡ false → HoldsItsBlocks y.1.memory) → HoldsItsBlocks (if b then x else y).1.memory
+unless : {F : Type 0} (b : Bool) (x y : Effect F) → HoldsItsBlocks x.1.memory → (b ≡ false → HoldsItsBlocks y.1.memory) →
+    HoldsItsBlocks (if b then x else y).1.memory
 unless true x y p q = p
 unless false x y p q = q refl
 
-insert_holds : {F : Type 0} (s : State F) (r : Region) → (r.block < length (lengths s.memory.host)) × (slice_index_or (lengths s.memory.host) r.block 0 ≡ r.size) → HoldsItsBlocks s.memory →
+insert_holds : {F : Type 0} (s : State F) (r : Region) →
+    (r.block < length (lengths s.memory.host)) × (slice_index_or (lengths s.memory.host) r.block 0 ≡ r.size) → HoldsItsBlocks s.memory →
     HoldsItsBlocks (insert s r).1.memory
 insert_holds s r there held =
-    whichever (not (fits r)) _ _ held (whichever (list_any (overlap r) s.memory.layout) _ _ held (held_with (lengths s.memory.host) r s.memory.layout there held))
+    whichever (not (fits r)) _ _ held
+    (whichever (list_any (overlap r) s.memory.layout) _ _ held (held_with (lengths s.memory.host) r s.memory.layout there held))
 
-block_holds : {F : Type 0} (s : State F) (base block : ℕ) (o : Option Block) → slice_get s.memory.host.blocks block ≡ o → HoldsItsBlocks s.memory → HoldsItsBlocks (insert_block s base block o).1.memory
+block_holds : {F : Type 0} (s : State F) (base block : ℕ) (o : Option Block) → slice_get s.memory.host.blocks block ≡ o →
+    HoldsItsBlocks s.memory → HoldsItsBlocks (insert_block s base block o).1.memory
 block_holds s base block None is held = held
-block_holds s base block (Some b) is held = insert_holds s (record { start = base; size = length b.bytes; block = block }) (block_there s.memory.host.blocks block b is) held
+block_holds s base block (Some b) is held =
+    insert_holds s (record { start = base; size = length b.bytes; block = block }) (block_there s.memory.host.blocks block b is) held
 
-reset_holds : {F : Type 0} (s : State F) (i : ℕ) (anew : Queue) (o : Option Queue) → HoldsItsBlocks s.memory → HoldsItsBlocks (reset s i anew o).1.memory
+reset_holds : {F : Type 0} (s : State F) (i : ℕ) (anew : Queue) (o : Option Queue) → HoldsItsBlocks s.memory →
+    HoldsItsBlocks (reset s i anew o).1.memory
 reset_holds s i anew None held = held
 reset_holds s i anew (Some q) held = held
 
@@ -127,7 +140,8 @@ not_false : (b : Bool) → not b ≡ false → b ≡ true
 not_false true e = refl
 not_false false e = absurd (cc)
 
-unmarked_lengths : (blocks : List Block) → map (λ (b : Block). length b.bytes) (map unmarked blocks) ≡ map (λ (b : Block). length b.bytes) blocks
+unmarked_lengths :
+    (blocks : List Block) → map (λ (b : Block). length b.bytes) (map unmarked blocks) ≡ map (λ (b : Block). length b.bytes) blocks
 unmarked_lengths [] = refl
 unmarked_lengths (b ∷ blocks) = ap (λ (l : List ℕ). length b.bytes ∷ l) (unmarked_lengths blocks)
 
@@ -136,22 +150,27 @@ clear_holds m held = subst (λ (ns : List ℕ). AreHeld ns m.layout) (sym (unmar
 
 grown_holds : (m : Memory) (b : Block) → HoldsItsBlocks m → HostHolds (record m.host { blocks = m.host.blocks ++ b ∷ [] }) m.layout
 grown_holds m b held =
-    subst (λ (ns : List ℕ). AreHeld ns m.layout) (sym (map-append (λ (c : Block). length c.bytes) m.host.blocks (b ∷ []))) (held_grown (lengths m.host) (length b.bytes ∷ []) m.layout held)
+    subst (λ (ns : List ℕ). AreHeld ns m.layout) (sym (map-append (λ (c : Block). length c.bytes) m.host.blocks (b ∷ [])))
+    (held_grown (lengths m.host) (length b.bytes ∷ []) m.layout held)
 
-effect_holds : {F : Type 0} (s : State F) (command : Command) → HoldsItsBlocks s.memory → IfSome (effect s command) (λ e. HoldsItsBlocks e.1.memory)
+effect_holds :
+    {F : Type 0} (s : State F) (command : Command) → HoldsItsBlocks s.memory → IfSome (effect s command) (λ e. HoldsItsBlocks e.1.memory)
 unfolding effect
 effect_holds s (run.GuestRead a n) held = whichever (reach (physical s.memory) Read a n) _ _ held held
 effect_holds s (run.GuestWrite a bs) held =
     whichever (reach (physical s.memory) Write a (length bs)) _ _
-    (subst (λ (ns : List ℕ). AreHeld ns s.memory.layout) (sym (stored_lengths (zip (addresses a (length bs)) bs) (physical s.memory))) held) held
+    (subst (λ (ns : List ℕ). AreHeld ns s.memory.layout) (sym (stored_lengths (zip (addresses a (length bs)) bs) (physical s.memory))) held)
+    held
 effect_holds s (run.NewBlock n) held = whichever (n == 0) _ _ held (grown_holds s.memory (new_block n) held)
 effect_holds s (run.InsertRegion base block) held = block_holds s base block _ refl held
 effect_holds s (run.RemoveRegion base size) held =
-    whichever (list_any (is_region base size) s.memory.layout) _ _ (held_without (lengths s.memory.host) base size s.memory.layout held) held
+    whichever (list_any (is_region base size) s.memory.layout) _ _
+    (held_without (lengths s.memory.host) base size s.memory.layout held) held
 effect_holds s (run.SetLayout layout) held =
     unless (not (list_all (is_known s.memory.host) layout)) _ _ held (λ known.
     whichever (not (list_all fits layout)) _ _ held
-    (whichever (some_overlap layout) _ _ held (all_known s.memory.host layout (not_false (list_all (is_known s.memory.host) layout) known))))
+    (whichever (some_overlap layout) _ _ held
+    (all_known s.memory.host layout (not_false (list_all (is_known s.memory.host) layout) known))))
 effect_holds s (run.Map iova target n perm) held = tt
 effect_holds s (run.Unmap iova n) held = tt
 effect_holds s run.UnmapAll held = tt
@@ -161,18 +180,22 @@ effect_holds s (run.ResetQueue queue size desc avail used) held = reset_holds s 
 effect_holds s run.Image held = clear_holds s.memory held
 effect_holds s run.Harvest held = clear_holds s.memory held
 
-change_holds : {F : Type 0} (s : State F) (fit : Bool) (table : Table) (answer : Answer) (after : State F) → ChangesTable s fit table answer after → HoldsItsBlocks s.memory → HoldsItsBlocks after.memory
+change_holds : {F : Type 0} (s : State F) (fit : Bool) (table : Table) (answer : Answer) (after : State F) →
+    ChangesTable s fit table answer after → HoldsItsBlocks s.memory → HoldsItsBlocks after.memory
 change_holds {F} s true table answer after t held = subst (λ (r : State F). HoldsItsBlocks r.memory) (sym t.1.3) held
 change_holds {F} s false table answer after t held = subst (λ (p : Effect F). HoldsItsBlocks p.1.memory) (sym t) held
 
-decided_holds : {F : Type 0} (o : Option (Effect F)) (answer : Answer) (after : State F) → IfSome o (λ e. HoldsItsBlocks e.1.memory) → IsDecided o answer after → HoldsItsBlocks after.memory
+decided_holds : {F : Type 0} (o : Option (Effect F)) (answer : Answer) (after : State F) → IfSome o (λ e. HoldsItsBlocks e.1.memory) →
+    IsDecided o answer after → HoldsItsBlocks after.memory
 decided_holds None answer after held t = absurd t
 decided_holds {F} (Some e) answer after held t = subst (λ (p : Effect F). HoldsItsBlocks p.1.memory) (sym t) held
 
-by_effect : {F : Type 0} (s : State F) (command : Command) (answer : Answer) (after : State F) → IsDecided (effect s command) answer after → HoldsItsBlocks s.memory → HoldsItsBlocks after.memory
+by_effect : {F : Type 0} (s : State F) (command : Command) (answer : Answer) (after : State F) → IsDecided (effect s command) answer after →
+    HoldsItsBlocks s.memory → HoldsItsBlocks after.memory
 by_effect s command answer after t held = decided_holds (effect s command) answer after (effect_holds s command held) t
 
-affect_holds : {F : Type 0} (s : State F) (command : Command) (answer : Answer) (after : State F) → Affects s command answer after → HoldsItsBlocks s.memory → HoldsItsBlocks after.memory
+affect_holds : {F : Type 0} (s : State F) (command : Command) (answer : Answer) (after : State F) → Affects s command answer after →
+    HoldsItsBlocks s.memory → HoldsItsBlocks after.memory
 affect_holds s (run.GuestRead a n) answer after t held = by_effect s (run.GuestRead a n) answer after t held
 affect_holds s (run.GuestWrite a bs) answer after t held = by_effect s (run.GuestWrite a bs) answer after t held
 affect_holds s (run.NewBlock n) answer after t held = by_effect s (run.NewBlock n) answer after t held
@@ -184,17 +207,20 @@ affect_holds s (run.Unmap iova n) answer after t held = change_holds s _ _ answe
 affect_holds s run.UnmapAll answer after t held = change_holds s true nothing_mapped answer after t held
 affect_holds s (run.SetIommu on) answer after t held = by_effect s (run.SetIommu on) answer after t held
 affect_holds s (run.Kick queue most) answer after t held = absurd t
-affect_holds s (run.ResetQueue queue size desc avail used) answer after t held = by_effect s (run.ResetQueue queue size desc avail used) answer after t held
+affect_holds s (run.ResetQueue queue size desc avail used) answer after t held =
+    by_effect s (run.ResetQueue queue size desc avail used) answer after t held
 affect_holds s run.Image answer after t held = by_effect s run.Image answer after t held
 affect_holds s run.Harvest answer after t held = by_effect s run.Harvest answer after t held
 
-told_holds : {F : Type 0} (s : State F) (command : Command) (told : Turns) (answer : Answer) (after : State F) → HasEffect s command told answer after → HoldsItsBlocks s.memory → HoldsItsBlocks after.memory
+told_holds : {F : Type 0} (s : State F) (command : Command) (told : Turns) (answer : Answer) (after : State F) →
+    HasEffect s command told answer after → HoldsItsBlocks s.memory → HoldsItsBlocks after.memory
 told_holds s command [] answer after t held = affect_holds s command answer after t held
 told_holds s command (x ∷ told) answer after t held = absurd t
 
 -- ---- runs
 
-does_hold : {F : Type 0} (may : May F) (s : State F) (command : Command) (told : Turns) (answer : Answer) (after : State F) → Does may s command told answer after → HoldsItsBlocks s.memory → HoldsItsBlocks after.memory
+does_hold : {F : Type 0} (may : May F) (s : State F) (command : Command) (told : Turns) (answer : Answer) (after : State F) →
+    Does may s command told answer after → HoldsItsBlocks s.memory → HoldsItsBlocks after.memory
 does_hold may s (run.Kick i most) told (run.Served k) after t held = kicks_hold may s i most (slice_get s.queues i) told k after t held
 does_hold may s (run.Kick i most) told run.Done after t held = absurd t
 does_hold may s (run.Kick i most) told (run.Bytes bytes) after t held = absurd t
@@ -212,11 +238,13 @@ does_hold may s (run.Map iova target n perm) told answer after t held = told_hol
 does_hold may s (run.Unmap iova n) told answer after t held = told_holds s (run.Unmap iova n) told answer after t held
 does_hold may s run.UnmapAll told answer after t held = told_holds s run.UnmapAll told answer after t held
 does_hold may s (run.SetIommu on) told answer after t held = told_holds s (run.SetIommu on) told answer after t held
-does_hold may s (run.ResetQueue queue size desc avail used) told answer after t held = told_holds s (run.ResetQueue queue size desc avail used) told answer after t held
+does_hold may s (run.ResetQueue queue size desc avail used) told answer after t held =
+    told_holds s (run.ResetQueue queue size desc avail used) told answer after t held
 does_hold may s run.Image told answer after t held = told_holds s run.Image told answer after t held
 does_hold may s run.Harvest told answer after t held = told_holds s run.Harvest told answer after t held
 
-performs_hold : {F : Type 0} (may : May F) (s : State F) (command : Command) (told : Turns) (answer : Answer) (after : State F) → Performs may s command told answer after → HoldsItsBlocks s.memory →
+performs_hold : {F : Type 0} (may : May F) (s : State F) (command : Command) (told : Turns) (answer : Answer) (after : State F) →
+    Performs may s command told answer after → HoldsItsBlocks s.memory →
     HoldsItsBlocks after.memory
 performs_hold may s command [] (run.IsRefused why.OutOfMemory) after t held = held_same s.memory after.memory (ap (λ s. s.memory) t.1) held
 performs_hold may s command (x ∷ told) (run.IsRefused why.OutOfMemory) after t held = absurd t
@@ -236,9 +264,11 @@ performs_hold may s command told (run.Copied host) after t held = does_hold may 
 performs_hold may s command told (run.Pages pages) after t held = does_hold may s command told _ after t held
 
 -- a run keeps it so
-pub run_holds : {F : Type 0} (may : May F) (s : State F) (events : List (Command × Answer)) (tolds : List Turns) (after : State F) → RunTold may s events tolds after → HoldsItsBlocks s.memory → HoldsItsBlocks after.memory
+pub run_holds : {F : Type 0} (may : May F) (s : State F) (events : List (Command × Answer)) (tolds : List Turns) (after : State F) →
+    RunTold may s events tolds after → HoldsItsBlocks s.memory → HoldsItsBlocks after.memory
 unfolding RunTold
 run_holds may s [] [] after t held = held_same s.memory after.memory (ap (λ s. s.memory) t) held
 run_holds may s [] (told ∷ tolds) after t held = absurd t
 run_holds may s (e ∷ es) [] after t held = absurd t
-run_holds may s (e ∷ es) (told ∷ tolds) after (mid, performs, rest) held = run_holds may mid es tolds after rest (performs_hold may s e.0 told e.1 mid performs held)
+run_holds may s (e ∷ es) (told ∷ tolds) after (mid, performs, rest) held =
+    run_holds may mid es tolds after rest (performs_hold may s e.0 told e.1 mid performs held)

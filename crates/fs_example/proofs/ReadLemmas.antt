@@ -1,5 +1,6 @@
 -- what a guest reads over the directory
-use Rattle.std.proofs.Common.{◌≡◌, ℕ, ◌-◌, ◌≤◌, Bool, true, false, List, [], ◌∷◌, ◌++◌, length, Option, Some, None, refl, ap, sym, ◌∙◌, subst, inl, inr, arith}
+use Rattle.std.proofs.Common.{◌≡◌, ℕ, ◌-◌, ◌≤◌, Bool, true, false, List, [], ◌∷◌, ◌++◌, length, Option, Some, None, refl, ap, sym, ◌∙◌}
+use Rattle.std.proofs.Common.{subst, inl, inr, arith}
 use Rattle.std.specs.Prelude.{if◌then◌else◌, nat_lt, nat_le}
 use Rattle.std.specs.List.{AllByRecursion}
 use Rattle.std.proofs.lemmas.Bool.{leb-true, ltb-true, ltb-false}
@@ -17,7 +18,8 @@ use Rattle.virtiofsd_fuse.specs.Grammar.{Meaning, Asks, One, IsFault, meaning, r
 use Rattle.virtiofsd_fuse.specs.Serving.{Setting, ServedMessage, served, setting, no_reply, replied, answer_bytes}
 use Rattle.plain_machine.specs.declared.fault.Fault.{Fault}
 use Rattle.plain_machine.specs.Step as step
-use Rattle.plain_machine.specs.Step.{State, Calls, Exchange, StepEnd, Idle, Refused, Exchanged, Step, StepOf, Exchanges, served_fault, calls_alone, answers_alone}
+use Rattle.plain_machine.specs.Step.{State, Calls, Exchange, StepEnd, Idle, Refused, Exchanged, Step, StepOf, Exchanges, served_fault}
+use Rattle.plain_machine.specs.Step.{calls_alone, answers_alone}
 use Rattle.plain_machine.specs.Run.{Turn, Turns, Command, Answer, RunTold}
 use Rattle.fs_device.specs.Telling.{calls_of, calls_told, IsMeant, IsServedBy, IsServed}
 use Rattle.fuse_files.specs.declared.owned_table.OwnedFile.{OwnedFile}
@@ -49,13 +51,15 @@ one_answer before after (BatchForget who counts) answer made = (made.0, same_fil
 one_answer before after call answer made = by_own (is_own false call) before after call answer made
 
 -- a READ has one answer
-read_answered : (fs : List OwnedFile) (who : Context) (node handle room size offset flags : ℕ) (owner : Option ℕ) (call : FileCall) (answer : FileAnswer) →
+read_answered : (fs : List OwnedFile) (who : Context) (node handle room size offset flags : ℕ) (owner : Option ℕ) (call : FileCall)
+    (answer : FileAnswer) →
     call ≡ Read who node handle room size offset owner flags → AnsweredOne fs call answer →
     answer ≡ bytes_at (file_at fs node) room size offset
 read_answered fs who node handle room size offset flags owner call answer same made =
     subst (λ (c : FileCall). AnsweredOne fs c answer) same made
 
-pub serves_each : (before : Directory) (calls : Calls) (after : Directory) → FileRun DirectoryAnswers before calls after → Answered (files_of before.0) calls × (after ≡ before)
+pub serves_each : (before : Directory) (calls : Calls) (after : Directory) → FileRun DirectoryAnswers before calls after →
+    Answered (files_of before.0) calls × (after ≡ before)
 serves_each before [] after same = (tt, same)
 serves_each before (step ∷ calls) after (between, suit, made, rest) =
     let others = serves_each between calls after rest in
@@ -73,15 +77,19 @@ back_of fs (x ∷ xs) ys (own, all) = back_of fs xs ys all
 -- ---- one request
 
 -- a reply for which there is room goes out whole
-by_fit : (room : ℕ) (calls : List FileCall) (options : ℕ) (bytes : List ℕ) (long : Bool) → nat_lt room (length bytes) ≡ long → length bytes ≤ room →
-    (if long then no_reply calls options (Some EncodeMessage) else record { calls = calls; options = options; reply = bytes; fault = None }).reply ≡ bytes
+by_fit : (room : ℕ) (calls : List FileCall) (options : ℕ) (bytes : List ℕ) (long : Bool) → nat_lt room (length bytes) ≡ long →
+    length bytes ≤ room →
+    (if long then no_reply calls options (Some EncodeMessage)
+    else record { calls = calls; options = options; reply = bytes; fault = None }).reply ≡ bytes
 by_fit room calls options bytes true is low = let high = ltb-true room (length bytes) is in absurd (omega (arith, high, low))
 by_fit room calls options bytes false is low = refl
 
-whole_reply : (room : ℕ) (calls : List FileCall) (options : ℕ) (bytes : List ℕ) → length bytes ≤ room → (replied room calls options bytes).reply ≡ bytes
+whole_reply : (room : ℕ) (calls : List FileCall) (options : ℕ) (bytes : List ℕ) → length bytes ≤ room →
+    (replied room calls options bytes).reply ≡ bytes
 whole_reply room calls options bytes low = by_fit room calls options bytes (nat_lt room (length bytes)) refl low
 
-module _ (fs : List OwnedFile) (f : OwnedFile) (s : Setting) (who : Context) (unique node handle size offset flags : ℕ) (owner : Option ℕ) (there : file_at fs node ≡ Some f) where
+module _ (fs : List OwnedFile) (f : OwnedFile) (s : Setting) (who : Context) (unique node handle size offset flags : ℕ) (owner : Option ℕ)
+    (there : file_at fs node ≡ Some f) where
   abbrev reading : FileCall
   reading = Read who node handle (s.room - 16) size offset owner flags
 
@@ -95,18 +103,21 @@ module _ (fs : List OwnedFile) (f : OwnedFile) (s : Setting) (who : Context) (un
 
   fits : (long : Bool) → nat_lt (s.room - 16) (length (wanted f size offset)) ≡ long → 16 ≤ s.room → length (reply_by long) ≤ s.room
   fits true is place = omega (arith, length_error unique EIO, place)
-  fits false is place = omega (arith, length_reply unique (wanted f size offset), ltb-false (s.room - 16) (length (wanted f size offset)) is, place)
+  fits false is place =
+      omega (arith, length_reply unique (wanted f size offset), ltb-false (s.room - 16) (length (wanted f size offset)) is, place)
 
   -- its answer has no entry, so nothing is given back
   abbrev asked : Bool → List FileCall
   asked long = reading ∷ (if long then [] else [])
 
   asked_once : (options : ℕ) (long : Bool) (bytes : List ℕ) →
-      (if long then no_reply (asked long) options (Some EncodeMessage) else record { calls = asked long; options = options; reply = bytes; fault = None }).calls ≡ reading ∷ []
+      (if long then no_reply (asked long) options (Some EncodeMessage)
+      else record { calls = asked long; options = options; reply = bytes; fault = None }).calls ≡ reading ∷ []
   asked_once options true bytes = refl
   asked_once options false bytes = refl
 
-  by_calls : (calls : Calls) → Answered fs calls → (served s (Asks (One unique reading)) (answers_alone calls)).calls ≡ calls_alone calls → 16 ≤ s.room →
+  by_calls : (calls : Calls) → Answered fs calls → (served s (Asks (One unique reading)) (answers_alone calls)).calls ≡ calls_alone calls →
+      16 ≤ s.room →
       (served s (Asks (One unique reading)) (answers_alone calls)).reply ≡ reply_by (nat_lt (s.room - 16) (length (wanted f size offset)))
   by_calls [] all asks place = absurd (cc)
   by_calls (step ∷ calls) all asks place =
@@ -115,7 +126,8 @@ module _ (fs : List OwnedFile) (f : OwnedFile) (s : Setting) (who : Context) (un
       let list : (reading ∷ []) ≡ step.0 ∷ calls_alone calls = sym (asked_once s.options (nat_lt s.room (length bytes)) bytes) ∙ asks in
       let same : step.0 ≡ reading = cc in
       let answer : step.1 ≡ bytes_in (s.room - 16) (wanted f size offset) =
-      read_answered fs who node handle (s.room - 16) size offset flags owner step.0 step.1 same all.0 ∙ ap (λ (o : Option OwnedFile). bytes_at o (s.room - 16) size offset) there in
+      read_answered fs who node handle (s.room - 16) size offset flags owner step.0 step.1 same all.0
+      ∙ ap (λ (o : Option OwnedFile). bytes_at o (s.room - 16) size offset) there in
       let is : bytes ≡ reply_by long = ap (answer_bytes unique reading) answer ∙ replies long in
       let low : length bytes ≤ s.room = subst (λ (l : List ℕ). length l ≤ s.room) (sym is) (fits long refl place) in
       whole_reply s.room (asked (nat_lt s.room (length bytes))) s.options bytes low ∙ is
@@ -128,23 +140,28 @@ module _ (fs : List OwnedFile) (f : OwnedFile) (s : Setting) (who : Context) (un
   by_header calls false is all asks = refl
 
   -- the reply that its answer makes
-  read_served : (calls : Calls) (m : Meaning) → m ≡ read_in_room unique s.room reading → Answered fs calls → (served s m (answers_alone calls)).calls ≡ calls_alone calls →
+  read_served : (calls : Calls) (m : Meaning) → m ≡ read_in_room unique s.room reading → Answered fs calls →
+      (served s m (answers_alone calls)).calls ≡ calls_alone calls →
       (served s m (answers_alone calls)).reply ≡ read_reply s.room unique (wanted f size offset)
   read_served calls m is all asks =
       ap (λ (k : Meaning). (served s k (answers_alone calls)).reply) is
-      ∙ by_header calls (nat_le 16 s.room) refl all (subst (λ (k : Meaning). (served s k (answers_alone calls)).calls ≡ calls_alone calls) is asks)
+      ∙ by_header calls (nat_le 16 s.room) refl all
+      (subst (λ (k : Meaning). (served s k (answers_alone calls)).calls ≡ calls_alone calls) is asks)
 
   -- if the room has no place for a header, that is a fault
-  has_place : (calls : Calls) (place : Bool) → (served s (if place then Asks (One unique reading) else IsFault EncodeMessage) (answers_alone calls)).fault ≡ None → place ≡ true
+  has_place : (calls : Calls) (place : Bool) →
+      (served s (if place then Asks (One unique reading) else IsFault EncodeMessage) (answers_alone calls)).fault ≡ None → place ≡ true
   has_place calls true well = refl
   has_place calls false well = absurd (cc)
 
-  gives_by : (reply : List ℕ) (place long : Bool) → place ≡ true → reply ≡ (if place then reply_by long else []) → GivesBytes reply unique size offset f
+  gives_by : (reply : List ℕ) (place long : Bool) → place ≡ true → reply ≡ (if place then reply_by long else []) →
+      GivesBytes reply unique size offset f
   gives_by reply true true is made = inr made
   gives_by reply true false is made = inl made
   gives_by reply false long is made = absurd (cc)
 
-  read_well : (calls : Calls) (m : Meaning) (reply : List ℕ) → m ≡ read_in_room unique s.room reading → (served s m (answers_alone calls)).fault ≡ None →
+  read_well : (calls : Calls) (m : Meaning) (reply : List ℕ) → m ≡ read_in_room unique s.room reading →
+      (served s m (answers_alone calls)).fault ≡ None →
       reply ≡ read_reply s.room unique (wanted f size offset) → GivesBytes reply unique size offset f
   read_well calls m reply is well made =
       gives_by reply (nat_le 16 s.room) (nat_lt (s.room - 16) (length (wanted f size offset)))
@@ -152,23 +169,30 @@ module _ (fs : List OwnedFile) (f : OwnedFile) (s : Setting) (who : Context) (un
 
 -- ---- steps
 
-step_into_room : (s after : State Directory) (i : ℕ) (calls : Calls) (x : Exchange) (notice : Bool) → Step DirectoryAnswers s i calls (Exchanged x notice) after →
+step_into_room : (s after : State Directory) (i : ℕ) (calls : Calls) (x : Exchange) (notice : Bool) →
+    Step DirectoryAnswers s i calls (Exchanged x notice) after →
     ReadsIntoRoom s i (Exchanged x notice) after
-step_into_room s after i calls x notice made q head request room unique node size offset f there offered (who, handle, flags, owner, means) file =
-    let found : StepOf DirectoryAnswers s i (Some q) calls (Exchanged x notice) after = subst (λ (o : Option Queue). StepOf DirectoryAnswers s i o calls (Exchanged x notice) after) there made in
-    let done : step.Answers DirectoryAnswers s i q head request room calls x notice after = subst (λ (o : Offer). Exchanges DirectoryAnswers s i q o calls x notice after) offered found in
+step_into_room s after i calls x notice made q head request room unique node size offset f there offered
+    (who, handle, flags, owner, means) file =
+    let found : StepOf DirectoryAnswers s i (Some q) calls (Exchanged x notice) after =
+    subst (λ (o : Option Queue). StepOf DirectoryAnswers s i o calls (Exchanged x notice) after) there made in
+    let done : step.Answers DirectoryAnswers s i q head request room calls x notice after =
+    subst (λ (o : Offer). Exchanges DirectoryAnswers s i q o calls x notice after) offered found in
     let known = setting s.page_size s.options (length room) in
     let m = meaning s.options request (length room) in
     let each = serves_each s.files calls after.files done.serves.run in
-    let asks : (served known m (answers_alone calls)).calls ≡ calls_alone calls = ap (λ (g : ServedMessage). g.calls) (sym done.serves.gives) ∙ done.serves.asks in
+    let asks : (served known m (answers_alone calls)).calls ≡ calls_alone calls =
+    ap (λ (g : ServedMessage). g.calls) (sym done.serves.gives) ∙ done.serves.asks in
     let reply : done.given.reply ≡ read_reply (length room) unique (wanted f size offset) =
     ap (λ (g : ServedMessage). g.reply) done.serves.gives
-    ∙ read_served (files_of s.files.0) f known who unique node handle size offset flags owner file calls m (means s.options (length room)) each.0 asks in (
+    ∙ read_served (files_of s.files.0) f known who unique node handle size offset flags owner file calls m (means s.options (length room))
+    each.0 asks in (
       ap (λ (y : Exchange). y.reply) done.returns.exchange ∙ reply,
       ap (λ (t : State Directory). t.memory) done.returns.state ∙ ap (returned s.memory q head room) reply,
     )
 
-pub step_reads : (s after : State Directory) (i : ℕ) (calls : Calls) (outcome : StepEnd) → Step DirectoryAnswers s i calls outcome after → ReadsIntoRoom s i outcome after
+pub step_reads : (s after : State Directory) (i : ℕ) (calls : Calls) (outcome : StepEnd) → Step DirectoryAnswers s i calls outcome after →
+    ReadsIntoRoom s i outcome after
 step_reads s after i calls Idle made = tt
 step_reads s after i calls (Refused e) made = tt
 step_reads s after i calls (Exchanged x notice) made = step_into_room s after i calls x notice made
@@ -193,17 +217,24 @@ turn_true fs t serves all unique node size offset f (who, handle, flags, owner, 
 
 -- ---- runs
 
-kick_true : (fs : List OwnedFile) (told : Turns) → AllByRecursion IsServed told → Answered fs (calls_of told) → AllByRecursion (ReadsTrue fs) told
+kick_true :
+    (fs : List OwnedFile) (told : Turns) → AllByRecursion IsServed told → Answered fs (calls_of told) → AllByRecursion (ReadsTrue fs) told
 kick_true fs [] serves all = tt
-kick_true fs (t ∷ told) (own, serves) all = (turn_true fs t own (front_of fs t.calls (calls_of told) all), kick_true fs told serves (back_of fs t.calls (calls_of told) all))
+kick_true fs (t ∷ told) (own, serves) all =
+    (turn_true fs t own (front_of fs t.calls (calls_of told) all), kick_true fs told serves (back_of fs t.calls (calls_of told) all))
 
-all_true : (fs : List OwnedFile) (tolds : List Turns) → AllByRecursion (AllByRecursion IsServed) tolds → Answered fs (calls_told tolds) → AllByRecursion (AllByRecursion (ReadsTrue fs)) tolds
+all_true : (fs : List OwnedFile) (tolds : List Turns) → AllByRecursion (AllByRecursion IsServed) tolds → Answered fs (calls_told tolds) →
+    AllByRecursion (AllByRecursion (ReadsTrue fs)) tolds
 all_true fs [] serves all = tt
-all_true fs (told ∷ tolds) (own, serves) all =
-    (kick_true fs told own (front_of fs (calls_of told) (calls_told tolds) all), all_true fs tolds serves (back_of fs (calls_of told) (calls_told tolds) all))
+all_true fs (told ∷ tolds) (own, serves) all = (
+  kick_true fs told own (front_of fs (calls_of told) (calls_told tolds) all),
+  all_true fs tolds serves (back_of fs (calls_of told) (calls_told tolds) all),
+)
 
-pub run_reads : (s after : State Directory) (events : List (Command × Answer)) (tolds : List Turns) → RunTold DirectoryAnswers s events tolds after →
-    FileRun DirectoryAnswers s.files (calls_told tolds) after.files × AllByRecursion (AllByRecursion IsServed) tolds → ReadingRun s events after
+pub run_reads :
+    (s after : State Directory) (events : List (Command × Answer)) (tolds : List Turns) → RunTold DirectoryAnswers s events tolds after →
+    FileRun DirectoryAnswers s.files (calls_told tolds) after.files × AllByRecursion (AllByRecursion IsServed) tolds →
+    ReadingRun s events after
 run_reads s after events tolds ran tells =
     let each = serves_each s.files (calls_told tolds) after.files tells.0 in
     (tolds, ran, all_true (files_of s.files.0) tolds tells.1 each.0, each.1)

@@ -1,6 +1,7 @@
 -- what stands in memory after stores, byte by byte
 use Rattle.std.proofs.Common.{◌≡◌, ℕ, zero, suc, ◌-◌, ◌<◌, List, [], ◌∷◌, ◌++◌, zip, refl, ap, sym, ◌∙◌, subst, arith, append_assoc}
-use Rattle.std.specs.Prelude.{Bool, true, false, ◌&&◌, map, length, take, drop, get_or, set, option_map, option_and_then, Option, Some, None, slice_get, slice_index_or, unwrap_or, ◌==◌, is_some, if◌then◌else◌}
+use Rattle.std.specs.Prelude.{Bool, true, false, ◌&&◌, map, length, take, drop, get_or, set, option_map, option_and_then, Option, Some}
+use Rattle.std.specs.Prelude.{None, slice_get, slice_index_or, unwrap_or, ◌==◌, is_some, if◌then◌else◌}
 use Rattle.std.specs.Option.{option_or}
 use Rattle.std.specs.List.{AllByRecursion, IsDistinct, list_all}
 use Rattle.std.proofs.lemmas.Bool.Decides.{nat_tests}
@@ -44,21 +45,24 @@ with_marks f b = record b { marks = f b.marks }
 abbrev with_one : ℕ → ℕ → Block → Block
 with_one offset x b = record b { bytes = set b.bytes offset x }
 
-marks_keep : (l : List Block) (i j offset : ℕ) (f : List Bool → List Bool) → byte_of offset (slice_get (changed_at l i (with_marks f)) j) ≡ byte_of offset (slice_get l j)
+marks_keep : (l : List Block) (i j offset : ℕ) (f : List Bool → List Bool) →
+    byte_of offset (slice_get (changed_at l i (with_marks f)) j) ≡ byte_of offset (slice_get l j)
 marks_keep [] i j offset f = refl
 marks_keep (b ∷ l) zero zero offset f = refl
 marks_keep (b ∷ l) zero (suc j) offset f = refl
 marks_keep (b ∷ l) (suc i) zero offset f = refl
 marks_keep (b ∷ l) (suc i) (suc j) offset f = marks_keep l i j offset f
 
-one_keeps : (l : List Block) (i j at offset x : ℕ) → (i ≡ j → at ≡ offset → ⊥) → byte_of offset (slice_get (changed_at l i (with_one at x)) j) ≡ byte_of offset (slice_get l j)
+one_keeps : (l : List Block) (i j at offset x : ℕ) → (i ≡ j → at ≡ offset → ⊥) →
+    byte_of offset (slice_get (changed_at l i (with_one at x)) j) ≡ byte_of offset (slice_get l j)
 one_keeps [] i j at offset x other = refl
 one_keeps (b ∷ l) zero zero at offset x other = get-set_other b.bytes at offset x (other refl)
 one_keeps (b ∷ l) zero (suc j) at offset x other = refl
 one_keeps (b ∷ l) (suc i) zero at offset x other = refl
 one_keeps (b ∷ l) (suc i) (suc j) at offset x other = one_keeps l i j at offset x (λ e. other (ap suc e))
 
-one_stands : (l : List Block) (i at x y : ℕ) → byte_of at (slice_get l i) ≡ Some y → byte_of at (slice_get (changed_at l i (with_one at x)) i) ≡ Some x
+one_stands : (l : List Block) (i at x y : ℕ) → byte_of at (slice_get l i) ≡ Some y →
+    byte_of at (slice_get (changed_at l i (with_one at x)) i) ≡ Some x
 one_stands [] i at x y e = absurd (cc)
 one_stands (b ∷ l) zero at x y e = get-set_same b.bytes at x y e
 one_stands (b ∷ l) (suc i) at x y e = one_stands l i at x y e
@@ -78,11 +82,14 @@ There h place = (y : ℕ) × (byte_behind h place ≡ Some y)
 two_tests : (i j at offset : ℕ) → (i == j && at == offset) ≡ false → i ≡ j → at ≡ offset → ⊥
 two_tests i j at offset e same there = grind (arith, nat_tests)
 
-put_keeps : (h : Host) (p : Place) (x : ℕ) (o : Option Place) → is_one_byte o (Some p) ≡ false → byte_behind (put_byte h p x) o ≡ byte_behind h o
+put_keeps :
+    (h : Host) (p : Place) (x : ℕ) (o : Option Place) → is_one_byte o (Some p) ≡ false → byte_behind (put_byte h p x) o ≡ byte_behind h o
 put_keeps h p x None e = refl
-put_keeps h p x (Some r) e = mark_keeps p.io p (with_byte h p x) r ∙ one_keeps h.blocks p.block r.block p.offset r.offset x (λ i at. two_tests r.block p.block r.offset p.offset e (sym i) (sym at))
+put_keeps h p x (Some r) e = mark_keeps p.io p (with_byte h p x) r
+    ∙ one_keeps h.blocks p.block r.block p.offset r.offset x (λ i at. two_tests r.block p.block r.offset p.offset e (sym i) (sym at))
 
-put_stands : (h : Host) (p : Place) (x y : ℕ) → byte_behind h (Some (bare p)) ≡ Some y → byte_behind (put_byte h p x) (Some (bare p)) ≡ Some x
+put_stands :
+    (h : Host) (p : Place) (x y : ℕ) → byte_behind h (Some (bare p)) ≡ Some y → byte_behind (put_byte h p x) (Some (bare p)) ≡ Some x
 put_stands h p x y e = mark_keeps p.io p (with_byte h p x) (bare p) ∙ one_stands h.blocks p.block p.offset x y e
 
 -- ---- stores keep where each address is
@@ -103,11 +110,13 @@ kept m x (Some p) = same_location m (put_byte m.host p x) (with_tables m.host p 
 
 -- ---- one store
 
-store_keeps : (m : Memory) (x : ℕ) (p o : Option Place) → is_one_byte o p ≡ false → byte_behind (stored_at m x p).host o ≡ byte_behind m.host o
+store_keeps :
+    (m : Memory) (x : ℕ) (p o : Option Place) → is_one_byte o p ≡ false → byte_behind (stored_at m x p).host o ≡ byte_behind m.host o
 store_keeps m x None o e = refl
 store_keeps m x (Some p) o e = put_keeps m.host p x o e
 
-store_stands : (m : Memory) (x : ℕ) (p : Option Place) → There m.host (option_map bare p) → byte_behind (stored_at m x p).host (option_map bare p) ≡ Some x
+store_stands : (m : Memory) (x : ℕ) (p : Option Place) → There m.host (option_map bare p) →
+    byte_behind (stored_at m x p).host (option_map bare p) ≡ Some x
 store_stands m x None (y, e) = absurd (cc)
 store_stands m x (Some p) (y, e) = put_stands m.host p x y e
 
@@ -116,7 +125,8 @@ store_stands m x (Some p) (y, e) = put_stands m.host p x y e
 abbrev pub Misses : Where → List ℕ → Option Place → Type 0
 Misses f as' o = AllByRecursion (λ a. is_one_byte o (f a) ≡ false) as'
 
-stays : (as' xs : List ℕ) (m : Memory) (f : Where) (o : Option Place) → location m Write ≡ f → Misses f as' o → byte_behind (stored_all m (zip as' xs)).host o ≡ byte_behind m.host o
+stays : (as' xs : List ℕ) (m : Memory) (f : Where) (o : Option Place) → location m Write ≡ f → Misses f as' o →
+    byte_behind (stored_all m (zip as' xs)).host o ≡ byte_behind m.host o
 unfolding stored_all
 stays [] xs m f o e miss = refl
 stays (a ∷ as') [] m f o e miss = refl
@@ -128,7 +138,8 @@ stays (a ∷ as') (x ∷ xs) m f o e miss =
 abbrev pub seen : Host → List (Option Place) → List ℕ
 seen h os = map (λ o. unwrap_or (byte_behind h o) 0) os
 
-pub seen_stays : (os : List (Option Place)) (as' xs : List ℕ) (m : Memory) (f : Where) → location m Write ≡ f → AllByRecursion (Misses f as') os →
+pub seen_stays :
+    (os : List (Option Place)) (as' xs : List ℕ) (m : Memory) (f : Where) → location m Write ≡ f → AllByRecursion (Misses f as') os →
     seen (stored_all m (zip as' xs)).host os ≡ seen m.host os
 seen_stays [] as' xs m f e miss = refl
 seen_stays (o ∷ os) as' xs m f e miss =
@@ -155,12 +166,14 @@ abbrev pub bare_at : Where → List ℕ → List (Option Place)
 bare_at f as' = map (λ a. option_map bare (f a)) as'
 
 -- no address of some is that of a place, the other way round
-misses_back : (as' : List ℕ) (f : Where) (a : ℕ) → AllByRecursion (λ p. is_one_byte (f a) p ≡ false) (map f as') → Misses f as' (option_map bare (f a))
+misses_back : (as' : List ℕ) (f : Where) (a : ℕ) → AllByRecursion (λ p. is_one_byte (f a) p ≡ false) (map f as') →
+    Misses f as' (option_map bare (f a))
 misses_back [] f a all = tt
 misses_back (b ∷ as') f a all = (by_bare (f a) (f b) ∙ all.0, misses_back as' f a all.1)
 
 -- a store that misses places
-each_misses : (as' : List ℕ) (f : Where) (a : ℕ) → AllByRecursion (λ p. is_one_byte (f a) p ≡ false) (map f as') → AllByRecursion (Misses f (a ∷ [])) (bare_at f as')
+each_misses : (as' : List ℕ) (f : Where) (a : ℕ) → AllByRecursion (λ p. is_one_byte (f a) p ≡ false) (map f as') →
+    AllByRecursion (Misses f (a ∷ [])) (bare_at f as')
 each_misses [] f a all = tt
 each_misses (b ∷ as') f a all = ((by_bare (f b) (f a) ∙ same_either (f b) (f a) ∙ all.0, tt), each_misses as' f a all.1)
 
@@ -176,26 +189,33 @@ over_nothing : (xs : List ℕ) → laid_over [] xs ≡ xs
 over_nothing [] = refl
 over_nothing (x ∷ xs) = refl
 
-all_there : (os : List (Option Place)) (m : Memory) (x : ℕ) (a : ℕ) (f : Where) → location m Write ≡ f → AllByRecursion (Misses f (a ∷ [])) os → AllByRecursion (There m.host) os →
+all_there : (os : List (Option Place)) (m : Memory) (x : ℕ) (a : ℕ) (f : Where) → location m Write ≡ f →
+    AllByRecursion (Misses f (a ∷ [])) os → AllByRecursion (There m.host) os →
     AllByRecursion (There (stored m (a, x)).host) os
 all_there [] m x a f e miss there = tt
-all_there (o ∷ os) m x a f e miss ((y, is), there) =
-    ((y, store_keeps m x (location m Write a) o (subst (λ (g : Where). is_one_byte o (g a) ≡ false) (sym e) miss.0.0) ∙ is), all_there os m x a f e miss.1 there)
+all_there (o ∷ os) m x a f e miss ((y, is), there) = (
+  (y, store_keeps m x (location m Write a) o (subst (λ (g : Where). is_one_byte o (g a) ≡ false) (sym e) miss.0.0) ∙ is),
+  all_there os m x a f e miss.1 there,
+)
 
-first_stands : (m : Memory) (x a : ℕ) (as' xs : List ℕ) (f : Where) → location m Write ≡ f → Misses f as' (option_map bare (f a)) → There m.host (option_map bare (f a)) →
+first_stands : (m : Memory) (x a : ℕ) (as' xs : List ℕ) (f : Where) → location m Write ≡ f → Misses f as' (option_map bare (f a)) →
+    There m.host (option_map bare (f a)) →
     byte_behind (stored_all (stored m (a, x)) (zip as' xs)).host (option_map bare (f a)) ≡ Some x
 first_stands m x a as' xs f e miss there =
     let next : location (stored m (a, x)) Write ≡ f = kept m x (location m Write a) ∙ e in
     stays as' xs (stored m (a, x)) f (option_map bare (f a)) next miss
-    ∙ subst (λ (g : Where). There m.host (option_map bare (g a)) → byte_behind (stored m (a, x)).host (option_map bare (g a)) ≡ Some x) e (store_stands m x (location m Write a)) there
+    ∙ subst (λ (g : Where). There m.host (option_map bare (g a)) → byte_behind (stored m (a, x)).host (option_map bare (g a)) ≡ Some x) e
+    (store_stands m x (location m Write a)) there
 
 module _ (f : Where) where
   -- places that are not among those behind are as they were
-  same_behind : (m : Memory) (x a : ℕ) (os : List (Option Place)) → location m Write ≡ f → AllByRecursion (Misses f (a ∷ [])) os → seen (stored m (a, x)).host os ≡ seen m.host os
+  same_behind : (m : Memory) (x a : ℕ) (os : List (Option Place)) → location m Write ≡ f → AllByRecursion (Misses f (a ∷ [])) os →
+      seen (stored m (a, x)).host os ≡ seen m.host os
   unfolding stored_all
   same_behind m x a os e miss = seen_stays os (a ∷ []) (x ∷ []) m f e miss
 
-  stands_over : (n : ℕ) (room reply : List ℕ) (m : Memory) → location m Write ≡ f → IsDistinct is_one_byte (map f room) → AllByRecursion (There m.host) (take n (bare_at f room)) →
+  stands_over : (n : ℕ) (room reply : List ℕ) (m : Memory) → location m Write ≡ f → IsDistinct is_one_byte (map f room) →
+      AllByRecursion (There m.host) (take n (bare_at f room)) →
       seen (stored_all m (zip room reply)).host (take n (bare_at f room)) ≡ laid_over reply (seen m.host (take n (bare_at f room)))
   unfolding IsDistinct stored_all
   stands_over zero room reply m e apart there = refl
@@ -210,13 +230,16 @@ module _ (f : Where) where
       ap (λ (o : Option ℕ). unwrap_or o 0 ∷ seen (stored_all m' (zip room reply)).host (take n (bare_at f room))) first
       ∙ ap (λ (l : List ℕ). x ∷ l) (more ∙ ap (laid_over reply) (same_behind m x a (take n (bare_at f room)) e behind))
 
-  none_left : (k n : ℕ) (reply : List ℕ) (h h' : Host) → seen h' (take n (drop (suc k) [])) ≡ laid_over reply (seen h (take n (drop (suc k) [])))
+  none_left :
+      (k n : ℕ) (reply : List ℕ) (h h' : Host) → seen h' (take n (drop (suc k) [])) ≡ laid_over reply (seen h (take n (drop (suc k) [])))
   none_left k zero reply h h' = refl
   none_left k (suc n) reply h h' = refl
 
   -- what stands in a part of a room, after a reply was stored over all of it
-  pub part_stands : (k n : ℕ) (room reply : List ℕ) (m : Memory) → location m Write ≡ f → IsDistinct is_one_byte (map f room) → AllByRecursion (There m.host) (take n (drop k (bare_at f room))) →
-      seen (stored_all m (zip room reply)).host (take n (drop k (bare_at f room))) ≡ laid_over (drop k reply) (seen m.host (take n (drop k (bare_at f room))))
+  pub part_stands : (k n : ℕ) (room reply : List ℕ) (m : Memory) → location m Write ≡ f → IsDistinct is_one_byte (map f room) →
+      AllByRecursion (There m.host) (take n (drop k (bare_at f room))) →
+      seen (stored_all m (zip room reply)).host (take n (drop k (bare_at f room)))
+      ≡ laid_over (drop k reply) (seen m.host (take n (drop k (bare_at f room))))
   unfolding IsDistinct stored_all
   part_stands zero n room reply m e apart there = stands_over n room reply m e apart there
   part_stands (suc k) n [] reply m e apart there = none_left k n (drop (suc k) reply) m.host m.host
@@ -230,11 +253,13 @@ module _ (f : Where) where
 
 -- ---- what is stored besides
 
-front_all : (f : Where) (x : ℕ) (xs ys : List ℕ) → AllByRecursion (λ p. is_one_byte (f x) p ≡ false) (map f (xs ++ ys)) → AllByRecursion (λ p. is_one_byte (f x) p ≡ false) (map f xs)
+front_all : (f : Where) (x : ℕ) (xs ys : List ℕ) → AllByRecursion (λ p. is_one_byte (f x) p ≡ false) (map f (xs ++ ys)) →
+    AllByRecursion (λ p. is_one_byte (f x) p ≡ false) (map f xs)
 front_all f x [] ys all = tt
 front_all f x (y ∷ xs) ys all = (all.0, front_all f x xs ys all.1)
 
-back_all : (f : Where) (x : ℕ) (xs ys : List ℕ) → AllByRecursion (λ p. is_one_byte (f x) p ≡ false) (map f (xs ++ ys)) → AllByRecursion (λ p. is_one_byte (f x) p ≡ false) (map f ys)
+back_all : (f : Where) (x : ℕ) (xs ys : List ℕ) → AllByRecursion (λ p. is_one_byte (f x) p ≡ false) (map f (xs ++ ys)) →
+    AllByRecursion (λ p. is_one_byte (f x) p ≡ false) (map f ys)
 back_all f x [] ys all = all
 back_all f x (y ∷ xs) ys all = back_all f x xs ys all.1
 
@@ -251,7 +276,8 @@ back_missed f (x ∷ xs) ys apart = (misses_back ys f x (back_all f x xs ys apar
 
 -- ---- places that blocks have
 
-byte_there : (blocks : List Block) (i offset n : ℕ) → i < length (map (λ (b : Block). length b.bytes) blocks) → slice_index_or (map (λ (b : Block). length b.bytes) blocks) i 0 ≡ n → offset < n →
+byte_there : (blocks : List Block) (i offset n : ℕ) → i < length (map (λ (b : Block). length b.bytes) blocks) →
+    slice_index_or (map (λ (b : Block). length b.bytes) blocks) i 0 ≡ n → offset < n →
     (y : ℕ) × (byte_of offset (slice_get blocks i) ≡ Some y)
 byte_there [] i offset n here size low = absurd (omega arith)
 byte_there (b ∷ blocks) zero offset n here size low = (get_or b.bytes offset 0, slice_get-get_or b.bytes offset 0 (omega arith))
@@ -262,13 +288,16 @@ unfolding place
 place_there h [] a held some = absurd (cc)
 place_there h (r ∷ l) a held some =
     elim (is_within r.start r.size a) as
-    (λ b. is_within r.start r.size a ≡ b → is_some (option_or (if b then Some (record { block = r.block; offset = a - r.start; io = None }) else None) (place l a)) ≡ true →
+    (λ b. is_within r.start r.size a ≡ b →
+    is_some (option_or (if b then Some (record { block = r.block; offset = a - r.start; io = None }) else None) (place l a)) ≡ true →
     There h (option_or (if b then Some (record { block = r.block; offset = a - r.start; io = None }) else None) (place l a))) [
-      | true ↦ λ is there. byte_there h.blocks r.block (a - r.start) r.size held.0 held.1 (omega (arith, within_low r a is, within_high r a is))
+      | true ↦ λ is there. byte_there h.blocks r.block (a - r.start) r.size held.0 held.1
+          (omega (arith, within_low r a is, within_high r a is))
       | false ↦ λ is there. place_there h l a held.2 there
     ] refl some
 
-each_there : (h : Host) (l : List Region) (as' : List ℕ) → AreHeld (lengths h) l → list_all (λ x. is_some (place l x)) as' ≡ true → AllByRecursion (There h) (map (place l) as')
+each_there : (h : Host) (l : List Region) (as' : List ℕ) → AreHeld (lengths h) l → list_all (λ x. is_some (place l x)) as' ≡ true →
+    AllByRecursion (There h) (map (place l) as')
 each_there h l [] held all = tt
 each_there h l (a ∷ as') held all =
     let parts = and_parts (is_some (place l a)) (list_all (λ x. is_some (place l x)) as') all in
@@ -284,11 +313,13 @@ all_last : {X : Type 0} (P : X → Type 0) (xs ys : List X) → AllByRecursion P
 all_last P [] ys all = all
 all_last P (x ∷ xs) ys all = all_last P xs ys all.1
 
-first_missed : (f : Where) (os : List (Option Place)) (xs ys : List ℕ) → AllByRecursion (Misses f (xs ++ ys)) os → AllByRecursion (Misses f xs) os
+first_missed :
+    (f : Where) (os : List (Option Place)) (xs ys : List ℕ) → AllByRecursion (Misses f (xs ++ ys)) os → AllByRecursion (Misses f xs) os
 first_missed f [] xs ys all = tt
 first_missed f (o ∷ os) xs ys all = (all_first (λ a. is_one_byte o (f a) ≡ false) xs ys all.0, first_missed f os xs ys all.1)
 
-last_missed : (f : Where) (os : List (Option Place)) (xs ys : List ℕ) → AllByRecursion (Misses f (xs ++ ys)) os → AllByRecursion (Misses f ys) os
+last_missed :
+    (f : Where) (os : List (Option Place)) (xs ys : List ℕ) → AllByRecursion (Misses f (xs ++ ys)) os → AllByRecursion (Misses f ys) os
 last_missed f [] xs ys all = tt
 last_missed f (o ∷ os) xs ys all = (all_last (λ a. is_one_byte o (f a) ≡ false) xs ys all.0, last_missed f os xs ys all.1)
 
@@ -296,7 +327,8 @@ kept_layout : (m : Memory) (x : ℕ) (o : Option Place) → (stored_at m x o).la
 kept_layout m x None = refl
 kept_layout m x (Some p) = refl
 
-pub all_keep : (ws : List (ℕ × ℕ)) (m : Memory) → (location (stored_all m ws) Write ≡ location m Write) × ((stored_all m ws).layout ≡ m.layout)
+pub all_keep :
+    (ws : List (ℕ × ℕ)) (m : Memory) → (location (stored_all m ws) Write ≡ location m Write) × ((stored_all m ws).layout ≡ m.layout)
 unfolding stored_all
 all_keep [] m = (refl, refl)
 all_keep (w ∷ ws) m =
@@ -324,29 +356,34 @@ module _ (m : Memory) (room reply as' xs bs ys : List ℕ) (a n k : ℕ) where
   abbrev part : List (Option Place)
   part = take n (drop k (bare_at (location m Write) room))
 
-  part_seen : IsDistinct is_one_byte (map (location m Write) (room ++ as' ++ bs)) → AllByRecursion (There m.host) part → seen (stored_all m stores).host part ≡ laid_over (drop k reply) (seen m.host part)
+  part_seen : IsDistinct is_one_byte (map (location m Write) (room ++ as' ++ bs)) → AllByRecursion (There m.host) part →
+      seen (stored_all m stores).host part ≡ laid_over (drop k reply) (seen m.host part)
   part_seen distinct there =
       let f = location m Write in
-      let apart : IsDistinct is_one_byte (map f (room ++ (as' ++ bs))) = subst (λ (l : List ℕ). IsDistinct is_one_byte (map f l)) (append_assoc room as' bs) distinct in
+      let apart : IsDistinct is_one_byte (map f (room ++ (as' ++ bs))) =
+      subst (λ (l : List ℕ). IsDistinct is_one_byte (map f l)) (append_assoc room as' bs) distinct in
       let missed = part_of_all (Misses f (as' ++ bs)) k n (bare_at f room) (back_missed f room (as' ++ bs) apart) in
       let m1 = stored_all m (zip room reply) in
       let m2 = stored_all m1 (zip as' xs) in
       let same1 : location m1 Write ≡ f = (all_keep (zip room reply) m).0 in
       let same2 : location m2 Write ≡ f = (all_keep (zip as' xs) m1).0 ∙ same1 in
       let cut : stored_all m stores ≡ stored_all m2 (zip bs ys) =
-      stored_all-append (zip room reply ++ zip as' xs) (zip bs ys) m ∙ ap (λ (r : Memory). stored_all r (zip bs ys)) (stored_all-append (zip room reply) (zip as' xs) m) in
+      stored_all-append (zip room reply ++ zip as' xs) (zip bs ys) m
+      ∙ ap (λ (r : Memory). stored_all r (zip bs ys)) (stored_all-append (zip room reply) (zip as' xs) m) in
       ap (λ (r : Memory). seen r.host part) cut
       ∙ seen_stays part bs ys m2 f same2 (last_missed f part as' bs missed)
       ∙ seen_stays part as' xs m1 f same1 (first_missed f part as' bs missed)
       ∙ part_stands f k n room reply m refl (front_apart f room (as' ++ bs) apart) there
 
-  pub room_seen : AreHeld (lengths m.host) m.layout → list_all (λ x. is_some (place m.layout x)) (addresses a n) ≡ true → IsDistinct is_one_byte (map (location m Write) (room ++ as' ++ bs)) →
+  pub room_seen : AreHeld (lengths m.host) m.layout → list_all (λ x. is_some (place m.layout x)) (addresses a n) ≡ true →
+      IsDistinct is_one_byte (map (location m Write) (room ++ as' ++ bs)) →
       map (place m.layout) (addresses a n) ≡ map (device_place m) (take n (drop k room)) →
       bytes (physical (stored_all m stores)) a n ≡ laid_over (drop k reply) (bytes (physical m) a n)
   room_seen held reached apart looks =
       let own = map (place m.layout) (addresses a n) in
       let is : own ≡ part = looks ∙ part_of_map (device_place m) k n room in
-      let there : AllByRecursion (There m.host) part = subst (AllByRecursion (There m.host)) is (each_there m.host m.layout (addresses a n) held reached) in
+      let there : AllByRecursion (There m.host) part =
+      subst (AllByRecursion (There m.host)) is (each_there m.host m.layout (addresses a n) held reached) in
       let after = stored_all m stores in
       let layout : after.layout ≡ m.layout = (all_keep stores m).1 in
       bytes_seen after (addresses a n)

@@ -1,5 +1,6 @@
 -- What a monitor and its guest do with one request after another.
-use Rattle.std.specs.Prelude.{◌≡◌, ◌<◌, ℕ, zero, suc, ◌+◌, ◌%◌, ◌^◌, Bool, List, [], ◌∷◌, ◌++◌, length, Option, Some}
+use Rattle.std.specs.Prelude.{◌≡◌, ◌<◌, ℕ, zero, suc, ◌+◌, ◌%◌, ◌^◌, Bool, List, [], ◌∷◌, ◌++◌, length}
+use Rattle.std.specs.Prelude.{Option, Some}
 use Rattle.vm_values.specs.Fields.{AllFit, spelled}
 use Rattle.vm_memory_core.specs.Host.{new_block}
 use Rattle.vm_memory.specs.Layout.{Region}
@@ -32,11 +33,13 @@ chains_of m = m.offered
 
 -- memory of so many zeros from 0 on, no page of which is marked
 unfoldable pub zeros : (size : ℕ) → Memory
-zeros size = memory_of (record { blocks = new_block size ∷ []; tables = []; io_marks = [] }) (record { start = 0; size = size; block = 0 } ∷ [])
+zeros size =
+    memory_of (record { blocks = new_block size ∷ []; tables = []; io_marks = [] })
+    (record { start = 0; size = size; block = 0 } ∷ [])
 
--- the machine of a new monitor over these files: 64 KiB of zeros, one queue of 4 descriptors of which no chain was returned (its
--- table at 0, its available ring at 0x100 and its used ring at 0x200), no options agreed on, a limit of 1 MiB and 4 KiB, and
--- pages of 4 KiB
+-- the machine of a new monitor over these files: 64 KiB of zeros, one queue of 4 descriptors of which no
+-- chain was returned (its table at 0, its available ring at 0x100 and its used ring at 0x200), no options
+-- agreed on, a limit of 1 MiB and 4 KiB, and pages of 4 KiB
 pub record IsNew (files : List OwnedFile) (s : State Directory) : Type 0 where
   pub memory : s.memory ≡ zeros 0x10000
   pub queues : s.queues ≡ fresh 4 0 0x100 0x200 ∷ []
@@ -45,35 +48,52 @@ pub record IsNew (files : List OwnedFile) (s : State Directory) : Type 0 where
   pub limit : s.limit ≡ 0x101000
   pub page_size : s.page_size ≡ 4096
 
--- a request is offered in the guest's memory as the chain of this number, and in the step that follows the device exchanges a
--- chain, by which this request is replied to; that reply is what the guest then finds in its room by the used ring
+-- a request is offered in the guest's memory as the chain of this number, and in the step that follows the
+-- device exchanges a chain, by which this request is replied to; that reply is what the guest then finds in
+-- its room by the used ring
 abbrev pub IsAsked : State Directory → (chain : ℕ) → (request reply : List ℕ) → State Directory → Type 0
 IsAsked s chain request reply after =
-    (x : Exchange) × (notice : Bool) × ReadingStep (record s { memory = offered s.memory chain request }) 0 (Exchanged x notice) after
-    × (x.request ≡ request) × (x.reply ≡ reply) × (reply_at after.memory chain ≡ Some reply)
+    (x : Exchange) × (notice : Bool)
+    × ReadingStep (record s { memory = offered s.memory chain request }) 0 (Exchanged x notice) after
+    × (x.request ≡ request)
+    × (x.reply ≡ reply)
+    × (reply_at after.memory chain ≡ Some reply)
 
--- a request is asked, and the guest finds the good reply to the request of this unique number in its room, with this piece behind the header
-abbrev pub GetsPiece : State Directory → (chain unique : ℕ) → (request piece : List ℕ) → State Directory → Type 0
-GetsPiece s chain unique request piece after = IsAsked s (chain % 2 ^ 16) request (reply_bytes unique piece) after
+-- a request is asked, and the guest finds the good reply to the request of this unique number in its room,
+-- with this piece behind the header
+abbrev pub GetsPiece :
+    State Directory → (chain unique : ℕ) → (request piece : List ℕ) → State Directory → Type 0
+GetsPiece s chain unique request piece after =
+    IsAsked s (chain % 2 ^ 16) request (reply_bytes unique piece) after
 
 -- a READ of at most 4096 bytes of a node from an offset on gets a piece
-abbrev pub ReadsPiece : State Directory → (chain unique node offset : ℕ) → (piece : List ℕ) → State Directory → Type 0
-ReadsPiece s chain unique node offset piece after = GetsPiece s chain unique (read_bytes unique node 0 offset 0x1000) piece after
+abbrev pub ReadsPiece :
+    State Directory → (chain unique node offset : ℕ) → (piece : List ℕ) → State Directory → Type 0
+ReadsPiece s chain unique node offset piece after =
+    GetsPiece s chain unique (read_bytes unique node 0 offset 0x1000) piece after
 
--- so many READs of a node, from chain `first` and from unique number 2 on, each from where the pieces before it end and of at least a byte;
--- together they are the contents
-abbrev pub GetsPieces : State Directory → (first node count : ℕ) → (contents : List ℕ) → State Directory → Type 0
+-- so many READs of a node, from chain `first` and from unique number 2 on, each from where the pieces before
+-- it end and of at least a byte; together they are the contents
+abbrev pub GetsPieces :
+    State Directory → (first node count : ℕ) → (contents : List ℕ) → State Directory → Type 0
 GetsPieces s first node zero contents after = (contents ≡ []) × (after ≡ s)
 GetsPieces s first node (suc count) contents after =
-    (before : State Directory) × (front piece : List ℕ) × GetsPieces s first node count front before
-    × ReadsPiece before (first + count) (2 + count) node (length front) piece after × (0 < length piece) × (contents ≡ front ++ piece)
+    (before : State Directory) × (front piece : List ℕ)
+    × GetsPieces s first node count front before
+    × ReadsPiece before (first + count) (2 + count) node (length front) piece after
+    × (0 < length piece)
+    × (contents ≡ front ++ piece)
 
 -- these bytes are an entry of a node (struct fuse_entry_out)
 unfoldable pub IsEntry : List ℕ → (node : ℕ) → Type 0
-IsEntry bytes node = (entry : EntryOut) × AllFit (entry_out entry) × (bytes ≡ spelled (entry_out entry)) × (entry.nodeid ≡ node)
+IsEntry bytes node =
+    (entry : EntryOut)
+    × AllFit (entry_out entry)
+    × (bytes ≡ spelled (entry_out entry))
+    × (entry.nodeid ≡ node)
 
--- a guest that has offered so many chains looks a name up under the root, node 1, and reads the node that the reply's entry tells,
--- until a READ behind the last piece gets nothing: the contents are the pieces together
+-- a guest that has offered so many chains looks a name up under the root, node 1, and reads the node that the
+-- reply's entry tells, until a READ behind the last piece gets nothing: the contents are the pieces together
 abbrev pub ReadsFile : State Directory → (chains : ℕ) → (name contents : List ℕ) → State Directory → Type 0
 ReadsFile s chains name contents after =
     (looked last : State Directory) × (entry : List ℕ) × (node count : ℕ)

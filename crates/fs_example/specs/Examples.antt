@@ -1,6 +1,7 @@
--- A read worked out: a file with the bytes `hello`, which is node 2, and a guest that reads three bytes of it from the
--- second on, and then looks at its memory.
-use Rattle.std.specs.Prelude.{◌≡◌, ℕ, ◌-◌, ◌^◌, Bool, true, false, not, ◌&&◌, List, [], ◌∷◌, ◌++◌, nat_le, map, take, drop, Option, Some, None}
+-- A read worked out: a file with the bytes `hello`, which is node 2, and a guest that reads three bytes of it
+-- from the second on, and then looks at its memory.
+use Rattle.std.specs.Prelude.{◌≡◌, ℕ, ◌-◌, ◌^◌, Bool, true, false, not, ◌&&◌, List, [], ◌∷◌, ◌++◌, nat_le}
+use Rattle.std.specs.Prelude.{map, take, drop, Option, Some, None}
 use Rattle.std.specs.Prelude.{option_map, Ok, Err, refl, if◌then◌else◌}
 use Rattle.std.specs.Option.{option_or}
 use Rattle.std.proofs.Common.{ap, sym, ◌∙◌}
@@ -34,7 +35,8 @@ call room = Read nobody 2 0 (room - 16) 3 1 None 0
 
 -- by whether the room has a place for a header
 means : (room : ℕ) (place : Bool) →
-    ended 2 (and_then {A = Unit {0} × List ℕ} (if place then Ok (tt, []) else Err (Faults EncodeMessage)) (λ x. Ok (Asks (One 2 (call room)), x.1)))
+    ended 2 (and_then {A = Unit {0} × List ℕ} (if place then Ok (tt, []) else Err (Faults EncodeMessage))
+    (λ x. Ok (Asks (One 2 (call room)), x.1)))
     ≡ (if place then Asks (One 2 (call room)) else IsFault EncodeMessage)
 means room true = refl
 means room false = refl
@@ -64,7 +66,8 @@ ell = 101 ∷ 108 ∷ 108 ∷ []
 abbrev pub left : Memory
 left = returned (offering 32) queue 0 (addresses 0x2000 32) (read_reply 32 2 ell)
 
--- the reply stands in the room: 19 bytes, no error, the request's number, and the bytes; behind it nothing changed
+-- the reply stands in the room: 19 bytes, no error, the request's number, and the bytes; behind it nothing
+-- changed
 reply_stands : bytes left 0x2000 20 ≡ le32 19 ++ le32 0 ++ le64 2 ++ 101 ∷ 108 ∷ 108 ∷ 0 ∷ []
 unfolding place addresses stored_all reply_bytes field_bytes
 reply_stands = refl
@@ -98,7 +101,8 @@ negated : (b : Bool) → not b ≡ true → b ≡ false
 negated true e = absurd (cc)
 negated false e = refl
 
-each_other : {X : Type 0} (same : X → X → Bool) (x : X) (xs : List X) → list_all (λ y. not (same x y)) xs ≡ true → AllByRecursion (λ y. same x y ≡ false) xs
+each_other : {X : Type 0} (same : X → X → Bool) (x : X) (xs : List X) →
+    list_all (λ y. not (same x y)) xs ≡ true → AllByRecursion (λ y. same x y ≡ false) xs
 each_other same x [] e = tt
 each_other same x (y ∷ xs) e =
     let tests = two_tests _ _ e in
@@ -127,17 +131,23 @@ unfolding place
 own_page [] a = refl
 own_page (r ∷ layout) a =
     elim (is_within r.start r.size a) as
-    (λ b. let here : Option Place = if b then Some (record { block = r.block; offset = a - r.start; io = None }) else None in option_or here (place layout a) ≡ option_map bare (option_or here (place layout a))) [
+    (λ b. let here : Option Place =
+    if b then Some (record { block = r.block; offset = a - r.start; io = None }) else None in
+    option_or here (place layout a) ≡ option_map bare (option_or here (place layout a))) [
       | true ↦ refl
       | false ↦ own_page layout a
     ]
 
-own_pages : (layout : List Region) (as' : List ℕ) → map (place layout) as' ≡ map (λ a. option_map bare (place layout a)) as'
+own_pages : (layout : List Region) (as' : List ℕ) →
+    map (place layout) as' ≡ map (λ a. option_map bare (place layout a)) as'
 own_pages layout [] = refl
-own_pages layout (a ∷ as') = rw (own_pages layout as') (ap (λ (o : Option Place). o ∷ map (λ b. option_map bare (place layout b)) as') (own_page layout a))
+own_pages layout (a ∷ as') =
+    rw (own_pages layout as')
+    (ap (λ (o : Option Place). o ∷ map (λ b. option_map bare (place layout b)) as') (own_page layout a))
 
 -- if no table is used, a guest looks at a room by the room's own addresses
-looks_plainly : (m : Memory) (room : List ℕ) (k a n : ℕ) → m.translates ≡ false → take n (drop k room) ≡ addresses a n → LooksAtRoom m room k a n
+looks_plainly : (m : Memory) (room : List ℕ) (k a n : ℕ) → m.translates ≡ false →
+    take n (drop k room) ≡ addresses a n → LooksAtRoom m room k a n
 looks_plainly m room k a n off is =
     own_pages m.layout (addresses a n)
     ∙ ap (λ (l : List ℕ). map (λ b. option_map bare (place m.layout b)) l) (sym is)

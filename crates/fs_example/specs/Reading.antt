@@ -1,5 +1,6 @@
 -- What steps and runs over the directory give a guest that reads.
-use Rattle.std.specs.Prelude.{◌≡◌, ◌⊎◌, ℕ, ◌-◌, nat_le, nat_lt, List, [], length, take, drop, Option, Some, None, if◌then◌else◌, slice_get}
+use Rattle.std.specs.Prelude.{◌≡◌, ◌⊎◌, ℕ, ◌-◌, nat_le, nat_lt, List, [], length, take, drop, Option, Some}
+use Rattle.std.specs.Prelude.{None, if◌then◌else◌, slice_get}
 use Rattle.std.specs.List.{AllByRecursion}
 use Rattle.fs_queue.specs.Queue.{Queue}
 use Rattle.fs_queue.specs.Taking as taking
@@ -24,19 +25,24 @@ read_in_room unique room call = if nat_le 16 room then Asks (One unique call) el
 abbrev pub IsRead : (request : List ℕ) → (unique node size offset : ℕ) → Type 0
 IsRead request unique node size offset =
     (who : Context) × (handle flags : ℕ) × (owner : Option ℕ)
-    × ((options room : ℕ) → meaning options request room ≡ read_in_room unique room (Read who node handle (room - 16) size offset owner flags))
+    × ((options room : ℕ) →
+    meaning options request room
+    ≡ read_in_room unique room (Read who node handle (room - 16) size offset owner flags))
 
 -- the bytes of a file from an offset on, at most so many
 abbrev pub wanted : OwnedFile → (size offset : ℕ) → List ℕ
 wanted f size offset = take size (drop offset f.contents.items)
 
--- the reply with these bytes; EIO if the room behind the header is too short; nothing if it has no place for one
+-- the reply with these bytes; EIO if the room behind the header is too short; nothing if it has no place for
+-- one
 abbrev pub read_reply : (room unique : ℕ) → List ℕ → List ℕ
 read_reply room unique bytes =
-    if nat_le 16 room then (if nat_lt (room - 16) (length bytes) then error_bytes unique EIO else reply_bytes unique bytes)
+    if nat_le 16 room then (if nat_lt (room - 16) (length bytes) then error_bytes unique EIO
+    else reply_bytes unique bytes)
     else []
 
--- if a step took a READ of a file from queue i, the reply was written over its chain's room, then what follows it
+-- if a step took a READ of a file from queue i, the reply was written over its chain's room, then what
+-- follows it
 abbrev pub ReadsIntoRoom : State Directory → (i : ℕ) → StepEnd → State Directory → Type 0
 ReadsIntoRoom s i (Exchanged x notice) after =
     (q : Queue) (head : ℕ) (request room : List ℕ) (unique node size offset : ℕ) (f : OwnedFile) →
@@ -49,17 +55,22 @@ ReadsIntoRoom s i (Refused e) after = Unit {0}
 
 -- a step of a device over the directory
 abbrev pub ReadingStep : State Directory → (i : ℕ) → StepEnd → State Directory → Type 0
-ReadingStep s i outcome after = (calls : Calls) × Step DirectoryAnswers s i calls outcome after × ReadsIntoRoom s i outcome after
+ReadingStep s i outcome after =
+    (calls : Calls) × Step DirectoryAnswers s i calls outcome after × ReadsIntoRoom s i outcome after
 
 -- the good reply with the bytes of the file from there on, at most so many; or EIO
 abbrev pub GivesBytes : (reply : List ℕ) → (unique size offset : ℕ) → OwnedFile → Type 0
-GivesBytes reply unique size offset f = (reply ≡ reply_bytes unique (wanted f size offset)) ⊎ (reply ≡ error_bytes unique EIO)
+GivesBytes reply unique size offset f =
+    (reply ≡ reply_bytes unique (wanted f size offset)) ⊎ (reply ≡ error_bytes unique EIO)
 
 -- if an exchange without a fault read a file, the reply gives its bytes
 abbrev pub ReadsTrue : List OwnedFile → Turn → Type 0
 ReadsTrue fs t =
-    (unique node size offset : ℕ) (f : OwnedFile) → IsRead t.exchange.request unique node size offset → file_at fs node ≡ Some f →
-    t.exchange.fault ≡ None → GivesBytes t.exchange.reply unique size offset f
+    (unique node size offset : ℕ) (f : OwnedFile) →
+    IsRead t.exchange.request unique node size offset →
+    file_at fs node ≡ Some f →
+    t.exchange.fault ≡ None →
+    GivesBytes t.exchange.reply unique size offset f
 
 -- a run in which each exchange reads so; the directory is as it was
 abbrev pub ReadingRun : State Directory → List (Command × Answer) → State Directory → Type 0

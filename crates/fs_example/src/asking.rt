@@ -4,7 +4,8 @@ ghost use Rattle.std.specs.Prelude.{◌≡◌, ◌+◌, ◌%◌, ◌<◌, ◌^�
 ghost use Rattle.vm_memory_core.specs.Host.{shape};
 ghost use Rattle.virtiofsd_fuse.specs.Grammar.{reply_bytes};
 ghost use Rattle.plain_machine.specs.Step.{State};
-ghost use Rattle.fs_example.specs.Asking.{IsAsked, IsNew, ReadsFile, chains_of, layout_of, machine_of_monitor};
+ghost use Rattle.fs_example.specs.Asking.{IsAsked, IsNew, ReadsFile, chains_of, layout_of};
+ghost use Rattle.fs_example.specs.Asking.{machine_of_monitor};
 ghost use Rattle.fuse_files.specs.Directory.{Directory};
 
 use crate::driver::{AVAIL, DESC, QUEUE_SIZE, ROOM_LEN, USED, offer, reply};
@@ -55,17 +56,19 @@ impl Monitor {
         })
     }
 
-    /// The guest offers a request as its next chain, the device takes a step, and the guest reads the reply from its
-    /// memory, as long as the used ring says. `NoReply`: the device finds no chain, the one that it takes asks something
-    /// else, it has not returned this one, or it did with more bytes than the room has or others than it replied. A
-    /// request longer than 52 KiB has no place in memory (`Place`). After `Device` the monitor is of no more use: its
-    /// chain still waits.
+    /// The guest offers a request as its next chain, the device takes a step, and the guest reads the reply
+    /// from its memory, as long as the used ring says. `NoReply`: the device finds no chain, the one that it
+    /// takes asks something else, it has not returned this one, or it did with more bytes than the room has
+    /// or others than it replied. A request longer than 52 KiB has no place in memory (`Place`). After
+    /// `Device` the monitor is of no more use: its chain still waits.
     pub fn ask(&mut self, request: &[u8]) -> Result<Vec<u8>, MonitorError>
         ensures asked { IfOk result (λ reply.
-            IsAsked (machine_of_monitor self.old) ((chains_of self.old + 1) % 2 ^ 16) request.now reply.items (machine_of_monitor self.new)) }
+            IsAsked (machine_of_monitor self.old) ((chains_of self.old + 1) % 2 ^ 16) request.now reply.items
+            (machine_of_monitor self.new)) }
         ensures chain { IfOk result (λ _. chains_of self.new ≡ (chains_of self.old + 1) % 2 ^ 16) }
         ensures layout { layout_of self.new ≡ layout_of self.old }
-        ensures shape { shape (machine_of_monitor self.new).memory.host ≡ shape (machine_of_monitor self.old).memory.host }
+        ensures shape { shape (machine_of_monitor self.new).memory.host
+            ≡ shape (machine_of_monitor self.old).memory.host }
     {
         let chain = self.offered.wrapping_add(1);
         offer(&mut self.host, &self.mem, chain, request)?;
@@ -90,11 +93,12 @@ impl Monitor {
         }
     }
 
-    /// Has the guest look a name up, and read its file piece by piece until there is no more: each READ but the last gets
-    /// at least a byte. A name that no file has is `Failed(-2)` (ENOENT).
+    /// Has the guest look a name up, and read its file piece by piece until there is no more: each READ but
+    /// the last gets at least a byte. A name that no file has is `Failed(-2)` (ENOENT).
     pub fn read_file(&mut self, name: &[u8]) -> Result<Vec<u8>, MonitorError>
         ensures { IfOk result (λ contents.
-            ReadsFile (machine_of_monitor self.old) (chains_of self.old) name.now contents.items (machine_of_monitor self.new)) }
+            ReadsFile (machine_of_monitor self.old) (chains_of self.old) name.now contents.items
+            (machine_of_monitor self.new)) }
     {
         if name.len() > NAME_MAX {
             return Err(MonitorError::LongName);

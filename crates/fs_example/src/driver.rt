@@ -1,5 +1,5 @@
-//! A driver in a guest that has one request at a time: it offers a chain of two descriptors, one that holds the request
-//! and one with the room for its reply, and looks at what the device returned (VIRTIO 1.2, 2.7).
+//! A driver in a guest that has one request at a time: it offers a chain of two descriptors, one that holds
+//! the request and one with the room for its reply, and looks at what the device returned (VIRTIO 1.2, 2.7).
 
 ghost use Rattle.std.specs.Prelude.{◌≡◌, ◌+◌, ◌<◌, ◌^◌, length, map, option_map, IfOk, OnOk};
 ghost use Rattle.std.specs.Int.{w16, w32};
@@ -65,7 +65,8 @@ fn put_descriptor(
 ) -> Result<(), GuestMemoryError>
     requires held { HostHolds host.old mem.now }
     requires low { at + 16 < 2 ^ 64 }
-    ensures ok { OnOk result (memory_of host.new mem.now ≡ with_descriptor (memory_of host.old mem.now) at addr len flags next) }
+    ensures ok { OnOk result
+        (memory_of host.new mem.now ≡ with_descriptor (memory_of host.old mem.now) at addr len flags next) }
     ensures shape { shape host.new ≡ shape host.old }
 {
     put_at(host, mem, at, &addr.to_le_bytes())?;
@@ -74,9 +75,9 @@ fn put_descriptor(
     put_at(host, mem, at + 14, &next.to_le_bytes())
 }
 
-/// Puts a request into memory and offers it as the queue's chain of this number, counted from 1 on modulo 2^16. Its
-/// head is descriptor 0; so is each entry of an available ring of zeros. An error of memory is that an address has no
-/// place: `InvalidGuestAddress`, or `PartialBuffer` if only some bytes have one.
+/// Puts a request into memory and offers it as the queue's chain of this number, counted from 1 on modulo
+/// 2^16. Its head is descriptor 0; so is each entry of an available ring of zeros. An error of memory is that
+/// an address has no place: `InvalidGuestAddress`, or `PartialBuffer` if only some bytes have one.
 pub fn offer(
     host: &mut HostMemory<PageBitmap>,
     mem: &GuestMemoryMmap,
@@ -84,7 +85,8 @@ pub fn offer(
     request: &[u8],
 ) -> Result<(), GuestMemoryError>
     requires { HostHolds host.old mem.now }
-    ensures ok { OnOk result (memory_of host.new mem.now ≡ offered (memory_of host.old mem.now) number request.now) }
+    ensures ok { OnOk result
+        (memory_of host.new mem.now ≡ offered (memory_of host.old mem.now) number request.now) }
     ensures shape { shape host.new ≡ shape host.old }
 {
     let Ok(len) = u32::try_from(request.len()) else {
@@ -146,10 +148,10 @@ fn u32_at(
     Ok(u32::from_le_bytes(found))
 }
 
-/// The reply to the request that was offered as the chain of this number, which was the last: what stands in its room,
-/// as many bytes as the used ring says. Nothing if the device has not returned the chain, or says that there are
-/// more bytes than the room has. `InvalidGuestAddress` or `PartialBuffer` if an address has no place, or
-/// `OutOfMemory`.
+/// The reply to the request that was offered as the chain of this number, which was the last: what stands in
+/// its room, as many bytes as the used ring says. Nothing if the device has not returned the chain, or says
+/// that there are more bytes than the room has. `InvalidGuestAddress` or `PartialBuffer` if an address has no
+/// place, or `OutOfMemory`.
 pub fn reply(
     alloc: Global,
     host: &HostMemory<PageBitmap>,
@@ -157,7 +159,8 @@ pub fn reply(
     number: u16,
 ) -> Result<Option<Vec<u8>>, GuestMemoryError>
     requires held { HostHolds host.now mem.now }
-    ensures { IfOk result (λ found. option_map (λ reply. reply.items) found ≡ reply_at (memory_of host.now mem.now) number) }
+    ensures { IfOk result
+        (λ found. option_map (λ reply. reply.items) found ≡ reply_at (memory_of host.now mem.now) number) }
 {
     let element = USED + 4 + 8 * u64::from(number.wrapping_sub(1) % QUEUE_SIZE);
     let index = u16_at(host, mem, USED + 2)?;

@@ -13,10 +13,11 @@ use fuse_files::{Files, OwnedTable, ReadOnly};
 use std::alloc::{AllocError, Global};
 use vm_memory::Iommu;
 
-/// Does commands one after another, as `Machine::run`. Whatever the guest does: if an exchange without a fault reads
-/// a file, its reply has the file's bytes, or is EIO. Where a kick takes one chain that reads a file, no byte is
-/// written twice as it goes back, and the guest looks at that chain's room next, it gets what stood there with the
-/// reply laid over: behind the header, if the room is long enough, the file's bytes.
+/// Does commands one after another, as `Machine::run`. Whatever the guest does: if an exchange without a
+/// fault reads a file, its reply has the file's bytes, or is EIO. Where a kick takes one chain that reads a
+/// file, no byte is written twice as it goes back, and the guest looks at that chain's room next, it gets
+/// what stood there with the reply laid over: behind the header, if the room is long enough, the file's
+/// bytes.
 pub fn run_directory<I: Iommu + Drop>(
     alloc: Global,
     machine: &mut Machine<Files<OwnedTable, ReadOnly>, I>,

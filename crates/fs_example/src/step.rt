@@ -11,9 +11,9 @@ use std::alloc::Global;
 use vm_memory::GuestMemory;
 use vm_memory_core::HostBlocks;
 
-/// Serves the next chain of a queue, as `Device::process_one`. If that is a READ of a file, the reply with the
-/// file's bytes is written over the chain's room; EIO, if it is too short for them; or nothing, if it has no
-/// place for a header; and then the used element and the used index.
+/// Serves the next chain of a queue, as `Device::process_one`. If that is a READ of a file, the reply with
+/// the file's bytes is written over the chain's room; EIO, if it is too short for them; or nothing, if it has
+/// no place for a header; and then the used element and the used index.
 pub fn step_directory<M: GuestMemory, H: HostBlocks>(
     alloc: Global,
     device: &mut Device<Files<OwnedTable, ReadOnly>>,
@@ -22,7 +22,8 @@ pub fn step_directory<M: GuestMemory, H: HostBlocks>(
     queue: usize,
 ) -> Result<Option<(Exchange, bool)>, DeviceError>
     requires { M.IsHeld mem.now (H.host host.old) }
-    ensures step { ReadingStep (state_of (M.memory mem.now (H.host host.old)) device.old) queue (outcome_of result)
+    ensures step { ReadingStep (state_of (M.memory mem.now (H.host host.old)) device.old) queue
+        (outcome_of result)
         (state_of (M.memory mem.now (H.host host.new)) device.new) }
     ensures shape { shape (H.host host.new) ≡ shape (H.host host.old) }
 {

@@ -32,8 +32,9 @@ pub trait Vcpu {
     fn needs_reset(&mut self, queue: usize);
 }
 
-// The whole embedding: 64 KiB of memory from 0 on, a device with one queue over a file system, and a step for each chain
-// that waits once the guest notified. No refusal ends it: if an allocation fails the chain still waits for a later step.
+// The whole embedding: 64 KiB of memory from 0 on, a device with one queue over a file system, and a step for
+// each chain that waits once the guest notified. No refusal ends it: if an allocation fails the chain still
+// waits for a later step.
 pub fn serve_guest<F: FileSystem + Drop, V: Vcpu>(
     alloc: Global,
     files: F,

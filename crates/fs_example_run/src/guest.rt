@@ -22,8 +22,8 @@ const VERSION: InitInCompat = InitInCompat {
     flags: 0,
 };
 
-// A guest, by how many requests it offered, how often it was interrupted and how often told that a queue stopped; and what
-// it read, in the end.
+// A guest, by how many requests it offered, how often it was interrupted and how often told that a queue
+// stopped; and what it read, in the end.
 #[derive(Drop)]
 pub struct ReadingGuest<'a> {
     alloc: Global,

@@ -1,5 +1,5 @@
-//! A guest mounts a file system that this program has, looks a file up and reads it; what it then has in its memory is
-//! printed. At last it breaks its ring, which stops its queue and nothing else.
+//! A guest mounts a file system that this program has, looks a file up and reads it; what it then has in its
+//! memory is printed. At last it breaks its ring, which stops its queue and nothing else.
 #![tactic(auto)]
 
 mod embedding;

@@ -19,10 +19,13 @@ use Rattle.fs_regions.specs.Walks.{Loaded, FetchesBy, OffersBy, RingIsAsked, IsL
 use Rattle.fuse_fs.specs.Calls.{FileRun}
 use Rattle.virtiofsd_fuse.specs.Serving.{May}
 use Rattle.plain_machine.specs.Step.{State, Exchange, Exchanged, Calls}
-use Rattle.plain_machine.specs.StepBy.{StepOfBy, ExchangesBy, Effects, AnswersBy, ReturnsFaultyBy, return_acts, return_stores, reply_stores, offered_by}
+use Rattle.plain_machine.specs.StepBy.{StepOfBy, ExchangesBy, Effects, AnswersBy, ReturnsFaultyBy, return_acts, return_stores, reply_stores}
+use Rattle.plain_machine.specs.StepBy.{offered_by}
 use Rattle.fs_live.specs.Several.{LiveQueue}
-use Rattle.fs_live.specs.Live.{Phase, Faulty, Fetched, Asked, Own, Lost, OutChain, LiveState, LiveEvent, Walks, Declines, Asks, Answers, Returns}
-use Rattle.fs_live.specs.Live.{Sleeps, Begins, Fills, Drops, Abandons, Replies, Maps, Moves, Happens, IsUnreplied, LiveRun, WalksIn, GoesBackWith, lost_chain, new_chain, fault_of, own_exchange, room_in, room_of, calls_in, serving}
+use Rattle.fs_live.specs.Live.{Phase, Faulty, Fetched, Asked, Own, Lost, OutChain, LiveState, LiveEvent, Walks, Declines, Asks, Answers}
+use Rattle.fs_live.specs.Live.{Returns}
+use Rattle.fs_live.specs.Live.{Sleeps, Begins, Fills, Drops, Abandons, Replies, Maps, Moves, Happens, IsUnreplied, LiveRun, WalksIn}
+use Rattle.fs_live.specs.Live.{GoesBackWith, lost_chain, new_chain, fault_of, own_exchange, room_in, room_of, calls_in, serving}
 use Rattle.fs_live.specs.Runs.{OwnIsReturned, ReturnedIsStepBy, IsAskedIn, IsServedPhase, after_alone, chain_loads, options_left}
 
 -- ---- lists of chains
@@ -40,7 +43,9 @@ module _ {A : Type 0} (P : A → Type 0) where
   all_both [] ys h g = g
   all_both (x ∷ xs) ys h g = (h.0, all_both xs ys h.1 g)
 
-  all_kept : (f : A → Bool) (x : A) (xs : List A) (b : Bool) → f x ≡ b → P x → AllByRecursion P (filter f xs) → AllByRecursion P (filter f (x ∷ xs))
+  all_kept :
+      (f : A → Bool) (x : A) (xs : List A) (b : Bool) → f x ≡ b → P x → AllByRecursion P (filter f xs) →
+      AllByRecursion P (filter f (x ∷ xs))
   all_kept f x xs true is one h = rw is (one, h)
   all_kept f x xs false is one h = rw is h
 
@@ -62,12 +67,14 @@ Walked limit c = FetchesBy c.places limit c.taken c.loaded c.descriptors c.head 
 abbrev pub AllWalked : {F : Type 0} → LiveState F → Type 0
 AllWalked s = AllByRecursion (Walked s.limit) s.outs
 
-pub new_walked : {F : Type 0} (s : LiveState F) (i : ℕ) (w : LiveQueue) (loaded : Loaded) (ds : List Descriptor) (head : ℕ) (fault : Option ChainFault)
+pub new_walked :
+    {F : Type 0} (s : LiveState F) (i : ℕ) (w : LiveQueue) (loaded : Loaded) (ds : List Descriptor) (head : ℕ) (fault : Option ChainFault)
     → FetchesBy s.places s.limit w.queue loaded ds head fault → Walked s.limit (new_chain s i w loaded ds head fault)
 new_walked s i w loaded ds head None h = (h, tt)
 new_walked s i w loaded ds head (Some why) h = (h, tt)
 
-walk_keeps : {F : Type 0} (s after : LiveState F) (i : ℕ) (w : LiveQueue) (loaded : Loaded) (ds : List Descriptor) (came : comes.CourseStep) → WalksIn s i w loaded ds came after
+walk_keeps : {F : Type 0} (s after : LiveState F) (i : ℕ) (w : LiveQueue) (loaded : Loaded) (ds : List Descriptor) (came : comes.CourseStep)
+    → WalksIn s i w loaded ds came after
     → AllWalked s → AllWalked after
 walk_keeps s after i w loaded ds (step.Load walk) h all = absurd h
 walk_keeps {F} s after i w loaded ds step.Idle h all = subst (λ (k : LiveState F). AllWalked k) (sym h.1) all
@@ -84,7 +91,8 @@ one_walked s before behind c out all =
     let right = all_right (Walked s.limit) before (c ∷ behind) split in
     (all_left (Walked s.limit) before (c ∷ behind) split, right.0, right.1)
 
-pub asked_walked : (limit : ℕ) (c : OutChain) (request : List ℕ) (options : ℕ) (calls : Calls) → fault_of c.phase ≡ None → length request ≡ total_len (readable c.descriptors)
+pub asked_walked : (limit : ℕ) (c : OutChain) (request : List ℕ) (options : ℕ) (calls : Calls) → fault_of c.phase ≡ None
+    → length request ≡ total_len (readable c.descriptors)
     → Walked limit c → Walked limit (record c { phase = Asked request options calls })
 asked_walked limit c request options calls good whole h =
     (subst (λ (f : Option ChainFault). FetchesBy c.places limit c.taken c.loaded c.descriptors c.head f) good h.0, whole)
@@ -94,7 +102,8 @@ lost_walked : (limit : ℕ) (c : OutChain) → Walked limit c → Walked limit (
 lost_walked limit c h = (h.0, tt)
 
 -- so does one that its caller replies to, whose bytes have room
-own_walked : (limit : ℕ) (c : OutChain) (p : Phase) (request reply : List ℕ) → c.phase ≡ p → IsUnreplied c p request → length reply ≤ length (room_of c) → Walked limit c
+own_walked : (limit : ℕ) (c : OutChain) (p : Phase) (request reply : List ℕ) → c.phase ≡ p → IsUnreplied c p request
+    → length reply ≤ length (room_of c) → Walked limit c
     → Walked limit (record c { phase = Own request reply })
 own_walked limit c (Faulty why) request reply is un few h = absurd un
 own_walked limit c Fetched request reply is un few h = (
@@ -150,7 +159,8 @@ keeps {F} may s after (Maps m) h all = subst (λ (k : LiveState F). AllWalked k)
 keeps {F} may s after (Moves m queues) h all =
     subst (λ (k : LiveState F). AllWalked k) (sym h.state) all
 
-pub run_keeps : {F : Type 0} (may : May F) (s after : LiveState F) (es : List LiveEvent) → LiveRun may s es after → AllWalked s → AllWalked after
+pub run_keeps :
+    {F : Type 0} (may : May F) (s after : LiveState F) (es : List LiveEvent) → LiveRun may s es after → AllWalked s → AllWalked after
 run_keeps {F} may s after [] run all = subst (λ (k : LiveState F). AllWalked k) (sym run) all
 run_keeps may s after (e ∷ es) run all = run_keeps may run.0 after es run.2 (keeps may s run.0 e run.1 all)
 
@@ -162,7 +172,8 @@ Located = Permissions → ℕ → Option Place
 pub reach_same : (m n : Memory) → location m ≡ location n → (access : Permissions) (a k : ℕ) → reach m access a k ≡ reach n access a k
 reach_same m n same access a k = ap (λ (f : Located). nat_lt (a + k) (2 ^ 64) && list_all (λ x. is_some (f access x)) (addresses a k)) same
 
-pub all_reach_same : (m n : Memory) → location m ≡ location n → (access : Permissions) (ds : List Descriptor) → all_reach m access ds ≡ all_reach n access ds
+pub all_reach_same :
+    (m n : Memory) → location m ≡ location n → (access : Permissions) (ds : List Descriptor) → all_reach m access ds ≡ all_reach n access ds
 all_reach_same m n same access [] = refl
 all_reach_same m n same access (d ∷ ds) =
     ap (λ (b : Bool). b && all_reach m access ds) (reach_same m n same access d.addr d.len)
@@ -172,7 +183,8 @@ all_reach_same m n same access (d ∷ ds) =
 lost_over : (m n : Memory) → location m ≡ location n → (lost : List Load) → All (IsLost n) lost → All (IsLost m) lost
 lost_over m n same lost all = λ k d few. let l = all k d few in (l.0, reach_same m n same Read (slice_index_or lost k d).address 16 ∙ l.1)
 
-offers_over : (m n : Memory) → location m ≡ location n → (limit : ℕ) (q : Queue) (loaded : Loaded) (request : List ℕ) (o : Offer) → OffersBy n limit q loaded request o
+offers_over : (m n : Memory) → location m ≡ location n → (limit : ℕ) (q : Queue) (loaded : Loaded) (request : List ℕ) (o : Offer)
+    → OffersBy n limit q loaded request o
     → OffersBy m limit q loaded request o
 offers_over m n same limit q loaded request o by =
     let alike = only_places_count m n limit q loaded.index loaded.entry (loaded.entries ++ by.1) request
@@ -201,23 +213,30 @@ abbrev pub effects_of : OutChain → Exchange → (last : ℕ) → (seen : List 
 effects_of c x last seen = record { acts = return_acts (return_stores c.taken c.head (room_of c) x.reply last) seen; last = last }
 
 -- its loads tell its offer, and by it the chain is exchanged
-pub record Exchanging {G : Type 0} (other : May G) (m : State G) (files : G) (c : OutChain) (x : Exchange) (last : ℕ) (seen : List ℕ) : Type 0 where
+pub record Exchanging {G : Type 0} (other : May G) (m : State G) (files : G) (c : OutChain) (x : Exchange) (last : ℕ) (seen : List ℕ) :
+    Type 0 where
   pub lost : List Load
   pub ring : RingIsAsked m.memory c.taken c.loaded
   pub all_lost : All (IsLost m.memory) lost
   pub offer : Offer
   pub offered : offered_by m.memory m.limit c.taken (chain_loads c lost) ≡ Some offer
   pub room : room_offered offer ≡ room_of c
-  pub exchanges : ExchangesBy other m c.queue c.taken offer (calls_in c.phase) x (tells seen) (effects_of c x last seen) (after_alone m c files)
+  pub exchanges :
+      ExchangesBy other m c.queue c.taken offer (calls_in c.phase) x (tells seen) (effects_of c x last seen) (after_alone m c files)
 
-pub exchange_of : {G : Type 0} (other : May G) (m : State G) (files : G) (places : Memory) (i : ℕ) (q : Queue) (loaded : Loaded) (ds : List Descriptor) (head : ℕ) (p : Phase) (x : Exchange) (last : ℕ) (seen : List ℕ)
-    → location m.memory ≡ location places → IsServedPhase p → Walked m.limit (record { places = places; queue = i; taken = q; loaded = loaded; descriptors = ds; head = head; phase = p })
+pub exchange_of : {G : Type 0} (other : May G) (m : State G) (files : G) (places : Memory) (i : ℕ) (q : Queue) (loaded : Loaded)
+    (ds : List Descriptor) (head : ℕ) (p : Phase) (x : Exchange) (last : ℕ) (seen : List ℕ)
+    → location m.memory ≡ location places → IsServedPhase p
+    → Walked m.limit (record { places = places; queue = i; taken = q; loaded = loaded; descriptors = ds; head = head; phase = p })
     → IsAskedIn p m.options
-    → GoesBackWith m.page_size (record { places = places; queue = i; taken = q; loaded = loaded; descriptors = ds; head = head; phase = p }) p x
+    → GoesBackWith m.page_size (record { places = places; queue = i; taken = q; loaded = loaded; descriptors = ds; head = head; phase = p })
+    p x
     → length seen ≡ 2 → FileRun other m.files (calls_in p) files
-    → Exchanging other m files (record { places = places; queue = i; taken = q; loaded = loaded; descriptors = ds; head = head; phase = p }) x last seen
+    → Exchanging other m files (record { places = places; queue = i; taken = q; loaded = loaded; descriptors = ds; head = head; phase = p })
+    x last seen
 exchange_of {G} other m files places i q loaded ds head (Faulty why) x last seen at served walked options goes two run =
-    let c : OutChain = record { places = places; queue = i; taken = q; loaded = loaded; descriptors = ds; head = head; phase = Faulty why } in
+    let c : OutChain =
+    record { places = places; queue = i; taken = q; loaded = loaded; descriptors = ds; head = head; phase = Faulty why } in
     let by : OffersBy m.memory m.limit q loaded [] (Offers head (CannotFetch why)) =
     offers_over m.memory places at m.limit q loaded [] (Offers head (CannotFetch why)) walked.0 in
     let made : ReturnsFaultyBy m i q head why [] x (tells seen) (effects_of c x last seen) (after_alone m c files) = record {
@@ -232,12 +251,21 @@ exchange_of {G} other m files places i q loaded ds head (Faulty why) x last seen
         told = refl;
       };
     } in
-    record { lost = by.1; ring = by.0; all_lost = by.2; offer = Offers head (CannotFetch why); offered = by.3; room = refl; exchanges = made }
+    record {
+      lost = by.1;
+      ring = by.0;
+      all_lost = by.2;
+      offer = Offers head (CannotFetch why);
+      offered = by.3;
+      room = refl;
+      exchanges = made;
+    }
 exchange_of other m files places i q loaded ds head Fetched x last seen at served walked options goes two run = absurd goes
 exchange_of other m files places i q loaded ds head (Own request reply) x last seen at served walked options goes two run = absurd served
 exchange_of other m files places i q loaded ds head (Lost fault) x last seen at served walked options goes two run = absurd goes
 exchange_of {G} other m files places i q loaded ds head (Asked request asked calls) x last seen at served walked options goes two run =
-    let c : OutChain = record { places = places; queue = i; taken = q; loaded = loaded; descriptors = ds; head = head; phase = Asked request asked calls } in
+    let c : OutChain =
+    record { places = places; queue = i; taken = q; loaded = loaded; descriptors = ds; head = head; phase = Asked request asked calls } in
     let room = room_of c in
     let by : OffersBy m.memory m.limit q loaded request (Offers head (IsRequest request room)) =
     offers_over m.memory places at m.limit q loaded request (Offers head (IsRequest request room)) (walked.0.1 request walked.1) in
@@ -257,10 +285,19 @@ exchange_of {G} other m files places i q loaded ds head (Asked request asked cal
         told = refl;
       };
     } in
-    record { lost = by.1; ring = by.0; all_lost = by.2; offer = Offers head (IsRequest request room); offered = by.3; room = refl; exchanges = made }
+    record {
+      lost = by.1;
+      ring = by.0;
+      all_lost = by.2;
+      offer = Offers head (IsRequest request room);
+      offered = by.3;
+      room = refl;
+      exchanges = made;
+    }
 
 -- a chain that is out of a run was walked
-pub walked_there : {F : Type 0} (may : May F) (s now : LiveState F) (es : List LiveEvent) (c : OutChain) (before behind : List OutChain) → s.outs ≡ [] → LiveRun may s es now
+pub walked_there : {F : Type 0} (may : May F) (s now : LiveState F) (es : List LiveEvent) (c : OutChain) (before behind : List OutChain)
+    → s.outs ≡ [] → LiveRun may s es now
     → now.outs ≡ before ++ c ∷ behind → Walked now.limit c
 walked_there may s now es c before behind none run out =
     let start : AllWalked s = subst (AllByRecursion (Walked s.limit)) (sym none) tt in
@@ -268,14 +305,17 @@ walked_there may s now es c before behind none run out =
 
 pub returned_is_step_by : {F G : Type 0} (may : May F) (other : May G) → ReturnedIsStepBy may other
 returned_is_step_by {F} {G} may other s now after es c x notice last used seen m files none run h served first calls =
-    let so : Walked m.limit c = subst (λ (k : ℕ). Walked k c) (sym first.limit) (walked_there may s now es c h.before h.behind none run h.out) in
+    let so : Walked m.limit c =
+    subst (λ (k : ℕ). Walked k c) (sym first.limit) (walked_there may s now es c h.before h.behind none run h.out) in
     let goes : GoesBackWith m.page_size c c.phase x = subst (λ (k : ℕ). GoesBackWith k c c.phase x) (sym first.page_size) h.goes in
-    let made = exchange_of other m files c.places c.queue c.taken c.loaded c.descriptors c.head c.phase x last seen first.places served so first.options goes h.two calls in (
+    let made = exchange_of other m files c.places c.queue c.taken c.loaded c.descriptors c.head c.phase x last seen first.places served so
+    first.options goes h.two calls in (
       h.w,
       h.there,
       record {
         lost = made.lost;
-        step = subst (λ (k : Option Queue). StepOfBy other m c.queue k (chain_loads c made.lost) (calls_in c.phase) (Exchanged x (tells seen)) (effects_of c x last seen) (after_alone m c files)) (sym first.queue)
+        step = subst (λ (k : Option Queue). StepOfBy other m c.queue k (chain_loads c made.lost) (calls_in c.phase)
+            (Exchanged x (tells seen)) (effects_of c x last seen) (after_alone m c files)) (sym first.queue)
             (made.offer, made.offered, made.exchanges);
         acts = ap (λ (u : List Store). return_acts (reply_stores (room_of c) x.reply last ++ u) seen) h.used_is;
       },
@@ -294,8 +334,10 @@ own_is_returned {F} G may s now after es c x notice last used seen request reply
       h.w,
       h.there,
       record {
-        offered = offers_over m.memory c.places first.places now.limit c.taken c.loaded request (Offers c.head (IsRequest request (room_of c)))
-            (subst (λ (r : List ℕ). OffersBy c.places now.limit c.taken c.loaded request (Offers c.head (IsRequest request r))) (sym room) (fetched.1 request whole.0));
+        offered = offers_over m.memory c.places first.places now.limit c.taken c.loaded request
+            (Offers c.head (IsRequest request (room_of c)))
+            (subst (λ (r : List ℕ). OffersBy c.places now.limit c.taken c.loaded request (Offers c.head (IsRequest request r))) (sym room)
+            (fetched.1 request whole.0));
         fits = subst (λ (r : List ℕ). length reply ≤ length r) (sym room) whole.1;
         returns = record {
           exchange = exchange;

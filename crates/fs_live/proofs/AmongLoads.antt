@@ -24,14 +24,17 @@ abbrev StandsAfter : (k : ℕ) → (old w : ChainHandle) → (before : QueueStat
 StandsAfter k old w before = (l : Loaded) × Stands l old w before × (k ≤ made l)
 
 -- one call more
-one_more : (stopped : Option QueueError) (bs : List ℕ) (k : ℕ) (l : Loaded) (old v new : ChainHandle) (before now after : QueueState) (told : went.LoadOutcome) → WantsBytes told → Stands l old v before
+one_more : (stopped : Option QueueError) (bs : List ℕ) (k : ℕ) (l : Loaded) (old v new : ChainHandle) (before now after : QueueState)
+    (told : went.LoadOutcome) → WantsBytes told → Stands l old v before
     → k ≤ made l → AfterCall stopped bs l old v new before now after told → StandsAfter (counted told k) old new before
-one_more stopped bs k l old v new before now after wents.Part wants from come so = (so.0, so.2, subst (λ (x : Loaded). k ≤ made x) (sym so.1) come)
+one_more stopped bs k l old v new before now after wents.Part wants from come so =
+    (so.0, so.2, subst (λ (x : Loaded). k ≤ made x) (sym so.1) come)
 one_more (Some why) bs k l old v new before now after (wents.On (says.Load n)) wants from come so = absurd (subst IsALoad so tt)
 one_more None bs k l old v new before now after (wents.On (says.Load n)) wants from come so =
     let q = queue_of (course_of before old.limit) in
     let c = so.2 in
-    let adds : AddsSo (at.Walking (course_of before old.limit) (pop_id_of before) from.walk) (wents.On (says.Load n)) new.descriptors.items l (whole v bs) so.0 =
+    let adds : AddsSo (at.Walking (course_of before old.limit) (pop_id_of before) from.walk) (wents.On (says.Load n)) new.descriptors.items
+    l (whole v bs) so.0 =
     subst (λ (s : state.ChainState). AddsSo s (wents.On (says.Load n)) new.descriptors.items l (whole v bs) so.0) from.state so.1 in
     let more = made_more (places_in old.regions) q l so.0 v.descriptors.items from.walk (whole v bs) adds.0 from.stands adds.2 in
     (so.0, load_stands so.0 old new before now after n c.came c.told_is c.state c.regions c.limit c.part c.comes, omega (arith, more, come))
@@ -41,10 +44,13 @@ one_more stopped bs k l old v new before now after (wents.On (says.Chain head n 
 one_more stopped bs k l old v new before now after (wents.On (says.Faulty head fault)) wants from come so = absurd wants
 
 -- so stands a walk that wants bytes, after all its loads
-stands_after : (given : List (List ℕ)) (old new : ChainHandle) (before now after : QueueState) (told : went.LoadOutcome) → before.stopped ≡ None → WantsBytes told
-    → (walks : WalksAmong given old new before now after told) → StandsAfter (load_count_among given old new before now after told walks) old new before
+stands_after : (given : List (List ℕ)) (old new : ChainHandle) (before now after : QueueState) (told : went.LoadOutcome)
+    → before.stopped ≡ None → WantsBytes told
+    → (walks : WalksAmong given old new before now after told)
+    → StandsAfter (load_count_among given old new before now after told walks) old new before
 stands_after [] old new before now after told goes wants walks =
-    let s = standing now.stopped [] old new before now after told walks wants (all_among [] old new before now after told goes (wants_unrefused old before told wants) walks) in
+    let s = standing now.stopped [] old new before now after told walks wants
+    (all_among [] old new before now after told goes (wants_unrefused old before told wants) walks) in
     (s.0, s.2, omega arith)
 stands_after (bs ∷ given) old new before now after told goes wants walks =
     let k = load_count_among given old walks.0 before walks.2 walks.3 walks.4 walks.5 in
@@ -64,5 +70,6 @@ handle_loads_among (bs ∷ given) old new before now after told goes walks =
     let s = stands_after given old walks.0 before walks.2 walks.3 walks.4 goes walks.6 walks.5 in
     let from = s.1 in
     let come = s.2 in
-    let room = room_for_one (places_in old.regions) (queue_of (course_of before old.limit)) s.0 walks.0.descriptors.items from.walk from.inside from.stands in
+    let room = room_for_one (places_in old.regions) (queue_of (course_of before old.limit)) s.0 walks.0.descriptors.items from.walk
+    from.inside from.stands in
     at_last told k (before.layout.size + 4) (omega (arith, room, come))

@@ -14,7 +14,8 @@ use Rattle.fs_live.specs.Handles.{live_of}
 use Rattle.fs_live.specs.Runs.{HasUsedEvent}
 use Rattle.fs_live.proofs.Queues.{none_some}
 
-declined_tests : (stopped index used avail : Bool) → (if stopped then Some stop.Stopped else if not index then None else if not used then Some stop.AvailFlagsUnreachable
+declined_tests : (stopped index used avail : Bool) →
+    (if stopped then Some stop.Stopped else if not index then None else if not used then Some stop.AvailFlagsUnreachable
     else if not avail then Some stop.UsedUnreachable else None) ≡ None → index ≡ true → (used ≡ true) × (avail ≡ true)
 declined_tests true index used avail is event = absurd (none_some stop.Stopped (sym is))
 declined_tests false false used avail is event = absurd (true≢false (sym event))
@@ -26,14 +27,17 @@ declined_tests false true true true is event = (refl, refl)
 pub has_events : (m : Memory) (w : LiveQueue) → why_declined m w ≡ None → w.event_index ≡ true
     → (reach m Read (used_event_at w.queue) 2 ≡ true) × (reach m Write (avail_event_at w.queue) 2 ≡ true)
 has_events m w goes event =
-    declined_tests w.queue.stopped w.event_index (reach m Read (used_event_at w.queue) 2) (reach m Write (avail_event_at w.queue) 2) goes event
+    declined_tests w.queue.stopped w.event_index (reach m Read (used_event_at w.queue) 2)
+    (reach m Write (avail_event_at w.queue) 2) goes event
 
 -- the two bytes that are seen have one
-seen_tests : (m : Memory) (b : Bool) (flags event : ℕ) → reach m Read flags 2 ≡ true → (b ≡ true → reach m Read event 2 ≡ true) → reach m Read (if b then event else flags) 2 ≡ true
+seen_tests : (m : Memory) (b : Bool) (flags event : ℕ) → reach m Read flags 2 ≡ true → (b ≡ true → reach m Read event 2 ≡ true) →
+    reach m Read (if b then event else flags) 2 ≡ true
 seen_tests m true flags event one two = two refl
 seen_tests m false flags event one two = one
 
-pub seen_has_a_place : (m : Memory) (w : LiveQueue) → reach m Read w.queue.avail 2 ≡ true → HasUsedEvent m w → reach m Read (seen_at w) 2 ≡ true
+pub seen_has_a_place :
+    (m : Memory) (w : LiveQueue) → reach m Read w.queue.avail 2 ≡ true → HasUsedEvent m w → reach m Read (seen_at w) 2 ≡ true
 seen_has_a_place m w flags event = seen_tests m w.event_index w.queue.avail (used_event_at w.queue) flags event
 
 -- a kept queue that isn't stopped, and whose event index has its places, isn't declined

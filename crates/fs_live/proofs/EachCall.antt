@@ -10,7 +10,8 @@ use Rattle.server_calls.specs.Requests.{entry_node, give_back, given_back, optio
 use Rattle.server_replies.specs.Entries.{Fit, GoesIn, IsFull, IsWrong, entry_bytes, entry_len, fit_of, is_dot, no_node}
 use Rattle.server_replies.specs.WholeReplies.{error_bytes, listing_bytes}
 use Rattle.virtiofsd_fuse.specs.Grammar.{Meaning, IsFault, Replies, IsSilent, Asks, One, Starts, Lists}
-use Rattle.virtiofsd_fuse.specs.Listings.{ListRequest, Next, ListingResult, after_call, list_entries, looked_up, placed, readdir_call, undo_call, with_entry}
+use Rattle.virtiofsd_fuse.specs.Listings.{ListRequest, Next, ListingResult, after_call, list_entries, looked_up, placed, readdir_call}
+use Rattle.virtiofsd_fuse.specs.Listings.{undo_call, with_entry}
 use Rattle.virtiofsd_fuse.specs.Serving.{Setting, answer_bytes, list_answered, replied, served, start_answered, start_options, undone}
 use Rattle.plain_machine.specs.Step.{Calls, answers_alone, calls_alone}
 
@@ -33,7 +34,8 @@ choose : (b : Bool) (n : ℕ) (x y x' y' : ListingResult) → Leads n x x' → L
 choose true n x y x' y' one two = one
 choose false n x y x' y' one two = two
 
-placed_leads : (f : Fit) (bytes : List ℕ) (undo : List FileCall) (n : ℕ) (x y : ListingResult) → undo ≡ take n undo → Leads n x y → Leads n (placed f bytes undo x) (placed f bytes undo y)
+placed_leads : (f : Fit) (bytes : List ℕ) (undo : List FileCall) (n : ℕ) (x y : ListingResult) → undo ≡ take n undo → Leads n x y →
+    Leads n (placed f bytes undo x) (placed f bytes undo y)
 placed_leads GoesIn bytes undo n x y short leads = leads
 placed_leads IsFull bytes undo n x y short leads = short
 placed_leads (IsWrong errno) bytes undo n x y short leads = short
@@ -42,11 +44,13 @@ placed_leads (IsWrong errno) bytes undo n x y short leads = short
 abbrev NextLeads : Next → Type 0
 NextLeads next = (left room : ℕ) (few more : List FileAnswer) → Leads (suc (length few)) (next left room few) (next left room (few ++ more))
 
-entry_leads : (b : Bool) (d : Listed) (e : Entry ℕ) (undo : List FileCall) (next : Next) (left room : ℕ) (few more : List FileAnswer) → undo ≡ take (suc (length few)) undo → NextLeads next
+entry_leads : (b : Bool) (d : Listed) (e : Entry ℕ) (undo : List FileCall) (next : Next) (left room : ℕ) (few more : List FileAnswer)
+    → undo ≡ take (suc (length few)) undo → NextLeads next
     → Leads (suc (length few)) (with_entry b d e undo next left room few) (with_entry b d e undo next left room (few ++ more))
 entry_leads b d e undo next left room few more short leads =
     let len = entry_len b (length d.name) in
-    placed_leads (fit_of (length d.name) len left room) (entry_bytes b e d) undo (suc (length few)) (next (left - len) (room - len) few) (next (left - len) (room - len) (few ++ more)) short
+    placed_leads (fit_of (length d.name) len left room) (entry_bytes b e d) undo (suc (length few)) (next (left - len) (room - len) few)
+    (next (left - len) (room - len) (few ++ more)) short
     (leads (left - len) (room - len) few more)
 
 one_undo : (who : Context) (node n : ℕ) → undo_call who node ∷ [] ≡ take (suc n) (undo_call who node ∷ [])
@@ -78,17 +82,22 @@ list_leads l (d ∷ ds) left room few more =
     let n = suc (length few) in
     let rest : NextLeads next = list_leads l ds in
     let plain : List FileAnswer → ListingResult = λ answers. with_entry false d (no_node d) [] next left room answers in
-    let dot : List FileAnswer → ListingResult = λ answers. with_entry true d (no_node d) (undo_call l.context 0 ∷ []) next left room answers in
-    let looks : List FileAnswer → ListingResult = λ answers. after_call (Lookup l.context l.node d.name) (looked_up l d next left room answers) in
-    let looked : Leads n (looks few) (looks (few ++ more)) = ap (λ (cs : List FileCall). Lookup l.context l.node d.name ∷ cs) (looked_leads l d next left room few more rest) in
-    choose (not l.with_nodes) n (plain few) (if is_dot d.name then dot few else looks few) (plain (few ++ more)) (if is_dot d.name then dot (few ++ more) else looks (few ++ more))
+    let dot : List FileAnswer → ListingResult =
+    λ answers. with_entry true d (no_node d) (undo_call l.context 0 ∷ []) next left room answers in
+    let looks : List FileAnswer → ListingResult =
+    λ answers. after_call (Lookup l.context l.node d.name) (looked_up l d next left room answers) in
+    let looked : Leads n (looks few) (looks (few ++ more)) =
+    ap (λ (cs : List FileCall). Lookup l.context l.node d.name ∷ cs) (looked_leads l d next left room few more rest) in
+    choose (not l.with_nodes) n (plain few) (if is_dot d.name then dot few else looks few) (plain (few ++ more))
+    (if is_dot d.name then dot (few ++ more) else looks (few ++ more))
     (entry_leads false d (no_node d) [] next left room few more refl rest)
     (choose (is_dot d.name) n (dot few) (looks few) (dot (few ++ more)) (looks (few ++ more))
     (entry_leads true d (no_node d) (undo_call l.context 0 ∷ []) next left room few more (one_undo l.context 0 (length few)) rest) looked)
 
 -- ---- replies
 
-by_room : (room : ℕ) (calls : List FileCall) (o : ℕ) (bytes : List ℕ) (b : Bool) → nat_lt room (length bytes) ≡ b → (replied room calls o bytes).calls ≡ calls
+by_room : (room : ℕ) (calls : List FileCall) (o : ℕ) (bytes : List ℕ) (b : Bool) → nat_lt room (length bytes) ≡ b →
+    (replied room calls o bytes).calls ≡ calls
 by_room room calls o bytes true is = rw is refl
 by_room room calls o bytes false is = rw is refl
 
@@ -96,15 +105,18 @@ reply_calls : (room : ℕ) (calls : List FileCall) (o : ℕ) (bytes : List ℕ) 
 reply_calls room calls o bytes = by_room room calls o bytes (nat_lt room (length bytes)) refl
 
 -- a reply with no more calls than these leads any
-same_reply : (room : ℕ) (calls : List FileCall) (o : ℕ) (bytes : List ℕ) (n : ℕ) → calls ≡ take n calls → (replied room calls o bytes).calls ≡ take n (replied room calls o bytes).calls
+same_reply : (room : ℕ) (calls : List FileCall) (o : ℕ) (bytes : List ℕ) (n : ℕ) → calls ≡ take n calls →
+    (replied room calls o bytes).calls ≡ take n (replied room calls o bytes).calls
 same_reply room calls o bytes n short =
     reply_calls room calls o bytes ∙ short ∙ sym (ap (λ (cs : List FileCall). take n cs) (reply_calls room calls o bytes))
 
 -- of any reply the first call alone
-same_first : (room : ℕ) (call : FileCall) (calls : List FileCall) (o : ℕ) (bytes : List ℕ) → call ∷ [] ≡ take 1 (replied room (call ∷ calls) o bytes).calls
+same_first : (room : ℕ) (call : FileCall) (calls : List FileCall) (o : ℕ) (bytes : List ℕ) →
+    call ∷ [] ≡ take 1 (replied room (call ∷ calls) o bytes).calls
 same_first room call calls o bytes = sym (ap (λ (cs : List FileCall). take 1 cs) (reply_calls room (call ∷ calls) o bytes))
 
-list_first : (s : Setting) (unique : ℕ) (l : ListRequest) (a : FileAnswer) (answers : List FileAnswer) → readdir_call l ∷ [] ≡ take 1 (list_answered s unique l a answers).calls
+list_first : (s : Setting) (unique : ℕ) (l : ListRequest) (a : FileAnswer) (answers : List FileAnswer) →
+    readdir_call l ∷ [] ≡ take 1 (list_answered s unique l a answers).calls
 list_first s unique l (file.Failed errno) answers = same_first s.room (readdir_call l) [] s.options (error_bytes unique errno)
 list_first s unique l (file.Entries ds) answers =
     let w = list_entries l ds l.size (s.room - 16) answers in
@@ -132,7 +144,8 @@ list_more s unique l (file.Entries ds) few more =
     let w = list_entries l ds l.size (s.room - 16) (few ++ more) in
     reply_calls s.room (readdir_call l ∷ v.calls) s.options (listing_bytes unique l.with_nodes v.bytes v.error)
     ∙ ap (λ (cs : List FileCall). readdir_call l ∷ cs) (list_leads l ds l.size (s.room - 16) few more)
-    ∙ sym (ap (λ (cs : List FileCall). take n cs) (reply_calls s.room (readdir_call l ∷ w.calls) s.options (listing_bytes unique l.with_nodes w.bytes w.error)))
+    ∙ sym (ap (λ (cs : List FileCall). take n cs)
+    (reply_calls s.room (readdir_call l ∷ w.calls) s.options (listing_bytes unique l.with_nodes w.bytes w.error)))
 list_more s unique l (file.Failed errno) few more =
     same_reply s.room (readdir_call l ∷ []) s.options (error_bytes unique errno) (suc (suc (length few))) (one_readdir l (length few))
 list_more s unique l file.Done few more = refl
@@ -199,14 +212,16 @@ back_short (file.CopyFileRange a b c d e f g h i) answer n = refl
 back_short (file.Syncfs a b) answer n = refl
 back_short file.TmpFile answer n = refl
 
-undone_short : (b : Bool) (undo : List FileCall) (n : ℕ) → undo ≡ take (suc n) undo → (if b then undo else []) ≡ take (suc n) (if b then undo else [])
+undone_short :
+    (b : Bool) (undo : List FileCall) (n : ℕ) → undo ≡ take (suc n) undo → (if b then undo else []) ≡ take (suc n) (if b then undo else [])
 undone_short true undo n short = short
 undone_short false undo n short = refl
 
 -- ---- what is served
 
 -- the calls by some answers are the first ones of those by more answers: one more than the answers are, or fewer
-pub served_leads : (s : Setting) (m : Meaning) (few more : List FileAnswer) → (served s m few).calls ≡ take (suc (length few)) (served s m (few ++ more)).calls
+pub served_leads : (s : Setting) (m : Meaning) (few more : List FileAnswer) →
+    (served s m few).calls ≡ take (suc (length few)) (served s m (few ++ more)).calls
 served_leads s (IsFault fault) few more = refl
 served_leads s (Replies bytes) few more = same_reply s.room [] s.options bytes (suc (length few)) refl
 served_leads s IsSilent few more = refl
@@ -217,17 +232,20 @@ served_leads s (Asks (One unique call)) [] (a ∷ more) =
 served_leads s (Asks (One unique call)) (a ∷ few) more =
     let bytes = answer_bytes unique call a in
     same_reply s.room (call ∷ undone s.room bytes (given_back call a)) (options_after s.options call) bytes (suc (suc (length few)))
-    (ap (λ (cs : List FileCall). call ∷ cs) (undone_short (nat_lt s.room (length bytes)) (given_back call a) (length few) (back_short call a (length few))))
+    (ap (λ (cs : List FileCall). call ∷ cs)
+    (undone_short (nat_lt s.room (length bytes)) (given_back call a) (length few) (back_short call a (length few))))
 served_leads s (Asks (Starts unique capable readahead)) [] [] = refl
 served_leads s (Asks (Starts unique capable readahead)) [] (a ∷ more) =
     same_first s.room (Init capable) [] (start_options s.options capable a) (start_answered s.page_size unique capable readahead a)
 served_leads s (Asks (Starts unique capable readahead)) (a ∷ few) more =
-    same_reply s.room (Init capable ∷ []) (start_options s.options capable a) (start_answered s.page_size unique capable readahead a) (suc (suc (length few))) refl
+    same_reply s.room (Init capable ∷ []) (start_options s.options capable a) (start_answered s.page_size unique capable readahead a)
+    (suc (suc (length few))) refl
 served_leads s (Asks (Lists unique l)) [] [] = refl
 served_leads s (Asks (Lists unique l)) [] (a ∷ more) = list_first s unique l a more
 served_leads s (Asks (Lists unique l)) (a ∷ few) more = list_more s unique l a few more
 
-take_front : (earlier : Calls) (call : FileCall) (calls : List FileCall) → take (suc (length (answers_alone earlier))) (calls_alone earlier ++ call ∷ calls) ≡ calls_alone earlier ++ call ∷ []
+take_front : (earlier : Calls) (call : FileCall) (calls : List FileCall) →
+    take (suc (length (answers_alone earlier))) (calls_alone earlier ++ call ∷ calls) ≡ calls_alone earlier ++ call ∷ []
 take_front [] call calls = refl
 take_front (step ∷ earlier) call calls = ap (λ (cs : List FileCall). step.0 ∷ cs) (take_front earlier call calls)
 

@@ -33,11 +33,13 @@ use Rattle.fs_chain.specs.Answers.{CanBeGiven, IfWaits, IsGiven, IsWaiting}
 use Rattle.fs_chain.specs.Decoding.{KeepsCall, KeepsReply, TellsMeaning, asked_of}
 use Rattle.fs_chain.specs.Events.{event_fault}
 use Rattle.fs_chain.specs.Events as chain_events
-use Rattle.fs_chain.specs.Walks.{BeginsPop, BeginsUnless, BeginsWhere, WalksFrom, WalksOn, RefusalHasEvents, course_of, faulty_out, no_reply, out_of, queue_after, state_after, told_of}
+use Rattle.fs_chain.specs.Walks.{BeginsPop, BeginsUnless, BeginsWhere, WalksFrom, WalksOn, RefusalHasEvents, course_of, faulty_out}
+use Rattle.fs_chain.specs.Walks.{no_reply, out_of, queue_after, state_after, told_of}
 use Rattle.fs_chain.specs.Loads.{GoesSo, whole}
 use Rattle.fs_chain.specs.Orders.{begin_error, front_len, load_len, walk_error}
 use Rattle.fs_chain.specs.Pushes.{PushesBy}
-use Rattle.fs_chain.specs.Whole.{BeginsPopBy, ByEntries, FromReplied, FromTaken, ChainAnswer, HasReply, NoAnswer, OneAnswer, WalksBy, WantsBytes, data_behind, file_calls, reply_bytes}
+use Rattle.fs_chain.specs.Whole.{BeginsPopBy, ByEntries, FromReplied, FromTaken, ChainAnswer, HasReply, NoAnswer, OneAnswer, WalksBy}
+use Rattle.fs_chain.specs.Whole.{WantsBytes, data_behind, file_calls, reply_bytes}
 use Rattle.fs_chain.specs.Whole.{acts_of as acts_by}
 use Rattle.fs_chain.specs.declared.answering.Replied.{Replied}
 use Rattle.fs_chain.specs.declared.decoding.Decoded as told
@@ -90,46 +92,58 @@ use Rattle.fs_live.proofs.Refusals.{refusal_stops}
 -- what a walk came to is an event, which leaves the queue so, and the handle has its chain
 abbrev pub WalkEvent : {F : Type 0} → LiveState F → ℕ → QueueState → QueueState → Loaded → List Descriptor → comes.CourseStep → Type 0
 WalkEvent {F} s i before after loaded ds came =
-    WalksIn s i (live_of before) loaded ds came (after_walk s i (live_of before) loaded ds came) × (slice_get (after_walk s i (live_of before) loaded ds came).queues i ≡ Some (live_of after))
+    WalksIn s i (live_of before) loaded ds came (after_walk s i (live_of before) loaded ds came)
+    × (slice_get (after_walk s i (live_of before) loaded ds came).queues i ≡ Some (live_of after))
 
 stopped_by : (q : QueueState) (after : QueueState) (e : QueueError) → stops_queue e ≡ true → after ≡ record q { stopped = Some e }
     → Some (record (live_of q) { queue = after_refusal (live_of q).queue e }) ≡ Some (live_of after)
 stopped_by q after e stops left =
-    ap (λ (b : Bool). Some (record (live_of q) { queue = if b then with_stop (live_of q).queue else (live_of q).queue })) stops ∙ ap (λ (k : QueueState). Some (live_of k)) (sym left)
+    ap (λ (b : Bool). Some (record (live_of q) { queue = if b then with_stop (live_of q).queue else (live_of q).queue })) stops
+    ∙ ap (λ (k : QueueState). Some (live_of k)) (sym left)
 
-pub event_of : {F : Type 0} (s : LiveState F) (i : ℕ) (before after : QueueState) (loaded : Loaded) (ds : List Descriptor) (came : comes.CourseStep) → slice_get s.queues i ≡ Some (live_of before)
+pub event_of : {F : Type 0} (s : LiveState F) (i : ℕ) (before after : QueueState) (loaded : Loaded) (ds : List Descriptor)
+    (came : comes.CourseStep) → slice_get s.queues i ≡ Some (live_of before)
     → after ≡ queue_after before came → IsPopDone (told_of ds came) → (live_of before).queue ≡ queue_of (course_of before 0)
     → IsCourseStep s.places s.limit (live_of before).queue loaded ds came → WalkEvent s i before after loaded ds came
 event_of s i before after loaded ds (step.Load walk) there left done goes comes = absurd done
-event_of s i before after loaded ds step.Idle there left done goes comes = ((comes, refl), there ∙ ap (λ (q : QueueState). Some (live_of q)) (sym left))
+event_of s i before after loaded ds step.Idle there left done goes comes =
+    ((comes, refl), there ∙ ap (λ (q : QueueState). Some (live_of q)) (sym left))
 event_of s i before after loaded ds (step.Refused e) there left done goes comes =
     let w = record (live_of before) { queue = after_refusal (live_of before).queue e } in
-    let stops = refusal_stops s.places s.limit (course_of before 0) loaded e (subst (λ (q : Queue). OffersBy s.places s.limit q loaded [] (Refuses e)) goes comes) in
+    let stops = refusal_stops s.places s.limit (course_of before 0) loaded e
+    (subst (λ (q : Queue). OffersBy s.places s.limit q loaded [] (Refuses e)) goes comes) in
     ((comes, refl), there_same s.queues i i (λ _. w) (live_of before) refl there ∙ stopped_by before after e stops left)
 event_of s i before after loaded ds (step.Chain head None) there left done goes comes = (
   (comes, refl),
-  there_same s.queues i i (λ _. several.took (live_of before)) (live_of before) refl there ∙ ap (λ (q : QueueState). Some (live_of q)) (sym left),
+  there_same s.queues i i (λ _. several.took (live_of before)) (live_of before) refl there
+      ∙ ap (λ (q : QueueState). Some (live_of q)) (sym left),
 )
 event_of s i before after loaded ds (step.Chain head (Some fault)) there left done goes comes = (
   (comes, refl),
-  there_same s.queues i i (λ _. several.took (live_of before)) (live_of before) refl there ∙ ap (λ (q : QueueState). Some (live_of q)) (sym left),
+  there_same s.queues i i (λ _. several.took (live_of before)) (live_of before) refl there
+      ∙ ap (λ (q : QueueState). Some (live_of q)) (sym left),
 )
 
-pub held_by : {F : Type 0} (s : LiveState F) (i : ℕ) (q : LiveQueue) (before : QueueState) (loaded : Loaded) (came : comes.CourseStep) (w : ChainHandle) → s.places ≡ places_in w.regions → q.queue ≡ queue_of (course_of before s.limit)
+pub held_by : {F : Type 0} (s : LiveState F) (i : ℕ) (q : LiveQueue) (before : QueueState) (loaded : Loaded) (came : comes.CourseStep)
+    (w : ChainHandle) → s.places ≡ places_in w.regions → q.queue ≡ queue_of (course_of before s.limit)
     → w.state ≡ state_after (course_of before s.limit) (pop_id_of before) w.descriptors.items came → IsHeld s i q loaded came w
 held_by s i q before loaded (step.Load walk) w places goes is = tt
 held_by s i q before loaded step.Idle w places goes is = tt
 held_by s i q before loaded (step.Refused e) w places goes is = tt
-held_by s i q before loaded (step.Chain head None) w places goes is = record { kept = before; pop_id = pop_id_of before; places = places; taken = goes; state = is }
-held_by s i q before loaded (step.Chain head (Some why)) w places goes is = record { kept = before; pop_id = pop_id_of before; places = places; taken = goes; state = is }
+held_by s i q before loaded (step.Chain head None) w places goes is =
+    record { kept = before; pop_id = pop_id_of before; places = places; taken = goes; state = is }
+held_by s i q before loaded (step.Chain head (Some why)) w places goes is =
+    record { kept = before; pop_id = pop_id_of before; places = places; taken = goes; state = is }
 
 -- a walk to its end goes through a queue whose event index has its places: else it was refused by that
 abbrev pub IsUnrefused : went.LoadOutcome → ChainHandle → QueueState → Type 0
 IsUnrefused wents.Part w q = Unit {0}
 IsUnrefused (wents.On told) w q = RefusalHasEvents told w q
 
-pub walked_events : (given : List (List ℕ)) (old new : ChainHandle) (before after : QueueState) (told : walked.PopOutcome) (fault : Option QueueError) → event_fault (places_in old.regions) before ≡ fault
-    → before.stopped ≡ None → RefusalHasEvents told old before → WalksBy given old new before after (wents.On told) → event_fault (places_in old.regions) before ≡ None
+pub walked_events : (given : List (List ℕ)) (old new : ChainHandle) (before after : QueueState) (told : walked.PopOutcome)
+    (fault : Option QueueError) → event_fault (places_in old.regions) before ≡ fault
+    → before.stopped ≡ None → RefusalHasEvents told old before → WalksBy given old new before after (wents.On told)
+    → event_fault (places_in old.regions) before ≡ None
 walked_events given old new before after told None is goes refusal walks = is
 walked_events given old new before after told (Some e) is goes refusal walks =
     let refused = event_fault_refuses given e old new before after (wents.On told) goes is walks in
@@ -142,12 +156,15 @@ no_load w free = ap load_len free
 whole_of_none : (w : ChainHandle) → w.state ≡ at.Free → whole w [] ≡ []
 whole_of_none w free = rw (no_load w free) refl
 
-pub begins_whole : (old : ChainHandle) (before : QueueState) (new : ChainHandle) (after : QueueState) → old.state ≡ at.Free → GoesSo old before [] wents.Part new after → ⊥
+pub begins_whole : (old : ChainHandle) (before : QueueState) (new : ChainHandle) (after : QueueState) → old.state ≡ at.Free →
+    GoesSo old before [] wents.Part new after → ⊥
 begins_whole old before new after free call = let none = no_load old free in let few = call.1 in omega (arith, none, few)
 
-begun : (old new : ChainHandle) (before after : QueueState) (told : walked.PopOutcome) → BeginsPopBy old new before after (wents.On told) → BeginsPop old new before after told
+begun : (old new : ChainHandle) (before after : QueueState) (told : walked.PopOutcome) → BeginsPopBy old new before after (wents.On told) →
+    BeginsPop old new before after told
 begun old new before after told by =
-    let walks : WalksOn [] old new before after told = subst (λ (bs : List ℕ). WalksOn bs old new before after told) (whole_of_none old by.0) by.1.4 in
+    let walks : WalksOn [] old new before after told =
+    subst (λ (bs : List ℕ). WalksOn bs old new before after told) (whole_of_none old by.0) by.1.4 in
     subst (λ (s : state.ChainState). WalksFrom s [] old new before after told) by.0 walks
 
 begin_tests : (a c : Bool) → (if not a then Some error.BadArgument else if not c then Some error.ChainInFlight else None) ≡ None → c ≡ true
@@ -156,16 +173,20 @@ begin_tests true false is = absurd (none_some error.ChainInFlight (sym is))
 begin_tests true true is = refl
 
 -- one more chain may be out
-pub begun_room : (old new : ChainHandle) (before after : QueueState) (told : walked.PopOutcome) → BeginsPopBy old new before after (wents.On told) → IsTrue (may_take (live_of before))
+pub begun_room : (old new : ChainHandle) (before after : QueueState) (told : walked.PopOutcome) →
+    BeginsPopBy old new before after (wents.On told) → IsTrue (may_take (live_of before))
 begun_room old new before after told by =
-    let clear : begin_error before (length (whole old [])) ≡ None = subst (λ (s : state.ChainState). walk_error s before (length (whole old [])) ≡ None) by.0 by.1.3 in
+    let clear : begin_error before (length (whole old [])) ≡ None =
+    subst (λ (s : state.ChainState). walk_error s before (length (whole old [])) ≡ None) by.0 by.1.3 in
     begin_tests (length (whole old []) == 0) (may_take (live_of before)) clear
 
-first_room : (old new : ChainHandle) (before after : QueueState) (told : went.LoadOutcome) → BeginsPopBy old new before after told → IsTrue (may_take (live_of before))
+first_room : (old new : ChainHandle) (before after : QueueState) (told : went.LoadOutcome) → BeginsPopBy old new before after told →
+    IsTrue (may_take (live_of before))
 first_room old new before after wents.Part by = absurd (begins_whole old before new after by.0 by.1)
 first_room old new before after (wents.On told) by = begun_room old new before after told by
 
-walked_room : (given : List (List ℕ)) (old new : ChainHandle) (before after : QueueState) (told : went.LoadOutcome) → WalksBy given old new before after told → IsTrue (may_take (live_of before))
+walked_room : (given : List (List ℕ)) (old new : ChainHandle) (before after : QueueState) (told : went.LoadOutcome) →
+    WalksBy given old new before after told → IsTrue (may_take (live_of before))
 walked_room [] old new before after told walks = first_room old new before after told walks
 walked_room (bs ∷ given) old new before after told walks = walked_room given old walks.0 before walks.1 walks.2 walks.3
 
@@ -188,41 +209,57 @@ handle_walks {F} may s i given old new before after told there places limit goes
     let events = walked_events given old new before after told (event_fault (places_in old.regions) before) refl goes refusal walks in
     let room = walked_room given old new before after (wents.On told) walks in
     let clear : why_declined s.places (live_of before) ≡ None =
-    subst (λ (m : Memory). why_declined m (live_of before) ≡ None) (sym places) (goes_there (places_in old.regions) before goes events) in
-    (loaded, made.1, came, keeps.0, record { w = live_of before; there = there; room = room; goes = clear; walks = event.0 }, event.1, held_by s i (live_of before) before loaded came new (places ∙ ap (λ (r : Mapped). places_in r) (sym keeps.4.0)) queue state_is)
+    subst (λ (m : Memory). why_declined m (live_of before) ≡ None) (sym places) (goes_there (places_in old.regions) before goes events) in (
+      loaded,
+      made.1,
+      came,
+      keeps.0,
+      record { w = live_of before; there = there; room = room; goes = clear; walks = event.0 },
+      event.1,
+      held_by s i (live_of before) before loaded came new (places ∙ ap (λ (r : Mapped). places_in r) (sym keeps.4.0)) queue state_is,
+    )
 
 -- ---- walks without a load
 
 -- it is refused by this, and the queue is as a refusal leaves it
 abbrev IsDeclined : went.LoadOutcome → (e : QueueError) → (before after : QueueState) → Type 0
 IsDeclined wents.Part e before after = ⊥
-IsDeclined (wents.On told) e before after = (told ≡ says.Refused e) × (Some (record (live_of before) { queue = after_refusal (live_of before).queue e }) ≡ Some (live_of after))
+IsDeclined (wents.On told) e before after =
+    (told ≡ says.Refused e) × (Some (record (live_of before) { queue = after_refusal (live_of before).queue e }) ≡ Some (live_of after))
 
 -- the event index's places stop it
 lacks_stop : (index used avail : Bool) (e : QueueError)
-    → (if not index then None else if not used then Some stop.AvailFlagsUnreachable else if not avail then Some stop.UsedUnreachable else None) ≡ Some e → stops_queue e ≡ true
+    → (if not index then None else if not used then Some stop.AvailFlagsUnreachable else if not avail then Some stop.UsedUnreachable
+    else None) ≡ Some e → stops_queue e ≡ true
 lacks_stop false used avail e is = absurd (none_some e is)
 lacks_stop true false avail e is = ap (λ (x : Option QueueError). stops_queue (unwrap_or x stop.UsedUnreachable)) (sym is)
 lacks_stop true true false e is = ap (λ (x : Option QueueError). stops_queue (unwrap_or x stop.UsedUnreachable)) (sym is)
 lacks_stop true true true e is = absurd (none_some e is)
 
-declined_there : (old new : ChainHandle) (before after : QueueState) (told : walked.PopOutcome) (e : QueueError) (fault : Option QueueError) → fault ≡ Some e → stops_queue e ≡ true
+declined_there : (old new : ChainHandle) (before after : QueueState) (told : walked.PopOutcome) (e : QueueError) (fault : Option QueueError)
+    → fault ≡ Some e → stops_queue e ≡ true
     → BeginsWhere fault old new before after told → IsDeclined (wents.On told) e before after
 declined_there old new before after told e None is stops begins = absurd (none_some e is)
 declined_there old new before after told e (Some d) is stops begins =
-    let same : d ≡ e = same_some d e is in
-    (begins.0 ∙ ap (λ (k : QueueError). says.Refused k) same, stopped_by before after e stops (begins.2 ∙ ap (λ (k : QueueError). record before { stopped = Some k }) same))
+    let same : d ≡ e = same_some d e is in (
+      begins.0 ∙ ap (λ (k : QueueError). says.Refused k) same,
+      stopped_by before after e stops (begins.2 ∙ ap (λ (k : QueueError). record before { stopped = Some k }) same),
+    )
 
-declined_by : (old new : ChainHandle) (before after : QueueState) (told : walked.PopOutcome) (e : QueueError) (stopped : Option QueueError) → before.stopped ≡ stopped
-    → (if is_some stopped then Some stop.Stopped else event_fault (places_in old.regions) before) ≡ Some e → BeginsUnless stopped old new before after told → IsDeclined (wents.On told) e before after
+declined_by : (old new : ChainHandle) (before after : QueueState) (told : walked.PopOutcome) (e : QueueError) (stopped : Option QueueError)
+    → before.stopped ≡ stopped
+    → (if is_some stopped then Some stop.Stopped else event_fault (places_in old.regions) before) ≡ Some e
+    → BeginsUnless stopped old new before after told → IsDeclined (wents.On told) e before after
 declined_by old new before after told e (Some why) is lacks begins =
     let same : stop.Stopped ≡ e = same_some stop.Stopped e lacks in (
       begins.0 ∙ ap (λ (k : QueueError). says.Refused k) same,
-      ap (λ (k : QueueError). Some (record (live_of before) { queue = after_refusal (live_of before).queue k })) (sym same) ∙ ap (λ (q : QueueState). Some (live_of q)) (sym begins.2),
+      ap (λ (k : QueueError). Some (record (live_of before) { queue = after_refusal (live_of before).queue k })) (sym same)
+          ∙ ap (λ (q : QueueState). Some (live_of q)) (sym begins.2),
     )
 declined_by old new before after told e None is lacks begins =
     let m = places_in old.regions in
-    let stops = lacks_stop before.event_index (reach m Read (chain_events.used_event_at before.layout) 2) (reach m Write (chain_events.avail_event_at before.layout) 2) e lacks in
+    let stops = lacks_stop before.event_index (reach m Read (chain_events.used_event_at before.layout) 2)
+    (reach m Write (chain_events.avail_event_at before.layout) 2) e lacks in
     declined_there old new before after told e (event_fault m before) lacks stops begins
 
 -- and one more chain may be out
@@ -230,18 +267,23 @@ abbrev IsDeclinedThere : went.LoadOutcome → (e : QueueError) → (before after
 IsDeclinedThere wents.Part e before after = ⊥
 IsDeclinedThere (wents.On told) e before after = IsDeclined (wents.On told) e before after × IsTrue (may_take (live_of before))
 
-declined_first : (old new : ChainHandle) (before after : QueueState) (told : went.LoadOutcome) (e : QueueError) → why_declined (places_in old.regions) (live_of before) ≡ Some e
+declined_first : (old new : ChainHandle) (before after : QueueState) (told : went.LoadOutcome) (e : QueueError)
+    → why_declined (places_in old.regions) (live_of before) ≡ Some e
     → BeginsPopBy old new before after told → IsDeclinedThere told e before after
 declined_first old new before after wents.Part e why by = begins_whole old before new after by.0 by.1
-declined_first old new before after (wents.On told) e why by =
-    (declined_by old new before after told e before.stopped refl why (begun old new before after told by), begun_room old new before after told by)
+declined_first old new before after (wents.On told) e why by = (
+  declined_by old new before after told e before.stopped refl why (begun old new before after told by),
+  begun_room old new before after told by,
+)
 
-wants_none : (told : went.LoadOutcome) (e : QueueError) (before after : QueueState) → IsDeclinedThere told e before after → WantsBytes told → ⊥
+wants_none :
+    (told : went.LoadOutcome) (e : QueueError) (before after : QueueState) → IsDeclinedThere told e before after → WantsBytes told → ⊥
 wants_none wents.Part e before after declined wants = declined
 wants_none (wents.On told) e before after declined wants = subst (λ (k : walked.PopOutcome). WantsBytes (wents.On k)) declined.0.0 wants
 
 -- so no call is behind the first one
-declined_walk : (given : List (List ℕ)) (old new : ChainHandle) (before after : QueueState) (told : went.LoadOutcome) (e : QueueError) → why_declined (places_in old.regions) (live_of before) ≡ Some e
+declined_walk : (given : List (List ℕ)) (old new : ChainHandle) (before after : QueueState) (told : went.LoadOutcome) (e : QueueError)
+    → why_declined (places_in old.regions) (live_of before) ≡ Some e
     → WalksBy given old new before after told → (given ≡ []) × IsDeclinedThere told e before after
 declined_walk [] old new before after told e why walks = (refl, declined_first old new before after told e why walks)
 declined_walk (bs ∷ given) old new before after told e why walks =
@@ -250,7 +292,8 @@ declined_walk (bs ∷ given) old new before after told e why walks =
 
 pub handle_declines : {F : Type 0} (may : May F) → HandleDeclines may
 handle_declines {F} may s i given old new before after told e there places why walks =
-    let there_why : why_declined (places_in old.regions) (live_of before) ≡ Some e = subst (λ (m : Memory). why_declined m (live_of before) ≡ Some e) places why in
+    let there_why : why_declined (places_in old.regions) (live_of before) ≡ Some e =
+    subst (λ (m : Memory). why_declined m (live_of before) ≡ Some e) places why in
     let so = declined_walk given old new before after (wents.On told) e there_why walks in
     let w = record (live_of before) { queue = after_refusal (live_of before).queue e } in (
       so.1.0.0,
@@ -267,11 +310,13 @@ first_waits s (One unique call) = refl
 first_waits s (Starts unique capable readahead) = refl
 first_waits s (Lists unique l) = refl
 
-call_waits : (s : Setting) (m : Meaning) (command : FileCommand) (c : FileCall) → m ≡ Asks command → c ≡ first_call command → c ∷ [] ≡ (served s m []).calls
+call_waits : (s : Setting) (m : Meaning) (command : FileCommand) (c : FileCall) → m ≡ Asks command → c ≡ first_call command →
+    c ∷ [] ≡ (served s m []).calls
 call_waits s m command c is made =
     ap (λ (k : FileCall). k ∷ []) made ∙ sym (ap (λ (k : Meaning). (served s k []).calls) is ∙ first_waits s command)
 
-by_call : (s : Setting) (m : Meaning) (behind : List ℕ) (made : made_call.FileCall) (out : InFlight) (st : state.ChainState) → KeepsCall s m behind made out st → call_of behind made ∷ [] ≡ (served s m []).calls
+by_call : (s : Setting) (m : Meaning) (behind : List ℕ) (made : made_call.FileCall) (out : InFlight) (st : state.ChainState) →
+    KeepsCall s m behind made out st → call_of behind made ∷ [] ≡ (served s m []).calls
 by_call s m behind made out (at.Waits kept w) keeps = call_waits s m keeps.1.0 (call_of behind made) keeps.1.1 keeps.1.2
 by_call s m behind made out (at.Lists kept l) keeps = call_waits s m keeps.1.0 (call_of behind made) keeps.1.1 keeps.1.2
 by_call s m behind made out at.Free keeps = absurd keeps
@@ -280,11 +325,13 @@ by_call s m behind made out (at.Taken o) keeps = absurd keeps
 by_call s m behind made out (at.HasReply o reply) keeps = absurd keeps
 by_call s m behind made out (at.Pushing o) keeps = absurd keeps
 
-by_front : (s : Setting) (m : Meaning) (behind : List ℕ) (f : Option (List ℕ)) → TellsFront s m behind (asked_of f) → [] ≡ (served s m []).calls
+by_front :
+    (s : Setting) (m : Meaning) (behind : List ℕ) (f : Option (List ℕ)) → TellsFront s m behind (asked_of f) → [] ≡ (served s m []).calls
 by_front s m behind None h = sym (ap (λ (k : ServedMessage). k.calls) h)
 by_front s m behind (Some front) h = sym (ap (λ (k : ServedMessage). k.calls) h.0)
 
-by_reply : (s : Setting) (m : Meaning) (behind : List ℕ) (out : InFlight) (st : state.ChainState) → KeepsReply s m behind out st → [] ≡ (served s m []).calls
+by_reply : (s : Setting) (m : Meaning) (behind : List ℕ) (out : InFlight) (st : state.ChainState) → KeepsReply s m behind out st →
+    [] ≡ (served s m []).calls
 by_reply s m behind out (at.HasReply kept reply) keeps = by_front s m behind reply.front keeps.2
 by_reply s m behind out at.Free keeps = absurd keeps
 by_reply s m behind out (at.Walking course pop_id walk) keeps = absurd keeps
@@ -293,7 +340,8 @@ by_reply s m behind out (at.Waits o w) keeps = absurd keeps
 by_reply s m behind out (at.Lists o l) keeps = absurd keeps
 by_reply s m behind out (at.Pushing o) keeps = absurd keeps
 
-told_calls : (s : Setting) (m : Meaning) (behind : List ℕ) (out : InFlight) (made : told.Decoded) (st : state.ChainState) → IsDecodedWhole made → TellsMeaning s m behind out made st → calls_told behind made ≡ (served s m []).calls
+told_calls : (s : Setting) (m : Meaning) (behind : List ℕ) (out : InFlight) (made : told.Decoded) (st : state.ChainState) →
+    IsDecodedWhole made → TellsMeaning s m behind out made st → calls_told behind made ≡ (served s m []).calls
 told_calls s m behind out (asks.Call made) st is tells = by_call s m behind made out st tells
 told_calls s m behind out (asks.More n) st is tells = absurd is
 told_calls s m behind out asks.Nothing st is tells = by_reply s m behind out st tells
@@ -308,14 +356,19 @@ handle_asks {F} may s c before behind w w' session request front made reached sm
     let fits = fits_limit c.places s.limit c.taken c.loaded ds c.head small fetches.1 in
     let o = out_of (course_of kept.kept s.limit) kept.pop_id c.head ds in
     let by = subst (λ (st : state.ChainState). FromTaken st (λ o. (o.request_len ≡ length request) × IsRequestFront front request
-    × TellsMeaning (setting session.page_size session.options.0 o.room_len) (meaning session.options.0 request o.room_len) (drop 80 request) o made w'.state
+    × TellsMeaning (setting session.page_size session.options.0 o.room_len) (meaning session.options.0 request o.room_len) (drop 80 request)
+    o made w'.state
     × (w'.descriptors ≡ w.descriptors) × (w'.session ≡ session))) kept.state asked in
-    let tells : TellsMeaning (setting s.page_size s.options o.room_len) (meaning s.options request o.room_len) (drop 80 request) o made w'.state =
-    subst (λ (p : ℕ). TellsMeaning (setting p s.options o.room_len) (meaning s.options request o.room_len) (drop 80 request) o made w'.state) session_is.0
-    (subst (λ (a : ℕ). TellsMeaning (setting session.page_size a o.room_len) (meaning a request o.room_len) (drop 80 request) o made w'.state) session_is.1 by.2) in
+    let tells : TellsMeaning (setting s.page_size s.options o.room_len) (meaning s.options request o.room_len) (drop 80 request) o
+    made w'.state =
+    subst (λ (p : ℕ). TellsMeaning (setting p s.options o.room_len) (meaning s.options request o.room_len) (drop 80 request) o made
+    w'.state) session_is.0
+    (subst (λ (a : ℕ). TellsMeaning (setting session.page_size a o.room_len) (meaning a request o.room_len) (drop 80 request) o made
+    w'.state) session_is.1 by.2) in
     let n = length (room_of c) in
     let room : n ≡ o.room_len = ap (λ (p : Phase). length (room_in p ds)) fresh ∙ fits.1 in
-    let told_so_far : calls_told (drop 80 request) made ≡ (served (setting s.page_size s.options n) (meaning s.options request n) []).calls =
+    let told_so_far : calls_told (drop 80 request) made
+    ≡ (served (setting s.page_size s.options n) (meaning s.options request n) []).calls =
     told_calls (setting s.page_size s.options o.room_len) (meaning s.options request o.room_len) (drop 80 request) o made w'.state is tells
     ∙ ap (λ (k : ℕ). (served (setting s.page_size s.options k) (meaning s.options request k) []).calls) (sym room) in (
       record { before = before; behind = behind; out = out; fresh = fresh; whole = sym by.0 ∙ fits.0; tells = told_so_far; state = refl },
@@ -343,7 +396,8 @@ Answered page_size options n request bytes made a left =
     × IsTrue (suits (call_of (drop 80 request) made) (answer_of bytes a))
     × ((served (setting page_size options n) (meaning options request n) (answer_of bytes a ∷ [])).options ≡ left)
 
-answered_by : (page_size options n left : ℕ) (request bytes : List ℕ) (made : made_call.FileCall) (a : made_answer.FileAnswer) (told : Replied) (out : InFlight) (st after : state.ChainState)
+answered_by : (page_size options n left : ℕ) (request bytes : List ℕ) (made : made_call.FileCall) (a : made_answer.FileAnswer)
+    (told : Replied) (out : InFlight) (st after : state.ChainState)
     → KeepsCall (setting page_size options n) (meaning options request n) (drop 80 request) made out st → IsWaiting st → TellsBytes bytes a
     → IfWaits st (λ kept w. IsGiven (setting page_size options w.room) w a kept left told after) → IfWaits st (λ kept w. CanBeGiven w a)
     → Answered page_size options n request bytes made a left
@@ -352,17 +406,21 @@ answered_by page_size options n left request bytes made a told out (at.Waits kep
     let command = calls.0 in
     let m = meaning options request n in
     let gives : Gives (setting page_size options n) command bytes a given.0 left =
-    subst (λ (r : ℕ). Gives (setting page_size options r) command bytes a given.0 left) calls.5 (given.3 command bytes calls.4 data_told) in (
+    subst (λ (r : ℕ). Gives (setting page_size options r) command bytes a given.0 left) calls.5
+    (given.3 command bytes calls.4 data_told) in (
       sym (call_waits (setting page_size options n) m command (call_of (drop 80 request) made) calls.1 calls.2),
       subst (λ (k : FileCall). IsTrue (suits k (answer_of bytes a))) (sym calls.2) (can command bytes calls.4 data_told).0,
-      ap (λ (k : Meaning). (served (setting page_size options n) k (answer_of bytes a ∷ [])).options) calls.1 ∙ ap (λ (k : ServedMessage). k.options) gives
+      ap (λ (k : Meaning). (served (setting page_size options n) k (answer_of bytes a ∷ [])).options) calls.1
+          ∙ ap (λ (k : ServedMessage). k.options) gives
           ∙ left_by (first_call command ∷ forget_call given.0.forget) left given.0.sent bytes,
     )
 answered_by page_size options n left request bytes made a told out (at.Lists kept l) after keeps waits data_told given can = absurd waits
 answered_by page_size options n left request bytes made a told out at.Free after keeps waits data_told given can = absurd waits
-answered_by page_size options n left request bytes made a told out (at.Walking course pop_id walk) after keeps waits data_told given can = absurd waits
+answered_by page_size options n left request bytes made a told out (at.Walking course pop_id walk) after keeps waits data_told given can =
+    absurd waits
 answered_by page_size options n left request bytes made a told out (at.Taken o) after keeps waits data_told given can = absurd waits
-answered_by page_size options n left request bytes made a told out (at.HasReply o reply) after keeps waits data_told given can = absurd waits
+answered_by page_size options n left request bytes made a told out (at.HasReply o reply) after keeps waits data_told given can =
+    absurd waits
 answered_by page_size options n left request bytes made a told out (at.Pushing o) after keeps waits data_told given can = absurd waits
 
 pub handle_answers : {F : Type 0} (may : May F) → HandleAnswers may
@@ -371,10 +429,13 @@ handle_answers {F} may s c before behind w w' request options made a bytes told 
     let left = w'.session.options.0 in
     let given : IfWaits w.state (λ kept u. IsGiven (setting s.page_size options u.room) u a kept left told w'.state) =
     subst (λ (o : ℕ). IfWaits w.state (λ kept u. IsGiven (setting s.page_size o u.room) u a kept left told w'.state)) kept.session.1
-    (subst (λ (p : ℕ). IfWaits w.state (λ kept u. IsGiven (setting p w.session.options.0 u.room) u a kept left told w'.state)) kept.session.0 answered.3) in
+    (subst (λ (p : ℕ). IfWaits w.state (λ kept u. IsGiven (setting p w.session.options.0 u.room) u a kept left told w'.state))
+    kept.session.0 answered.3) in
     let keeps : KeepsCall (setting s.page_size options n) (meaning options request n) (drop 80 request) made kept.out w.state =
-    subst (λ (k : ℕ). KeepsCall (setting s.page_size options k) (meaning options request k) (drop 80 request) made kept.out w.state) (sym kept.room) kept.tells in
-    let parts = answered_by s.page_size options n left request bytes made a told kept.out w.state w'.state keeps answered.0 answered.1 given can in (
+    subst (λ (k : ℕ). KeepsCall (setting s.page_size options k) (meaning options request k) (drop 80 request) made kept.out w.state)
+    (sym kept.room) kept.tells in
+    let parts = answered_by s.page_size options n left request bytes made a told kept.out w.state w'.state keeps answered.0 answered.1
+    given can in (
       record {
         before = before;
         behind = behind;
@@ -393,36 +454,46 @@ handle_answers {F} may s c before behind w w' request options made a bytes told 
     )
 
 -- what is served of a request by the calls of a chain that has its reply
-all_served : (page_size options n : ℕ) (m : Meaning) (behind : List ℕ) (made : told.Decoded) (given : ChainAnswer) (out : InFlight) (w w' : ChainHandle)
-    → (w.session.page_size ≡ page_size) × (w.session.options.0 ≡ options) → TellsMeaning (setting page_size options n) m behind out made w.state → HasReply made w given w'
+all_served : (page_size options n : ℕ) (m : Meaning) (behind : List ℕ) (made : told.Decoded) (given : ChainAnswer) (out : InFlight)
+    (w w' : ChainHandle)
+    → (w.session.page_size ≡ page_size) × (w.session.options.0 ≡ options)
+    → TellsMeaning (setting page_size options n) m behind out made w.state → HasReply made w given w'
     → AreServed (setting page_size options n) m (file_calls behind made given)
 all_served page_size options n m behind (asks.Call made) (OneAnswer a bytes replied) out w w' session tells has =
     let left = w'.session.options.0 in
     let given : IfWaits w.state (λ kept u. IsGiven (setting page_size options u.room) u a kept left replied w'.state) =
     subst (λ (o : ℕ). IfWaits w.state (λ kept u. IsGiven (setting page_size o u.room) u a kept left replied w'.state)) session.1
-    (subst (λ (p : ℕ). IfWaits w.state (λ kept u. IsGiven (setting p w.session.options.0 u.room) u a kept left replied w'.state)) session.0 has.3) in
+    (subst (λ (p : ℕ). IfWaits w.state (λ kept u. IsGiven (setting p w.session.options.0 u.room) u a kept left replied w'.state))
+    session.0 has.3) in
     one_served page_size options n left m behind bytes made a replied out w.state w'.state tells has.0 has.1 given
 all_served page_size options n m behind (asks.Call made) (ByEntries b es ending bytes) out w w' session tells has =
     list_all_served (setting page_size options n) m behind bytes made b es ending out w w' tells has
 all_served page_size options n m behind (asks.Call made) NoAnswer out w w' session tells has = absurd has
 all_served page_size options n m behind (asks.More k) given out w w' session tells has = absurd has
-all_served page_size options n m behind asks.Nothing NoAnswer out w w' session tells has = sym (told_calls (setting page_size options n) m behind out asks.Nothing w.state tt tells)
+all_served page_size options n m behind asks.Nothing NoAnswer out w w' session tells has =
+    sym (told_calls (setting page_size options n) m behind out asks.Nothing w.state tt tells)
 all_served page_size options n m behind asks.Nothing (OneAnswer a bytes replied) out w w' session tells has = absurd has
 all_served page_size options n m behind asks.Nothing (ByEntries b es ending bytes) out w w' session tells has = absurd has
-all_served page_size options n m behind (asks.Fault e) NoAnswer out w w' session tells has = sym (told_calls (setting page_size options n) m behind out (asks.Fault e) w.state tt tells)
+all_served page_size options n m behind (asks.Fault e) NoAnswer out w w' session tells has =
+    sym (told_calls (setting page_size options n) m behind out (asks.Fault e) w.state tt tells)
 all_served page_size options n m behind (asks.Fault e) (OneAnswer a bytes replied) out w w' session tells has = absurd has
 all_served page_size options n m behind (asks.Fault e) (ByEntries b es ending bytes) out w w' session tells has = absurd has
 
 pub handle_calls : {F : Type 0} (may : May F) → HandleCalls may
-handle_calls {F} may s c before behind w w' request options made given earlier later call answer files is_out asked kept has calls_are fits so =
+handle_calls {F} may s c before behind w w' request options made given earlier later call answer files is_out asked kept has
+    calls_are fits so =
     let n = length (room_of c) in
     let tells : TellsMeaning (setting s.page_size options n) (meaning options request n) (drop 80 request) kept.out made w.state =
-    subst (λ (k : ℕ). TellsMeaning (setting s.page_size options k) (meaning options request k) (drop 80 request) kept.out made w.state) (sym kept.room) kept.tells in
-    let all = all_served s.page_size options n (meaning options request n) (drop 80 request) made given kept.out w w' kept.session tells has in
+    subst (λ (k : ℕ). TellsMeaning (setting s.page_size options k) (meaning options request k) (drop 80 request) kept.out made w.state)
+    (sym kept.room) kept.tells in
+    let all = all_served s.page_size options n (meaning options request n) (drop 80 request) made given kept.out w w' kept.session
+    tells has in
     let split : AreServed (setting s.page_size options n) (meaning options request n) (earlier ++ (call, answer) ∷ later) =
     subst (λ (calls : Calls). AreServed (setting s.page_size options n) (meaning options request n) calls) calls_are all in
-    let left = options_left_by s.page_size options n (meaning options request n) (drop 80 request) made given kept.out w w' kept.session tells has in
-    let leaves : Calls → ℕ = λ calls. (served (setting s.page_size options n) (meaning options request n) (answers_alone calls)).options in (
+    let left = options_left_by s.page_size options n (meaning options request n) (drop 80 request) made given kept.out w w' kept.session
+    tells has in
+    let leaves : Calls → ℕ =
+    λ calls. (served (setting s.page_size options n) (meaning options request n) (answers_alone calls)).options in (
       record {
         before = before;
         behind = behind;
@@ -482,19 +553,27 @@ handle_returns {F} may s c before behind w w' kept request options made given ac
     let room = room_of c in
     let calls = file_calls (drop 80 request) made given in
     let flags = back.flags in
-    let m : State (Unit {0}) = record { memory = s.places; queues = []; options = options; files = tt; limit = s.limit; page_size = s.page_size } in
-    let meant : TellsMeaning (setting w.session.page_size w.session.options.0 o.room_len) (meaning w.session.options.0 request o.room_len) (drop 80 request) o made w.state =
-    subst (λ (p : ℕ). TellsMeaning (setting p w.session.options.0 o.room_len) (meaning w.session.options.0 request o.room_len) (drop 80 request) o made w.state) (sym keeps.session.0)
-    (subst (λ (a : ℕ). TellsMeaning (setting s.page_size a o.room_len) (meaning a request o.room_len) (drop 80 request) o made w.state) (sym keeps.session.1) keeps.tells) in
-    let so = told_so any_file m 0 kept request room tt w.session o made w w' given back.stores flags (tells flags) acts last (sym keeps.session.0) (sym keeps.session.1) keeps.room keeps.small meant refl has
+    let m : State (Unit {0}) =
+    record { memory = s.places; queues = []; options = options; files = tt; limit = s.limit; page_size = s.page_size } in
+    let meant : TellsMeaning (setting w.session.page_size w.session.options.0 o.room_len) (meaning w.session.options.0 request o.room_len)
+    (drop 80 request) o made w.state =
+    subst (λ (p : ℕ). TellsMeaning (setting p w.session.options.0 o.room_len) (meaning w.session.options.0 request o.room_len)
+    (drop 80 request) o made w.state) (sym keeps.session.0)
+    (subst (λ (a : ℕ). TellsMeaning (setting s.page_size a o.room_len) (meaning a request o.room_len) (drop 80 request) o made w.state)
+    (sym keeps.session.1) keeps.tells) in
+    let so = told_so any_file m 0 kept request room tt w.session o made w w' given back.stores flags (tells flags) acts last
+    (sym keeps.session.0) (sym keeps.session.1) keeps.room keeps.small meant refl has
     back.returns back.flags_len refl (suits_run calls each) in
     let x = so.0 in
     let answer = so.3 in
     let used = stores_after_reply (returning (live_of kept)) c.head (length x.reply) in
-    let asked : (served (setting s.page_size options (length room)) (meaning options request (length room)) (answers_alone calls)).calls ≡ calls_alone calls =
+    let asked : (served (setting s.page_size options (length room)) (meaning options request (length room)) (answers_alone calls)).calls
+    ≡ calls_alone calls =
     ap (λ (k : ServedMessage). k.calls) (sym answer.serves.gives) ∙ answer.serves.asks in
-    let exchange : x ≡ served_exchange c.head request (served (setting s.page_size options (length room)) (meaning options request (length room)) (answers_alone calls)) =
-    answer.returns.exchange ∙ ap (λ (h : ℕ). served_exchange h request answer.given) keeps.head ∙ ap (λ (k : ServedMessage). served_exchange c.head request k) answer.serves.gives in
+    let exchange : x ≡ served_exchange c.head request
+    (served (setting s.page_size options (length room)) (meaning options request (length room)) (answers_alone calls)) =
+    answer.returns.exchange ∙ ap (λ (h : ℕ). served_exchange h request answer.given) keeps.head
+    ∙ ap (λ (k : ServedMessage). served_exchange c.head request k) answer.serves.gives in
     let goes : GoesBackWith s.page_size c c.phase x = subst (λ (p : Phase). GoesBackWith s.page_size c p x) (sym phase) (asked, exchange) in
     let reply : answer.given.reply ≡ x.reply = sym (ap (λ (k : Exchange). k.reply) answer.returns.exchange) in
     let laid : queue_of o.course ≡ at_position kept.layout c.taken.position = sym keeps.taken ∙ taken in
@@ -502,17 +581,22 @@ handle_returns {F} may s c before behind w w' kept request options made given ac
     ap (λ (q : Queue). stores_after_reply (record q { position = kept.next_used }) o.head (length answer.given.reply)) laid
     ∙ ap (λ (h : ℕ). stores_after_reply (at_position kept.layout kept.next_used) h (length answer.given.reply)) keeps.head
     ∙ ap (λ (l : List ℕ). stores_after_reply (at_position kept.layout kept.next_used) c.head (length l)) reply in
-    let made_stores = reply_stores room answer.given.reply last ++ stores_after_reply (at_return kept o) o.head (length answer.given.reply) in
+    let made_stores = reply_stores room answer.given.reply last
+    ++ stores_after_reply (at_return kept o) o.head (length answer.given.reply) in
     let found : answer.returns.flags ≡ flags =
-    sym (ap flags_in answer.returns.acts ∙ flags_of made_stores answer.returns.flags) ∙ flags_back kept w'.state back.stores room (data_behind given) flags acts last back.returns in
+    sym (ap flags_in answer.returns.acts ∙ flags_of made_stores answer.returns.flags)
+    ∙ flags_back kept w'.state back.stores room (data_behind given) flags acts last back.returns in
     let first_acts : acts ≡ return_acts made_stores answer.returns.flags = answer.returns.acts in
     let acts_are : acts ≡ return_acts (reply_stores room x.reply last ++ used) flags =
     first_acts ∙ ap (λ (f : List ℕ). return_acts made_stores f) found
-    ∙ ap (λ (l : List ℕ). return_acts (reply_stores room l last ++ stores_after_reply (at_return kept o) o.head (length answer.given.reply)) flags) reply
+    ∙ ap (λ (l : List ℕ). return_acts (reply_stores room l last ++ stores_after_reply (at_return kept o) o.head (length answer.given.reply))
+    flags) reply
     ∙ ap (λ (u : List Store). return_acts (reply_stores room x.reply last ++ u) flags) stores in
-    let is_of = out_left (setting w.session.page_size w.session.options.0 o.room_len) (meaning w.session.options.0 request o.room_len) (drop 80 request) made given o w w' meant has in
+    let is_of = out_left (setting w.session.page_size w.session.options.0 o.room_len) (meaning w.session.options.0 request o.room_len)
+    (drop 80 request) made given o w w' meant has in
     let seen : back.stores.seen_at ≡ seen_at (live_of kept) =
-    seen_left kept o (λ reply s₁. (last ≡ front_len reply) × (acts ≡ acts_by room reply (data_behind given) s₁ flags)) w'.state back.stores is_of back.returns
+    seen_left kept o (λ reply s₁. (last ≡ front_len reply) × (acts ≡ acts_by room reply (data_behind given) s₁ flags)) w'.state back.stores
+    is_of back.returns
     ∙ ap (λ (q : Queue). seen_of kept.event_index q) laid in (
       x,
       used,
@@ -541,15 +625,18 @@ handle_faulty {F} may s c before behind w kept why acts last notice out there ta
     let course = course_of held.kept s.limit in
     let flags = back.flags in
     let x = faulty c.head why in
-    let by : PushesBy kept (faulty_out course held.pop_id c.head) no_reply back.stores × ((last ≡ front_len no_reply) × (acts ≡ acts_by [] no_reply [] back.stores flags)) =
-    subst (λ (st : state.ChainState). FromReplied kept st (λ reply s₁. (last ≡ front_len reply) × (acts ≡ acts_by [] reply [] s₁ flags)) back.stores) held.state back.returns in
+    let by : PushesBy kept (faulty_out course held.pop_id c.head) no_reply back.stores
+    × ((last ≡ front_len no_reply) × (acts ≡ acts_by [] no_reply [] back.stores flags)) =
+    subst (λ (st : state.ChainState). FromReplied kept st (λ reply s₁. (last ≡ front_len reply) × (acts ≡ acts_by [] reply [] s₁ flags))
+    back.stores) held.state back.returns in
     let q = returning (live_of kept) in
     let used = stores_after_reply q c.head 0 in
     let laid : queue_of course ≡ at_position kept.layout c.taken.position = sym held.taken ∙ taken in
     let stored : stores_of back.stores.used ≡ used =
     by.0.1 ∙ ap (λ (k : Queue). stores_after_reply (record k { position = kept.next_used }) c.head 0) laid in
     let done : acts ≡ return_acts (reply_stores [] [] last ++ used) flags =
-    by.1.1 ∙ ap (λ (u : List Store). return_acts u flags) stored ∙ sym (ap (λ (n : ℕ). return_acts (reply_stores [] [] n ++ used) flags) by.1.0) in
+    by.1.1 ∙ ap (λ (u : List Store). return_acts u flags) stored
+    ∙ sym (ap (λ (n : ℕ). return_acts (reply_stores [] [] n ++ used) flags) by.1.0) in
     let acts_are : acts ≡ return_acts (reply_stores (room_of c) [] last ++ used) flags =
     done ∙ ap (λ (p : Phase). return_acts (reply_stores (room_in p c.descriptors) [] last ++ used) flags) (sym phase) in
     let goes : GoesBackWith s.page_size c c.phase x = subst (λ (p : Phase). GoesBackWith s.page_size c p x) (sym phase) refl in

@@ -42,48 +42,57 @@ use Rattle.fs_live.specs.InitBeside.{
 }
 use Rattle.fs_live.proofs.OverlapRun.{some_none}
 
-first_offers : (request : List ℕ) → length request ≡ 42 → OffersBy blank 0x101000 queue first_loads request (Offers 0 (IsRequest request (addresses 0x2000 144)))
+first_offers : (request : List ℕ) → length request ≡ 42 →
+    OffersBy blank 0x101000 queue first_loads request (Offers 0 (IsRequest request (addresses 0x2000 144)))
 unfolding place addresses stored_all found_exactly
 first_offers request whole = (
   (λ none. absurd (some_none (le16 2) none), λ none asks. absurd (some_none (le16 0) none)),
   [],
   All-nil (IsLost blank),
-  ap (λ (b : Bool). option_map (Offers 0) (if b then Some (IsRequest request (addresses 0x2000 144)) else None)) (ap (λ (n : ℕ). n == 42) whole),
+  ap (λ (b : Bool). option_map (Offers 0) (if b then Some (IsRequest request (addresses 0x2000 144)) else None))
+      (ap (λ (n : ℕ). n == 42) whole),
 )
 
 first_fetches : FetchesBy blank 0x101000 queue first_loads first_table 0 None
 unfolding place addresses stored_all found_exactly
 first_fetches = (([], All-nil (IsLost blank), refl), first_offers)
 
-second_offers : (request : List ℕ) → length request ≡ 56 → OffersBy blank 0x101000 (record queue { position = 1 }) second_loads request (Offers 2 (IsRequest request (addresses 0x4000 80)))
+second_offers : (request : List ℕ) → length request ≡ 56 →
+    OffersBy blank 0x101000 (record queue { position = 1 }) second_loads request (Offers 2 (IsRequest request (addresses 0x4000 80)))
 unfolding place addresses stored_all found_exactly
 second_offers request whole = (
   (λ none. absurd (some_none (le16 2) none), λ none asks. absurd (some_none (le16 2) none)),
   [],
   All-nil (IsLost blank),
-  ap (λ (b : Bool). option_map (Offers 2) (if b then Some (IsRequest request (addresses 0x4000 80)) else None)) (ap (λ (n : ℕ). n == 56) whole),
+  ap (λ (b : Bool). option_map (Offers 2) (if b then Some (IsRequest request (addresses 0x4000 80)) else None))
+      (ap (λ (n : ℕ). n == 56) whole),
 )
 
 second_fetches : FetchesBy blank 0x101000 (record queue { position = 1 }) second_loads second_table 2 None
 unfolding place addresses stored_all found_exactly
 second_fetches = (([], All-nil (IsLost blank), refl), second_offers)
 
-first_walks : {F : Type 0} (f : F) → WalksSo (state f (at_positions 0 0) 0 []) 0 first_loads first_table (step.Chain 0 None) (state f (at_positions 1 0) 0 (first ∷ []))
+first_walks : {F : Type 0} (f : F) →
+    WalksSo (state f (at_positions 0 0) 0 []) 0 first_loads first_table (step.Chain 0 None) (state f (at_positions 1 0) 0 (first ∷ []))
 first_walks f = record { w = at_positions 0 0; there = refl; room = refl; goes = refl; walks = (first_fetches, refl) }
 
-first_asks : {F : Type 0} (f : F) → AsksSo (state f (at_positions 1 0) 0 (first ∷ [])) first lookup (looks ∷ []) (state f (at_positions 1 0) 0 (first_asked ∷ []))
+first_asks : {F : Type 0} (f : F) →
+    AsksSo (state f (at_positions 1 0) 0 (first ∷ [])) first lookup (looks ∷ []) (state f (at_positions 1 0) 0 (first_asked ∷ []))
 unfolding addresses meaning reading_of meant row last_name counted reply_bytes error_bytes fields.field_bytes
 first_asks f = record { before = []; behind = []; out = refl; fresh = refl; whole = refl; tells = refl; state = refl }
 
-second_walks : {F : Type 0} (f : F) → WalksSo (state f (at_positions 1 0) 0 (first_asked ∷ [])) 0 second_loads second_table (step.Chain 2 None) (state f (at_positions 2 0) 0 (first_asked ∷ second ∷ []))
+second_walks : {F : Type 0} (f : F) → WalksSo (state f (at_positions 1 0) 0 (first_asked ∷ [])) 0 second_loads second_table
+    (step.Chain 2 None) (state f (at_positions 2 0) 0 (first_asked ∷ second ∷ []))
 second_walks f = record { w = at_positions 1 0; there = refl; room = refl; goes = refl; walks = (second_fetches, refl) }
 
-second_asks : {F : Type 0} (f : F) → AsksSo (state f (at_positions 2 0) 0 (first_asked ∷ second ∷ [])) second init (starts ∷ []) (state f (at_positions 2 0) 0 (first_asked ∷ second_asked ∷ []))
+second_asks : {F : Type 0} (f : F) → AsksSo (state f (at_positions 2 0) 0 (first_asked ∷ second ∷ [])) second init (starts ∷ [])
+    (state f (at_positions 2 0) 0 (first_asked ∷ second_asked ∷ []))
 unfolding addresses meaning reading_of meant row reply_bytes error_bytes fields.field_bytes
 second_asks f = record { before = first_asked ∷ []; behind = []; out = refl; fresh = refl; whole = refl; tells = refl; state = refl }
 
 second_answers : {F : Type 0} (may : May F) (before after : F) → may before starts (Wants 0) after →
-    AnswersSo may (state before (at_positions 2 0) 0 (first_asked ∷ second_asked ∷ [])) second_asked starts (Wants 0) (state after (at_positions 2 0) 1 (first_asked ∷ second_answered ∷ []))
+    AnswersSo may (state before (at_positions 2 0) 0 (first_asked ∷ second_asked ∷ [])) second_asked starts (Wants 0)
+    (state after (at_positions 2 0) 1 (first_asked ∷ second_answered ∷ []))
 unfolding addresses meaning reading_of meant row reply_bytes error_bytes started_bytes fields.field_bytes
 second_answers may before after so = record {
   before = first_asked ∷ [];
@@ -101,7 +110,8 @@ second_answers may before after so = record {
 }
 
 second_returns : {F : Type 0} (f : F) →
-    ReturnsSo (state f (at_positions 2 0) 1 (first_asked ∷ second_answered ∷ [])) second_answered second_exchange true 0 second_used (le16 0) (state f (at_positions 2 1) 1 (first_asked ∷ []))
+    ReturnsSo (state f (at_positions 2 0) 1 (first_asked ∷ second_answered ∷ [])) second_answered second_exchange true 0 second_used
+    (le16 0) (state f (at_positions 2 1) 1 (first_asked ∷ []))
 unfolding addresses meaning reading_of meant row reply_bytes error_bytes started_bytes fields.field_bytes
 second_returns f = record {
   before = first_asked ∷ [];
@@ -117,7 +127,8 @@ second_returns f = record {
 }
 
 first_answers : {F : Type 0} (may : May F) (before after : F) → may before looks (Failed 2) after →
-    AnswersSo may (state before (at_positions 2 1) 1 (first_asked ∷ [])) first_asked looks (Failed 2) (state after (at_positions 2 1) 1 (first_answered ∷ []))
+    AnswersSo may (state before (at_positions 2 1) 1 (first_asked ∷ [])) first_asked looks (Failed 2)
+    (state after (at_positions 2 1) 1 (first_answered ∷ []))
 unfolding addresses meaning reading_of meant row last_name counted reply_bytes error_bytes fields.field_bytes
 first_answers may before after so = record {
   before = [];
@@ -134,7 +145,8 @@ first_answers may before after so = record {
   state = refl;
 }
 
-first_returns : {F : Type 0} (f : F) → ReturnsSo (state f (at_positions 2 1) 1 (first_answered ∷ [])) first_answered first_exchange true 0 first_used (le16 0) (state f (at_positions 2 2) 1 [])
+first_returns : {F : Type 0} (f : F) → ReturnsSo (state f (at_positions 2 1) 1 (first_answered ∷ [])) first_answered first_exchange true 0
+    first_used (le16 0) (state f (at_positions 2 2) 1 [])
 unfolding addresses meaning reading_of meant row last_name counted reply_bytes error_bytes fields.field_bytes
 first_returns f = record {
   before = [];

@@ -19,7 +19,8 @@ use Rattle.fs_chain.specs.Answers.{IfWaits, IsGiven, IsWaiting, replied_of}
 use Rattle.fs_chain.specs.Decoding.{AsksListing, KeepsCall}
 use Rattle.fs_chain.specs.Listings.{IsFailedReply, IsListReply, RepliesBy}
 use Rattle.fs_chain.specs.Whole.{ByEntries, OneAnswer, file_calls}
-use Rattle.fs_chain.specs.WholeListings.{Ending, EndsBy, EndsThere, FailsAt, FromLists, FullAt, IsListedBy, NotFound, Unreadable, failed_by, listing_calls}
+use Rattle.fs_chain.specs.WholeListings.{Ending, EndsBy, EndsThere, FailsAt, FromLists, FullAt, IsListedBy, NotFound, Unreadable, failed_by}
+use Rattle.fs_chain.specs.WholeListings.{listing_calls}
 use Rattle.fs_chain.specs.declared.answering.Replied.{Replied}
 use Rattle.fs_chain.specs.declared.decoding.Decoded.TheVariants as asks
 use Rattle.fs_chain.specs.declared.listing.Added.{Added}
@@ -28,7 +29,8 @@ use Rattle.fs_chain.specs.declared.state.InFlight.{InFlight}
 use Rattle.fs_chain.specs.declared.state.ChainState as state
 use Rattle.fs_chain.specs.declared.state.ChainState.TheVariants as at
 use Rattle.fs_chain.specs.declared.chain_handle.ChainHandle.{ChainHandle}
-use Rattle.fs_chain.proofs.WholeEntries.{ServedBy, brought, ends_there, fails_at, full_at, gathered, not_found, outcome_of, stays_so, unreadable}
+use Rattle.fs_chain.proofs.WholeEntries.{ServedBy, brought, ends_there, fails_at, full_at, gathered, not_found, outcome_of, stays_so}
+use Rattle.fs_chain.proofs.WholeEntries.{unreadable}
 use Rattle.fs_chain.proofs.WholeSteps.{by_calls, serves_call}
 use Rattle.plain_machine.specs.Step.{Calls, answers_alone, calls_alone}
 
@@ -39,12 +41,15 @@ AreServed s m calls = (served s m (answers_alone calls)).calls ≡ calls_alone c
 -- ---- one call
 
 -- whatever was told of it
-by_replied : (s : Setting) (m : Meaning) (behind bytes : List ℕ) (made : made_call.FileCall) (a : made_answer.FileAnswer) (told other : Replied) → told ≡ other
-    → AreServed s m (file_calls behind (asks.Call made) (OneAnswer a bytes other)) → AreServed s m (file_calls behind (asks.Call made) (OneAnswer a bytes told))
+by_replied : (s : Setting) (m : Meaning) (behind bytes : List ℕ) (made : made_call.FileCall) (a : made_answer.FileAnswer)
+    (told other : Replied) → told ≡ other
+    → AreServed s m (file_calls behind (asks.Call made) (OneAnswer a bytes other))
+    → AreServed s m (file_calls behind (asks.Call made) (OneAnswer a bytes told))
 by_replied s m behind bytes made a told other is served_so =
     subst (λ (t : Replied). AreServed s m (file_calls behind (asks.Call made) (OneAnswer a bytes t))) (sym is) served_so
 
-pub one_served : (page_size options n left : ℕ) (m : Meaning) (behind bytes : List ℕ) (made : made_call.FileCall) (a : made_answer.FileAnswer) (told : Replied) (out : InFlight) (st after : state.ChainState)
+pub one_served : (page_size options n left : ℕ) (m : Meaning) (behind bytes : List ℕ) (made : made_call.FileCall)
+    (a : made_answer.FileAnswer) (told : Replied) (out : InFlight) (st after : state.ChainState)
     → KeepsCall (setting page_size options n) m behind made out st → IsWaiting st → TellsBytes bytes a
     → IfWaits st (λ kept u. IsGiven (setting page_size options u.room) u a kept left told after)
     → AreServed (setting page_size options n) m (file_calls behind (asks.Call made) (OneAnswer a bytes told))
@@ -56,29 +61,34 @@ one_served page_size options n left m behind bytes made a told out (at.Waits kep
     subst (λ (r : ℕ). Gives (setting page_size options r) command bytes a given.0 left) calls.5 (given.3 command bytes calls.4 data_told) in
     let mine : Calls = file_calls behind (asks.Call made) (OneAnswer a bytes (replied_of given.0)) in
     by_replied s m behind bytes made a told (replied_of given.0) given.1
-    (ap (λ (x : ServedMessage). x.calls) (serves_call s m command made bytes behind a given.0 left calls.1 calls.2 (keeps.2 command calls.4) gives)
+    (ap (λ (x : ServedMessage). x.calls)
+    (serves_call s m command made bytes behind a given.0 left calls.1 calls.2 (keeps.2 command calls.4) gives)
     ∙ by_calls (calls_alone mine) left given.0.sent bytes)
 one_served page_size options n left m behind bytes made a told out (at.Lists kept l) after keeps waits data_told given = absurd waits
 one_served page_size options n left m behind bytes made a told out at.Free after keeps waits data_told given = absurd waits
-one_served page_size options n left m behind bytes made a told out (at.Walking course pop_id walk) after keeps waits data_told given = absurd waits
+one_served page_size options n left m behind bytes made a told out (at.Walking course pop_id walk) after keeps waits data_told given =
+    absurd waits
 one_served page_size options n left m behind bytes made a told out (at.Taken o) after keeps waits data_told given = absurd waits
 one_served page_size options n left m behind bytes made a told out (at.HasReply o reply) after keeps waits data_told given = absurd waits
 one_served page_size options n left m behind bytes made a told out (at.Pushing o) after keeps waits data_told given = absurd waits
 
 -- ---- a listing
 
-served_calls : (s : Setting) (command : FileCommand) (steps : Calls) (reply : List ℕ) → ServedBy s command steps reply → AreServed s (Asks command) steps
+served_calls : (s : Setting) (command : FileCommand) (steps : Calls) (reply : List ℕ) → ServedBy s command steps reply →
+    AreServed s (Asks command) steps
 served_calls s command steps reply is = ap (λ (x : ServedMessage). x.calls) is
 
 -- a listing that gathers has its reply
 abbrev IsReplied : (Listing → ListingReply → Type 0) → InFlight → Listing → (len : ℕ) → (new : state.ChainState) → Type 0
 IsReplied P out l len new = RepliesBy P (at.Lists out l) new (Ok len)
 
-replied_at : (P : Listing → ListingReply → Type 0) (st new : state.ChainState) (out : InFlight) (l : Listing) (len : ℕ) → st ≡ at.Lists out l → RepliesBy P st new (Ok len) → IsReplied P out l len new
+replied_at : (P : Listing → ListingReply → Type 0) (st new : state.ChainState) (out : InFlight) (l : Listing) (len : ℕ) →
+    st ≡ at.Lists out l → RepliesBy P st new (Ok len) → IsReplied P out l len new
 replied_at P st new out l len is replies = subst (λ (s : state.ChainState). RepliesBy P s new (Ok len)) is replies
 
 -- why an entry fails a listing
-failing : (why : Added) (errno : ℕ) → failed_by why ≡ Some errno → (n : reason.NotAdded) × (outcome_of why ≡ Err n) × (error_of n ≡ Some errno)
+failing :
+    (why : Added) (errno : ℕ) → failed_by why ≡ Some errno → (n : reason.NotAdded) × (outcome_of why ≡ Err n) × (error_of n ≡ Some errno)
 failing added.In errno is = absurd (cc)
 failing added.Full errno is = absurd (cc)
 failing added.NoRoom errno is = (not_added.NoRoom, refl, is)
@@ -86,10 +96,13 @@ failing added.TooLong errno is = (not_added.TooLong, refl, is)
 
 -- a command is served by the calls of a listing that ended so
 abbrev IsListServed : Setting → (unique : ℕ) → asked.ListRequest → List Brought → Ending → Type 0
-IsListServed s unique a es ending = (reply : List ℕ) × ServedBy s (Lists unique a) (listing_calls (readdir_call a) a.with_nodes es ending) reply
+IsListServed s unique a es ending =
+    (reply : List ℕ) × ServedBy s (Lists unique a) (listing_calls (readdir_call a) a.with_nodes es ending) reply
 
-list_served : (s : Setting) (l : Listing) (unique : ℕ) (a : asked.ListRequest) (list : List ℕ) (es : List Brought) (ending : Ending) (w after : ChainHandle) (out : InFlight) (len : ℕ)
-    → IsListingFor l s.room (Lists unique a) → Holds l list es → w.state ≡ at.Lists out l → EndsBy ending w list len after → IsListServed s unique a es ending
+list_served : (s : Setting) (l : Listing) (unique : ℕ) (a : asked.ListRequest) (list : List ℕ) (es : List Brought) (ending : Ending)
+    (w after : ChainHandle) (out : InFlight) (len : ℕ)
+    → IsListingFor l s.room (Lists unique a) → Holds l list es → w.state ≡ at.Lists out l → EndsBy ending w list len after
+    → IsListServed s unique a es ending
 list_served s l unique a list es EndsThere w after out len is holds st ends =
     let r = replied_at IsListReply w.state after.state out l len st ends.0 in
     (r.0.front ++ take r.0.len list, ends_there s l unique a list es is holds r.0 r.3)
@@ -113,7 +126,8 @@ list_served s l unique a list es (Unreadable errno) w after out len is holds st 
     let r = replied_at (λ l reply. IsFailedReply l errno reply) w.state after.state out l len st ends.0 in
     (r.0.front ++ take r.0.len list, unreadable s l unique a list es a.with_nodes errno r.0 is holds r.3 refl)
 
-pub from_lists : (st : state.ChainState) (P : Listing → Type 0) → FromLists st P → (out : InFlight) × (l : Listing) × (st ≡ at.Lists out l) × P l
+pub from_lists :
+    (st : state.ChainState) (P : Listing → Type 0) → FromLists st P → (out : InFlight) × (l : Listing) × (st ≡ at.Lists out l) × P l
 from_lists (at.Lists out l) P p = (out, l, refl, p)
 from_lists at.Free P p = absurd p
 from_lists (at.Walking course pop_id walk) P p = absurd p
@@ -122,35 +136,43 @@ from_lists (at.Waits out w) P p = absurd p
 from_lists (at.HasReply out reply) P p = absurd p
 from_lists (at.Pushing out) P p = absurd p
 
-pub list_command : (l : Listing) (room : ℕ) (command : FileCommand) → IsListingFor l room command → (unique : ℕ) × (a : asked.ListRequest) × (command ≡ Lists unique a) × IsListingFor l room (Lists unique a)
+pub list_command : (l : Listing) (room : ℕ) (command : FileCommand) → IsListingFor l room command →
+    (unique : ℕ) × (a : asked.ListRequest) × (command ≡ Lists unique a) × IsListingFor l room (Lists unique a)
 list_command l room (One unique call) is = absurd is
 list_command l room (Starts unique capable readahead) is = absurd is
 list_command l room (Lists unique a) is = (unique, a, refl, is)
 
 -- the listing goes on, whatever it has gathered
-still_for : (l now : Listing) (room unique : ℕ) (a : asked.ListRequest) → StaysBut l now → IsListingFor l room (Lists unique a) → IsListingFor now room (Lists unique a)
+still_for : (l now : Listing) (room unique : ℕ) (a : asked.ListRequest) → StaysBut l now → IsListingFor l room (Lists unique a) →
+    IsListingFor now room (Lists unique a)
 still_for l now room unique a stays is = (stays.0 ∙ is.0, stays.1 ∙ is.1, stays.2 ∙ is.2, stays.3 ∙ is.3, is.4)
 
 none_yet : (l : Listing) (list : List ℕ) → l.len ≡ 0 → Holds l list []
 none_yet l list empty = record { long = empty; stands = ap (λ (n : ℕ). take n list) empty }
 
-pub list_all_served : (s : Setting) (m : Meaning) (behind bytes : List ℕ) (made : made_call.FileCall) (b : Bool) (es : List Brought) (ending : Ending) (out : InFlight) (w after : ChainHandle)
-    → KeepsCall s m behind made out w.state → IsListedBy w b es ending bytes after → AreServed s m (file_calls behind (asks.Call made) (ByEntries b es ending bytes))
+pub list_all_served : (s : Setting) (m : Meaning) (behind bytes : List ℕ) (made : made_call.FileCall) (b : Bool) (es : List Brought)
+    (ending : Ending) (out : InFlight) (w after : ChainHandle)
+    → KeepsCall s m behind made out w.state → IsListedBy w b es ending bytes after
+    → AreServed s m (file_calls behind (asks.Call made) (ByEntries b es ending bytes))
 list_all_served s m behind bytes made b es ending out w after keeps is =
     let lists = from_lists w.state (λ l. l.with_nodes ≡ b) is.kind in
     let l = lists.1 in
-    let kept : KeepsCall s m behind made out (at.Lists lists.0 l) = subst (λ (x : state.ChainState). KeepsCall s m behind made out x) lists.2 keeps in
+    let kept : KeepsCall s m behind made out (at.Lists lists.0 l) =
+    subst (λ (x : state.ChainState). KeepsCall s m behind made out x) lists.2 keeps in
     let asking : AsksListing s m behind made l = kept.1 in
     let c = list_command l s.room asking.0 asking.4 in
     let unique = c.0 in
     let a = c.1 in
     let g = gathered es [] w is.gathered is.first is.list lists.0 l lists.2 (none_yet l is.first asking.5) is.gathers in
-    let so = list_served s g.now unique a is.list es ending is.gathered after lists.0 is.len (still_for l g.now s.room unique a g.stays c.3) g.holds g.state is.ends in
+    let so = list_served s g.now unique a is.list es ending is.gathered after lists.0 is.len (still_for l g.now s.room unique a g.stays c.3)
+    g.holds g.state is.ends in
     let is_call : call_of behind made ≡ readdir_call a = asking.2 ∙ ap first_call c.2 in
     let nodes : a.with_nodes ≡ b = sym c.3.1 ∙ lists.3 in
     let P : Calls → Type 0 = λ calls. AreServed s (Asks (Lists unique a)) calls in
     let meant : m ≡ Asks (Lists unique a) = asking.1 ∙ ap Asks c.2 in
-    let here : P (listing_calls (readdir_call a) a.with_nodes es ending) = served_calls s (Lists unique a) (listing_calls (readdir_call a) a.with_nodes es ending) so.0 so.1 in
+    let here : P (listing_calls (readdir_call a) a.with_nodes es ending) =
+    served_calls s (Lists unique a) (listing_calls (readdir_call a) a.with_nodes es ending) so.0 so.1 in
     let all : P (listing_calls (call_of behind made) b es ending) =
-    subst (λ (k : FileCall). P (listing_calls k b es ending)) (sym is_call) (subst (λ (k : Bool). P (listing_calls (readdir_call a) k es ending)) nodes here) in
+    subst (λ (k : FileCall). P (listing_calls k b es ending)) (sym is_call)
+    (subst (λ (k : Bool). P (listing_calls (readdir_call a) k es ending)) nodes here) in
     subst (λ (x : Meaning). AreServed s x (listing_calls (call_of behind made) b es ending)) (sym meant) all

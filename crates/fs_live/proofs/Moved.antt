@@ -38,17 +38,20 @@ same_there {A} (y ∷ ys) (suc i) x there = ap (λ (l : List A). y ∷ l) (same_
 -- ---- standing
 
 module _ (i : ℕ) where
-  one_stays : (c : OutChain) (cs : List OutChain) (b : Bool) → (c.queue == i) ≡ b → tickets_on i (c ∷ cs) ≡ [] → (tickets_on i cs ≡ [] → filter (λ c. not (c.queue == i)) cs ≡ cs)
+  one_stays : (c : OutChain) (cs : List OutChain) (b : Bool) → (c.queue == i) ≡ b → tickets_on i (c ∷ cs) ≡ []
+      → (tickets_on i cs ≡ [] → filter (λ c. not (c.queue == i)) cs ≡ cs)
       → filter (λ c. not (c.queue == i)) (c ∷ cs) ≡ c ∷ cs
   one_stays c cs true is none more = absurd (no_cons (c.taken.position, c.head) (tickets_on i cs) (sym (one_ticket i c cs true is) ∙ none))
   one_stays c cs false is none more =
-      kept_not (λ c. not (c.queue == i)) c cs true (ap not is) ∙ ap (λ (l : List OutChain). c ∷ l) (more (sym (one_ticket i c cs false is) ∙ none))
+      kept_not (λ c. not (c.queue == i)) c cs true (ap not is)
+      ∙ ap (λ (l : List OutChain). c ∷ l) (more (sym (one_ticket i c cs false is) ∙ none))
 
   none_filtered : (cs : List OutChain) → tickets_on i cs ≡ [] → filter (λ c. not (c.queue == i)) cs ≡ cs
   none_filtered [] none = refl
   none_filtered (c ∷ cs) none = one_stays c cs (c.queue == i) refl none (none_filtered cs)
 
-  pub none_out_even : {F : Type 0} (may : May F) (s now : LiveState F) (es : List LiveEvent) (w : LiveQueue) → s.outs ≡ [] → AllByRecursion IsEven s.queues → LiveRun may s es now
+  pub none_out_even : {F : Type 0} (may : May F) (s now : LiveState F) (es : List LiveEvent) (w : LiveQueue) → s.outs ≡ []
+      → AllByRecursion IsEven s.queues → LiveRun may s es now
       → slice_get now.queues i ≡ Some w → tickets_on i now.outs ≡ [] → IsEven w
   none_out_even may s now es w none even run there out =
       let kept = run_kept i may s now es run (started i s none even) in
@@ -60,7 +63,8 @@ stands_even {F} may s now es i w none even run there out = (
   λ after begins.
       let so : BeginsSo now i w after = begins in
       so.state
-      ∙ ap (λ (l : List LiveQueue). record now { queues = l; outs = filter (λ c. not (c.queue == i)) now.outs }) (same_there now.queues i w there)
+      ∙ ap (λ (l : List LiveQueue). record now { queues = l; outs = filter (λ c. not (c.queue == i)) now.outs })
+      (same_there now.queues i w there)
       ∙ ap (λ (cs : List OutChain). record now { queues = now.queues; outs = cs }) (none_filtered i now.outs out),
 )
 
@@ -77,20 +81,23 @@ same_queue w v queue next_used rest =
     ∙ ap (λ (r : ℕ). record { queue = v.queue; next_used = r; max_in_flight = w.max_in_flight; event_index = w.event_index }) next_used
     ∙ ap (λ (u : ℕ × Bool). record { queue = v.queue; next_used = v.next_used; max_in_flight = u.0; event_index = u.1 }) rest
 
-same_queues : (ws vs : List LiveQueue) → AllByRecursion IsEven ws → AllByRecursion IsEven vs → map (λ w. w.queue) ws ≡ map (λ w. w.queue) vs → map untold ws ≡ map untold vs → ws ≡ vs
+same_queues : (ws vs : List LiveQueue) → AllByRecursion IsEven ws → AllByRecursion IsEven vs →
+    map (λ w. w.queue) ws ≡ map (λ w. w.queue) vs → map untold ws ≡ map untold vs → ws ≡ vs
 same_queues [] [] even stand queues rest_is = refl
 same_queues [] (v ∷ vs) even stand queues rest_is = absurd (no_cons v.queue (map (λ w. w.queue) vs) (sym queues))
 same_queues (w ∷ ws) [] even stand queues rest_is = absurd (no_cons w.queue (map (λ w. w.queue) ws) queues)
 same_queues (w ∷ ws) (v ∷ vs) even stand queues rest_is =
     let queue : w.queue ≡ v.queue = ap (λ (l : List Queue). first_or w.queue l) queues in
     let first : w ≡ v =
-    same_queue w v queue (even.0.0 ∙ ap (λ (q : Queue). q.position) queue ∙ sym stand.0.0) (ap (λ (l : List (ℕ × Bool)). first_or (untold w) l) rest_is) in
+    same_queue w v queue (even.0.0 ∙ ap (λ (q : Queue). q.position) queue ∙ sym stand.0.0)
+    (ap (λ (l : List (ℕ × Bool)). first_or (untold w) l) rest_is) in
     let others : ws ≡ vs =
     same_queues ws vs even.1 stand.1 (ap (λ (l : List Queue). rest l) queues) (ap (λ (l : List (ℕ × Bool)). rest l) rest_is) in
     ap (λ (u : LiveQueue). u ∷ ws) first ∙ ap (λ (l : List LiveQueue). v ∷ l) others
 
 -- runs join
-pub joined : {F : Type 0} (may : May F) (s mid end : LiveState F) (es later : List LiveEvent) → LiveRun may s es mid → LiveRun may mid later end → LiveRun may s (es ++ later) end
+pub joined : {F : Type 0} (may : May F) (s mid end : LiveState F) (es later : List LiveEvent) → LiveRun may s es mid →
+    LiveRun may mid later end → LiveRun may s (es ++ later) end
 joined {F} may s mid end [] later run more = subst (λ (k : LiveState F). LiveRun may k later end) run more
 joined may s mid end (e ∷ es) later run more = (run.0, run.1, joined may run.0 mid end es later run.2 more)
 
@@ -98,7 +105,8 @@ pub moved_goes_on : {F : Type 0} (may : May F) → MovedGoesOn may
 moved_goes_on {F} may s now moved es m queues none even run moves told =
     let so : MovesSo now m queues moved = moves in
     let stand : AllByRecursion IsEven now.queues =
-    all_even now.queues (λ i w there. none_out_even i may s now es w none even run there (ap (λ (cs : List OutChain). tickets_on i cs) so.none_out)) in
+    all_even now.queues
+    (λ i w there. none_out_even i may s now es w none even run there (ap (λ (cs : List OutChain). tickets_on i cs) so.none_out)) in
     let same : queues ≡ now.queues = same_queues queues now.queues so.even stand so.same told in
     let state : moved ≡ record now { places = m } = so.state ∙ ap (λ (l : List LiveQueue). record now { places = m; queues = l }) same in
     let maps : Happens may now (Maps m) moved =

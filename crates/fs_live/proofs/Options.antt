@@ -16,14 +16,16 @@ left_of (Asks (One unique call)) (a ∷ answers) o = options_after o call
 left_of (Asks (Starts unique capable readahead)) (a ∷ answers) o = start_options o capable a
 left_of m answers o = o
 
-by_room : (room : ℕ) (calls : List FileCall) (o : ℕ) (bytes : List ℕ) (b : Bool) → nat_lt room (length bytes) ≡ b → (replied room calls o bytes).options ≡ o
+by_room : (room : ℕ) (calls : List FileCall) (o : ℕ) (bytes : List ℕ) (b : Bool) → nat_lt room (length bytes) ≡ b →
+    (replied room calls o bytes).options ≡ o
 by_room room calls o bytes true is = rw is refl
 by_room room calls o bytes false is = rw is refl
 
 reply_leaves : (room : ℕ) (calls : List FileCall) (o : ℕ) (bytes : List ℕ) → (replied room calls o bytes).options ≡ o
 reply_leaves room calls o bytes = by_room room calls o bytes (nat_lt room (length bytes)) refl
 
-list_leaves : (s : Setting) (unique : ℕ) (l : ListRequest) (answer : FileAnswer) (answers : List FileAnswer) → (list_answered s unique l answer answers).options ≡ s.options
+list_leaves : (s : Setting) (unique : ℕ) (l : ListRequest) (answer : FileAnswer) (answers : List FileAnswer) →
+    (list_answered s unique l answer answers).options ≡ s.options
 list_leaves s unique l (file.Failed a) answers = reply_leaves _ _ _ _
 list_leaves s unique l file.Done answers = refl
 list_leaves s unique l (file.HasEntry a) answers = refl
@@ -38,7 +40,8 @@ list_leaves s unique l (file.Offset a) answers = refl
 list_leaves s unique l (file.Entries a) answers = reply_leaves _ _ _ _
 list_leaves s unique l (file.Wants a) answers = refl
 
-pub lists_leave : (s : Setting) (unique : ℕ) (l : ListRequest) (answers : List FileAnswer) → (served s (Asks (Lists unique l)) answers).options ≡ s.options
+pub lists_leave : (s : Setting) (unique : ℕ) (l : ListRequest) (answers : List FileAnswer) →
+    (served s (Asks (Lists unique l)) answers).options ≡ s.options
 lists_leave s unique l [] = refl
 lists_leave s unique l (a ∷ answers) = list_leaves s unique l a answers
 
@@ -100,7 +103,8 @@ call_twice o (file.CopyFileRange a b c d e f g h i) = refl
 call_twice o (file.Syncfs a b) = refl
 call_twice o file.TmpFile = refl
 
-start_twice : (o capable : ℕ) (answer : FileAnswer) → start_options (start_options o capable answer) capable answer ≡ start_options o capable answer
+start_twice :
+    (o capable : ℕ) (answer : FileAnswer) → start_options (start_options o capable answer) capable answer ≡ start_options o capable answer
 start_twice o capable (file.Failed a) = refl
 start_twice o capable file.Done = refl
 start_twice o capable (file.HasEntry a) = refl
@@ -115,7 +119,8 @@ start_twice o capable (file.Offset a) = refl
 start_twice o capable (file.Entries a) = refl
 start_twice o capable (file.Wants a) = refl
 
-twice : (m : Meaning) (a : FileAnswer) (some more : List FileAnswer) (o : ℕ) → left_of m (a ∷ more) (left_of m (a ∷ some) o) ≡ left_of m (a ∷ more) o
+twice : (m : Meaning) (a : FileAnswer) (some more : List FileAnswer) (o : ℕ) →
+    left_of m (a ∷ more) (left_of m (a ∷ some) o) ≡ left_of m (a ∷ more) o
 unfolding left_of
 twice (IsFault fault) a some more o = refl
 twice (Replies bytes) a some more o = refl
@@ -142,7 +147,8 @@ again m [] more o = ap (left_of m more) (none_yet m o)
 again m (a ∷ some) more o = twice m a some (some ++ more) o
 
 -- one more answer leaves the same in the options that the earlier ones left
-pub leaves_again : (page_size options now room : ℕ) (m : Meaning) (some more : List FileAnswer) → now ≡ (served (setting page_size options room) m some).options
+pub leaves_again : (page_size options now room : ℕ) (m : Meaning) (some more : List FileAnswer)
+    → now ≡ (served (setting page_size options room) m some).options
     → (served (setting page_size now room) m (some ++ more)).options ≡ (served (setting page_size options room) m (some ++ more)).options
 leaves_again page_size options now room m some more is =
     leaves (setting page_size now room) m (some ++ more)
@@ -207,7 +213,8 @@ by_one now asked (file.CopyFileRange a b c d e f g h i) = stay now asked
 by_one now asked (file.Syncfs a b) = stay now asked
 by_one now asked file.TmpFile = stay now asked
 
-by_start : (now asked capable : ℕ) (answer : FileAnswer) → Stays (agrees answer) now asked (start_options now capable answer) (start_options asked capable answer)
+by_start : (now asked capable : ℕ) (answer : FileAnswer) →
+    Stays (agrees answer) now asked (start_options now capable answer) (start_options asked capable answer)
 by_start now asked capable (file.Failed a) = stay now asked
 by_start now asked capable file.Done = stay now asked
 by_start now asked capable (file.HasEntry a) = stay now asked
@@ -222,7 +229,8 @@ by_start now asked capable (file.Offset a) = stay now asked
 by_start now asked capable (file.Entries a) = stay now asked
 by_start now asked capable (file.Wants a) = change now asked (agreed capable a)
 
-left_stays : (now asked : ℕ) (m : Meaning) (answers : List FileAnswer) → Stays (changes_options m answers) now asked (left_of m answers now) (left_of m answers asked)
+left_stays : (now asked : ℕ) (m : Meaning) (answers : List FileAnswer) →
+    Stays (changes_options m answers) now asked (left_of m answers now) (left_of m answers asked)
 unfolding left_of
 left_stays now asked (IsFault fault) answers = stay now asked
 left_stays now asked (Replies bytes) answers = stay now asked

@@ -33,7 +33,8 @@ use Rattle.fs_live.specs.Several.{LiveQueue, returning, seen_at}
 use Rattle.fs_live.specs.Several as several
 use Rattle.fs_live.specs.Live.{GoesBackWith, IsUnreplied, KeepsQueue, OutChain, Own, Phase, fault_of, own_exchange, room_in, room_of}
 use Rattle.fs_live.specs.Handles.{live_of}
-use Rattle.fs_live.specs.Others.{AskedIsHeld, HandleAbandons, HandleDrops, HandleMaps, HandleMoves, HandleReplies, HandleRepliesInstead, HandleReturnsOwn, IfOut, IsOwn, recorded}
+use Rattle.fs_live.specs.Others.{AskedIsHeld, HandleAbandons, HandleDrops, HandleMaps, HandleMoves, HandleReplies, HandleRepliesInstead}
+use Rattle.fs_live.specs.Others.{HandleReturnsOwn, IfOut, IsOwn, recorded}
 use Rattle.fs_live.proofs.Alone.{Walked, walked_there}
 use Rattle.fs_live.proofs.Handles.{seen_of}
 use Rattle.fs_live.proofs.Queues.{none_some, there_same}
@@ -55,8 +56,10 @@ handle_drops {F} may s c before behind w kept out there fresh held none =
     let clear : give_up_error (at.Taken o) kept ≡ None = subst (λ (st : state.ChainState). give_up_error st kept ≡ None) held.state none in
     let youngest : is_last kept o ≡ true = last_tests (is_out_of kept o) (is_last kept o) clear in
     let tested : (kept.next_avail == (held.kept.next_avail + 1) % 2 ^ 16) ≡ true =
-    first_true (kept.next_avail == (held.kept.next_avail + 1) % 2 ^ 16) (nat_lt ((kept.pop_count + (2 ^ 32 - held.pop_id.pop_count)) % 2 ^ 32) (2 ^ 16)) youngest in
-    let same : kept.next_avail ≡ (held.kept.next_avail + 1) % 2 ^ 16 = eqb-true kept.next_avail ((held.kept.next_avail + 1) % 2 ^ 16) tested in
+    first_true (kept.next_avail == (held.kept.next_avail + 1) % 2 ^ 16)
+    (nat_lt ((kept.pop_count + (2 ^ 32 - held.pop_id.pop_count)) % 2 ^ 32) (2 ^ 16)) youngest in
+    let same : kept.next_avail ≡ (held.kept.next_avail + 1) % 2 ^ 16 =
+    eqb-true kept.next_avail ((held.kept.next_avail + 1) % 2 ^ 16) tested in
     let taken : c.taken.position ≡ held.kept.next_avail = ap (λ (q : Queue). q.position) held.taken in (
       record {
         before = before;
@@ -83,7 +86,8 @@ Fits room len = (len ≤ room) × (len < 2 ^ 32)
 low : (len : ℕ) → len ≤ 2 ^ 32 - 1 → len < 2 ^ 32
 low len few = omega (arith, few)
 
-len_tests : (room len : ℕ) (a b : Bool) → nat_lt room len ≡ a → nat_lt (2 ^ 32 - 1) len ≡ b → (if a || b then Some error.LongReply else None) ≡ None → Fits room len
+len_tests : (room len : ℕ) (a b : Bool) → nat_lt room len ≡ a → nat_lt (2 ^ 32 - 1) len ≡ b →
+    (if a || b then Some error.LongReply else None) ≡ None → Fits room len
 len_tests room len true b one two is = absurd (none_some error.LongReply (sym is))
 len_tests room len false true one two is = absurd (none_some error.LongReply (sym is))
 len_tests room len false false one two is = (ltb-false room len one, low len (ltb-false (2 ^ 32 - 1) len two))
@@ -106,8 +110,10 @@ handle_replies {F} may s c before behind w serial options request reply reached 
     subst (λ (p : Phase). FetchesBy c.places s.limit c.taken c.loaded ds c.head (fault_of p)) fresh walked.0 in
     let fits = fits_limit c.places s.limit c.taken c.loaded ds c.head small fetches.1 in
     let o = out_of (course_of held.kept s.limit) held.pop_id c.head ds in
-    let told : o.request_len ≡ length request = subst (λ (st : state.ChainState). FromTaken st (λ out. out.request_len ≡ length request)) held.state len in
-    let clear : own_error (at.Taken o) w.serial serial (length reply) ≡ None = subst (λ (st : state.ChainState). own_error st w.serial serial (length reply) ≡ None) held.state none in
+    let told : o.request_len ≡ length request =
+    subst (λ (st : state.ChainState). FromTaken st (λ out. out.request_len ≡ length request)) held.state len in
+    let clear : own_error (at.Taken o) w.serial serial (length reply) ≡ None =
+    subst (λ (st : state.ChainState). own_error st w.serial serial (length reply) ≡ None) held.state none in
     let few : Fits o.room_len (length reply) = chain_fits w.serial serial o.room_len (length reply) clear in
     let room : length (room_of c) ≡ o.room_len = ap (λ (p : Phase). length (room_in p ds)) fresh ∙ fits.1 in (
       record {
@@ -119,25 +125,31 @@ handle_replies {F} may s c before behind w serial options request reply reached 
         counts = few.1;
         state = refl;
       },
-      subst (λ (st : state.ChainState). IfOut st (λ out. IsOwn (record c { phase = Own request reply }) reply (at.HasReply out (own_reply (length reply))))) (sym held.state)
+      subst (λ (st : state.ChainState). IfOut st
+          (λ out. IsOwn (record c { phase = Own request reply }) reply (at.HasReply out (own_reply (length reply))))) (sym held.state)
           (record { out = o; head = refl; taken = held.taken; fits = few.0; counts = few.1; state = refl }),
     )
 
 -- of a chain that a handle has: the reply has room
-held_so : (out : InFlight) (st : state.ChainState) (mine serial len : ℕ) (P : InFlight → Type 0) → IfOut st (λ o. o ≡ out) → own_error st mine serial len ≡ None → (Fits out.room_len len → P out)
+held_so : (out : InFlight) (st : state.ChainState) (mine serial len : ℕ) (P : InFlight → Type 0) → IfOut st (λ o. o ≡ out)
+    → own_error st mine serial len ≡ None → (Fits out.room_len len → P out)
     → Fits out.room_len len × IfOut st P
 held_so out (at.Taken kept) mine serial len P is none more =
-    let few : Fits out.room_len len = subst (λ (o : InFlight). Fits o.room_len len) is (chain_fits mine serial kept.room_len len none) in (few, subst P (sym is) (more few))
+    let few : Fits out.room_len len = subst (λ (o : InFlight). Fits o.room_len len) is (chain_fits mine serial kept.room_len len none) in
+    (few, subst P (sym is) (more few))
 held_so out (at.Waits kept w) mine serial len P is none more =
-    let few : Fits out.room_len len = subst (λ (o : InFlight). Fits o.room_len len) is (chain_fits mine serial kept.room_len len none) in (few, subst P (sym is) (more few))
+    let few : Fits out.room_len len = subst (λ (o : InFlight). Fits o.room_len len) is (chain_fits mine serial kept.room_len len none) in
+    (few, subst P (sym is) (more few))
 held_so out (at.Lists kept l) mine serial len P is none more =
-    let few : Fits out.room_len len = subst (λ (o : InFlight). Fits o.room_len len) is (chain_fits mine serial kept.room_len len none) in (few, subst P (sym is) (more few))
+    let few : Fits out.room_len len = subst (λ (o : InFlight). Fits o.room_len len) is (chain_fits mine serial kept.room_len len none) in
+    (few, subst P (sym is) (more few))
 held_so out at.Free mine serial len P is none more = absurd is
 held_so out (at.Walking course pop_id walk) mine serial len P is none more = absurd is
 held_so out (at.HasReply o reply) mine serial len P is none more = absurd is
 held_so out (at.Pushing o) mine serial len P is none more = absurd is
 
-keeps_out : (s : Setting) (m : Meaning) (behind : List ℕ) (made : made_call.FileCall) (out : InFlight) (st : state.ChainState) → KeepsCall s m behind made out st → IfOut st (λ o. o ≡ out)
+keeps_out : (s : Setting) (m : Meaning) (behind : List ℕ) (made : made_call.FileCall) (out : InFlight) (st : state.ChainState) →
+    KeepsCall s m behind made out st → IfOut st (λ o. o ≡ out)
 keeps_out s m behind made out (at.Waits kept w) keeps = keeps.0
 keeps_out s m behind made out (at.Lists kept l) keeps = keeps.0
 keeps_out s m behind made out at.Free keeps = absurd keeps
@@ -154,7 +166,8 @@ asked_is_held page_size options request c made w kept =
       head = kept.head;
       taken = kept.taken;
       room = kept.room;
-      is = keeps_out (setting page_size options o.room_len) (meaning options request o.room_len) (drop 80 request) made o w.state kept.tells;
+      is = keeps_out (setting page_size options o.room_len) (meaning options request o.room_len) (drop 80 request) made o
+          w.state kept.tells;
     }
 
 pub handle_replies_instead : {F : Type 0} (may : May F) → HandleRepliesInstead may
@@ -183,7 +196,8 @@ none_before : (n : ℕ) → 0 + n ≡ n
 none_before n = omega arith
 
 told_len : (o : InFlight) (n : ℕ) → Fits o.room_len n → reply_len o (own_reply n) ≡ n
-told_len o n few = ap (λ (k : ℕ). min (min k o.room_len) (2 ^ 32 - 1)) (none_before n) ∙ ap (λ (k : ℕ). min k (2 ^ 32 - 1)) (min-eq_left few.0) ∙ min-eq_left (low_again n few.1)
+told_len o n few = ap (λ (k : ℕ). min (min k o.room_len) (2 ^ 32 - 1)) (none_before n)
+    ∙ ap (λ (k : ℕ). min k (2 ^ 32 - 1)) (min-eq_left few.0) ∙ min-eq_left (low_again n few.1)
 
 pub handle_returns_own : {F : Type 0} (may : May F) → HandleReturnsOwn may
 handle_returns_own {F} may s c before behind st kept request reply acts last notice out there taken phase own back =
@@ -192,8 +206,10 @@ handle_returns_own {F} may s c before behind st kept request reply acts last not
     let flags = back.flags in
     let room = room_of c in
     let x : Exchange = own_exchange c.head request reply in
-    let by : PushesBy kept o (own_reply n) back.stores × (acts ≡ return_acts (reply_stores room reply last ++ stores_of back.stores.used) flags) =
-    subst (λ (k : state.ChainState). FromReplied kept k (λ r s₁. acts ≡ return_acts (reply_stores room reply last ++ stores_of s₁.used) flags) back.stores) own.state back.returns in
+    let by : PushesBy kept o (own_reply n) back.stores
+    × (acts ≡ return_acts (reply_stores room reply last ++ stores_of back.stores.used) flags) =
+    subst (λ (k : state.ChainState). FromReplied kept k
+    (λ r s₁. acts ≡ return_acts (reply_stores room reply last ++ stores_of s₁.used) flags) back.stores) own.state back.returns in
     let q = returning (live_of kept) in
     let used = stores_after_reply q c.head n in
     let laid : queue_of o.course ≡ at_position kept.layout c.taken.position = sym own.taken ∙ taken in
@@ -202,7 +218,8 @@ handle_returns_own {F} may s c before behind st kept request reply acts last not
     ∙ ap (λ (k : Queue). stores_after_reply (record k { position = kept.next_used }) o.head (reply_len o (own_reply n))) laid
     ∙ ap (λ (h : ℕ). stores_after_reply (at_position kept.layout kept.next_used) h (reply_len o (own_reply n))) own.head
     ∙ ap (λ (k : ℕ). stores_after_reply (at_position kept.layout kept.next_used) c.head k) (told_len o n (own.fits, own.counts)) in
-    let acts_are : acts ≡ return_acts (reply_stores room reply last ++ used) flags = by.1 ∙ ap (λ (u : List Store). return_acts (reply_stores room reply last ++ u) flags) stored in
+    let acts_are : acts ≡ return_acts (reply_stores room reply last ++ used) flags =
+    by.1 ∙ ap (λ (u : List Store). return_acts (reply_stores room reply last ++ u) flags) stored in
     let goes : GoesBackWith s.page_size c c.phase x = subst (λ (p : Phase). GoesBackWith s.page_size c p x) (sym phase) refl in
     let seen : back.stores.seen_at ≡ seen_at (live_of kept) = by.0.2 ∙ ap (λ (k : Queue). seen_of kept.event_index k) laid in (
       x,
@@ -242,7 +259,14 @@ all_recorded (k ∷ ks) = ap (λ (l : List Queue). recorded k ∷ l) (all_record
 pub handle_moves : {F : Type 0} (may : May F) → HandleMoves may
 handle_moves {F} may s here there m bytes v v' options queues none queues_are made read begun =
     let one = one_reading v v' s.options options (map recorded here) queues bytes bytes [] [] made read refl in
-    let now : map (λ w. w.queue) s.queues ≡ map recorded here = ap (λ (l : List LiveQueue). map (λ w. w.queue) l) queues_are ∙ all_recorded here in (
+    let now : map (λ w. w.queue) s.queues ≡ map recorded here =
+    ap (λ (l : List LiveQueue). map (λ w. w.queue) l) queues_are ∙ all_recorded here in (
       sym one.1,
-      record { none_out = none; same = all_recorded there ∙ begun.same ∙ sym one.2 ∙ sym now; even = begun.even; few = begun.few; state = refl },
+      record {
+        none_out = none;
+        same = all_recorded there ∙ begun.same ∙ sym one.2 ∙ sym now;
+        even = begun.even;
+        few = begun.few;
+        state = refl;
+      },
     )

@@ -1,5 +1,6 @@
 -- Which pages the stores of a run mark.
-use Rattle.std.proofs.Common.{arith, ◌≡◌, ℕ, zero, suc, Bool, List, [], ◌∷◌, ◌++◌, length, map, take, drop, zip, flat_map, Option, Some, None, refl, subst, sym, ap, ◌∙◌, append_assoc, append-nil}
+use Rattle.std.proofs.Common.{arith, ◌≡◌, ℕ, zero, suc, Bool, List, [], ◌∷◌, ◌++◌, length, map, take, drop, zip, flat_map, Option, Some}
+use Rattle.std.proofs.Common.{None, refl, subst, sym, ap, ◌∙◌, append_assoc, append-nil}
 use Rattle.std.specs.Prelude.{true, false, ◌||◌, ◌==◌, option_map}
 use Rattle.std.specs.Int.{w16, w32, to_le_bytes}
 use Rattle.std.specs.List.{list_any}
@@ -69,7 +70,8 @@ zip_cut (suc n) (a ∷ as') (x ∷ xs) = ap (λ (l : List (ℕ × ℕ)). (a, x) 
 -- so many bytes at as many addresses
 whole_firsts : (a n : ℕ) (xs : List ℕ) → length xs ≡ n → firsts (zip (addresses a n) xs) ≡ addresses a n
 whole_firsts a n xs len =
-    firsts_zip (addresses a n) xs ∙ ap (λ (k : ℕ). take k (addresses a n)) len ∙ take_all n (addresses a n) (let len = length-addresses n a in omega (arith, len))
+    firsts_zip (addresses a n) xs ∙ ap (λ (k : ℕ). take k (addresses a n)) len
+    ∙ take_all n (addresses a n) (let len = length-addresses n a in omega (arith, len))
 
 -- ---- a return
 
@@ -80,13 +82,18 @@ module _ (q : Queue) (head : ℕ) (room reply : List ℕ) where
   -- the writes behind a reply are the used element's and the used index's
   pub returned_are : returned_addresses q head room reply ≡ take (length reply) room ++ back
   returned_are =
-      ap firsts (append_assoc (zip room reply) (zip (addresses (element_at q) 8) (to_le_bytes w32 head ++ to_le_bytes w32 (length reply))) (zip (addresses (index_at q) 2) (to_le_bytes w16 (next_position q))))
-      ∙ map-append (λ (w : ℕ × ℕ). w.0) (zip room reply) (zip (addresses (element_at q) 8) (to_le_bytes w32 head ++ to_le_bytes w32 (length reply)) ++ zip (addresses (index_at q) 2) (to_le_bytes w16 (next_position q)))
-      ∙ ap (λ (l : List ℕ). l ++ firsts (zip (addresses (element_at q) 8) (to_le_bytes w32 head ++ to_le_bytes w32 (length reply)) ++ zip (addresses (index_at q) 2) (to_le_bytes w16 (next_position q))))
+      ap firsts (append_assoc (zip room reply) (zip (addresses (element_at q) 8) (to_le_bytes w32 head ++ to_le_bytes w32 (length reply)))
+      (zip (addresses (index_at q) 2) (to_le_bytes w16 (next_position q))))
+      ∙ map-append (λ (w : ℕ × ℕ). w.0) (zip room reply) (zip (addresses (element_at q) 8)
+      (to_le_bytes w32 head ++ to_le_bytes w32 (length reply)) ++ zip (addresses (index_at q) 2) (to_le_bytes w16 (next_position q)))
+      ∙ ap (λ (l : List ℕ). l ++ firsts (zip (addresses (element_at q) 8) (to_le_bytes w32 head ++ to_le_bytes w32 (length reply))
+      ++ zip (addresses (index_at q) 2) (to_le_bytes w16 (next_position q))))
       (firsts_zip room reply)
       ∙ ap (λ (l : List ℕ). take (length reply) room ++ l)
-      (map-append (λ (w : ℕ × ℕ). w.0) (zip (addresses (element_at q) 8) (to_le_bytes w32 head ++ to_le_bytes w32 (length reply))) (zip (addresses (index_at q) 2) (to_le_bytes w16 (next_position q)))
-      ∙ ap (λ (l : List ℕ). l ++ firsts (zip (addresses (index_at q) 2) (to_le_bytes w16 (next_position q)))) (whole_firsts (element_at q) 8 (to_le_bytes w32 head ++ to_le_bytes w32 (length reply)) refl)
+      (map-append (λ (w : ℕ × ℕ). w.0) (zip (addresses (element_at q) 8) (to_le_bytes w32 head ++ to_le_bytes w32 (length reply)))
+      (zip (addresses (index_at q) 2) (to_le_bytes w16 (next_position q)))
+      ∙ ap (λ (l : List ℕ). l ++ firsts (zip (addresses (index_at q) 2) (to_le_bytes w16 (next_position q))))
+      (whole_firsts (element_at q) 8 (to_le_bytes w32 head ++ to_le_bytes w32 (length reply)) refl)
       ∙ ap (λ (l : List ℕ). addresses (element_at q) 8 ++ l) (whole_firsts (index_at q) 2 (to_le_bytes w16 (next_position q)) refl))
 
   -- whichever part of the reply is stored last, the same marks are set
@@ -102,7 +109,8 @@ module _ (q : Queue) (head : ℕ) (room reply : List ℕ) where
       let turned : any (rest ++ first) ≡ any (zip room reply) =
       two rest first ∙ or_comm (any rest) (any first) ∙ sym (two first rest) ∙ ap any (zip_cut n room reply) in
       ap any
-      (flat_map-append writes_of (reply_stores room reply n) used ∙ ap (λ (l : List (ℕ × ℕ)). l ++ flat_map writes_of used) (reply_writes room reply n)
+      (flat_map-append writes_of (reply_stores room reply n) used
+      ∙ ap (λ (l : List (ℕ × ℕ)). l ++ flat_map writes_of used) (reply_writes room reply n)
       ∙ ap (λ (l : List Store). (rest ++ first) ++ flat_map writes_of l) is)
       ∙ two (rest ++ first) later ∙ ap (λ (b : Bool). b || any later) turned ∙ sym (two (zip room reply) later)
       ∙ ap any (sym (returns_by_stores q head room reply))
@@ -110,7 +118,8 @@ module _ (q : Queue) (head : ℕ) (room reply : List ℕ) where
 -- ---- an event
 
 -- both by one list of addresses that sets the same marks
-both_told : {F : Type 0} (s : LiveState F) (e : LiveEvent) → ((p : ℕ → Bool) → list_any p (written_by (acts_of e)) ≡ list_any p (told_by s e)) → MarksAsTold s e × LogsAsTold s e
+both_told : {F : Type 0} (s : LiveState F) (e : LiveEvent) →
+    ((p : ℕ → Bool) → list_any p (written_by (acts_of e)) ≡ list_any p (told_by s e)) → MarksAsTold s e × LogsAsTold s e
 both_told s e same = (
   λ m.
       let ws = flat_map writes_of (stores_among (acts_of e)) in
@@ -125,10 +134,12 @@ both_told s e same = (
   λ page. same (λ a. page_of a == page),
 )
 
-returns_told : {F : Type 0} (s mid : LiveState F) (c : OutChain) (x : Exchange) (notice : Bool) (last : ℕ) (used : List Store) (seen : List ℕ) → (h : ReturnsSo s c x notice last used seen mid)
+returns_told : {F : Type 0} (s mid : LiveState F) (c : OutChain) (x : Exchange) (notice : Bool) (last : ℕ) (used : List Store)
+    (seen : List ℕ) → (h : ReturnsSo s c x notice last used seen mid)
     → told_by s (Returns c x notice last used seen) ≡ returned_addresses (returning h.w) c.head (room_of c) x.reply
 returns_told s mid c x notice last used seen h =
-    ap (λ (k : Option LiveQueue). take (length x.reply) (room_of c) ++ told_of_queue k) h.there ∙ sym (returned_are (returning h.w) c.head (room_of c) x.reply)
+    ap (λ (k : Option LiveQueue). take (length x.reply) (room_of c) ++ told_of_queue k) h.there
+    ∙ sym (returned_are (returning h.w) c.head (room_of c) x.reply)
 
 -- a store of two bytes
 abbrev TellsTwo : Option Store → Type 0
@@ -138,21 +149,24 @@ TellsTwo (Some store) = firsts (flat_map writes_of (store ∷ [])) ≡ addresses
 two_told : (a v : ℕ) → firsts (flat_map writes_of (record { address = a; bytes = to_le_bytes w16 v } ∷ [])) ≡ addresses a 2
 two_told a v = ap firsts (append-nil (zip (addresses a 2) (to_le_bytes w16 v))) ∙ whole_firsts a 2 (to_le_bytes w16 v) refl
 
-sleep_told : (q : Queue) (next_used max_in_flight : ℕ) (event wanted : Bool) → TellsTwo (sleep_store (record { queue = q; next_used = next_used; max_in_flight = max_in_flight; event_index = event }) wanted)
+sleep_told : (q : Queue) (next_used max_in_flight : ℕ) (event wanted : Bool) →
+    TellsTwo (sleep_store (record { queue = q; next_used = next_used; max_in_flight = max_in_flight; event_index = event }) wanted)
 sleep_told q next_used max_in_flight true true = two_told (avail_event_at q) q.position
 sleep_told q next_used max_in_flight true false = tt
 sleep_told q next_used max_in_flight false true = two_told q.used 0
 sleep_told q next_used max_in_flight false false = two_told q.used 1
 
 -- stores in a room
-fills_told : (stores : List Store) → firsts (flat_map writes_of stores) ≡ flat_map (λ store. addresses store.address (length store.bytes)) stores
+fills_told :
+    (stores : List Store) → firsts (flat_map writes_of stores) ≡ flat_map (λ store. addresses store.address (length store.bytes)) stores
 fills_told [] = refl
 fills_told (store ∷ stores) =
     map-append (λ (w : ℕ × ℕ). w.0) (writes_of store) (flat_map writes_of stores)
     ∙ ap (λ (l : List ℕ). l ++ firsts (flat_map writes_of stores)) (whole_firsts store.address (length store.bytes) store.bytes refl)
     ∙ ap (λ (l : List ℕ). addresses store.address (length store.bytes) ++ l) (fills_told stores)
 
-one_event : {F : Type 0} (may : May F) (s mid : LiveState F) (e : LiveEvent) → Happens may s e mid → (p : ℕ → Bool) → list_any p (written_by (acts_of e)) ≡ list_any p (told_by s e)
+one_event : {F : Type 0} (may : May F) (s mid : LiveState F) (e : LiveEvent) → Happens may s e mid → (p : ℕ → Bool) →
+    list_any p (written_by (acts_of e)) ≡ list_any p (told_by s e)
 one_event may s mid (Walks i loaded ds came) h p = refl
 one_event may s mid (Declines i e) h p = refl
 one_event may s mid (Asks c request told) h p = refl
@@ -166,7 +180,8 @@ one_event may s mid (Sleeps i store) h p =
     let so : SleepsSo s i store mid = h in
     ap (list_any p) (subst TellsTwo so.stores (sleep_told so.w.queue so.w.next_used so.w.max_in_flight so.w.event_index so.wanted))
 one_event may s mid (Begins i w) h p = refl
-one_event may s mid (Fills c stores) h p = ap (list_any p) (ap (λ (l : List Store). firsts (flat_map writes_of l)) (among_stores stores) ∙ fills_told stores)
+one_event may s mid (Fills c stores) h p =
+    ap (list_any p) (ap (λ (l : List Store). firsts (flat_map writes_of l)) (among_stores stores) ∙ fills_told stores)
 one_event may s mid (Drops c) h p = refl
 one_event may s mid (Abandons c) h p = refl
 one_event may s mid (Replies c request reply options) h p = refl

@@ -1,5 +1,6 @@
 -- One queue of a run.
-use Rattle.std.proofs.Common.{arith, ◌≡◌, ℕ, zero, suc, Bool, List, [], ◌∷◌, ◌++◌, length, filter, Option, Some, None, slice_get, refl, subst, sym, ap, ◌∙◌, append-nil}
+use Rattle.std.proofs.Common.{arith, ◌≡◌, ℕ, zero, suc, Bool, List, [], ◌∷◌, ◌++◌, length, filter, Option, Some, None, slice_get, refl}
+use Rattle.std.proofs.Common.{subst, sym, ap, ◌∙◌, append-nil}
 use Rattle.std.specs.Prelude.{◌+◌, ◌%◌, ◌^◌, not, ◌==◌, true, false, if◌then◌else◌, unwrap_or, IsTrue}
 use Rattle.std.specs.List.{AllByRecursion}
 use Rattle.std.proofs.lemmas.Bool.{eqb-true, eq-eqb}
@@ -15,8 +16,10 @@ use Rattle.virtiofsd_fuse.specs.Serving.{May}
 use Rattle.fs_live.specs.Several.{LiveQueue, InFlightId, QueueEvent, RunsOver, may_take, took, untook, gave, returning}
 use Rattle.fs_live.specs.Several as several
 use Rattle.fs_live.proofs.SeveralRuns.{once, used_in_order}
-use Rattle.fs_live.specs.Live.{OutChain, LiveState, LiveEvent, Walks, Declines, Asks, Answers, Returns, Sleeps, Begins, Fills, Drops, Abandons, Replies, Maps, Moves, Happens, LiveRun, WalksIn}
-use Rattle.fs_live.specs.Live.{Own, after_answer, after_asking, after_beginning, after_drop, after_loss, after_own, asked_chain, lost_chain, new_chain}
+use Rattle.fs_live.specs.Live.{OutChain, LiveState, LiveEvent, Walks, Declines, Asks, Answers, Returns, Sleeps, Begins, Fills, Drops}
+use Rattle.fs_live.specs.Live.{Abandons, Replies, Maps, Moves, Happens, LiveRun, WalksIn}
+use Rattle.fs_live.specs.Live.{Own, after_answer, after_asking, after_beginning, after_drop, after_loss, after_own, asked_chain, lost_chain}
+use Rattle.fs_live.specs.Live.{new_chain}
 use Rattle.fs_live.specs.Runs.{RunsOnQueue, OncePerLiveChain, LiveUsedInOrder, NotAnew, event_on, events_on, tickets_on, going}
 
 -- ---- queues in their places
@@ -31,7 +34,8 @@ same_some {A} x y e = ap (λ (k : Option A). unwrap_or k x) e
 pub none_some : {A : Type 0} (x : A) → None ≡ Some x → ⊥
 none_some {A} x e = subst (λ (k : Option A). is_this x k) (sym e) refl
 
-pub there_same : {A : Type 0} (xs : List A) (j i : ℕ) (f : A → A) (x : A) → j ≡ i → slice_get xs i ≡ Some x → slice_get (changed_at xs j f) i ≡ Some (f x)
+pub there_same : {A : Type 0} (xs : List A) (j i : ℕ) (f : A → A) (x : A) → j ≡ i → slice_get xs i ≡ Some x →
+    slice_get (changed_at xs j f) i ≡ Some (f x)
 there_same {A} [] j i f x same there = absurd (none_some x there)
 there_same {A} (y ∷ ys) zero zero f x same there = ap (λ (z : A). Some (f z)) (same_some y x there)
 there_same {A} (y ∷ ys) zero (suc i) f x same there = absurd (omega arith)
@@ -62,27 +66,33 @@ module _ (i : ℕ) where
   abbrev ticket_of : OutChain → InFlightId
   ticket_of c = (c.taken.position, c.head)
 
-  pub one_ticket : (c : OutChain) (cs : List OutChain) (b : Bool) → (c.queue == i) ≡ b → tickets_on i (c ∷ cs) ≡ (if b then ticket_of c ∷ tickets_on i cs else tickets_on i cs)
+  pub one_ticket : (c : OutChain) (cs : List OutChain) (b : Bool) → (c.queue == i) ≡ b
+      → tickets_on i (c ∷ cs) ≡ (if b then ticket_of c ∷ tickets_on i cs else tickets_on i cs)
   one_ticket c cs true is = rw is refl
   one_ticket c cs false is = rw is refl
 
-  ticket_and : (c : OutChain) (xs ys : List OutChain) (b : Bool) → (c.queue == i) ≡ b → tickets_on i (xs ++ ys) ≡ tickets_on i xs ++ tickets_on i ys
+  ticket_and :
+      (c : OutChain) (xs ys : List OutChain) (b : Bool) → (c.queue == i) ≡ b → tickets_on i (xs ++ ys) ≡ tickets_on i xs ++ tickets_on i ys
       → tickets_on i (c ∷ (xs ++ ys)) ≡ tickets_on i (c ∷ xs) ++ tickets_on i ys
   ticket_and c xs ys true is more =
-      one_ticket c (xs ++ ys) true is ∙ ap (λ (l : List InFlightId). ticket_of c ∷ l) more ∙ sym (ap (λ (l : List InFlightId). l ++ tickets_on i ys) (one_ticket c xs true is))
-  ticket_and c xs ys false is more = one_ticket c (xs ++ ys) false is ∙ more ∙ sym (ap (λ (l : List InFlightId). l ++ tickets_on i ys) (one_ticket c xs false is))
+      one_ticket c (xs ++ ys) true is ∙ ap (λ (l : List InFlightId). ticket_of c ∷ l) more
+      ∙ sym (ap (λ (l : List InFlightId). l ++ tickets_on i ys) (one_ticket c xs true is))
+  ticket_and c xs ys false is more =
+      one_ticket c (xs ++ ys) false is ∙ more ∙ sym (ap (λ (l : List InFlightId). l ++ tickets_on i ys) (one_ticket c xs false is))
 
   pub tickets-append : (xs ys : List OutChain) → tickets_on i (xs ++ ys) ≡ tickets_on i xs ++ tickets_on i ys
   tickets-append [] ys = refl
   tickets-append (c ∷ xs) ys = ticket_and c xs ys (c.queue == i) refl (tickets-append xs ys)
 
   -- a chain that goes on keeps its ticket
-  pub goes_on : (before behind : List OutChain) (c d : OutChain) (b : Bool) → (c.queue == i) ≡ b → d.queue ≡ c.queue → ticket_of d ≡ ticket_of c
+  pub goes_on :
+      (before behind : List OutChain) (c d : OutChain) (b : Bool) → (c.queue == i) ≡ b → d.queue ≡ c.queue → ticket_of d ≡ ticket_of c
       → tickets_on i (before ++ d ∷ behind) ≡ tickets_on i (before ++ c ∷ behind)
   goes_on before behind c d true is same ticket =
       let is_d : (d.queue == i) ≡ true = ap (λ (n : ℕ). n == i) same ∙ is in
       tickets-append before (d ∷ behind)
-      ∙ ap (λ (l : List InFlightId). tickets_on i before ++ l) (one_ticket d behind true is_d ∙ ap (λ (t : InFlightId). t ∷ tickets_on i behind) ticket ∙ sym (one_ticket c behind true is))
+      ∙ ap (λ (l : List InFlightId). tickets_on i before ++ l)
+      (one_ticket d behind true is_d ∙ ap (λ (t : InFlightId). t ∷ tickets_on i behind) ticket ∙ sym (one_ticket c behind true is))
       ∙ sym (tickets-append before (c ∷ behind))
   goes_on before behind c d false is same ticket =
       let is_d : (d.queue == i) ≡ false = ap (λ (n : ℕ). n == i) same ∙ is in
@@ -91,18 +101,23 @@ module _ (i : ℕ) where
       ∙ sym (tickets-append before (c ∷ behind))
 
   -- chains of another queue are out no more
-  pub kept_not : (f : OutChain → Bool) (c : OutChain) (cs : List OutChain) (b : Bool) → f c ≡ b → filter f (c ∷ cs) ≡ (if b then c ∷ filter f cs else filter f cs)
+  pub kept_not : (f : OutChain → Bool) (c : OutChain) (cs : List OutChain) (b : Bool) → f c ≡ b
+      → filter f (c ∷ cs) ≡ (if b then c ∷ filter f cs else filter f cs)
   kept_not f c cs true is = rw is refl
   kept_not f c cs false is = rw is refl
 
-  one_dropped : (j : ℕ) (c : OutChain) (cs : List OutChain) (mine other : Bool) → (j ≡ i → ⊥) → (c.queue == i) ≡ mine → (c.queue == j) ≡ other
-      → tickets_on i (filter (λ c. not (c.queue == j)) cs) ≡ tickets_on i cs → tickets_on i (filter (λ c. not (c.queue == j)) (c ∷ cs)) ≡ tickets_on i (c ∷ cs)
+  one_dropped :
+      (j : ℕ) (c : OutChain) (cs : List OutChain) (mine other : Bool) → (j ≡ i → ⊥) → (c.queue == i) ≡ mine → (c.queue == j) ≡ other
+      → tickets_on i (filter (λ c. not (c.queue == j)) cs) ≡ tickets_on i cs
+      → tickets_on i (filter (λ c. not (c.queue == j)) (c ∷ cs)) ≡ tickets_on i (c ∷ cs)
   one_dropped j c cs true true apart is other more = absurd (apart (sym (eqb-true c.queue j other) ∙ eqb-true c.queue i is))
   one_dropped j c cs true false apart is other more =
       ap (λ (l : List OutChain). tickets_on i l) (kept_not (λ c. not (c.queue == j)) c cs true (ap not other))
-      ∙ one_ticket c (filter (λ c. not (c.queue == j)) cs) true is ∙ ap (λ (l : List InFlightId). ticket_of c ∷ l) more ∙ sym (one_ticket c cs true is)
+      ∙ one_ticket c (filter (λ c. not (c.queue == j)) cs) true is ∙ ap (λ (l : List InFlightId). ticket_of c ∷ l) more
+      ∙ sym (one_ticket c cs true is)
   one_dropped j c cs false true apart is other more =
-      ap (λ (l : List OutChain). tickets_on i l) (kept_not (λ c. not (c.queue == j)) c cs false (ap not other)) ∙ more ∙ sym (one_ticket c cs false is)
+      ap (λ (l : List OutChain). tickets_on i l) (kept_not (λ c. not (c.queue == j)) c cs false (ap not other)) ∙ more
+      ∙ sym (one_ticket c cs false is)
   one_dropped j c cs false false apart is other more =
       ap (λ (l : List OutChain). tickets_on i l) (kept_not (λ c. not (c.queue == j)) c cs true (ap not other))
       ∙ one_ticket c (filter (λ c. not (c.queue == j)) cs) false is ∙ more ∙ sym (one_ticket c cs false is)
@@ -116,42 +131,54 @@ module _ (i : ℕ) where
   abbrev Carries : {F : Type 0} → (s mid : LiveState F) → LiveQueue → List QueueEvent → Type 0
   Carries s mid w now =
       (w₁ : LiveQueue) × (slice_get mid.queues i ≡ Some w₁)
-      × ((es : List QueueEvent) (v : LiveQueue) (outs : List InFlightId) → RunsOver (going w₁) (tickets_on i mid.outs) es v outs → RunsOver (going w) (tickets_on i s.outs) (now ++ es) v outs)
+      × ((es : List QueueEvent) (v : LiveQueue) (outs : List InFlightId) → RunsOver (going w₁) (tickets_on i mid.outs) es v outs
+      → RunsOver (going w) (tickets_on i s.outs) (now ++ es) v outs)
 
-  stays : {F : Type 0} (s mid : LiveState F) (w w₁ : LiveQueue) → slice_get mid.queues i ≡ Some w₁ → going w₁ ≡ going w → tickets_on i mid.outs ≡ tickets_on i s.outs → Carries s mid w []
+  stays : {F : Type 0} (s mid : LiveState F) (w w₁ : LiveQueue) → slice_get mid.queues i ≡ Some w₁ → going w₁ ≡ going w
+      → tickets_on i mid.outs ≡ tickets_on i s.outs → Carries s mid w []
   stays s mid w w₁ there same outs_are = (
     w₁,
     there,
     λ es v outs run.
-        subst (λ (k : LiveQueue). RunsOver k (tickets_on i s.outs) es v outs) same (subst (λ (l : List InFlightId). RunsOver (going w₁) l es v outs) outs_are run),
+        subst (λ (k : LiveQueue). RunsOver k (tickets_on i s.outs) es v outs) same
+        (subst (λ (l : List InFlightId). RunsOver (going w₁) l es v outs) outs_are run),
   )
 
   refused_going : (w : LiveQueue) (b : Bool) → going (record w { queue = if b then with_stop w.queue else w.queue }) ≡ going w
   refused_going w true = refl
   refused_going w false = refl
 
-  refuses : {F : Type 0} (s : LiveState F) (j : ℕ) (w v : LiveQueue) (b : Bool) (stops : Bool) → (j == i) ≡ b → slice_get s.queues i ≡ Some w → slice_get s.queues j ≡ Some v
-      → Carries s (record s { queues = changed_at s.queues j (λ _. record v { queue = if stops then with_stop v.queue else v.queue }) }) w []
+  refuses : {F : Type 0} (s : LiveState F) (j : ℕ) (w v : LiveQueue) (b : Bool) (stops : Bool) → (j == i) ≡ b
+      → slice_get s.queues i ≡ Some w → slice_get s.queues j ≡ Some v
+      → Carries s (record s { queues = changed_at s.queues j (λ _. record v { queue = if stops then with_stop v.queue else v.queue }) }) w
+      []
   refuses {F} s j w v true stops is there at =
-      let mid : LiveState F = record s { queues = changed_at s.queues j (λ _. record v { queue = if stops then with_stop v.queue else v.queue }) } in
+      let mid : LiveState F =
+      record s { queues = changed_at s.queues j (λ _. record v { queue = if stops then with_stop v.queue else v.queue }) } in
       let same : j ≡ i = eqb-true j i is in
       let one : v ≡ w = same_some v w (sym at ∙ ap (λ (n : ℕ). slice_get s.queues n) same ∙ there) in
-      stays s mid w (record v { queue = if stops then with_stop v.queue else v.queue }) (there_same s.queues j i (λ _. record v { queue = if stops then with_stop v.queue else v.queue }) w same there)
+      stays s mid w (record v { queue = if stops then with_stop v.queue else v.queue })
+      (there_same s.queues j i (λ _. record v { queue = if stops then with_stop v.queue else v.queue }) w same there)
       (refused_going v stops ∙ ap (λ (k : LiveQueue). going k) one) refl
   refuses {F} s j w v false stops is there at =
-      let mid : LiveState F = record s { queues = changed_at s.queues j (λ _. record v { queue = if stops then with_stop v.queue else v.queue }) } in
-      stays s mid w w (there_other s.queues j i (λ _. record v { queue = if stops then with_stop v.queue else v.queue }) (apart_of j i is) ∙ there) refl refl
+      let mid : LiveState F =
+      record s { queues = changed_at s.queues j (λ _. record v { queue = if stops then with_stop v.queue else v.queue }) } in
+      stays s mid w w (there_other s.queues j i (λ _. record v { queue = if stops then with_stop v.queue else v.queue }) (apart_of j i is)
+      ∙ there) refl refl
 
-  takes : {F : Type 0} (s : LiveState F) (j : ℕ) (w v : LiveQueue) (b : Bool) (c : OutChain) → (j == i) ≡ b → slice_get s.queues i ≡ Some w → slice_get s.queues j ≡ Some v → c.queue ≡ j
+  takes : {F : Type 0} (s : LiveState F) (j : ℕ) (w v : LiveQueue) (b : Bool) (c : OutChain) → (j == i) ≡ b → slice_get s.queues i ≡ Some w
+      → slice_get s.queues j ≡ Some v → c.queue ≡ j
       → c.taken ≡ v.queue → IsTrue (may_take v)
-      → Carries s (record s { queues = changed_at s.queues j (λ _. took v); outs = s.outs ++ c ∷ [] }) w (if b then several.Takes c.head ∷ [] else [])
+      → Carries s (record s { queues = changed_at s.queues j (λ _. took v); outs = s.outs ++ c ∷ [] }) w
+      (if b then several.Takes c.head ∷ [] else [])
   takes {F} s j w v true c is there at of_queue taken may =
       let same : j ≡ i = eqb-true j i is in
       let one : v ≡ w = same_some v w (sym at ∙ ap (λ (n : ℕ). slice_get s.queues n) same ∙ there) in
       let mid : LiveState F = record s { queues = changed_at s.queues j (λ _. took v); outs = s.outs ++ c ∷ [] } in
       let outs_are : tickets_on i (s.outs ++ c ∷ []) ≡ tickets_on i s.outs ++ (v.queue.position, c.head) ∷ [] =
       tickets-append s.outs (c ∷ [])
-      ∙ ap (λ (l : List InFlightId). tickets_on i s.outs ++ l) (one_ticket c [] true (ap (λ (n : ℕ). n == i) of_queue ∙ is) ∙ ap (λ k. (k.position, c.head) ∷ []) taken) in
+      ∙ ap (λ (l : List InFlightId). tickets_on i s.outs ++ l)
+      (one_ticket c [] true (ap (λ (n : ℕ). n == i) of_queue ∙ is) ∙ ap (λ k. (k.position, c.head) ∷ []) taken) in
       subst (λ (k : LiveQueue). Carries s mid k (several.Takes c.head ∷ [])) one (
         took v,
         there_same s.queues j i (λ _. took v) w same there,
@@ -160,13 +187,16 @@ module _ (i : ℕ) where
   takes {F} s j w v false c is there at of_queue taken may =
       let mid : LiveState F = record s { queues = changed_at s.queues j (λ _. took v); outs = s.outs ++ c ∷ [] } in
       stays s mid w w (there_other s.queues j i (λ _. took v) (apart_of j i is) ∙ there) refl
-      (tickets-append s.outs (c ∷ []) ∙ ap (λ (l : List InFlightId). tickets_on i s.outs ++ l) (one_ticket c [] false (ap (λ (n : ℕ). n == i) of_queue ∙ is)) ∙ append-nil (tickets_on i s.outs))
+      (tickets-append s.outs (c ∷ []) ∙ ap (λ (l : List InFlightId). tickets_on i s.outs ++ l)
+      (one_ticket c [] false (ap (λ (n : ℕ). n == i) of_queue ∙ is)) ∙ append-nil (tickets_on i s.outs))
 
   -- walks
-  walks : {F : Type 0} (s mid : LiveState F) (j : ℕ) (w v : LiveQueue) (loaded : Loaded) (ds : List Descriptor) (came : comes.CourseStep) → slice_get s.queues i ≡ Some w → slice_get s.queues j ≡ Some v
+  walks : {F : Type 0} (s mid : LiveState F) (j : ℕ) (w v : LiveQueue) (loaded : Loaded) (ds : List Descriptor) (came : comes.CourseStep)
+      → slice_get s.queues i ≡ Some w → slice_get s.queues j ≡ Some v
       → IsTrue (may_take v) → WalksIn s j v loaded ds came mid → Carries s mid w (event_on i (Walks j loaded ds came))
   walks s mid j w v loaded ds (step.Load walk) there at room h = absurd h
-  walks {F} s mid j w v loaded ds step.Idle there at room h = subst (λ (k : LiveState F). Carries s k w []) (sym h.1) (stays s s w w there refl refl)
+  walks {F} s mid j w v loaded ds step.Idle there at room h =
+      subst (λ (k : LiveState F). Carries s k w []) (sym h.1) (stays s s w w there refl refl)
   walks {F} s mid j w v loaded ds (step.Refused e) there at room h =
       subst (λ (k : LiveState F). Carries s k w []) (sym h.1) (refuses s j w v (j == i) (stops_queue e) refl there at)
   walks {F} s mid j w v loaded ds (step.Chain head fault) there at room h =
@@ -174,8 +204,10 @@ module _ (i : ℕ) where
       (takes s j w v (j == i) (new_chain s j v loaded ds head fault) refl there at refl refl room)
 
   -- a return
-  returns : {F : Type 0} (s : LiveState F) (before behind : List OutChain) (c : OutChain) (w v : LiveQueue) (b : Bool) (len : ℕ) (used : List Store) → (c.queue == i) ≡ b
-      → slice_get s.queues i ≡ Some w → slice_get s.queues c.queue ≡ Some v → s.outs ≡ before ++ c ∷ behind → used ≡ stores_after_reply (returning v) c.head len
+  returns : {F : Type 0} (s : LiveState F) (before behind : List OutChain) (c : OutChain) (w v : LiveQueue) (b : Bool) (len : ℕ)
+      (used : List Store) → (c.queue == i) ≡ b
+      → slice_get s.queues i ≡ Some w → slice_get s.queues c.queue ≡ Some v → s.outs ≡ before ++ c ∷ behind
+      → used ≡ stores_after_reply (returning v) c.head len
       → Carries s (record s { queues = changed_at s.queues c.queue (λ _. gave v); outs = before ++ behind }) w
       (if b then several.Returns (c.taken.position, c.head) len used ∷ [] else [])
   returns {F} s before behind c w v true len used is there at out used_is =
@@ -183,7 +215,8 @@ module _ (i : ℕ) where
       let one : v ≡ w = same_some v w (sym at ∙ ap (λ (n : ℕ). slice_get s.queues n) same ∙ there) in
       let mid : LiveState F = record s { queues = changed_at s.queues c.queue (λ _. gave v); outs = before ++ behind } in
       let split : tickets_on i s.outs ≡ tickets_on i before ++ ticket_of c ∷ tickets_on i behind =
-      ap (λ (l : List OutChain). tickets_on i l) out ∙ tickets-append before (c ∷ behind) ∙ ap (λ (l : List InFlightId). tickets_on i before ++ l) (one_ticket c behind true is) in
+      ap (λ (l : List OutChain). tickets_on i l) out ∙ tickets-append before (c ∷ behind)
+      ∙ ap (λ (l : List InFlightId). tickets_on i before ++ l) (one_ticket c behind true is) in
       subst (λ (k : LiveQueue). Carries s mid k (several.Returns (c.taken.position, c.head) len used ∷ [])) one (
         gave v,
         there_same s.queues c.queue i (λ _. gave v) w same there,
@@ -199,17 +232,20 @@ module _ (i : ℕ) where
       let mid : LiveState F = record s { queues = changed_at s.queues c.queue (λ _. gave v); outs = before ++ behind } in
       stays s mid w w (there_other s.queues c.queue i (λ _. gave v) (apart_of c.queue i is) ∙ there) refl
       (tickets-append before behind
-      ∙ sym (ap (λ (l : List OutChain). tickets_on i l) out ∙ tickets-append before (c ∷ behind) ∙ ap (λ (l : List InFlightId). tickets_on i before ++ l) (one_ticket c behind false is)))
+      ∙ sym (ap (λ (l : List OutChain). tickets_on i l) out ∙ tickets-append before (c ∷ behind)
+      ∙ ap (λ (l : List InFlightId). tickets_on i before ++ l) (one_ticket c behind false is)))
 
   -- a chain is given up
   drops : {F : Type 0} (s : LiveState F) (before behind : List OutChain) (c : OutChain) (w v : LiveQueue) (b : Bool) → (c.queue == i) ≡ b
-      → slice_get s.queues i ≡ Some w → slice_get s.queues c.queue ≡ Some v → s.outs ≡ before ++ c ∷ behind → v.queue.position ≡ (c.taken.position + 1) % 2 ^ 16
+      → slice_get s.queues i ≡ Some w → slice_get s.queues c.queue ≡ Some v → s.outs ≡ before ++ c ∷ behind
+      → v.queue.position ≡ (c.taken.position + 1) % 2 ^ 16
       → Carries s (after_drop s before behind c v) w (if b then several.Drops (c.taken.position, c.head) ∷ [] else [])
   drops {F} s before behind c w v true is there at out youngest =
       let same : c.queue ≡ i = eqb-true c.queue i is in
       let one : v ≡ w = same_some v w (sym at ∙ ap (λ (n : ℕ). slice_get s.queues n) same ∙ there) in
       let split : tickets_on i s.outs ≡ tickets_on i before ++ ticket_of c ∷ tickets_on i behind =
-      ap (λ (l : List OutChain). tickets_on i l) out ∙ tickets-append before (c ∷ behind) ∙ ap (λ (l : List InFlightId). tickets_on i before ++ l) (one_ticket c behind true is) in
+      ap (λ (l : List OutChain). tickets_on i l) out ∙ tickets-append before (c ∷ behind)
+      ∙ ap (λ (l : List InFlightId). tickets_on i before ++ l) (one_ticket c behind true is) in
       subst (λ (k : LiveQueue). Carries s (after_drop s before behind c v) k (several.Drops (c.taken.position, c.head) ∷ [])) one (
         untook v,
         there_same s.queues c.queue i (λ _. untook v) w same there,
@@ -224,36 +260,43 @@ module _ (i : ℕ) where
   drops {F} s before behind c w v false is there at out youngest =
       stays s (after_drop s before behind c v) w w (there_other s.queues c.queue i (λ _. untook v) (apart_of c.queue i is) ∙ there) refl
       (tickets-append before behind
-      ∙ sym (ap (λ (l : List OutChain). tickets_on i l) out ∙ tickets-append before (c ∷ behind) ∙ ap (λ (l : List InFlightId). tickets_on i before ++ l) (one_ticket c behind false is)))
+      ∙ sym (ap (λ (l : List OutChain). tickets_on i l) out ∙ tickets-append before (c ∷ behind)
+      ∙ ap (λ (l : List InFlightId). tickets_on i before ++ l) (one_ticket c behind false is)))
 
   not_true : (b : Bool) → (b ≡ true → ⊥) → b ≡ false
   not_true true never = absurd (never refl)
   not_true false never = refl
 
-  carries : {F : Type 0} (may : May F) (s mid : LiveState F) (w : LiveQueue) (e : LiveEvent) → slice_get s.queues i ≡ Some w → NotAnew i e → Happens may s e mid → Carries s mid w (event_on i e)
+  carries : {F : Type 0} (may : May F) (s mid : LiveState F) (w : LiveQueue) (e : LiveEvent) → slice_get s.queues i ≡ Some w → NotAnew i e
+      → Happens may s e mid → Carries s mid w (event_on i e)
   carries may s mid w (Walks j loaded ds came) there anew h = walks s mid j w h.w loaded ds came there h.there h.room h.walks
   carries {F} may s mid w (Declines j e) there anew h =
       subst (λ (k : LiveState F). Carries s k w []) (sym h.state) (refuses s j w h.w (j == i) (stops_queue e) refl there h.there)
   carries {F} may s mid w (Asks c request told) there anew h =
       subst (λ (k : LiveState F). Carries s k w []) (sym h.state)
       (stays s (after_asking s h.before h.behind c request) w w there refl
-      (goes_on h.before h.behind c (asked_chain c request s.options []) (c.queue == i) refl refl refl ∙ sym (ap (λ (l : List OutChain). tickets_on i l) h.out)))
+      (goes_on h.before h.behind c (asked_chain c request s.options []) (c.queue == i) refl refl refl
+      ∙ sym (ap (λ (l : List OutChain). tickets_on i l) h.out)))
   carries {F} may s mid w (Answers c call answer) there anew h =
       let calls = h.calls ++ (call, answer) ∷ [] in
       subst (λ (k : LiveState F). Carries s k w []) (sym h.state)
       (stays s (after_answer s h.before h.behind c h.request h.options calls h.files) w w there refl
-      (goes_on h.before h.behind c (asked_chain c h.request h.options calls) (c.queue == i) refl refl refl ∙ sym (ap (λ (l : List OutChain). tickets_on i l) h.out)))
+      (goes_on h.before h.behind c (asked_chain c h.request h.options calls) (c.queue == i) refl refl refl
+      ∙ sym (ap (λ (l : List OutChain). tickets_on i l) h.out)))
   carries {F} may s mid w (Returns c x notice last used seen) there anew h =
       subst (λ (k : LiveState F). Carries s k w (event_on i (Returns c x notice last used seen))) (sym h.state)
       (returns s h.before h.behind c w h.w (c.queue == i) (length x.reply) used refl there h.there h.out h.used_is)
-  carries {F} may s mid w (Sleeps j store) there anew h = subst (λ (k : LiveState F). Carries s k w []) (sym h.state) (stays s s w w there refl refl)
+  carries {F} may s mid w (Sleeps j store) there anew h =
+      subst (λ (k : LiveState F). Carries s k w []) (sym h.state) (stays s s w w there refl refl)
   carries {F} may s mid w (Begins j v) there anew h =
       let apart = apart_of j i (not_true (j == i) anew) in
       subst (λ (k : LiveState F). Carries s k w []) (sym h.state) (stays s (after_beginning s j v) w w
       (there_other s.queues j i (λ _. v) apart ∙ there) refl (dropped j s.outs apart))
-  carries {F} may s mid w (Fills c stores) there anew h = subst (λ (k : LiveState F). Carries s k w []) (sym h.state) (stays s s w w there refl refl)
+  carries {F} may s mid w (Fills c stores) there anew h =
+      subst (λ (k : LiveState F). Carries s k w []) (sym h.state) (stays s s w w there refl refl)
   carries {F} may s mid w (Drops c) there anew h =
-      subst (λ (k : LiveState F). Carries s k w (event_on i (Drops c))) (sym h.state) (drops s h.before h.behind c w h.w (c.queue == i) refl there h.there h.out h.is_last)
+      subst (λ (k : LiveState F). Carries s k w (event_on i (Drops c))) (sym h.state)
+      (drops s h.before h.behind c w h.w (c.queue == i) refl there h.there h.out h.is_last)
   carries {F} may s mid w (Abandons c) there anew h =
       subst (λ (k : LiveState F). Carries s k w []) (sym h.state)
       (stays s (after_loss s h.before h.behind c) w w there refl
@@ -261,12 +304,16 @@ module _ (i : ℕ) where
   carries {F} may s mid w (Replies c request reply options) there anew h =
       subst (λ (k : LiveState F). Carries s k w []) (sym h.state)
       (stays s (after_own s h.before h.behind c request reply options) w w there refl
-      (goes_on h.before h.behind c (record c { phase = Own request reply }) (c.queue == i) refl refl refl ∙ sym (ap (λ (l : List OutChain). tickets_on i l) h.out)))
-  carries {F} may s mid w (Maps m) there anew h = subst (λ (k : LiveState F). Carries s k w []) (sym h.state) (stays s (record s { places = m }) w w there refl refl)
+      (goes_on h.before h.behind c (record c { phase = Own request reply }) (c.queue == i) refl refl refl
+      ∙ sym (ap (λ (l : List OutChain). tickets_on i l) h.out)))
+  carries {F} may s mid w (Maps m) there anew h =
+      subst (λ (k : LiveState F). Carries s k w []) (sym h.state) (stays s (record s { places = m }) w w there refl refl)
   carries may s mid w (Moves m queues) there anew h = absurd anew
 
-  pub runs_on : {F : Type 0} (may : May F) (s after : LiveState F) (es : List LiveEvent) (w : LiveQueue) → slice_get s.queues i ≡ Some w → AllByRecursion (NotAnew i) es → LiveRun may s es after →
-      (w' : LiveQueue) × (slice_get after.queues i ≡ Some w') × RunsOver (going w) (tickets_on i s.outs) (events_on i es) (going w') (tickets_on i after.outs)
+  pub runs_on : {F : Type 0} (may : May F) (s after : LiveState F) (es : List LiveEvent) (w : LiveQueue) → slice_get s.queues i ≡ Some w
+      → AllByRecursion (NotAnew i) es → LiveRun may s es after →
+      (w' : LiveQueue) × (slice_get after.queues i ≡ Some w')
+      × RunsOver (going w) (tickets_on i s.outs) (events_on i es) (going w') (tickets_on i after.outs)
   runs_on {F} may s after [] w there anew run =
       (w, ap (λ (k : LiveState F). slice_get k.queues i) run ∙ there, (refl, ap (λ (k : LiveState F). tickets_on i k.outs) run))
   runs_on may s after (e ∷ es) w there anew run =

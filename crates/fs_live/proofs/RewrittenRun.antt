@@ -19,10 +19,12 @@ use Rattle.virtiofsd_fuse.specs.Serving.{May}
 use Rattle.plain_machine.specs.Examples.{blank}
 use Rattle.fs_live.specs.Live.{AsksSo, AnswersSo, ReturnsSo, WalksSo}
 use Rattle.fs_live.specs.Overlap.{state}
-use Rattle.fs_live.specs.Rewritten.{Rewritten, at_positions, exchange, first, first_answered, first_asked, first_loads, forget, queue, second_loads, stopped_at, table, told, used}
+use Rattle.fs_live.specs.Rewritten.{Rewritten, at_positions, exchange, first, first_answered, first_asked, first_loads, forget, queue}
+use Rattle.fs_live.specs.Rewritten.{second_loads, stopped_at, table, told, used}
 use Rattle.fs_live.proofs.OverlapRun.{some_none}
 
-first_offers : (request : List ℕ) → length request ≡ 48 → OffersBy blank 0x101000 queue first_loads request (Offers 0 (IsRequest request []))
+first_offers :
+    (request : List ℕ) → length request ≡ 48 → OffersBy blank 0x101000 queue first_loads request (Offers 0 (IsRequest request []))
 unfolding place addresses stored_all found_exactly
 first_offers request whole = (
   (λ none. absurd (some_none (le16 1) none), λ none asks. absurd (some_none (le16 0) none)),
@@ -44,18 +46,22 @@ second_offers = (
   refl,
 )
 
-first_walks : {F : Type 0} (f : F) → WalksSo (state f (at_positions 0 0) 0 []) 0 first_loads table (step.Chain 0 None) (state f (at_positions 1 0) 0 (first ∷ []))
+first_walks : {F : Type 0} (f : F) →
+    WalksSo (state f (at_positions 0 0) 0 []) 0 first_loads table (step.Chain 0 None) (state f (at_positions 1 0) 0 (first ∷ []))
 first_walks f = record { w = at_positions 0 0; there = refl; room = refl; goes = refl; walks = (first_fetches, refl) }
 
-second_walks : {F : Type 0} (f : F) → WalksSo (state f (at_positions 1 0) 0 (first ∷ [])) 0 second_loads [] (step.Refused HeadOutOfTable) (state f (stopped_at 1 0) 0 (first ∷ []))
+second_walks : {F : Type 0} (f : F) → WalksSo (state f (at_positions 1 0) 0 (first ∷ [])) 0 second_loads [] (step.Refused HeadOutOfTable)
+    (state f (stopped_at 1 0) 0 (first ∷ []))
 second_walks f = record { w = at_positions 1 0; there = refl; room = refl; goes = refl; walks = (second_offers, refl) }
 
-first_asks : {F : Type 0} (f : F) → AsksSo (state f (stopped_at 1 0) 0 (first ∷ [])) first forget (told ∷ []) (state f (stopped_at 1 0) 0 (first_asked ∷ []))
+first_asks : {F : Type 0} (f : F) →
+    AsksSo (state f (stopped_at 1 0) 0 (first ∷ [])) first forget (told ∷ []) (state f (stopped_at 1 0) 0 (first_asked ∷ []))
 unfolding addresses meaning reading_of meant row reply_bytes error_bytes fields.field_bytes
 first_asks f = record { before = []; behind = []; out = refl; fresh = refl; whole = refl; tells = refl; state = refl }
 
 first_answers : {F : Type 0} (may : May F) (before after : F) → may before told Done after →
-    AnswersSo may (state before (stopped_at 1 0) 0 (first_asked ∷ [])) first_asked told Done (state after (stopped_at 1 0) 0 (first_answered ∷ []))
+    AnswersSo may (state before (stopped_at 1 0) 0 (first_asked ∷ [])) first_asked told Done
+    (state after (stopped_at 1 0) 0 (first_answered ∷ []))
 unfolding addresses meaning reading_of meant row reply_bytes error_bytes fields.field_bytes
 first_answers may before after so = record {
   before = [];
@@ -72,7 +78,8 @@ first_answers may before after so = record {
   state = refl;
 }
 
-first_returns : {F : Type 0} (f : F) → ReturnsSo (state f (stopped_at 1 0) 0 (first_answered ∷ [])) first_answered exchange true 0 used (le16 0) (state f (stopped_at 1 1) 0 [])
+first_returns : {F : Type 0} (f : F) → ReturnsSo (state f (stopped_at 1 0) 0 (first_answered ∷ [])) first_answered exchange true 0 used
+    (le16 0) (state f (stopped_at 1 1) 0 [])
 unfolding addresses meaning reading_of meant row reply_bytes error_bytes fields.field_bytes
 first_returns f = record {
   before = [];

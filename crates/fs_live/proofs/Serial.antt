@@ -1,5 +1,6 @@
 -- One chain at a time.
-use Rattle.std.proofs.Common.{◌≡◌, ℕ, zero, suc, ◌+◌, ◌%◌, ◌^◌, Bool, List, [], ◌∷◌, ◌++◌, length, map, Option, Some, None, slice_get, refl, subst, sym, ap, ◌∙◌}
+use Rattle.std.proofs.Common.{◌≡◌, ℕ, zero, suc, ◌+◌, ◌%◌, ◌^◌, Bool, List, [], ◌∷◌, ◌++◌, length, map, Option, Some, None, slice_get, refl}
+use Rattle.std.proofs.Common.{subst, sym, ap, ◌∙◌}
 use Rattle.std.specs.Prelude.{false, All, IsTrue}
 use Rattle.std.specs.List.{AllByRecursion}
 use Rattle.std.proofs.lemmas.List.Elements.{All-head, All-tail}
@@ -22,14 +23,18 @@ use Rattle.virtiofsd_fuse.specs.Grammar.{meaning}
 use Rattle.virtiofsd_fuse.specs.Serving.{May, served, setting}
 use Rattle.plain_machine.specs.Run.{KickRun}
 use Rattle.plain_machine.specs.Step.{State, Exchange, Exchanged, Step, Calls, answers_alone}
-use Rattle.plain_machine.specs.StepBy.{Act, Effects, StepBy, StepOfBy, ExchangesBy, AreStepLoadsOf, IsOfMemory, FindFlags, MayStoreLast, after_stores, stores_among, offered_by, reply_stores, return_acts}
+use Rattle.plain_machine.specs.StepBy.{Act, Effects, StepBy, StepOfBy, ExchangesBy, AreStepLoadsOf, IsOfMemory, FindFlags, MayStoreLast}
+use Rattle.plain_machine.specs.StepBy.{after_stores, stores_among, offered_by, reply_stores, return_acts}
 use Rattle.plain_machine.proofs.StepByLemmas.{step_by_is_step}
-use Rattle.fs_live.specs.Live.{Phase, Faulty, Fetched, Asked, OutChain, LiveState, LiveEvent, Walks, Declines, Asks, Answers, Returns, Sleeps, Begins, Fills, Drops, Abandons, Replies, Maps, Moves, Happens, LiveRun}
-use Rattle.fs_live.specs.Live.{WalksSo, AsksSo, AnswersSo, ReturnsSo, calls_in, fault_of, new_chain, after_take, room_of, serving, acts_of, GoesBackWith}
+use Rattle.fs_live.specs.Live.{Phase, Faulty, Fetched, Asked, OutChain, LiveState, LiveEvent, Walks, Declines, Asks, Answers, Returns}
+use Rattle.fs_live.specs.Live.{Sleeps, Begins, Fills, Drops, Abandons, Replies, Maps, Moves, Happens, LiveRun}
+use Rattle.fs_live.specs.Live.{WalksSo, AsksSo, AnswersSo, ReturnsSo, calls_in, fault_of, new_chain, after_take, room_of, serving, acts_of}
+use Rattle.fs_live.specs.Live.{GoesBackWith}
 use Rattle.fs_live.specs.Runs.{IsAskedIn, IsServedPhase, options_left, after_alone, chain_loads, request_in}
 use Rattle.fs_live.specs.Several.{LiveQueue, took, gave, returning, wants}
 use Rattle.fs_live.specs.Serial.{IsAtRest, SingleIsStep, SerialIsKick, return_in, IsOfChain, plain}
-use Rattle.fs_live.proofs.Alone.{all_reach_same, reach_same, Walked, IsWhole, Exchanging, asked_walked, new_walked, exchange_of, room_offered, effects_of}
+use Rattle.fs_live.proofs.Alone.{all_reach_same, reach_same, Walked, IsWhole, Exchanging, asked_walked, new_walked, exchange_of}
+use Rattle.fs_live.proofs.Alone.{room_offered, effects_of}
 use Rattle.fs_live.proofs.Queues.{none_some, same_some, there_same}
 use Rattle.fs_live.proofs.Options.{leaves_none, leaves_again}
 
@@ -62,15 +67,18 @@ alone {A} d (b ∷ b₁ ∷ bs) behind c e = absurd (not_cons b₁ (bs ++ c ∷ 
 abbrev pub in_phase : OutChain → Phase → OutChain
 in_phase c p = record c { phase = p }
 
-run_on : {F : Type 0} (may : May F) (a b c : F) (calls : Calls) (call : FileCall) (answer : FileAnswer) → FileRun may a calls b → IsTrue (suits call answer) → may b call answer c
+run_on : {F : Type 0} (may : May F) (a b c : F) (calls : Calls) (call : FileCall) (answer : FileAnswer) → FileRun may a calls b
+    → IsTrue (suits call answer) → may b call answer c
     → FileRun may a (calls ++ (call, answer) ∷ []) c
 run_on {F} may a b c [] call answer run fits so = (c, fits, subst (λ (f : F). may f call answer c) run so, refl)
 run_on may a b c (step ∷ steps) call answer run fits so = (run.0, run.1, run.2, run_on may run.0 b c steps call answer run.3 fits so)
 
-answers-append : (calls : Calls) (call : FileCall) (answer : FileAnswer) → answers_alone (calls ++ (call, answer) ∷ []) ≡ answers_alone calls ++ answer ∷ []
+answers-append : (calls : Calls) (call : FileCall) (answer : FileAnswer) →
+    answers_alone (calls ++ (call, answer) ∷ []) ≡ answers_alone calls ++ answer ∷ []
 answers-append calls call answer = map-append (λ (step : FileCall × FileAnswer). step.1) calls ((call, answer) ∷ [])
 
--- between a walk and a return of a run with one chain at a time: the chain is out alone, and options and files are as it leaves them by itself
+-- between a walk and a return of a run with one chain at a time: the chain is out alone, and options and files are as it leaves them by
+-- itself
 pub record Alone {F : Type 0} (may : May F) (s : LiveState F) (queues : List LiveQueue) (c : OutChain) (k : LiveState F) : Type 0 where
   pub phase : Phase
   pub outs : k.outs ≡ in_phase c phase ∷ []
@@ -84,12 +92,14 @@ pub record Alone {F : Type 0} (may : May F) (s : LiveState F) (queues : List Liv
   pub walked : Walked s.limit (in_phase c phase)
   pub served : IsServedPhase phase
 
-asks_alone : {F : Type 0} (may : May F) (s : LiveState F) (queues : List LiveQueue) (c₀ : OutChain) (k mid : LiveState F) (c : OutChain) (request : List ℕ) (told : List FileCall)
+asks_alone : {F : Type 0} (may : May F) (s : LiveState F) (queues : List LiveQueue) (c₀ : OutChain) (k mid : LiveState F) (c : OutChain)
+    (request : List ℕ) (told : List FileCall)
     → Alone may s queues c₀ k → AsksSo k c request told mid → Alone may s queues c₀ mid
 asks_alone {F} may s queues c₀ k mid c request told a h =
     let one = alone (in_phase c₀ a.phase) h.before h.behind c (sym a.outs ∙ h.out) in
     let fresh : a.phase ≡ Fetched = sym (ap (λ (x : OutChain). x.phase) one.1) ∙ h.fresh in
-    let now : k.options ≡ s.options = subst (λ (p : Phase). k.options ≡ options_left s.page_size s.options (in_phase c₀ p) p) fresh a.options in
+    let now : k.options ≡ s.options =
+    subst (λ (p : Phase). k.options ≡ options_left s.page_size s.options (in_phase c₀ p) p) fresh a.options in
     let next : Phase = Asked request k.options [] in
     let room = room_of (in_phase c₀ next) in
     record {
@@ -111,7 +121,8 @@ asks_alone {F} may s queues c₀ k mid c request told a h =
       served = tt;
     }
 
-answers_alone_too : {F : Type 0} (may : May F) (s : LiveState F) (queues : List LiveQueue) (c₀ : OutChain) (k mid : LiveState F) (c : OutChain) (call : FileCall) (answer : FileAnswer)
+answers_alone_too : {F : Type 0} (may : May F) (s : LiveState F) (queues : List LiveQueue) (c₀ : OutChain) (k mid : LiveState F)
+    (c : OutChain) (call : FileCall) (answer : FileAnswer)
     → Alone may s queues c₀ k → AnswersSo may k c call answer mid → Alone may s queues c₀ mid
 answers_alone_too {F} may s queues c₀ k mid c call answer a h =
     let one = alone (in_phase c₀ a.phase) h.before h.behind c (sym a.outs ∙ h.out) in
@@ -125,7 +136,8 @@ answers_alone_too {F} may s queues c₀ k mid c call answer a h =
     let n = length (room_of (in_phase c₀ before)) in
     let answers_are : answers_alone more ≡ answers_alone h.calls ++ answer ∷ [] = answers-append h.calls call answer in
     let m = meaning h.options h.request n in
-    let left : (serving s.page_size h.options k.options h.request (room_of (in_phase c₀ before)) more).options ≡ (serving s.page_size h.options h.options h.request (room_of (in_phase c₀ before)) more).options =
+    let left : (serving s.page_size h.options k.options h.request (room_of (in_phase c₀ before)) more).options
+    ≡ (serving s.page_size h.options h.options h.request (room_of (in_phase c₀ before)) more).options =
     ap (λ (l : List FileAnswer). (served (setting s.page_size k.options n) m l).options) answers_are
     ∙ leaves_again s.page_size h.options k.options n m (answers_alone h.calls) (answer ∷ []) now
     ∙ sym (ap (λ (l : List FileAnswer). (served (setting s.page_size h.options n) m l).options) answers_are) in
@@ -145,14 +157,17 @@ answers_alone_too {F} may s queues c₀ k mid c call answer a h =
           ∙ ap (λ (x : OutChain). (serving s.page_size h.options k.options h.request (room_of x) more).options) same
           ∙ left;
       run = subst (λ (f : F). FileRun may s.files more f) (sym (ap (λ (x : LiveState F). x.files) h.state))
-          (run_on may s.files k.files h.files h.calls call answer (subst (λ (p : Phase). FileRun may s.files (calls_in p) k.files) is a.run) h.is_one h.may_so);
+          (run_on may s.files k.files h.files h.calls call answer (subst (λ (p : Phase). FileRun may s.files (calls_in p) k.files) is a.run)
+          h.is_one h.may_so);
       walked = asked_walked s.limit (in_phase c₀ a.phase) h.request h.options more (ap fault_of is)
           (subst (λ (p : Phase). IsWhole p c₀.descriptors) is a.walked.1) a.walked;
       served = tt;
     }
 
-pub between_alone : {F : Type 0} (may : May F) (s : LiveState F) (queues : List LiveQueue) (c : OutChain) (k after : LiveState F) (es : List LiveEvent) (back : LiveEvent)
-    → AllByRecursion IsOfChain es → Alone may s queues c k → LiveRun may k (es ++ back ∷ []) after → (now : LiveState F) × Alone may s queues c now × Happens may now back after
+pub between_alone : {F : Type 0} (may : May F) (s : LiveState F) (queues : List LiveQueue) (c : OutChain) (k after : LiveState F)
+    (es : List LiveEvent) (back : LiveEvent)
+    → AllByRecursion IsOfChain es → Alone may s queues c k → LiveRun may k (es ++ back ∷ []) after
+    → (now : LiveState F) × Alone may s queues c now × Happens may now back after
 between_alone {F} may s queues c k after [] back of a run = (k, a, subst (λ (x : LiveState F). Happens may k back x) (sym run.2) run.1)
 between_alone may s queues c k after (Asks d request told ∷ es) back of a run =
     between_alone may s queues c run.0 after es back of.1 (asks_alone may s queues c k run.0 d request told a run.1) run.2
@@ -170,7 +185,8 @@ between_alone may s queues c k after (Replies d request reply options ∷ es) ba
 between_alone may s queues c k after (Maps m ∷ es) back of a run = absurd of.0
 between_alone may s queues c k after (Moves m ws ∷ es) back of a run = absurd of.0
 
-start_alone : {F : Type 0} (may : May F) (s mid : LiveState F) (i : ℕ) (v : LiveQueue) (loaded : Loaded) (ds : List Descriptor) (head : ℕ) (fault : Option ChainFault)
+start_alone : {F : Type 0} (may : May F) (s mid : LiveState F) (i : ℕ) (v : LiveQueue) (loaded : Loaded) (ds : List Descriptor) (head : ℕ)
+    (fault : Option ChainFault)
     → s.outs ≡ [] → FetchesBy s.places s.limit v.queue loaded ds head fault → mid ≡ after_take s i v (new_chain s i v loaded ds head fault)
     → Alone may s (changed_at s.queues i (λ _. took v)) (new_chain s i v loaded ds head fault) mid
 start_alone {F} may s mid i v loaded ds head None none fetches is = record {
@@ -202,7 +218,8 @@ start_alone {F} may s mid i v loaded ds head (Some why) none fetches is = record
 
 -- ---- over the memory that has what was loaded
 
-load_is : (m : Memory) (a : ℕ) (came : Option (List ℕ)) → (came ≡ None → reach m Read a 2 ≡ false) → ((bs : List ℕ) → came ≡ Some bs → IsLoadOf m 2 (record { address = a; came = came }))
+load_is : (m : Memory) (a : ℕ) (came : Option (List ℕ)) → (came ≡ None → reach m Read a 2 ≡ false)
+    → ((bs : List ℕ) → came ≡ Some bs → IsLoadOf m 2 (record { address = a; came = came }))
     → IsLoadOf m 2 (record { address = a; came = came })
 load_is m a None lacks has = rw (lacks refl) refl
 load_is m a (Some bs) lacks has = has bs refl
@@ -221,8 +238,10 @@ both m [] lost are more = more
 both m (l ∷ ls) lost are more = (are.0, both m ls lost are.1 more)
 
 -- what is exchanged doesn't depend on what a memory holds
-exchanges_over : {F : Type 0} (may : May F) (before after : State F) (i : ℕ) (q : Queue) (o : Offer) (calls : Calls) (x : Exchange) (notice : Bool) (e : Effects) (m : Memory)
-    → ExchangesBy may before i q o calls x notice e after → ExchangesBy may (record before { memory = m }) i q o calls x notice e (record after { memory = m })
+exchanges_over : {F : Type 0} (may : May F) (before after : State F) (i : ℕ) (q : Queue) (o : Offer) (calls : Calls) (x : Exchange)
+    (notice : Bool) (e : Effects) (m : Memory)
+    → ExchangesBy may before i q o calls x notice e after
+    → ExchangesBy may (record before { memory = m }) i q o calls x notice e (record after { memory = m })
 exchanges_over {F} may before after i q (Offers head (CannotFetch why)) calls x notice e m made = record {
   no_call = made.no_call;
   files = made.files;
@@ -257,7 +276,8 @@ room_in_offer None = []
 -- an exchange by loads that a memory has is a step over it
 step_over : {F : Type 0} (may : May F) (before : State F) (files : F) (c : OutChain) (x : Exchange) (last : ℕ) (seen : List ℕ) (m : Memory)
     → Exchanging may before files c x last seen → location m ≡ location before.memory → slice_get before.queues c.queue ≡ Some c.taken
-    → HasLoaded m c.taken c.loaded (request_in c.phase) → FindFlags m c.taken (effects_of c x last seen).acts → MayStoreLast m (room_of c) last
+    → HasLoaded m c.taken c.loaded (request_in c.phase) → FindFlags m c.taken (effects_of c x last seen).acts
+    → MayStoreLast m (room_of c) last
     → Step may (record before { memory = m }) c.queue (calls_in c.phase) (Exchanged x (tells seen))
     (record (after_alone before c files) { memory = after_stores m (stores_among (effects_of c x last seen).acts) })
 step_over {F} may before files c x last seen m made same there has flags apart =
@@ -276,11 +296,16 @@ step_over {F} may before files c x last seen m made same there has flags apart =
     }) in
     let offered : offered_by m before.limit q l ≡ Some made.offer = alike ∙ made.offered in
     let step : StepBy may over c.queue l (calls_in c.phase) (Exchanged x (tells seen)) e after =
-    subst (λ (k : Option Queue). StepOfBy may over c.queue k l (calls_in c.phase) (Exchanged x (tells seen)) e after) (sym there)
-    (made.offer, offered, exchanges_over may before (after_alone before c files) c.queue q made.offer (calls_in c.phase) x (tells seen) e m made.exchanges) in
+    subst (λ (k : Option Queue). StepOfBy may over c.queue k l (calls_in c.phase) (Exchanged x (tells seen)) e after) (sym there) (
+      made.offer,
+      offered,
+      exchanges_over may before (after_alone before c files) c.queue q made.offer (calls_in c.phase) x (tells seen) e m made.exchanges,
+    ) in
     let are : AreStepLoadsOf m q l = record {
-      index_is = λ _. load_is m (avail_index_at q) c.loaded.index (λ none. reach_same m n same Read (avail_index_at q) 2 ∙ made.ring.0 none) has.index_is;
-      entry_is = λ _ asks. load_is m (ring_entry_at q) c.loaded.entry (λ none. reach_same m n same Read (ring_entry_at q) 2 ∙ made.ring.1 none asks) has.entry_is;
+      index_is = λ _. load_is m (avail_index_at q) c.loaded.index (λ none. reach_same m n same Read (avail_index_at q) 2 ∙ made.ring.0 none)
+          has.index_is;
+      entry_is = λ _ asks. load_is m (ring_entry_at q) c.loaded.entry
+          (λ none. reach_same m n same Read (ring_entry_at q) 2 ∙ made.ring.1 none asks) has.entry_is;
       entries_are = both m c.loaded.entries made.lost has.entries_are (all_lost m n same made.lost made.all_lost);
       request_is = has.request_is;
     } in
@@ -290,7 +315,8 @@ step_over {F} may before files c x last seen m made same there has flags apart =
       flags = λ p at. subst (λ (k : Queue). FindFlags m k e.acts) (is_q p at) flags;
       apart = λ p hd rq rm at off.
           subst (λ (r : List ℕ). MayStoreLast m r last)
-          (sym made.room ∙ ap room_in_offer (sym offered ∙ subst (λ (k : Queue). offered_by m before.limit k l ≡ Some (Offers hd (IsRequest rq rm))) (sym (is_q p at)) off)) apart;
+          (sym made.room ∙ ap room_in_offer (sym offered
+          ∙ subst (λ (k : Queue). offered_by m before.limit k l ≡ Some (Offers hd (IsRequest rq rm))) (sym (is_q p at)) off)) apart;
     } in
     step_by_is_step may over c.queue l (calls_in c.phase) (Exchanged x (tells seen)) e after of_memory step
 
@@ -301,7 +327,8 @@ get_map f [] i x there = absurd (none_some x there)
 get_map f (y ∷ ys) zero x there = ap (λ z. Some (f z)) (same_some y x there)
 get_map f (y ∷ ys) (suc i) x there = get_map f ys i x there
 
-map_changed : {A B : Type 0} (f : A → B) (xs : List A) (i : ℕ) (a b : A) → map f (changed_at (changed_at xs i (λ _. a)) i (λ _. b)) ≡ changed_at (map f xs) i (λ _. f b)
+map_changed : {A B : Type 0} (f : A → B) (xs : List A) (i : ℕ) (a b : A) →
+    map f (changed_at (changed_at xs i (λ _. a)) i (λ _. b)) ≡ changed_at (map f xs) i (λ _. f b)
 map_changed f [] i a b = refl
 map_changed f (y ∷ ys) zero a b = refl
 map_changed f (y ∷ ys) (suc i) a b = ap (λ l. f y ∷ l) (map_changed f ys i a b)
@@ -310,10 +337,12 @@ abbrev state_of : {F : Type 0} → Memory → List Queue → (options : ℕ) →
 state_of m queues options files limit page_size =
     record { memory = m; queues = queues; options = options; files = files; limit = limit; page_size = page_size }
 
-state_same : {F : Type 0} (m : Memory) (files : F) (queues queues' : List Queue) (options options' limit limit' page_size page_size' : ℕ) → queues ≡ queues' → options ≡ options' → limit ≡ limit'
+state_same : {F : Type 0} (m : Memory) (files : F) (queues queues' : List Queue) (options options' limit limit' page_size page_size' : ℕ)
+    → queues ≡ queues' → options ≡ options' → limit ≡ limit'
     → page_size ≡ page_size' → state_of m queues options files limit page_size ≡ state_of m queues' options' files limit' page_size'
 state_same m files queues queues' options options' limit limit' page_size page_size' qs os ls ps =
-    ap (λ q. state_of m q options files limit page_size) qs ∙ ap (λ o. state_of m queues' o files limit page_size) os ∙ ap (λ l. state_of m queues' options' files l page_size) ls
+    ap (λ q. state_of m q options files limit page_size) qs ∙ ap (λ o. state_of m queues' o files limit page_size) os
+    ∙ ap (λ l. state_of m queues' options' files l page_size) ls
     ∙ ap (λ p. state_of m queues' options' files limit' p) ps
 
 -- ---- a chain alone
@@ -330,7 +359,8 @@ single_is_step {F} may s after r m w none there rest of run found =
     let calm : IsAtRest v = subst (λ (k : LiveQueue). IsAtRest k) (sym same) rest in
     let c₀ = new_chain s i v r.loaded r.descriptors r.head r.fault in
     let qs = changed_at s.queues i (λ _. took v) in
-    let back = between_alone may s qs c₀ run.0 after r.between (return_in r) of (start_alone may s run.0 i v r.loaded r.descriptors r.head r.fault none walk.walks.0 walk.walks.1) run.2 in
+    let back = between_alone may s qs c₀ run.0 after r.between (return_in r) of
+    (start_alone may s run.0 i v r.loaded r.descriptors r.head r.fault none walk.walks.0 walk.walks.1) run.2 in
     let k = back.0 in
     let a = back.1 in
     let b : ReturnsSo k r.chain r.exchange r.notice r.last r.used r.seen after = back.2 in
@@ -344,9 +374,11 @@ single_is_step {F} may s after r m w none there rest of run found =
     let base : State F = plain s s.places in
     let at : slice_get base.queues i ≡ Some v.queue = get_map (λ (x : LiveQueue). x.queue) s.queues i v walk.there in
     let goes : GoesBackWith s.page_size d a.phase r.exchange =
-    subst (λ (p : ℕ). GoesBackWith p d a.phase r.exchange) a.page_size (subst (λ (c : OutChain). GoesBackWith k.page_size c c.phase r.exchange) one.1 b.goes) in
+    subst (λ (p : ℕ). GoesBackWith p d a.phase r.exchange) a.page_size
+    (subst (λ (c : OutChain). GoesBackWith k.page_size c c.phase r.exchange) one.1 b.goes) in
     let made : Exchanging may base k.files d r.exchange r.last r.seen =
-    exchange_of may base k.files s.places i v.queue r.loaded r.descriptors r.head a.phase r.exchange r.last r.seen refl a.served a.walked a.asked goes b.two a.run in
+    exchange_of may base k.files s.places i v.queue r.loaded r.descriptors r.head a.phase r.exchange r.last r.seen refl a.served a.walked
+    a.asked goes b.two a.run in
     let behind_is : r.used ≡ stores_after_reply v.queue r.head (length r.exchange.reply) =
     b.used_is ∙ ap (λ (u : LiveQueue). stores_after_reply (returning u) r.chain.head (length r.exchange.reply)) w_is
     ∙ ap (λ (c : OutChain). stores_after_reply (returning (took v)) c.head (length r.exchange.reply)) one.1
@@ -356,11 +388,13 @@ single_is_step {F} may s after r m w none there rest of run found =
     ∙ ap (λ (u : List Store). return_acts (reply_stores (room_of d) r.exchange.reply r.last ++ u) r.seen) behind_is in
     let has : HasLoaded m v.queue r.loaded (request_in a.phase) =
     subst (λ (c : OutChain). HasLoaded m v.queue r.loaded (request_in c.phase)) one.1 (found.loads v walk.there) in
-    let flags : FindFlags m v.queue (effects_of d r.exchange r.last r.seen).acts = subst (FindFlags m v.queue) acts_are (found.flags v walk.there) in
+    let flags : FindFlags m v.queue (effects_of d r.exchange r.last r.seen).acts =
+    subst (FindFlags m v.queue) acts_are (found.flags v walk.there) in
     let apart : MayStoreLast m (room_of d) r.last = subst (λ (c : OutChain). MayStoreLast m (room_of c) r.last) one.1 found.apart in
     let stepped = step_over may base k.files d r.exchange r.last r.seen m made found.places at has flags apart in
     let m' = after_stores m (stores_among (effects_of d r.exchange r.last r.seen).acts) in
-    let memory_is : after_stores m (stores_among (acts_of (return_in r))) ≡ m' = ap (λ (l : List Act). after_stores m (stores_among l)) acts_are in
+    let memory_is : after_stores m (stores_among (acts_of (return_in r))) ≡ m' =
+    ap (λ (l : List Act). after_stores m (stores_among l)) acts_are in
     let gave_one : LiveQueue = gave took_one in
     let queues_after : after.queues ≡ changed_at qs i (λ _. gave_one) =
     ap (λ (x : LiveState F). x.queues) b.state
@@ -368,20 +402,27 @@ single_is_step {F} may s after r m w none there rest of run found =
     ∙ ap (λ (c : OutChain). changed_at qs c.queue (λ _. gave b.w)) one.1
     ∙ ap (λ (u : LiveQueue). changed_at qs i (λ _. gave u)) w_is in
     let plain_queues : map (λ (x : LiveQueue). x.queue) after.queues ≡ changed_at base.queues i (λ _. advanced v.queue) =
-    ap (λ (l : List LiveQueue). map (λ (x : LiveQueue). x.queue) l) queues_after ∙ map_changed (λ (x : LiveQueue). x.queue) s.queues i took_one gave_one in
+    ap (λ (l : List LiveQueue). map (λ (x : LiveQueue). x.queue) l) queues_after
+    ∙ map_changed (λ (x : LiveQueue). x.queue) s.queues i took_one gave_one in
     let files_are : after.files ≡ k.files = ap (λ (x : LiveState F). x.files) b.state in
     let after_is : plain after m' ≡ record (after_alone base d k.files) { memory = m' } =
     ap (λ (f : F). state_of m' (map (λ (x : LiveQueue). x.queue) after.queues) after.options f after.limit after.page_size) files_are
-    ∙ state_same m' k.files _ _ after.options (options_left s.page_size s.options d a.phase) after.limit s.limit after.page_size s.page_size plain_queues
-    (ap (λ (x : LiveState F). x.options) b.state ∙ a.options) (ap (λ (x : LiveState F). x.limit) b.state ∙ a.limit) (ap (λ (x : LiveState F). x.page_size) b.state ∙ a.page_size) in
+    ∙ state_same m' k.files _ _ after.options (options_left s.page_size s.options d a.phase) after.limit s.limit after.page_size s.page_size
+    plain_queues
+    (ap (λ (x : LiveState F). x.options) b.state ∙ a.options) (ap (λ (x : LiveState F). x.limit) b.state ∙ a.limit)
+    (ap (λ (x : LiveState F). x.page_size) b.state ∙ a.page_size) in
     let notice_is : r.notice ≡ tells r.seen = b.told ∙ wants_flags b.w r.seen (ap (λ (u : LiveQueue). u.event_index) w_is ∙ calm.0) in (
-      subst (λ (mm : Memory). Step may (plain s m) i (calls_in r.chain.phase) (Exchanged r.exchange r.notice) (plain after mm)) (sym memory_is)
+      subst (λ (mm : Memory). Step may (plain s m) i (calls_in r.chain.phase) (Exchanged r.exchange r.notice) (plain after mm))
+          (sym memory_is)
           (subst (λ (st : State F). Step may (plain s m) i (calls_in r.chain.phase) (Exchanged r.exchange r.notice) st) (sym after_is)
-          (subst (λ (n : Bool). Step may (plain s m) i (calls_in r.chain.phase) (Exchanged r.exchange n) (record (after_alone base d k.files) { memory = m' })) (sym notice_is)
-          (subst (λ (c : OutChain). Step may (plain s m) i (calls_in c.phase) (Exchanged r.exchange (tells r.seen)) (record (after_alone base d k.files) { memory = m' })) (sym one.1) stepped))),
+          (subst (λ (n : Bool). Step may (plain s m) i (calls_in r.chain.phase) (Exchanged r.exchange n)
+          (record (after_alone base d k.files) { memory = m' })) (sym notice_is)
+          (subst (λ (c : OutChain). Step may (plain s m) i (calls_in c.phase) (Exchanged r.exchange (tells r.seen))
+          (record (after_alone base d k.files) { memory = m' })) (sym one.1) stepped))),
       ap (λ (x : LiveState F). x.outs) b.state ∙ ap (λ (l : List OutChain). l ++ b.behind) one.0 ∙ one.2,
       gave_one,
-      ap (λ (l : List LiveQueue). slice_get l i) queues_after ∙ there_same qs i i (λ _. gave_one) took_one refl (there_same s.queues i i (λ _. took_one) v refl walk.there),
+      ap (λ (l : List LiveQueue). slice_get l i) queues_after
+          ∙ there_same qs i i (λ _. gave_one) took_one refl (there_same s.queues i i (λ _. took_one) v refl walk.there),
       (calm.0, ap (λ (p : ℕ). (p + 1) % 2 ^ 16) calm.1),
     )
 

@@ -1,12 +1,15 @@
 -- Runs of takes and returns.
-use Rattle.std.proofs.Common.{arith, ◌≡◌, ℕ, ◌+◌, ◌-◌, ◌%◌, ◌^◌, ◌<◌, true, List, [], ◌∷◌, ◌++◌, IsPermutation, map, refl, subst, sym, ap, ◌∙◌, append_assoc, append-nil}
+use Rattle.std.proofs.Common.{arith, ◌≡◌, ℕ, ◌+◌, ◌-◌, ◌%◌, ◌^◌, ◌<◌, true, List, [], ◌∷◌, ◌++◌, IsPermutation, map, refl, subst, sym, ap}
+use Rattle.std.proofs.Common.{◌∙◌, append_assoc, append-nil}
 use Rattle.std.proofs.lemmas.List.{map-append}
-use Rattle.std.proofs.lemmas.List.Sorted.{IsPermutation-refl, IsPermutation-sym, IsPermutation-cons, IsPermutation-trans, IsPermutation-middle}
+use Rattle.std.proofs.lemmas.List.Sorted.{IsPermutation-refl, IsPermutation-sym, IsPermutation-cons, IsPermutation-trans}
+use Rattle.std.proofs.lemmas.List.Sorted.{IsPermutation-middle}
 use Rattle.std.specs.Int.{w16, from_le_bytes}
 use Rattle.std.specs.Prelude.{◌==◌, nat_lt}
 use Rattle.std.proofs.lemmas.Bool.Decides.{nat_tests}
 use Rattle.fs_queue.specs.Returning.{Store, stores_after_reply}
-use Rattle.fs_live.specs.Several.{ByEvent, LiveQueue, InFlightId, QueueEvent, Takes, Drops, Returns, RunsOver, UsedFrom, returns_among, took, gave, untook}
+use Rattle.fs_live.specs.Several.{ByEvent, LiveQueue, InFlightId, QueueEvent, Takes, Drops, Returns, RunsOver, UsedFrom, returns_among}
+use Rattle.fs_live.specs.Several.{took, gave, untook}
 use Rattle.fs_live.specs.Several.{wants, IsSerial, StoresAsTaken, heads_taken, heads_ended, IsOldestFirst, AtTheirPlaces}
 
 -- a take moves no return
@@ -18,22 +21,26 @@ past_drop : (w : LiveQueue) (rs : List (InFlightId × ℕ × List Store)) → Us
 past_drop w [] h = tt
 past_drop w (r ∷ rs) h = (h.0, past_drop (gave w) rs h.1)
 
-pub used_in_order : (w w' : LiveQueue) (outs outs' : List InFlightId) (es : List QueueEvent) → RunsOver w outs es w' outs' → UsedFrom w (returns_among es)
+pub used_in_order :
+    (w w' : LiveQueue) (outs outs' : List InFlightId) (es : List QueueEvent) → RunsOver w outs es w' outs' → UsedFrom w (returns_among es)
 used_in_order w w' outs outs' [] run = tt
 used_in_order w w' outs outs' (Takes head ∷ es) run =
     past_take w (returns_among es) (used_in_order (took w) w' (outs ++ (w.queue.position, head) ∷ []) outs' es run.1)
-used_in_order w w' outs outs' (Drops t ∷ es) run = past_drop w (returns_among es) (used_in_order (untook w) w' (run.0 ++ run.1) outs' es run.4)
+used_in_order w w' outs outs' (Drops t ∷ es) run =
+    past_drop w (returns_among es) (used_in_order (untook w) w' (run.0 ++ run.1) outs' es run.4)
 used_in_order w w' outs outs' (Returns t len stores ∷ es) run = (run.3, used_in_order (gave w) w' (run.0 ++ run.1) outs' es run.4)
 
 -- in a serial run the two positions are one
-pub one_at_a_time : (w w' : LiveQueue) (outs outs' : List InFlightId) (es : List QueueEvent) → w.next_used ≡ w.queue.position → IsSerial es → RunsOver w outs es w' outs' → StoresAsTaken (w.queue) es
+pub one_at_a_time : (w w' : LiveQueue) (outs outs' : List InFlightId) (es : List QueueEvent) → w.next_used ≡ w.queue.position →
+    IsSerial es → RunsOver w outs es w' outs' → StoresAsTaken (w.queue) es
 one_at_a_time w w' outs outs' [] same serial run = tt
 one_at_a_time w w' outs outs' (Takes head ∷ []) same serial run = absurd serial
 one_at_a_time w w' outs outs' (Takes head ∷ Takes other ∷ es) same serial run = absurd serial
 one_at_a_time w w' outs outs' (Takes head ∷ Drops t ∷ es) same serial run = absurd serial
 one_at_a_time w w' outs outs' (Takes head ∷ Returns t len stores ∷ es) same serial run =
     let inner = run.1 in (
-      inner.3 ∙ ap (λ (p : ℕ). stores_after_reply (record (w.queue) { position = p }) t.1 len) same ∙ ap (λ (h : ℕ). stores_after_reply (w.queue) h len) serial.0,
+      inner.3 ∙ ap (λ (p : ℕ). stores_after_reply (record (w.queue) { position = p }) t.1 len) same
+          ∙ ap (λ (h : ℕ). stores_after_reply (w.queue) h len) serial.0,
       one_at_a_time (gave (took w)) w' (inner.0 ++ inner.1) outs' es (ap (λ (p : ℕ). (p + 1) % 2 ^ 16) same) serial.1 inner.4,
     )
 one_at_a_time w w' outs outs' (Drops t ∷ es) same serial run = absurd serial
@@ -45,7 +52,8 @@ abbrev heads : List InFlightId → List ℕ
 heads ts = map (λ t. t.1) ts
 
 -- one more has ended, of these that were out
-one_ended : (ended taken left : List ℕ) (t : InFlightId) (before behind outs : List InFlightId) → outs ≡ before ++ t ∷ behind → IsPermutation (ended ++ left) (heads (before ++ behind) ++ taken)
+one_ended : (ended taken left : List ℕ) (t : InFlightId) (before behind outs : List InFlightId) → outs ≡ before ++ t ∷ behind
+    → IsPermutation (ended ++ left) (heads (before ++ behind) ++ taken)
     → IsPermutation (t.1 ∷ (ended ++ left)) (heads outs ++ taken)
 one_ended ended taken left t before behind outs is run =
     let inner : IsPermutation (ended ++ left) ((heads before ++ heads behind) ++ taken) =
@@ -55,15 +63,19 @@ one_ended ended taken left t before behind outs is run =
     let there : IsPermutation (t.1 ∷ (ended ++ left)) (heads before ++ (t.1 ∷ (heads behind ++ taken))) =
     IsPermutation-trans _ _ _ more (IsPermutation-sym _ _ (IsPermutation-middle (heads before) t.1 (heads behind ++ taken))) in
     subst (IsPermutation (t.1 ∷ (ended ++ left)))
-    (sym (append_assoc (heads before) (t.1 ∷ heads behind) taken) ∙ ap (λ (xs : List ℕ). xs ++ taken) (sym (ap heads is ∙ map-append (λ (u : InFlightId). u.1) before (t ∷ behind))))
+    (sym (append_assoc (heads before) (t.1 ∷ heads behind) taken)
+    ∙ ap (λ (xs : List ℕ). xs ++ taken) (sym (ap heads is ∙ map-append (λ (u : InFlightId). u.1) before (t ∷ behind))))
     there
 
-pub once : (w w' : LiveQueue) (outs outs' : List InFlightId) (es : List QueueEvent) → RunsOver w outs es w' outs' → IsPermutation (heads_ended es ++ heads outs') (heads outs ++ heads_taken es)
+pub once : (w w' : LiveQueue) (outs outs' : List InFlightId) (es : List QueueEvent) → RunsOver w outs es w' outs' →
+    IsPermutation (heads_ended es ++ heads outs') (heads outs ++ heads_taken es)
 once w w' outs outs' [] run =
-    subst (λ (xs : List ℕ). IsPermutation (heads outs') xs) (ap heads run.1 ∙ sym (append-nil (heads outs))) (IsPermutation-refl (heads outs'))
+    subst (λ (xs : List ℕ). IsPermutation (heads outs') xs) (ap heads run.1 ∙ sym (append-nil (heads outs)))
+    (IsPermutation-refl (heads outs'))
 once w w' outs outs' (Takes head ∷ es) run =
     subst (λ (xs : List ℕ). IsPermutation (heads_ended es ++ heads outs') xs)
-    (ap (λ (xs : List ℕ). xs ++ heads_taken es) (map-append (λ (t : InFlightId). t.1) outs ((w.queue.position, head) ∷ [])) ∙ append_assoc (heads outs) (head ∷ []) (heads_taken es))
+    (ap (λ (xs : List ℕ). xs ++ heads_taken es) (map-append (λ (t : InFlightId). t.1) outs ((w.queue.position, head) ∷ []))
+    ∙ append_assoc (heads outs) (head ∷ []) (heads_taken es))
     (once (took w) w' (outs ++ (w.queue.position, head) ∷ []) outs' es run.1)
 once w w' outs outs' (Drops t ∷ es) run =
     one_ended (heads_ended es) (heads_taken es) (heads outs') t run.0 run.1 outs run.2 (once (untook w) w' (run.0 ++ run.1) outs' es run.4)
@@ -89,7 +101,8 @@ less from to small is = omega (arith, small, is)
 small_next : (p : ℕ) → (p + 1) % 2 ^ 16 < 2 ^ 16
 small_next p = omega arith
 
-follow_less : (from to : ℕ) (t : InFlightId) (ts : List InFlightId) → from < 2 ^ 16 → Follow from (ts ++ t ∷ []) to → Follow from ts ((to + (2 ^ 16 - 1)) % 2 ^ 16)
+follow_less : (from to : ℕ) (t : InFlightId) (ts : List InFlightId) → from < 2 ^ 16 → Follow from (ts ++ t ∷ []) to →
+    Follow from ts ((to + (2 ^ 16 - 1)) % 2 ^ 16)
 unfolding Follow
 follow_less from to t [] small h = less from to small h.1
 follow_less from to t (u ∷ ts) small h = (h.0, follow_less ((from + 1) % 2 ^ 16) to t ts (small_next from) h.1)
@@ -102,20 +115,24 @@ places_past : (w : LiveQueue) (rs : List (InFlightId × ℕ × List Store)) → 
 places_past w [] h = tt
 places_past w (r ∷ rs) h = (h.0, places_past (gave w) rs h.1)
 
-in_order : (w : LiveQueue) (outs : List InFlightId) (es : List QueueEvent) → w.next_used < 2 ^ 16 → Follow w.next_used outs w.queue.position → IsOldestFirst w outs es → AtTheirPlaces w (returns_among es)
+in_order : (w : LiveQueue) (outs : List InFlightId) (es : List QueueEvent) → w.next_used < 2 ^ 16 →
+    Follow w.next_used outs w.queue.position → IsOldestFirst w outs es → AtTheirPlaces w (returns_among es)
 unfolding Follow
 in_order w outs [] small follow oldest = tt
 in_order w outs (Takes head ∷ es) small follow oldest =
-    places_past w (returns_among es) (in_order (took w) (outs ++ (w.queue.position, head) ∷ []) es small (follow_more w.next_used w.queue.position head outs follow) oldest)
+    places_past w (returns_among es)
+    (in_order (took w) (outs ++ (w.queue.position, head) ∷ []) es small (follow_more w.next_used w.queue.position head outs follow) oldest)
 in_order w outs (Drops t ∷ es) small follow oldest =
     places_dropped w (returns_among es)
     (in_order (untook w) oldest.0 es small
-    (follow_less w.next_used w.queue.position t oldest.0 small (subst (λ (ts : List InFlightId). Follow w.next_used ts w.queue.position) oldest.1 follow)) oldest.2)
+    (follow_less w.next_used w.queue.position t oldest.0 small
+    (subst (λ (ts : List InFlightId). Follow w.next_used ts w.queue.position) oldest.1 follow)) oldest.2)
 in_order w [] (Returns t len stores ∷ es) small follow oldest = absurd oldest
 in_order w (first ∷ outs) (Returns t len stores ∷ es) small follow oldest =
     (ap (λ (u : InFlightId). u.0) oldest.0 ∙ follow.0, in_order (gave w) outs es (small_next w.next_used) follow.1 oldest.1)
 
-pub keeps_order : (w : LiveQueue) (es : List QueueEvent) → w.next_used ≡ w.queue.position → w.queue.position < 2 ^ 16 → IsOldestFirst w [] es → AtTheirPlaces w (returns_among es)
+pub keeps_order : (w : LiveQueue) (es : List QueueEvent) → w.next_used ≡ w.queue.position → w.queue.position < 2 ^ 16 →
+    IsOldestFirst w [] es → AtTheirPlaces w (returns_among es)
 unfolding Follow
 keeps_order w es same small oldest = in_order w [] es (subst (λ (p : ℕ). p < 2 ^ 16) (sym same) small) (sym same) oldest
 

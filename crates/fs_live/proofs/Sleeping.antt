@@ -12,13 +12,15 @@ use Rattle.fs_live.specs.Handles.{HandleBegins, HandleSleeps, live_of}
 use Rattle.fs_live.proofs.Declined.{has_events}
 use Rattle.fs_live.proofs.Queues.{none_some, same_some, there_same}
 
-not_stored : (event wanted : Bool) (one other : Store) → (if event then (if wanted then Some one else None) else Some other) ≡ None → (event ≡ true) × (wanted ≡ false)
+not_stored : (event wanted : Bool) (one other : Store) → (if event then (if wanted then Some one else None) else Some other) ≡ None →
+    (event ≡ true) × (wanted ≡ false)
 not_stored true true one other is = absurd (none_some one (sym is))
 not_stored true false one other is = (refl, refl)
 not_stored false wanted one other is = absurd (none_some other (sym is))
 
 -- with the event index it is stored as avail_event
-stored_event : (event wanted : Bool) (one other store : Store) → Some store ≡ (if event then (if wanted then Some one else None) else Some other) → event ≡ true → store ≡ one
+stored_event : (event wanted : Bool) (one other store : Store) →
+    Some store ≡ (if event then (if wanted then Some one else None) else Some other) → event ≡ true → store ≡ one
 stored_event true true one other store is event = same_some store one is
 stored_event true false one other store is event = absurd (none_some store (sym is))
 stored_event false wanted one other store is event = absurd (true≢false (sym event))
@@ -42,7 +44,10 @@ handle_begins {F} may s i kept after layout position max_in_flight event_index s
   record {
     old = live_of kept;
     there = there;
-    both = (ap (λ (q : QueueState). q.next_used) is ∙ sym (ap (λ (q : QueueState). q.next_avail) is), subst (λ (q : QueueState). q.next_avail < 2 ^ 16) (sym is) small);
+    both = (
+      ap (λ (q : QueueState). q.next_used) is ∙ sym (ap (λ (q : QueueState). q.next_avail) is),
+      subst (λ (q : QueueState). q.next_avail < 2 ^ 16) (sym is) small,
+    );
     few = subst (λ (q : QueueState). MayBeOut (live_of q)) (sym is) (some, few);
     none_waits = none;
     state = refl;

@@ -1,5 +1,6 @@
 -- Where the stores of a run go.
-use Rattle.std.proofs.Common.{arith, ◌≡◌, ℕ, Bool, List, [], ◌∷◌, ◌++◌, length, map, take, drop, zip, flat_map, Option, Some, None, refl, subst, sym, ap, take-append-drop}
+use Rattle.std.proofs.Common.{arith, ◌≡◌, ℕ, Bool, List, [], ◌∷◌, ◌++◌, length, map, take, drop, zip, flat_map, Option, Some, None, refl}
+use Rattle.std.proofs.Common.{subst, sym, ap, take-append-drop}
 use Rattle.std.specs.Prelude.{true, false}
 use Rattle.std.specs.Int.{w16, to_le_bytes}
 use Rattle.std.specs.List.{AllByRecursion, Contains}
@@ -13,7 +14,8 @@ use Rattle.virtiofsd_fuse.specs.Serving.{May}
 use Rattle.plain_machine.specs.StepBy.{Stores, reply_stores, return_acts, stores_among}
 use Rattle.plain_machine.proofs.StepByLemmas.{reply_writes}
 use Rattle.fs_live.specs.Several.{LiveQueue, avail_event_at, returning, sleep_store}
-use Rattle.fs_live.specs.Live.{OutChain, LiveState, LiveEvent, Walks, Declines, Asks, Answers, Returns, Sleeps, Begins, Fills, Drops, Abandons, Replies, Maps, Moves, FillsSo, Happens, IsStoredIn, ReturnsSo, SleepsSo, acts_of, room_of}
+use Rattle.fs_live.specs.Live.{OutChain, LiveState, LiveEvent, Walks, Declines, Asks, Answers, Returns, Sleeps, Begins, Fills, Drops}
+use Rattle.fs_live.specs.Live.{Abandons, Replies, Maps, Moves, FillsSo, Happens, IsStoredIn, ReturnsSo, SleepsSo, acts_of, room_of}
 use Rattle.fs_live.specs.Runs.{StoresStayThere, StoresThere, queue_addresses, sleep_addresses}
 
 abbrev AllThere : List ℕ → List (ℕ × ℕ) → Type 0
@@ -58,15 +60,18 @@ module _ (q : Queue) (room : List ℕ) where
       let in_room : (a : ℕ) → Contains room a → Contains target a = λ a is. Contains-append_left room (element ++ index) a is in
       subst (AllThere target) (sym (reply_writes room reply n))
       (both_there target _ _
-      (zipped_there (drop n room) (drop n reply) target (λ a is. in_room a (subst (λ (l : List ℕ). Contains l a) (take-append-drop n room) (Contains-append_right (take n room) (drop n room) a is))))
-      (zipped_there (take n room) (take n reply) target (λ a is. in_room a (subst (λ (l : List ℕ). Contains l a) (take-append-drop n room) (Contains-append_left (take n room) (drop n room) a is)))))
+      (zipped_there (drop n room) (drop n reply) target (λ a is.
+      in_room a (subst (λ (l : List ℕ). Contains l a) (take-append-drop n room) (Contains-append_right (take n room) (drop n room) a is))))
+      (zipped_there (take n room) (take n reply) target (λ a is.
+      in_room a (subst (λ (l : List ℕ). Contains l a) (take-append-drop n room) (Contains-append_left (take n room) (drop n room) a is)))))
 
   return_there : (head : ℕ) (reply : List ℕ) (n : ℕ) (used : List Store) (seen : List ℕ) → used ≡ stores_after_reply q head (length reply)
       → AllThere target (flat_map writes_of (stores_among (return_acts (reply_stores room reply n ++ used) seen)))
   return_there head reply n used seen is =
       subst (λ (l : List Store). AllThere target (flat_map writes_of l)) (sym (among_return (reply_stores room reply n ++ used) seen))
       (subst (AllThere target) (sym (flat_map-append writes_of (reply_stores room reply n) used))
-      (both_there target _ _ (reply_there reply n) (subst (λ (l : List Store). AllThere target (flat_map writes_of l)) (sym is) (used_there head reply))))
+      (both_there target _ _ (reply_there reply n)
+      (subst (λ (l : List Store). AllThere target (flat_map writes_of l)) (sym is) (used_there head reply))))
 
 -- two bytes
 two_there : (a v : ℕ) → AllThere (addresses a 2) (flat_map writes_of (record { address = a; bytes = to_le_bytes w16 v } ∷ []))
@@ -77,7 +82,8 @@ abbrev LandsThere : LiveQueue → Option Store → Type 0
 LandsThere w (Some store) = AllThere (sleep_addresses (Some w)) (flat_map writes_of (store ∷ []))
 LandsThere w None = Unit {0}
 
-sleep_there : (q : Queue) (next_used max_in_flight : ℕ) (event wanted : Bool) → let w : LiveQueue = record { queue = q; next_used = next_used; max_in_flight = max_in_flight; event_index = event } in
+sleep_there : (q : Queue) (next_used max_in_flight : ℕ) (event wanted : Bool) →
+    let w : LiveQueue = record { queue = q; next_used = next_used; max_in_flight = max_in_flight; event_index = event } in
     LandsThere w (sleep_store w wanted)
 sleep_there q next_used max_in_flight true true = two_there (avail_event_at q) q.position
 sleep_there q next_used max_in_flight true false = tt
@@ -97,7 +103,8 @@ zipped_within room (a ∷ as') (x ∷ xs) all = (all.0, zipped_within room as' x
 stores_within : (room : List ℕ) (stores : List Store) → AllByRecursion (IsStoredIn room) stores → AllThere room (flat_map writes_of stores)
 stores_within room [] all = tt
 stores_within room (store ∷ stores) all =
-    both_there room _ _ (zipped_within room (addresses store.address (length store.bytes)) store.bytes all.0) (stores_within room stores all.1)
+    both_there room _ _ (zipped_within room (addresses store.address (length store.bytes)) store.bytes all.0)
+    (stores_within room stores all.1)
 
 one_event : {F : Type 0} (may : May F) (s mid : LiveState F) (e : LiveEvent) → Happens may s e mid → StoresThere s e
 one_event may s mid (Walks i loaded ds came) h = (tt, tt)
@@ -106,21 +113,25 @@ one_event may s mid (Asks c request told) h = (tt, tt)
 one_event may s mid (Answers c call answer) h = (tt, tt)
 one_event may s mid (Returns c x notice last used seen) h =
     let out : ReturnsSo s c x notice last used seen mid = h in (
-      subst (λ (l : List OutChain). Contains l c) (sym out.out) (Contains-append_right out.before (c ∷ out.behind) c (0, omega arith, refl)),
-      subst (λ (k : Option LiveQueue). AllThere (room_of c ++ queue_addresses k) (flat_map writes_of (stores_among (acts_of (Returns c x notice last used seen))))) (sym out.there)
+      subst (λ (l : List OutChain). Contains l c) (sym out.out)
+          (Contains-append_right out.before (c ∷ out.behind) c (0, omega arith, refl)),
+      subst (λ (k : Option LiveQueue). AllThere (room_of c ++ queue_addresses k)
+          (flat_map writes_of (stores_among (acts_of (Returns c x notice last used seen))))) (sym out.there)
           (return_there (returning out.w) (room_of c) c.head x.reply last used seen out.used_is),
     )
 one_event may s mid (Sleeps i store) h =
     let so : SleepsSo s i store mid = h in (
       tt,
       subst (λ (k : Option LiveQueue). AllThere (sleep_addresses k) (flat_map writes_of (store ∷ []))) (sym so.there)
-          (subst (λ (k : Option Store). LandsThere so.w k) so.stores (sleep_there so.w.queue so.w.next_used so.w.max_in_flight so.w.event_index so.wanted)),
+          (subst (λ (k : Option Store). LandsThere so.w k) so.stores
+          (sleep_there so.w.queue so.w.next_used so.w.max_in_flight so.w.event_index so.wanted)),
     )
 one_event may s mid (Begins i w) h = (tt, tt)
 one_event may s mid (Fills c stores) h =
     let so : FillsSo s c stores mid = h in (
       subst (λ (l : List OutChain). Contains l c) (sym so.out) (Contains-append_right so.before (c ∷ so.behind) c (0, omega arith, refl)),
-      subst (λ (l : List Store). AllThere (room_of c) (flat_map writes_of l)) (sym (among_stores stores)) (stores_within (room_of c) stores so.within),
+      subst (λ (l : List Store). AllThere (room_of c) (flat_map writes_of l)) (sym (among_stores stores))
+          (stores_within (room_of c) stores so.within),
     )
 one_event may s mid (Drops c) h = (tt, tt)
 one_event may s mid (Abandons c) h = (tt, tt)

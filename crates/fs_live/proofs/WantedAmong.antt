@@ -14,25 +14,31 @@ use Rattle.fs_live.specs.Among.{WantedAmongHasAPlace}
 use Rattle.fs_live.proofs.Among.{all_among, standing, wants_unrefused}
 
 -- each address of what is there has a place
-has_place : (l : Mapped) (n a i : ℕ) → list_all (λ x. is_some (location (places_in l) Read x)) (addresses a n) ≡ true → i < n → is_some (location (places_in l) Read (a + i)) ≡ true
+has_place : (l : Mapped) (n a i : ℕ) → list_all (λ x. is_some (location (places_in l) Read x)) (addresses a n) ≡ true → i < n →
+    is_some (location (places_in l) Read (a + i)) ≡ true
 unfolding addresses
 has_place l zero a i all lt = absurd (omega (arith, lt))
 has_place l (suc n) a zero all lt =
     let same : a ≡ a + 0 = omega arith in
-    subst (λ (k : ℕ). is_some (location (places_in l) Read k) ≡ true) same (and_parts (is_some (location (places_in l) Read a)) (list_all (λ x. is_some (location (places_in l) Read x)) (addresses (a + 1) n)) all).0
+    subst (λ (k : ℕ). is_some (location (places_in l) Read k) ≡ true) same (and_parts (is_some (location (places_in l) Read a))
+    (list_all (λ x. is_some (location (places_in l) Read x)) (addresses (a + 1) n)) all).0
 has_place l (suc n) a (suc i) all lt =
     let same : a + 1 + i ≡ a + suc i = omega arith in
     subst (λ (k : ℕ). is_some (location (places_in l) Read k) ≡ true) same
-    (has_place l n (a + 1) i (and_parts (is_some (location (places_in l) Read a)) (list_all (λ x. is_some (location (places_in l) Read x)) (addresses (a + 1) n)) all).1 (omega (arith, lt)))
+    (has_place l n (a + 1) i (and_parts (is_some (location (places_in l) Read a))
+    (list_all (λ x. is_some (location (places_in l) Read x)) (addresses (a + 1) n)) all).1 (omega (arith, lt)))
 
 pub wanted_among_has_a_place : WantedAmongHasAPlace
 wanted_among_has_a_place given old new before now after told goes walks wants lacks =
-    let s = standing now.stopped given old new before now after told walks wants (all_among given old new before now after told goes (wants_unrefused old before told wants) walks) in
+    let s = standing now.stopped given old new before now after told walks wants
+    (all_among given old new before now after told goes (wants_unrefused old before told wants) walks) in
     let from = s.2 in
     let walk = from.walk in
     let none : came new < asked_len walk → location (places_in new.regions) Read (asked_by walk + came new) ≡ None =
-    subst (λ (st : state.ChainState). IfWalking st (λ walk. came new < asked_len walk → location (places_in new.regions) Read (asked_by walk + came new) ≡ None)) from.state lacks in
-    let there = (and_parts (nat_lt (asked_by walk + asked_len walk) (2 ^ 64)) (list_all (λ x. is_some (location (places_in old.regions) Read x)) (addresses (asked_by walk) (asked_len walk))) from.there).1 in
+    subst (λ (st : state.ChainState). IfWalking st
+    (λ walk. came new < asked_len walk → location (places_in new.regions) Read (asked_by walk + came new) ≡ None)) from.state lacks in
+    let there = (and_parts (nat_lt (asked_by walk + asked_len walk) (2 ^ 64))
+    (list_all (λ x. is_some (location (places_in old.regions) Read x)) (addresses (asked_by walk) (asked_len walk))) from.there).1 in
     let some = has_place old.regions (asked_len walk) (asked_by walk) (came new) there from.few in
     let lost : is_some (location (places_in old.regions) Read (asked_by walk + came new)) ≡ false =
     ap is_some (subst (λ (r : Mapped). location (places_in r) Read (asked_by walk + came new) ≡ None) from.regions (none from.few)) in

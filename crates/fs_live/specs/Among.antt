@@ -20,50 +20,95 @@ use Rattle.fs_chain.specs.declared.chain_handle.ChainHandle.{ChainHandle}
 use Rattle.fs_live.specs.Live.{Declines, Happens, LiveState, Walks, after_walk}
 use Rattle.fs_live.specs.Handles.{IsPopDone, IsHeld, counted, live_of}
 
--- a walk by calls of the handle, the last one first, which finds the queue as `now`. Before each of them but the first others may have gone on with the queue, and calls of its own may have been
--- refused, which left the handle as it was; that no other chain was taken, and that the queue wasn't begun anew, the call tells itself
-abbrev pub WalksAmong : (given : List (List ℕ)) → (old new : ChainHandle) → (before now after : QueueState) → went.LoadOutcome → Type 0
+-- a walk by calls of the handle, the last one first, which finds the queue as `now`. Before each of them but
+-- the first others may have gone on with the queue, and calls of its own may have been refused, which left
+-- the handle as it was; that no other chain was taken, and that the queue wasn't begun anew, the call tells
+-- itself
+abbrev pub WalksAmong : (given : List (List ℕ)) → (old new : ChainHandle) → (before now after : QueueState) →
+    went.LoadOutcome → Type 0
 WalksAmong [] old new before now after told = (now ≡ before) × BeginsPopBy old new before after told
 WalksAmong (bs ∷ given) old new before now after told =
-    (w : ChainHandle) × (v : ChainHandle) × (found : QueueState) × (left : QueueState) × (earlier : went.LoadOutcome) × WalksAmong given old w before found left earlier × WantsBytes earlier × IsSame w v
+    (w : ChainHandle) × (v : ChainHandle) × (found : QueueState) × (left : QueueState)
+    × (earlier : went.LoadOutcome)
+    × WalksAmong given old w before found left earlier
+    × WantsBytes earlier
+    × IsSame w v
     × GoesSo v now bs told new after
 
 -- these loads came of the bytes of its calls
-abbrev pub LoadsAmong : (given : List (List ℕ)) → (old new : ChainHandle) → (before now after : QueueState) → (told : went.LoadOutcome) → WalksAmong given old new before now after told → Loaded → Type 0
+abbrev pub LoadsAmong : (given : List (List ℕ)) → (old new : ChainHandle) → (before now after : QueueState) →
+    (told : went.LoadOutcome) → WalksAmong given old new before now after told → Loaded → Type 0
 LoadsAmong [] old new before now after told walks loaded = loaded ≡ nothing
 LoadsAmong (bs ∷ given) old new before now after told walks loaded =
-    (l : Loaded) × LoadsAmong given old walks.0 before walks.2 walks.3 walks.4 walks.5 l × AddsSo walks.1.state told new.descriptors.items l (whole walks.1 bs) loaded
+    (l : Loaded)
+    × LoadsAmong given old walks.0 before walks.2 walks.3 walks.4 walks.5 l
+    × AddsSo walks.1.state told new.descriptors.items l (whole walks.1 bs) loaded
 
--- such a walk, of a queue that isn't stopped before the first call nor at the last one, is the event of a walk by all its loads, at the moment of its last call
+-- such a walk, of a queue that isn't stopped before the first call nor at the last one, is the event of a
+-- walk by all its loads, at the moment of its last call
 abbrev pub HandleWalksAmong : {F : Type 0} → May F → Type 0
 HandleWalksAmong {F} may =
-    (s : LiveState F) (i : ℕ) (given : List (List ℕ)) (old new : ChainHandle) (before now after : QueueState) (told : walked.PopOutcome) →
-    slice_get s.queues i ≡ Some (live_of now) → s.places ≡ places_in old.regions → s.limit ≡ old.limit → before.stopped ≡ None → now.stopped ≡ None → now.event_index ≡ before.event_index →
-    RefusalHasEvents told old before → (walks : WalksAmong given old new before now after (wents.On told)) → IsPopDone told →
-    (loaded : Loaded) × LoadsAmong given old new before now after (wents.On told) walks loaded × (came : comes.CourseStep) × (told ≡ told_of new.descriptors.items came)
-    × Happens may s (Walks i loaded new.descriptors.items came) (after_walk s i (live_of now) loaded new.descriptors.items came)
-    × (slice_get (after_walk s i (live_of now) loaded new.descriptors.items came).queues i ≡ Some (live_of after)) × IsHeld s i (live_of now) loaded came new
+    (s : LiveState F) (i : ℕ) (given : List (List ℕ)) (old new : ChainHandle) (before now after : QueueState)
+    (told : walked.PopOutcome) →
+    slice_get s.queues i ≡ Some (live_of now) →
+    s.places ≡ places_in old.regions →
+    s.limit ≡ old.limit →
+    before.stopped ≡ None →
+    now.stopped ≡ None →
+    now.event_index ≡ before.event_index →
+    RefusalHasEvents told old before →
+    (walks : WalksAmong given old new before now after (wents.On told)) →
+    IsPopDone told →
+    (loaded : Loaded)
+    × LoadsAmong given old new before now after (wents.On told) walks loaded
+    × (came : comes.CourseStep)
+    × (told ≡ told_of new.descriptors.items came)
+    × Happens may s (Walks i loaded new.descriptors.items came)
+    (after_walk s i (live_of now) loaded new.descriptors.items came)
+    × (slice_get (after_walk s i (live_of now) loaded new.descriptors.items came).queues i
+    ≡ Some (live_of after))
+    × IsHeld s i (live_of now) loaded came new
 
 -- what such a walk wants has a place, so that no call is refused for it
 abbrev pub WantedAmongHasAPlace : Type 0
 WantedAmongHasAPlace =
-    (given : List (List ℕ)) (old new : ChainHandle) (before now after : QueueState) (told : went.LoadOutcome) → before.stopped ≡ None →
-    WalksAmong given old new before now after told → WantsBytes told → HasNoPlace new (came new) → ⊥
+    (given : List (List ℕ)) (old new : ChainHandle) (before now after : QueueState)
+    (told : went.LoadOutcome) →
+    before.stopped ≡ None →
+    WalksAmong given old new before now after told →
+    WantsBytes told →
+    HasNoPlace new (came new) →
+    ⊥
 
 -- how many loads the calls of such a walk were given
-abbrev pub load_count_among : (given : List (List ℕ)) → (old new : ChainHandle) → (before now after : QueueState) → (told : went.LoadOutcome) → WalksAmong given old new before now after told → ℕ
+abbrev pub load_count_among : (given : List (List ℕ)) → (old new : ChainHandle) → (before now
+    after : QueueState) → (told : went.LoadOutcome) → WalksAmong given old new before now after told → ℕ
 load_count_among [] old new before now after told walks = 0
-load_count_among (bs ∷ given) old new before now after told walks = counted told (load_count_among given old walks.0 before walks.2 walks.3 walks.4 walks.5)
+load_count_among (bs ∷ given) old new before now after told walks =
+    counted told (load_count_among given old walks.0 before walks.2 walks.3 walks.4 walks.5)
 
 -- they are as few as those of a walk alone, of one too that finds its queue stopped meanwhile
 abbrev pub HandleLoadsAmong : Type 0
 HandleLoadsAmong =
-    (given : List (List ℕ)) (old new : ChainHandle) (before now after : QueueState) (told : went.LoadOutcome) → before.stopped ≡ None → (walks : WalksAmong given old new before now after told) →
+    (given : List (List ℕ)) (old new : ChainHandle) (before now after : QueueState)
+    (told : went.LoadOutcome) →
+    before.stopped ≡ None →
+    (walks : WalksAmong given old new before now after told) →
     load_count_among given old new before now after told walks ≤ before.layout.size + 4
 
--- a walk that goes on and finds that its queue was stopped meanwhile is refused as each walk of a stopped queue, whatever it has loaded: the handle is free, and the queue stays
+-- a walk that goes on and finds that its queue was stopped meanwhile is refused as each walk of a stopped
+-- queue, whatever it has loaded: the handle is free, and the queue stays
 abbrev pub HandleFindsStopped : {F : Type 0} → May F → Type 0
 HandleFindsStopped {F} may =
-    (s : LiveState F) (i : ℕ) (bs : List ℕ) (w new : ChainHandle) (now after : QueueState) (told : walked.PopOutcome) (why : QueueError) → slice_get s.queues i ≡ Some (live_of now) →
-    IsWalking w.state → now.stopped ≡ Some why → GoesSo w now bs (wents.On told) new after →
-    (told ≡ says.Refused Stopped) × (new.state ≡ at.Free) × (after ≡ now) × (next : LiveState F) × Happens may s (Declines i Stopped) next × (slice_get next.queues i ≡ Some (live_of after))
+    (s : LiveState F) (i : ℕ) (bs : List ℕ) (w new : ChainHandle) (now after : QueueState)
+    (told : walked.PopOutcome) (why : QueueError) →
+    slice_get s.queues i ≡ Some (live_of now) →
+    IsWalking w.state →
+    now.stopped ≡ Some why →
+    GoesSo w now bs (wents.On told) new after →
+    (told ≡ says.Refused Stopped)
+    × (new.state ≡ at.Free)
+    × (after ≡ now)
+    × (next : LiveState F)
+    × Happens may s (Declines i Stopped) next
+    × (slice_get next.queues i ≡ Some (live_of after))

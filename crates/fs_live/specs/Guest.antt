@@ -8,7 +8,8 @@ use Rattle.plain_machine.specs.StepBy.{after_stores, stores_among}
 use Rattle.fs_live.specs.Live.{LiveEvent, LiveRun, LiveState, Maps, Moves, acts_of}
 use Rattle.fs_live.specs.Runs.{told_by}
 
--- the guest writes these bytes, each at its address; or the device's next event happens. What the guest reads changes nothing, and what the device's loads find is told by its events
+-- the guest writes these bytes, each at its address; or the device's next event happens. What the guest reads
+-- changes nothing, and what the device's loads find is told by its events
 pub data Moment : Type 0 where
   Writes : List (ℕ × ℕ) → Moment
   Device : LiveEvent → Moment
@@ -41,13 +42,16 @@ StaysThere (Moves m queues) = ⊥
 StaysThere _ = Unit {0}
 
 -- the addresses that the guest wrote, and those that the events told, in order
-abbrev pub told_through : {F : Type 0} → (may : May F) → (s : LiveState F) → (ms : List Moment) → (after : LiveState F) → LiveRun may s (events_of ms) after → List ℕ
+abbrev pub told_through : {F : Type 0} → (may : May F) → (s : LiveState F) → (ms : List Moment) →
+    (after : LiveState F) → LiveRun may s (events_of ms) after → List ℕ
 told_through may s [] after run = []
 told_through may s (Writes ws ∷ ms) after run = map (λ w. w.0) ws ++ told_through may s ms after run
 told_through may s (Device e ∷ ms) after run = told_by s e ++ told_through may run.0 ms after run.2
 
--- wherever the guest writes between the events of a run: the pages that are marked in the end are those that were, those of the guest's writes, and those that the events told, and no others
+-- wherever the guest writes between the events of a run: the pages that are marked in the end are those that
+-- were, those of the guest's writes, and those that the events told, and no others
 abbrev pub PagesOfRun : {F : Type 0} → May F → Type 0
 PagesOfRun {F} may =
-    (s after : LiveState F) (ms : List Moment) (m : Memory) (run : LiveRun may s (events_of ms) after) → AllByRecursion StaysThere (events_of ms) →
+    (s after : LiveState F) (ms : List Moment) (m : Memory) (run : LiveRun may s (events_of ms) after) →
+    AllByRecursion StaysThere (events_of ms) →
     Marks m (told_through may s ms after run) (after_moments m ms).host

@@ -1,5 +1,6 @@
 -- What calls of handles, each with its chain, give a run, whatever other chains are out.
-use Rattle.std.specs.Prelude.{◌≡◌, ◌≤◌, ◌<◌, ◌+◌, ◌^◌, ℕ, suc, Bool, true, false, IsTrue, List, [], ◌∷◌, ◌++◌, length, drop, is_some, Option, Some, None, slice_get, option_map}
+use Rattle.std.specs.Prelude.{◌≡◌, ◌≤◌, ◌<◌, ◌+◌, ◌^◌, ℕ, suc, Bool, true, false, IsTrue, List, [], ◌∷◌, ◌++◌}
+use Rattle.std.specs.Prelude.{length, drop, is_some, Option, Some, None, slice_get, option_map}
 use Rattle.std.specs.List.{AllByRecursion}
 use Rattle.fs_queue.specs.declared.fault.ChainFault.{ChainFault}
 use Rattle.fs_queue.specs.declared.fault.QueueError.{QueueError}
@@ -24,7 +25,8 @@ use Rattle.fs_chain.specs.Decoding.{TellsMeaning}
 use Rattle.fs_chain.specs.Events.{notification_store, store_of}
 use Rattle.fs_chain.specs.Queues.{reset_to, gave}
 use Rattle.fs_chain.specs.Walks.{RefusalHasEvents, course_of, faulty_out, no_reply, out_of, told_of}
-use Rattle.fs_chain.specs.Whole.{ChainAnswer, GoesBackBy, HasReply, IsAnsweredBy, IsDecodedBy, LoadsOf, WalksBy, data_behind, file_calls}
+use Rattle.fs_chain.specs.Whole.{ChainAnswer, GoesBackBy, HasReply, IsAnsweredBy, IsDecodedBy, LoadsOf}
+use Rattle.fs_chain.specs.Whole.{WalksBy, data_behind, file_calls}
 use Rattle.fs_chain.specs.declared.answering.Replied.{Replied}
 use Rattle.fs_chain.specs.declared.decoding.Decoded as told
 use Rattle.fs_chain.specs.declared.decoding.Decoded.TheVariants as asks
@@ -42,8 +44,11 @@ use Rattle.fs_chain.specs.declared.chain_handle.ChainHandle.{ChainHandle}
 use Rattle.plain_machine.specs.Step.{Calls, EachSuits, Exchange}
 use Rattle.plain_machine.specs.StepBy.{Act}
 use Rattle.fs_live.specs.Several.{LiveQueue, seen_at}
-use Rattle.fs_live.specs.Live.{Answers, Asked, Asks, Begins, Declines, Faulty, Fetched, LiveEvent, LiveRun, LiveState, OutChain, Returns, Sleeps, Walks}
-use Rattle.fs_live.specs.Live.{Happens, HasPlace, NoneWaits, acts_of, after_answer, after_asking, after_beginning, after_giving, after_walk, asked_chain, new_chain, room_of, serving, why_declined}
+use Rattle.fs_live.specs.Live.{Answers, Asked, Asks, Begins, Declines, Faulty, Fetched, LiveEvent, LiveRun}
+use Rattle.fs_live.specs.Live.{LiveState, OutChain, Returns, Sleeps, Walks}
+use Rattle.fs_live.specs.Live.{Happens, HasPlace, NoneWaits, acts_of, after_answer, after_asking}
+use Rattle.fs_live.specs.Live.{after_beginning, after_giving, after_walk, asked_chain, new_chain, room_of}
+use Rattle.fs_live.specs.Live.{serving, why_declined}
 
 -- a kept queue, as a run has it
 abbrev pub live_of : QueueState → LiveQueue
@@ -78,20 +83,36 @@ pub record IsFaultyOut (limit : ℕ) (c : OutChain) (w : ChainHandle) : Type 0 w
   pub state : w.state ≡ at.HasReply (faulty_out (course_of kept limit) pop_id c.head) no_reply
 
 -- the handle has the chain to which its walk came
-abbrev pub IsHeld : {F : Type 0} → LiveState F → (i : ℕ) → LiveQueue → Loaded → comes.CourseStep → ChainHandle → Type 0
-IsHeld s i q loaded (step.Chain head None) w = IsOut s.limit (new_chain s i q loaded w.descriptors.items head None) w
-IsHeld s i q loaded (step.Chain head (Some why)) w = IsFaultyOut s.limit (new_chain s i q loaded w.descriptors.items head (Some why)) w
+abbrev pub IsHeld :
+    {F : Type 0} → LiveState F → (i : ℕ) → LiveQueue → Loaded → comes.CourseStep → ChainHandle → Type 0
+IsHeld s i q loaded (step.Chain head None) w =
+    IsOut s.limit (new_chain s i q loaded w.descriptors.items head None) w
+IsHeld s i q loaded (step.Chain head (Some why)) w =
+    IsFaultyOut s.limit (new_chain s i q loaded w.descriptors.items head (Some why)) w
 IsHeld s i q loaded _ w = Unit {0}
 
--- a walk by calls of the handle, of a queue that isn't stopped, is the event of a walk by all its loads; the queue is then as the calls left it: a refusal has stopped it
+-- a walk by calls of the handle, of a queue that isn't stopped, is the event of a walk by all its loads; the
+-- queue is then as the calls left it: a refusal has stopped it
 abbrev pub HandleWalks : {F : Type 0} → May F → Type 0
 HandleWalks {F} may =
-    (s : LiveState F) (i : ℕ) (given : List (List ℕ)) (old new : ChainHandle) (before after : QueueState) (told : walked.PopOutcome) →
-    slice_get s.queues i ≡ Some (live_of before) → s.places ≡ places_in old.regions → s.limit ≡ old.limit → before.stopped ≡ None → RefusalHasEvents told old before →
-    (walks : WalksBy given old new before after (wents.On told)) → IsPopDone told →
-    (loaded : Loaded) × LoadsOf given old new before after (wents.On told) walks loaded × (came : comes.CourseStep) × (told ≡ told_of new.descriptors.items came)
-    × Happens may s (Walks i loaded new.descriptors.items came) (after_walk s i (live_of before) loaded new.descriptors.items came)
-    × (slice_get (after_walk s i (live_of before) loaded new.descriptors.items came).queues i ≡ Some (live_of after)) × IsHeld s i (live_of before) loaded came new
+    (s : LiveState F) (i : ℕ) (given : List (List ℕ)) (old new : ChainHandle) (before after : QueueState)
+    (told : walked.PopOutcome) →
+    slice_get s.queues i ≡ Some (live_of before) →
+    s.places ≡ places_in old.regions →
+    s.limit ≡ old.limit →
+    before.stopped ≡ None →
+    RefusalHasEvents told old before →
+    (walks : WalksBy given old new before after (wents.On told)) →
+    IsPopDone told →
+    (loaded : Loaded)
+    × LoadsOf given old new before after (wents.On told) walks loaded
+    × (came : comes.CourseStep)
+    × (told ≡ told_of new.descriptors.items came)
+    × Happens may s (Walks i loaded new.descriptors.items came)
+    (after_walk s i (live_of before) loaded new.descriptors.items came)
+    × (slice_get (after_walk s i (live_of before) loaded new.descriptors.items came).queues i
+    ≡ Some (live_of after))
+    × IsHeld s i (live_of before) loaded came new
 
 -- one load more, if a call wasn't given only a part of it
 abbrev pub counted : went.LoadOutcome → ℕ → ℕ
@@ -99,22 +120,36 @@ counted wents.Part n = n
 counted (wents.On told) n = suc n
 
 -- how many loads the calls of a walk were given
-abbrev pub load_count : (given : List (List ℕ)) (old new : ChainHandle) (before after : QueueState) (told : went.LoadOutcome) → WalksBy given old new before after told → ℕ
+abbrev pub load_count : (given : List (List ℕ)) (old new : ChainHandle) (before after : QueueState)
+    (told : went.LoadOutcome) → WalksBy given old new before after told → ℕ
 load_count [] old new before after told walks = 0
-load_count (bs ∷ given) old new before after told walks = counted told (load_count given old walks.0 before walks.1 walks.2 walks.3)
+load_count (bs ∷ given) old new before after told walks =
+    counted told (load_count given old walks.0 before walks.1 walks.2 walks.3)
 
--- whatever the guest writes meanwhile, they are few, of a walk too that hasn't ended: the index, the ring's entry, and at most size + 2 of tables
+-- whatever the guest writes meanwhile, they are few, of a walk too that hasn't ended: the index, the ring's
+-- entry, and at most size + 2 of tables
 abbrev pub HandleLoads : Type 0
 HandleLoads =
-    (given : List (List ℕ)) (old new : ChainHandle) (before after : QueueState) (told : went.LoadOutcome) → before.stopped ≡ None → (walks : WalksBy given old new before after told) →
+    (given : List (List ℕ)) (old new : ChainHandle) (before after : QueueState) (told : went.LoadOutcome) →
+    before.stopped ≡ None →
+    (walks : WalksBy given old new before after told) →
     load_count given old new before after told walks ≤ before.layout.size + 4
 
--- a walk of a queue that is stopped, or whose event index has no place, is refused by its first call: no load was made
+-- a walk of a queue that is stopped, or whose event index has no place, is refused by its first call: no load
+-- was made
 abbrev pub HandleDeclines : {F : Type 0} → May F → Type 0
 HandleDeclines {F} may =
-    (s : LiveState F) (i : ℕ) (given : List (List ℕ)) (old new : ChainHandle) (before after : QueueState) (told : walked.PopOutcome) (e : QueueError) →
-    slice_get s.queues i ≡ Some (live_of before) → s.places ≡ places_in old.regions → why_declined s.places (live_of before) ≡ Some e → WalksBy given old new before after (wents.On told) →
-    (told ≡ says.Refused e) × (given ≡ []) × (next : LiveState F) × Happens may s (Declines i e) next × (slice_get next.queues i ≡ Some (live_of after))
+    (s : LiveState F) (i : ℕ) (given : List (List ℕ)) (old new : ChainHandle) (before after : QueueState)
+    (told : walked.PopOutcome) (e : QueueError) →
+    slice_get s.queues i ≡ Some (live_of before) →
+    s.places ≡ places_in old.regions →
+    why_declined s.places (live_of before) ≡ Some e →
+    WalksBy given old new before after (wents.On told) →
+    (told ≡ says.Refused e)
+    × (given ≡ [])
+    × (next : LiveState F)
+    × Happens may s (Declines i e) next
+    × (slice_get next.queues i ≡ Some (live_of after))
 
 -- ---- askings and answers
 
@@ -123,58 +158,89 @@ abbrev pub calls_told : (behind : List ℕ) → told.Decoded → List FileCall
 calls_told behind (asks.Call made) = call_of behind made ∷ []
 calls_told behind _ = []
 
--- the first bytes told what is asked; an asking that wants more of them is no event, of which the handle keeps the session alone
+-- the first bytes told what is asked; an asking that wants more of them is no event, of which the handle
+-- keeps the session alone
 abbrev pub IsDecodedWhole : told.Decoded → Type 0
 IsDecodedWhole (asks.More n) = ⊥
 IsDecodedWhole _ = Unit {0}
 
 -- a state that a run comes to, from one of which no chain is out
 abbrev pub IsReached : {F : Type 0} → May F → LiveState F → Type 0
-IsReached {F} may s = (start : LiveState F) × (es : List LiveEvent) × (start.outs ≡ []) × LiveRun may start es s
+IsReached {F} may s =
+    (start : LiveState F) × (es : List LiveEvent) × (start.outs ≡ []) × LiveRun may start es s
 
 -- a session, as a run has it
 abbrev pub IsSessionOf : {F : Type 0} → LiveState F → Session → Type 0
 IsSessionOf s session = (session.page_size ≡ s.page_size) × (session.options.0 ≡ s.options)
 
 -- what a handle keeps of a chain of a run that was asked
-pub record IsKept (page_size options : ℕ) (request : List ℕ) (c : OutChain) (made : told.Decoded) (w : ChainHandle) : Type 0 where
+pub record IsKept (page_size options : ℕ) (request : List ℕ) (c : OutChain) (made : told.Decoded)
+    (w : ChainHandle) : Type 0 where
   pub out : InFlight
   pub head : out.head ≡ c.head
   pub taken : c.taken ≡ queue_of out.course
   pub room : length (room_of c) ≡ out.room_len
   pub small : out.room_len ≤ 2 ^ 31
-  pub tells : TellsMeaning (setting page_size options out.room_len) (meaning options request out.room_len) (drop 80 request) out made w.state
+  pub tells : TellsMeaning (setting page_size options out.room_len) (meaning options request out.room_len)
+      (drop 80 request) out made w.state
   pub session : (w.session.page_size ≡ page_size) × (w.session.options.0 ≡ options)
 
 -- a handle that is asked is the event of asking; it keeps what was asked
 abbrev pub HandleAsks : {F : Type 0} → May F → Type 0
 HandleAsks {F} may =
-    (s : LiveState F) (c : OutChain) (before behind : List OutChain) (w w' : ChainHandle) (session : Session) (request front : List ℕ) (made : told.Decoded) → IsReached may s → s.limit ≤ 2 ^ 31 →
-    s.outs ≡ before ++ c ∷ behind → c.phase ≡ Fetched → IsOut s.limit c w → IsSessionOf s session → IsDecodedBy w session request front made w' → IsDecodedWhole made →
-    Happens may s (Asks c request (calls_told (drop 80 request) made)) (after_asking s before behind c request)
+    (s : LiveState F) (c : OutChain) (before behind : List OutChain) (w w' : ChainHandle) (session : Session)
+    (request front : List ℕ) (made : told.Decoded) →
+    IsReached may s →
+    s.limit ≤ 2 ^ 31 →
+    s.outs ≡ before ++ c ∷ behind →
+    c.phase ≡ Fetched →
+    IsOut s.limit c w →
+    IsSessionOf s session →
+    IsDecodedBy w session request front made w' →
+    IsDecodedWhole made →
+    Happens may s (Asks c request (calls_told (drop 80 request) made))
+    (after_asking s before behind c request)
     × IsKept s.page_size s.options request (asked_chain c request s.options []) made w'
 
--- a call that a handle answers is the event of answering; the handle's session then has the options that the chain leaves by itself
+-- a call that a handle answers is the event of answering; the handle's session then has the options that the
+-- chain leaves by itself
 abbrev pub HandleAnswers : {F : Type 0} → May F → Type 0
 HandleAnswers {F} may =
-    (s : LiveState F) (c : OutChain) (before behind : List OutChain) (w w' : ChainHandle) (request : List ℕ) (options : ℕ) (made : made_call.FileCall) (a : made_answer.FileAnswer) (bytes : List ℕ)
-    (told : Replied) (files : F) → s.outs ≡ before ++ c ∷ behind → c.phase ≡ Asked request options [] → IsKept s.page_size options request c (asks.Call made) w →
-    IsAnsweredBy w a bytes told w' → IfWaits w.state (λ out waiting. CanBeGiven waiting a) → may s.files (call_of (drop 80 request) made) (answer_of bytes a) files →
+    (s : LiveState F) (c : OutChain) (before behind : List OutChain) (w w' : ChainHandle) (request : List ℕ)
+    (options : ℕ) (made : made_call.FileCall) (a : made_answer.FileAnswer) (bytes : List ℕ)
+    (told : Replied) (files : F) →
+    s.outs ≡ before ++ c ∷ behind →
+    c.phase ≡ Asked request options [] →
+    IsKept s.page_size options request c (asks.Call made) w →
+    IsAnsweredBy w a bytes told w' →
+    IfWaits w.state (λ out waiting. CanBeGiven waiting a) →
+    may s.files (call_of (drop 80 request) made) (answer_of bytes a) files →
     let call = call_of (drop 80 request) made in
     let answer = answer_of bytes a in
-    Happens may s (Answers c call answer) (after_answer s before behind c request options ((call, answer) ∷ []) files)
-    × (w'.session.options.0 ≡ (serving s.page_size options options request (room_of c) ((call, answer) ∷ [])).options)
+    Happens may s (Answers c call answer)
+    (after_answer s before behind c request options ((call, answer) ∷ []) files)
+    × (w'.session.options.0
+    ≡ (serving s.page_size options options request (room_of c) ((call, answer) ∷ [])).options)
 
--- so is each call of a chain, whichever came before it: the reading of a directory and the look-ups of the entries that are brought to the listing, and the FORGET of an entry of which the guest
--- isn't told; with the last one the handle's session has the options that the chain leaves by itself
+-- so is each call of a chain, whichever came before it: the reading of a directory and the look-ups of the
+-- entries that are brought to the listing, and the FORGET of an entry of which the guest isn't told; with the
+-- last one the handle's session has the options that the chain leaves by itself
 abbrev pub HandleCalls : {F : Type 0} → May F → Type 0
 HandleCalls {F} may =
-    (s : LiveState F) (c : OutChain) (before behind : List OutChain) (w w' : ChainHandle) (request : List ℕ) (options : ℕ) (made : told.Decoded) (given : ChainAnswer) (earlier later : Calls) (call : FileCall)
-    (answer : FileAnswer) (files : F) → s.outs ≡ before ++ c ∷ behind → c.phase ≡ Asked request options earlier → IsKept s.page_size options request c made w → HasReply made w given w' →
-    file_calls (drop 80 request) made given ≡ earlier ++ (call, answer) ∷ later → IsTrue (suits call answer) → may s.files call answer files →
+    (s : LiveState F) (c : OutChain) (before behind : List OutChain) (w w' : ChainHandle) (request : List ℕ)
+    (options : ℕ) (made : told.Decoded) (given : ChainAnswer) (earlier later : Calls) (call : FileCall)
+    (answer : FileAnswer) (files : F) →
+    s.outs ≡ before ++ c ∷ behind →
+    c.phase ≡ Asked request options earlier →
+    IsKept s.page_size options request c made w →
+    HasReply made w given w' →
+    file_calls (drop 80 request) made given ≡ earlier ++ (call, answer) ∷ later →
+    IsTrue (suits call answer) →
+    may s.files call answer files →
     let calls = earlier ++ (call, answer) ∷ [] in
     Happens may s (Answers c call answer) (after_answer s before behind c request options calls files)
-    × (later ≡ [] → w'.session.options.0 ≡ (serving s.page_size options options request (room_of c) calls).options)
+    × (later ≡ [] →
+    w'.session.options.0 ≡ (serving s.page_size options options request (room_of c) calls).options)
 
 -- DESTROY ends what was agreed
 abbrev pub is_destroy : FileCall → Bool
@@ -186,65 +252,103 @@ abbrev pub agrees : FileAnswer → Bool
 agrees (Wants wanted) = true
 agrees _ = false
 
--- whether the answers to what is asked change the session's options: that of DESTROY does, and the one by which INIT is agreed on
+-- whether the answers to what is asked change the session's options: that of DESTROY does, and the one by
+-- which INIT is agreed on
 abbrev pub changes_options : Meaning → List FileAnswer → Bool
 changes_options (grammar.Asks (One unique call)) (a ∷ answers) = is_destroy call
 changes_options (grammar.Asks (Starts unique capable readahead)) (a ∷ answers) = agrees a
 changes_options m answers = false
 
--- the options of the session after an answer: unless it changes them, those of this moment stay, and not those of the asking; else they are the same by both
+-- the options of the session after an answer: unless it changes them, those of this moment stay, and not
+-- those of the asking; else they are the same by both
 abbrev pub OptionsStay : Type 0
 OptionsStay =
     (page_size asked now room : ℕ) (m : Meaning) (answers : List FileAnswer) →
-    let left = (served (setting page_size now room) m answers).options in let alone = (served (setting page_size asked room) m answers).options in
-    (changes_options m answers ≡ false → (left ≡ now) × (alone ≡ asked)) × (changes_options m answers ≡ true → left ≡ alone)
+    let left = (served (setting page_size now room) m answers).options in
+    let alone = (served (setting page_size asked room) m answers).options in
+    (changes_options m answers ≡ false → (left ≡ now) × (alone ≡ asked))
+    × (changes_options m answers ≡ true → left ≡ alone)
 
 -- ---- returns
 
--- what was stored and loaded for a chain is the event of its return, at the position where its queue's next one goes back; the two bytes that are seen are told to stand where they do
-abbrev pub IsReturn : {F : Type 0} → May F → LiveState F → (before behind : List OutChain) → OutChain → QueueState → List Act → (last : ℕ) → (notice : Bool) → PushStores → Type 0
+-- what was stored and loaded for a chain is the event of its return, at the position where its queue's next
+-- one goes back; the two bytes that are seen are told to stand where they do
+abbrev pub IsReturn : {F : Type 0} → May F → LiveState F → (before behind : List OutChain) → OutChain →
+    QueueState → List Act → (last : ℕ) → (notice : Bool) → PushStores → Type 0
 IsReturn {F} may s before behind c kept acts last notice stores =
-    (x : Exchange) × (used : List Store) × (seen : List ℕ) × (acts ≡ acts_of (Returns c x notice last used seen))
+    (x : Exchange) × (used : List Store) × (seen : List ℕ)
+    × (acts ≡ acts_of (Returns c x notice last used seen))
     × Happens may s (Returns c x notice last used seen) (after_giving s before behind c (live_of kept))
-    × (slice_get (after_giving s before behind c (live_of kept)).queues c.queue ≡ Some (live_of (gave kept))) × (stores.seen_at ≡ seen_at (live_of kept))
+    × (slice_get (after_giving s before behind c (live_of kept)).queues c.queue ≡ Some (live_of (gave kept)))
+    × (stores.seen_at ≡ seen_at (live_of kept))
 
--- a chain whose calls were answered and that a handle returns is the event of its return, whichever chains of its queue were taken and went back meanwhile
+-- a chain whose calls were answered and that a handle returns is the event of its return, whichever chains of
+-- its queue were taken and went back meanwhile
 abbrev pub HandleReturns : {F : Type 0} → May F → Type 0
 HandleReturns {F} may =
-    (s : LiveState F) (c : OutChain) (before behind : List OutChain) (w w' : ChainHandle) (kept : QueueState) (request : List ℕ) (options : ℕ) (made : told.Decoded) (given : ChainAnswer) (acts : List Act) (last : ℕ)
-    (notice : Bool) → s.outs ≡ before ++ c ∷ behind → slice_get s.queues c.queue ≡ Some (live_of kept) → c.taken ≡ queue_of (course_of (record kept { position = c.taken.position }) 0) →
-    c.phase ≡ Asked request options (file_calls (drop 80 request) made given) → EachSuits (file_calls (drop 80 request) made given) → IsKept s.page_size options request c made w →
-    HasReply made w given w' → (back : GoesBackBy kept (room_of c) (data_behind given) w'.state acts last notice) →
+    (s : LiveState F) (c : OutChain) (before behind : List OutChain) (w w' : ChainHandle) (kept : QueueState)
+    (request : List ℕ) (options : ℕ) (made : told.Decoded) (given : ChainAnswer) (acts : List Act) (last : ℕ)
+    (notice : Bool) →
+    s.outs ≡ before ++ c ∷ behind →
+    slice_get s.queues c.queue ≡ Some (live_of kept) →
+    c.taken ≡ queue_of (course_of (record kept { next_avail = c.taken.position }) 0) →
+    c.phase ≡ Asked request options (file_calls (drop 80 request) made given) →
+    EachSuits (file_calls (drop 80 request) made given) →
+    IsKept s.page_size options request c made w →
+    HasReply made w given w' →
+    (back : GoesBackBy kept (room_of c) (data_behind given) w'.state acts last notice) →
     IsReturn may s before behind c kept acts last notice back.stores
 
 -- so is the return of a faulty chain, with nothing
 abbrev pub HandleFaulty : {F : Type 0} → May F → Type 0
 HandleFaulty {F} may =
-    (s : LiveState F) (c : OutChain) (before behind : List OutChain) (w : ChainHandle) (kept : QueueState) (why : ChainFault) (acts : List Act) (last : ℕ) (notice : Bool) →
-    s.outs ≡ before ++ c ∷ behind → slice_get s.queues c.queue ≡ Some (live_of kept) → c.taken ≡ queue_of (course_of (record kept { position = c.taken.position }) 0) → c.phase ≡ Faulty why →
-    IsFaultyOut s.limit c w → (back : GoesBackBy kept [] [] w.state acts last notice) →
+    (s : LiveState F) (c : OutChain) (before behind : List OutChain) (w : ChainHandle) (kept : QueueState)
+    (why : ChainFault) (acts : List Act) (last : ℕ) (notice : Bool) →
+    s.outs ≡ before ++ c ∷ behind →
+    slice_get s.queues c.queue ≡ Some (live_of kept) →
+    c.taken ≡ queue_of (course_of (record kept { next_avail = c.taken.position }) 0) →
+    c.phase ≡ Faulty why →
+    IsFaultyOut s.limit c w →
+    (back : GoesBackBy kept [] [] w.state acts last notice) →
     IsReturn may s before behind c kept acts last notice back.stores
 
 -- ---- queues
 
--- what is stored to be told of the next chain or of none is the event before a sleep, where it has a place: with the event index it has one, unless the queue is declined; that nothing is
--- stored is the event index's answer where none is wanted
-abbrev pub IsSleep : {F : Type 0} → May F → LiveState F → (i : ℕ) → QueueState → (wanted : Bool) → Option NotificationStore → Type 0
+-- what is stored to be told of the next chain or of none is the event before a sleep, where it has a place:
+-- with the event index it has one, unless the queue is declined; that nothing is stored is the event index's
+-- answer where none is wanted
+abbrev pub IsSleep : {F : Type 0} → May F → LiveState F → (i : ℕ) → QueueState → (wanted : Bool) →
+    Option NotificationStore → Type 0
 IsSleep may s i kept wanted (Some store) =
     (HasPlace s.places store.address → Happens may s (Sleeps i (store_of store)) s)
-    × (kept.event_index ≡ true → why_declined s.places (live_of kept) ≡ None → HasPlace s.places store.address)
+    × (kept.event_index ≡ true →
+    why_declined s.places (live_of kept) ≡ None →
+    HasPlace s.places store.address)
 IsSleep may s i kept wanted None = (kept.event_index ≡ true) × (wanted ≡ false)
 
 abbrev pub HandleSleeps : {F : Type 0} → May F → Type 0
 HandleSleeps {F} may =
-    (s : LiveState F) (i : ℕ) (kept : QueueState) (wanted : Bool) (store : Option NotificationStore) → slice_get s.queues i ≡ Some (live_of kept) → option_map store_of store ≡ notification_store kept wanted →
+    (s : LiveState F) (i : ℕ) (kept : QueueState) (wanted : Bool) (store : Option NotificationStore) →
+    slice_get s.queues i ≡ Some (live_of kept) →
+    option_map store_of store ≡ notification_store kept wanted →
     IsSleep may s i kept wanted store
 
--- a queue that a call begins anew is the event of its beginning, once no call of its chains waits; how many may be out, from one to as many as it has descriptors, the event index, and whether
--- it is stopped, may be others from then on
+-- a queue that a call begins anew is the event of its beginning, once no call of its chains waits; how many
+-- may be out, from one to as many as it has descriptors, the event index, and whether it is stopped, may be
+-- others from then on
 abbrev pub HandleBegins : {F : Type 0} → May F → Type 0
 HandleBegins {F} may =
-    (s : LiveState F) (i : ℕ) (kept after : QueueState) (layout : QueueLayout) (position max_in_flight : ℕ) (event_index : Bool) (stopped : Option QueueError) →
-    slice_get s.queues i ≡ Some (live_of kept) → after ≡ record (reset_to kept layout position) { max_in_flight = max_in_flight; event_index = event_index; stopped = stopped } → 1 ≤ max_in_flight → max_in_flight ≤ layout.size → position < 2 ^ 16 →
+    (s : LiveState F) (i : ℕ) (kept after : QueueState) (layout : QueueLayout) (position max_in_flight : ℕ)
+    (event_index : Bool) (stopped : Option QueueError) →
+    slice_get s.queues i ≡ Some (live_of kept) →
+    after ≡ record (reset_to kept layout position) {
+      max_in_flight = max_in_flight;
+      event_index = event_index;
+      stopped = stopped;
+    } →
+    1 ≤ max_in_flight →
+    max_in_flight ≤ layout.size →
+    position < 2 ^ 16 →
     AllByRecursion (λ c. NoneWaits s.page_size i c c.phase) s.outs →
-    Happens may s (Begins i (live_of after)) (after_beginning s i (live_of after)) × (slice_get (after_beginning s i (live_of after)).queues i ≡ Some (live_of after))
+    Happens may s (Begins i (live_of after)) (after_beginning s i (live_of after))
+    × (slice_get (after_beginning s i (live_of after)).queues i ≡ Some (live_of after))

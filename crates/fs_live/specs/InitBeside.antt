@@ -30,27 +30,59 @@ starts = Init 1
 
 -- what the first walk loads: an index of 2, head 0, and the table's first two entries
 abbrev pub first_loads : Loaded
-first_loads = record { index = Some (le16 2); entry = Some (le16 0); entries = entry 0 (descriptor_bytes 0x1000 42 1 1) ∷ entry 16 (descriptor_bytes 0x2000 144 2 0) ∷ [] }
+first_loads =
+    record {
+      index = Some (le16 2);
+      entry = Some (le16 0);
+      entries = entry 0 (descriptor_bytes 0x1000 42 1 1) ∷ entry 16 (descriptor_bytes 0x2000 144 2 0) ∷ [];
+    }
 
 -- what the second one loads: head 2, and the other two
 abbrev pub second_loads : Loaded
-second_loads = record { index = Some (le16 2); entry = Some (le16 2); entries = entry 32 (descriptor_bytes 0x3000 56 1 3) ∷ entry 48 (descriptor_bytes 0x4000 80 2 0) ∷ [] }
+second_loads =
+    record {
+      index = Some (le16 2);
+      entry = Some (le16 2);
+      entries = entry 32 (descriptor_bytes 0x3000 56 1 3) ∷ entry 48 (descriptor_bytes 0x4000 80 2 0) ∷ [];
+    }
 
 -- the first chain's descriptors
 abbrev pub first_table : List Descriptor
-first_table = record { addr = 0x1000; len = 42; flags = 1; next = 1 } ∷ record { addr = 0x2000; len = 144; flags = 2; next = 0 } ∷ []
+first_table =
+    record { addr = 0x1000; len = 42; flags = 1; next = 1 }
+    ∷ record { addr = 0x2000; len = 144; flags = 2; next = 0 } ∷ []
 
 -- the second chain's
 abbrev pub second_table : List Descriptor
-second_table = record { addr = 0x3000; len = 56; flags = 1; next = 3 } ∷ record { addr = 0x4000; len = 80; flags = 2; next = 0 } ∷ []
+second_table =
+    record { addr = 0x3000; len = 56; flags = 1; next = 3 }
+    ∷ record { addr = 0x4000; len = 80; flags = 2; next = 0 } ∷ []
 
 -- the first chain, as it is taken
 abbrev pub first : OutChain
-first = record { places = blank; queue = 0; taken = queue; loaded = first_loads; descriptors = first_table; head = 0; phase = Fetched }
+first =
+    record {
+      places = blank;
+      queue = 0;
+      taken = queue;
+      loaded = first_loads;
+      descriptors = first_table;
+      head = 0;
+      phase = Fetched;
+    }
 
 -- the second one
 abbrev pub second : OutChain
-second = record { places = blank; queue = 0; taken = record queue { position = 1 }; loaded = second_loads; descriptors = second_table; head = 2; phase = Fetched }
+second =
+    record {
+      places = blank;
+      queue = 0;
+      taken = record queue { position = 1 };
+      loaded = second_loads;
+      descriptors = second_table;
+      head = 2;
+      phase = Fetched;
+    }
 
 -- the first one was asked without options
 abbrev pub first_asked : OutChain
@@ -70,29 +102,44 @@ second_answered = record second { phase = Asked init 0 ((starts, Wants 0) ∷ []
 
 -- ENOENT
 abbrev pub first_exchange : Exchange
-first_exchange = record { head = 0; request = lookup; reply = 0x10 ∷ 0 ∷ 0 ∷ 0 ∷ 0xfe ∷ 0xff ∷ 0xff ∷ 0xff ∷ 1 ∷ zeros 7; fault = None }
+first_exchange =
+    record {
+      head = 0;
+      request = lookup;
+      reply = 0x10 ∷ 0 ∷ 0 ∷ 0 ∷ 0xfe ∷ 0xff ∷ 0xff ∷ 0xff ∷ 1 ∷ zeros 7;
+      fault = None;
+    }
 
 -- struct fuse_init_out, with option 1
 abbrev pub second_exchange : Exchange
 second_exchange = record {
   head = 2;
   request = init;
-  reply = le32 80 ++ le32 0 ++ le64 2 ++ le32 7 ++ le32 38 ++ le32 0x20000 ++ le32 1 ++ le16 65535 ++ le16 49149 ++ le32 (2 ^ 20) ++ le32 1 ++ le16 256 ++ zeros 34;
+  reply = le32 80 ++ le32 0 ++ le64 2 ++ le32 7 ++ le32 38 ++ le32 0x20000 ++ le32 1 ++ le16 65535
+      ++ le16 49149 ++ le32 (2 ^ 20) ++ le32 1 ++ le16 256 ++ zeros 34;
   fault = None;
 }
 
 -- INIT's chain goes to the used ring's first element
 abbrev pub second_used : List Store
-second_used = record { address = 0x204; bytes = le32 2 } ∷ record { address = 0x208; bytes = le32 80 } ∷ record { address = 0x202; bytes = le16 1 } ∷ []
+second_used =
+    record { address = 0x204; bytes = le32 2 } ∷ record { address = 0x208; bytes = le32 80 }
+    ∷ record { address = 0x202; bytes = le16 1 } ∷ []
 
 -- the other one goes to the second element
 abbrev pub first_used : List Store
-first_used = record { address = 0x20c; bytes = le32 0 } ∷ record { address = 0x210; bytes = le32 16 } ∷ record { address = 0x202; bytes = le16 2 } ∷ []
+first_used =
+    record { address = 0x20c; bytes = le32 0 } ∷ record { address = 0x210; bytes = le32 16 }
+    ∷ record { address = 0x202; bytes = le16 2 } ∷ []
 
--- the session has option 1 from INIT's answer on; the chain that was asked before it is answered by the options of its asking, and leaves them
+-- the session has option 1 from INIT's answer on; the chain that was asked before it is answered by the
+-- options of its asking, and leaves them
 abbrev pub InitBeside : {F : Type 0} → May F → Type 0
 InitBeside {F} may =
-    (before between after : F) → may before starts (Wants 0) between → may between looks (Failed 2) after → LiveRun may (state before (at_positions 0 0) 0 [])
+    (before between after : F) →
+    may before starts (Wants 0) between →
+    may between looks (Failed 2) after →
+    LiveRun may (state before (at_positions 0 0) 0 [])
     (
     Walks 0 first_loads first_table (step.Chain 0 None)
     ∷ Asks first lookup (looks ∷ [])

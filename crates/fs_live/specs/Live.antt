@@ -1,15 +1,19 @@
--- A run of chains that are out of several queues at once, in the order in which things happen, for a guest that writes meanwhile (VIRTIO 1.2, 2.7).
-use Rattle.std.specs.Prelude.{◌≡◌, ◌≤◌, ◌<◌, ◌+◌, ◌%◌, ◌^◌, ℕ, Bool, true, not, map, ◌==◌, IsTrue, List, [], ◌∷◌, ◌++◌, length, filter, Option, Some, None, slice_get, if◌then◌else◌}
+-- A run of chains that are out of several queues at once, in the order in which things happen, for a guest
+-- that writes meanwhile (VIRTIO 1.2, 2.7).
+use Rattle.std.specs.Prelude.{◌≡◌, ◌≤◌, ◌<◌, ◌+◌, ◌%◌, ◌^◌, ℕ, Bool, true, not, map, ◌==◌, IsTrue, List, []}
+use Rattle.std.specs.Prelude.{◌∷◌, ◌++◌, length, filter, Option, Some, None, slice_get, if◌then◌else◌}
 use Rattle.std.specs.List.{AllByRecursion, Contains}
 use Rattle.vm_iotlb.specs.declared.permissions.Permissions.TheVariants.{Read, Write}
 use Rattle.vm_memory_core.specs.Host.{changed_at}
 use Rattle.vm_memory.specs.Memory.{Memory, addresses, reach}
 use Rattle.fs_queue.specs.declared.fault.ChainFault.{ChainFault}
 use Rattle.fs_queue.specs.declared.fault.QueueError.{QueueError}
-use Rattle.fs_queue.specs.declared.fault.QueueError.TheVariants.{AvailFlagsUnreachable, Stopped, UsedUnreachable}
+use Rattle.fs_queue.specs.declared.fault.QueueError.TheVariants.{AvailFlagsUnreachable, Stopped}
+use Rattle.fs_queue.specs.declared.fault.QueueError.TheVariants.{UsedUnreachable}
 use Rattle.fs_queue.specs.Chain.{Descriptor}
 use Rattle.fs_queue.specs.Queue.{Queue}
-use Rattle.fs_queue.specs.Taking.{Idle, Refuses, addresses_of, readable, return_fault, writable, total_len, after_refusal}
+use Rattle.fs_queue.specs.Taking.{Idle, Refuses, addresses_of, readable, return_fault, writable, total_len}
+use Rattle.fs_queue.specs.Taking.{after_refusal}
 use Rattle.fs_queue.specs.Returning.{Store, stores_after_reply}
 use Rattle.fs_regions.specs.declared.step.CourseStep as comes
 use Rattle.fs_regions.specs.declared.step.CourseStep.TheVariants as step
@@ -19,12 +23,14 @@ use Rattle.virtiofsd_fuse.specs.Grammar.{meaning}
 use Rattle.virtiofsd_fuse.specs.Serving.{May, ServedMessage, served, setting}
 use Rattle.plain_machine.specs.Step.{Exchange, Calls, answers_alone, calls_alone, faulty, served_exchange}
 use Rattle.plain_machine.specs.StepBy.{Act, Stores, reply_stores, return_acts}
-use Rattle.fs_live.specs.Several.{LiveQueue, avail_event_at, gave, may_take, returning, sleep_store, took, untook, used_event_at, wants}
+use Rattle.fs_live.specs.Several.{LiveQueue, avail_event_at, gave, may_take, returning, sleep_store, took}
+use Rattle.fs_live.specs.Several.{untook, used_event_at, wants}
 
 -- ---- states
 
--- how far a chain is that is out: at fault, so it goes back with nothing; not asked yet; asked by a request as it was loaded, in the options of that moment, with the calls that were answered;
--- replied by bytes of its caller's own; or lost, since its handle was freed: nothing more is done with it
+-- how far a chain is that is out: at fault, so it goes back with nothing; not asked yet; asked by a request
+-- as it was loaded, in the options of that moment, with the calls that were answered; replied by bytes of its
+-- caller's own; or lost, since its handle was freed: nothing more is done with it
 pub data Phase : Type 0 where
   Faulty : ChainFault → Phase
   Fetched : Phase
@@ -32,7 +38,8 @@ pub data Phase : Type 0 where
   Own : (request reply : List ℕ) → Phase
   Lost : Option ChainFault → Phase
 
--- a chain that is out: the places as they were when it was taken; of which queue, as it was before the chain was taken; the loads of its walk, its descriptors and its head; and how far it is
+-- a chain that is out: the places as they were when it was taken; of which queue, as it was before the chain
+-- was taken; the loads of its walk, its descriptors and its head; and how far it is
 pub record OutChain : Type 0 where
   pub places : Memory
   pub queue : ℕ
@@ -67,8 +74,9 @@ abbrev pub calls_in : Phase → Calls
 calls_in (Asked request options calls) = calls
 calls_in _ = []
 
--- the device beside a guest that runs: of memory the places alone, which no store changes, as they are now; the queues; the options of the session; the chains that are out, the first one taken first;
--- and the file system
+-- the device beside a guest that runs: of memory the places alone, which no store changes, as they are now;
+-- the queues; the options of the session; the chains that are out, the first one taken first; and the file
+-- system
 pub record LiveState (F : Type 0) : Type 0 where
   pub places : Memory
   pub limit : ℕ
@@ -90,28 +98,35 @@ pub data LiveEvent : Type 0 where
   Asks : OutChain → (request : List ℕ) → (told : List FileCall) → LiveEvent
   -- its call was answered
   Answers : OutChain → FileCall → FileAnswer → LiveEvent
-  -- it went back: how many bytes of the reply were stored last, the stores behind the reply, and the two bytes that tell whether the driver wants to be told, as they stand at `seen_at`
-  Returns : OutChain → Exchange → (notice : Bool) → (last : ℕ) → (used : List Store) → (seen : List ℕ) → LiveEvent
+  -- it went back: how many bytes of the reply were stored last, the stores behind the reply, and the two
+  -- bytes that tell whether the driver wants to be told, as they stand at `seen_at`
+  Returns :
+      OutChain → Exchange → (notice : Bool) → (last : ℕ) → (used : List Store) → (seen : List ℕ) → LiveEvent
   -- before it sleeps, and where it wakes, the device asks to be told of queue i, or not to be
   Sleeps : (i : ℕ) → Store → LiveEvent
   -- queue i is begun anew
   Begins : (i : ℕ) → LiveQueue → LiveEvent
-  -- in the room of a chain that is out some bytes are stored before it goes back, which its reply may count or not
+  -- in the room of a chain that is out some bytes are stored before it goes back, which its reply may count
+  -- or not
   Fills : OutChain → List Store → LiveEvent
   -- a chain that was taken last of its queue, and wasn't asked, is given up: it waits again
   Drops : OutChain → LiveEvent
   -- the handle of a chain is freed, wherever the chain is: it stays out
   Abandons : OutChain → LiveEvent
-  -- a request is replied by bytes of the caller's own, in place of the asking or of the answer that its call waits for; the options of the session are his to set then
+  -- a request is replied by bytes of the caller's own, in place of the asking or of the answer that its call
+  -- waits for; the options of the session are his to set then
   Replies : OutChain → (request reply : List ℕ) → (options : ℕ) → LiveEvent
   -- addresses have other places from now on: regions, or mappings
   Maps : Memory → LiveEvent
   -- the device moves: a record of it is made here, and there, over these places, its queues are begun by it
   Moves : Memory → List LiveQueue → LiveEvent
 
--- what the server does for a chain by its answers so far, in the options at its asking; `now`: those that stand by the answer
-abbrev pub serving : (page_size options now : ℕ) → (request : List ℕ) → (room : List ℕ) → Calls → ServedMessage
-serving page_size options now request room calls = served (setting page_size now (length room)) (meaning options request (length room)) (answers_alone calls)
+-- what the server does for a chain by its answers so far, in the options at its asking; `now`: those that
+-- stand by the answer
+abbrev pub serving :
+    (page_size options now : ℕ) → (request : List ℕ) → (room : List ℕ) → Calls → ServedMessage
+serving page_size options now request room calls =
+    served (setting page_size now (length room)) (meaning options request (length room)) (answers_alone calls)
 
 -- another queue in the place of queue i
 abbrev pub with_live : {F : Type 0} → LiveState F → ℕ → LiveQueue → LiveState F
@@ -125,30 +140,44 @@ phase_by None = Fetched
 phase_by (Some why) = Faulty why
 
 -- a chain as a walk comes to it
-abbrev pub new_chain : {F : Type 0} → LiveState F → ℕ → LiveQueue → Loaded → List Descriptor → (head : ℕ) → Option ChainFault → OutChain
+abbrev pub new_chain : {F : Type 0} → LiveState F → ℕ → LiveQueue → Loaded → List Descriptor → (head : ℕ) →
+    Option ChainFault → OutChain
 new_chain s i w loaded ds head fault =
-    record { places = s.places; queue = i; taken = w.queue; loaded = loaded; descriptors = ds; head = head; phase = phase_by fault }
+    record {
+      places = s.places;
+      queue = i;
+      taken = w.queue;
+      loaded = loaded;
+      descriptors = ds;
+      head = head;
+      phase = phase_by fault;
+    }
 
 -- it is out, and the queue's next chain stands at the next position
 abbrev pub after_take : {F : Type 0} → LiveState F → ℕ → LiveQueue → OutChain → LiveState F
 after_take s i w c = record s { queues = changed_at s.queues i (λ _. took w); outs = s.outs ++ c ∷ [] }
 
 -- what a walk comes to in a queue
-abbrev pub WalksIn : {F : Type 0} → LiveState F → ℕ → LiveQueue → Loaded → List Descriptor → comes.CourseStep → LiveState F → Type 0
+abbrev pub WalksIn : {F : Type 0} → LiveState F → ℕ → LiveQueue → Loaded → List Descriptor →
+    comes.CourseStep → LiveState F → Type 0
 WalksIn s i w loaded ds (step.Load walk) after = ⊥
 WalksIn s i w loaded ds step.Idle after = OffersBy s.places s.limit w.queue loaded [] Idle × (after ≡ s)
 WalksIn s i w loaded ds (step.Refused e) after =
-    OffersBy s.places s.limit w.queue loaded [] (Refuses e) × (after ≡ with_live s i (record w { queue = after_refusal w.queue e }))
+    OffersBy s.places s.limit w.queue loaded [] (Refuses e)
+    × (after ≡ with_live s i (record w { queue = after_refusal w.queue e }))
 WalksIn s i w loaded ds (step.Chain head fault) after =
-    FetchesBy s.places s.limit w.queue loaded ds head fault × (after ≡ after_take s i w (new_chain s i w loaded ds head fault))
+    FetchesBy s.places s.limit w.queue loaded ds head fault
+    × (after ≡ after_take s i w (new_chain s i w loaded ds head fault))
 
 -- the state after a walk
-abbrev pub after_walk : {F : Type 0} → LiveState F → ℕ → LiveQueue → Loaded → List Descriptor → comes.CourseStep → LiveState F
+abbrev pub after_walk :
+    {F : Type 0} → LiveState F → ℕ → LiveQueue → Loaded → List Descriptor → comes.CourseStep → LiveState F
 after_walk s i w loaded ds (step.Refused e) = with_live s i (record w { queue = after_refusal w.queue e })
 after_walk s i w loaded ds (step.Chain head fault) = after_take s i w (new_chain s i w loaded ds head fault)
 after_walk s i w loaded ds _ = s
 
--- why a queue isn't walked, or not on: it is stopped, or it has the event index, and used_event or avail_event has no place
+-- why a queue isn't walked, or not on: it is stopped, or it has the event index, and used_event or
+-- avail_event has no place
 abbrev pub why_declined : Memory → LiveQueue → Option QueueError
 why_declined m w =
     if w.queue.stopped then Some Stopped
@@ -157,8 +186,10 @@ why_declined m w =
     else if not (reach m Write (avail_event_at w.queue) 2) then Some UsedUnreachable
     else None
 
--- a queue that there is and that isn't declined is walked, if one more of its chains may be out: it isn't stopped, and with the event index used_event and avail_event have places
-pub record WalksSo {F : Type 0} (s : LiveState F) (i : ℕ) (loaded : Loaded) (ds : List Descriptor) (came : comes.CourseStep) (after : LiveState F) : Type 0 where
+-- a queue that there is and that isn't declined is walked, if one more of its chains may be out: it isn't
+-- stopped, and with the event index used_event and avail_event have places
+pub record WalksSo {F : Type 0} (s : LiveState F) (i : ℕ) (loaded : Loaded) (ds : List Descriptor)
+    (came : comes.CourseStep) (after : LiveState F) : Type 0 where
   pub w : LiveQueue
   pub there : slice_get s.queues i ≡ Some w
   pub room : IsTrue (may_take w)
@@ -166,7 +197,8 @@ pub record WalksSo {F : Type 0} (s : LiveState F) (i : ℕ) (loaded : Loaded) (d
   pub walks : WalksIn s i w loaded ds came after
 
 -- a walk of a queue is refused so, if one more of its chains may be out
-pub record DeclinesSo {F : Type 0} (s : LiveState F) (i : ℕ) (e : QueueError) (after : LiveState F) : Type 0 where
+pub record DeclinesSo {F : Type 0} (s : LiveState F) (i : ℕ) (e : QueueError) (after : LiveState F) :
+    Type 0 where
   pub w : LiveQueue
   pub there : slice_get s.queues i ≡ Some w
   pub room : IsTrue (may_take w)
@@ -174,11 +206,14 @@ pub record DeclinesSo {F : Type 0} (s : LiveState F) (i : ℕ) (e : QueueError) 
   pub state : after ≡ with_live s i (record w { queue = after_refusal w.queue e })
 
 -- the state after an asking
-abbrev pub after_asking : {F : Type 0} → LiveState F → (before behind : List OutChain) → OutChain → (request : List ℕ) → LiveState F
-after_asking s before behind c request = record s { outs = before ++ asked_chain c request s.options [] ∷ behind }
+abbrev pub after_asking :
+    {F : Type 0} → LiveState F → (before behind : List OutChain) → OutChain → (request : List ℕ) → LiveState F
+after_asking s before behind c request =
+    record s { outs = before ++ asked_chain c request s.options [] ∷ behind }
 
 -- a chain that is out is asked, in the options of this moment
-pub record AsksSo {F : Type 0} (s : LiveState F) (c : OutChain) (request : List ℕ) (told : List FileCall) (after : LiveState F) : Type 0 where
+pub record AsksSo {F : Type 0} (s : LiveState F) (c : OutChain) (request : List ℕ) (told : List FileCall)
+    (after : LiveState F) : Type 0 where
   pub before : List OutChain
   pub behind : List OutChain
   pub out : s.outs ≡ before ++ c ∷ behind
@@ -188,15 +223,18 @@ pub record AsksSo {F : Type 0} (s : LiveState F) (c : OutChain) (request : List 
   pub state : after ≡ after_asking s before behind c request
 
 -- the state after the answers of these calls, the last of which was answered now
-abbrev pub after_answer : {F : Type 0} → LiveState F → (before behind : List OutChain) → OutChain → (request : List ℕ) → (options : ℕ) → Calls → F → LiveState F
+abbrev pub after_answer : {F : Type 0} → LiveState F → (before behind : List OutChain) → OutChain →
+    (request : List ℕ) → (options : ℕ) → Calls → F → LiveState F
 after_answer s before behind c request options calls files = record s {
   outs = before ++ asked_chain c request options calls ∷ behind;
   options = (serving s.page_size options s.options request (room_of c) calls).options;
   files = files;
 }
 
--- its call is answered, as the file system may by now: the call is the one that waits behind those that were answered; an answer of INIT or DESTROY changes the session's options
-pub record AnswersSo {F : Type 0} (may : May F) (s : LiveState F) (c : OutChain) (call : FileCall) (answer : FileAnswer) (after : LiveState F) : Type 0 where
+-- its call is answered, as the file system may by now: the call is the one that waits behind those that were
+-- answered; an answer of INIT or DESTROY changes the session's options
+pub record AnswersSo {F : Type 0} (may : May F) (s : LiveState F) (c : OutChain) (call : FileCall)
+    (answer : FileAnswer) (after : LiveState F) : Type 0 where
   pub before : List OutChain
   pub behind : List OutChain
   pub out : s.outs ≡ before ++ c ∷ behind
@@ -204,7 +242,8 @@ pub record AnswersSo {F : Type 0} (may : May F) (s : LiveState F) (c : OutChain)
   pub options : ℕ
   pub calls : Calls
   pub asked : c.phase ≡ Asked request options calls
-  pub waits : (serving s.page_size options options request (room_of c) calls).calls ≡ calls_alone calls ++ call ∷ []
+  pub waits :
+      (serving s.page_size options options request (room_of c) calls).calls ≡ calls_alone calls ++ call ∷ []
   pub is_one : IsTrue (suits call answer)
   pub files : F
   pub may_so : may s.files call answer files
@@ -214,21 +253,26 @@ pub record AnswersSo {F : Type 0} (may : May F) (s : LiveState F) (c : OutChain)
 abbrev pub own_exchange : (head : ℕ) → (request reply : List ℕ) → Exchange
 own_exchange head request reply = record { head = head; request = request; reply = reply; fault = None }
 
--- with what a chain goes back: nothing, if it is at fault; the reply, once no call waits; its caller's own bytes
+-- with what a chain goes back: nothing, if it is at fault; the reply, once no call waits; its caller's own
+-- bytes
 abbrev pub GoesBackWith : (page_size : ℕ) → OutChain → Phase → Exchange → Type 0
 GoesBackWith page_size c (Faulty why) x = x ≡ faulty c.head why
 GoesBackWith page_size c Fetched x = ⊥
 GoesBackWith page_size c (Own request reply) x = x ≡ own_exchange c.head request reply
 GoesBackWith page_size c (Lost fault) x = ⊥
 GoesBackWith page_size c (Asked request options calls) x =
-    let given = serving page_size options options request (room_of c) calls in (given.calls ≡ calls_alone calls) × (x ≡ served_exchange c.head request given)
+    let given = serving page_size options options request (room_of c) calls in
+    (given.calls ≡ calls_alone calls) × (x ≡ served_exchange c.head request given)
 
 -- the state after a return
-abbrev pub after_giving : {F : Type 0} → LiveState F → (before behind : List OutChain) → OutChain → LiveQueue → LiveState F
-after_giving s before behind c w = record s { queues = changed_at s.queues c.queue (λ _. gave w); outs = before ++ behind }
+abbrev pub after_giving :
+    {F : Type 0} → LiveState F → (before behind : List OutChain) → OutChain → LiveQueue → LiveState F
+after_giving s before behind c w =
+    record s { queues = changed_at s.queues c.queue (λ _. gave w); outs = before ++ behind }
 
 -- a chain goes back, at the queue's next used position, whichever was taken first
-pub record ReturnsSo {F : Type 0} (s : LiveState F) (c : OutChain) (x : Exchange) (notice : Bool) (last : ℕ) (used : List Store) (seen : List ℕ) (after : LiveState F) : Type 0 where
+pub record ReturnsSo {F : Type 0} (s : LiveState F) (c : OutChain) (x : Exchange) (notice : Bool) (last : ℕ)
+    (used : List Store) (seen : List ℕ) (after : LiveState F) : Type 0 where
   pub before : List OutChain
   pub behind : List OutChain
   pub out : s.outs ≡ before ++ c ∷ behind
@@ -245,7 +289,8 @@ abbrev pub HasPlace : Memory → (address : ℕ) → Type 0
 HasPlace m address = reach m Write address 2 ≡ true
 
 -- the device asks to be told of the next chain, or of none, by a store that has a place
-pub record SleepsSo {F : Type 0} (s : LiveState F) (i : ℕ) (store : Store) (after : LiveState F) : Type 0 where
+pub record SleepsSo {F : Type 0} (s : LiveState F) (i : ℕ) (store : Store) (after : LiveState F) :
+    Type 0 where
   pub w : LiveQueue
   pub there : slice_get s.queues i ≡ Some w
   pub wanted : Bool
@@ -255,12 +300,14 @@ pub record SleepsSo {F : Type 0} (s : LiveState F) (i : ℕ) (store : Store) (af
 
 -- no call of a queue's chains waits for its answer
 abbrev pub NoneWaits : (page_size i : ℕ) → OutChain → Phase → Type 0
-NoneWaits page_size i c (Asked request options calls) = c.queue ≡ i → (serving page_size options options request (room_of c) calls).calls ≡ calls_alone calls
+NoneWaits page_size i c (Asked request options calls) =
+    c.queue ≡ i → (serving page_size options options request (room_of c) calls).calls ≡ calls_alone calls
 NoneWaits page_size i c _ = Unit {0}
 
 -- the state after a beginning
 abbrev pub after_beginning : {F : Type 0} → LiveState F → ℕ → LiveQueue → LiveState F
-after_beginning s i w = record s { queues = changed_at s.queues i (λ _. w); outs = filter (λ c. not (c.queue == i)) s.outs }
+after_beginning s i w =
+    record s { queues = changed_at s.queues i (λ _. w); outs = filter (λ c. not (c.queue == i)) s.outs }
 
 -- where the next chain is taken the next one goes back, at a position of 16 bits
 abbrev pub IsEven : LiveQueue → Type 0
@@ -270,8 +317,10 @@ IsEven w = (w.next_used ≡ w.queue.position) × (w.queue.position < 2 ^ 16)
 abbrev pub MayBeOut : LiveQueue → Type 0
 MayBeOut w = (1 ≤ w.max_in_flight) × (w.max_in_flight ≤ w.queue.size)
 
--- a queue is begun anew once each call of its chains was answered: they are out no more. It may be stopped from then on, as one is that was brought back so
-pub record BeginsSo {F : Type 0} (s : LiveState F) (i : ℕ) (w : LiveQueue) (after : LiveState F) : Type 0 where
+-- a queue is begun anew once each call of its chains was answered: they are out no more. It may be stopped
+-- from then on, as one is that was brought back so
+pub record BeginsSo {F : Type 0} (s : LiveState F) (i : ℕ) (w : LiveQueue) (after : LiveState F) :
+    Type 0 where
   pub old : LiveQueue
   pub there : slice_get s.queues i ≡ Some old
   pub both : IsEven w
@@ -284,7 +333,8 @@ abbrev pub IsStoredIn : List ℕ → Store → Type 0
 IsStoredIn room store = AllByRecursion (λ a. Contains room a) (addresses store.address (length store.bytes))
 
 -- stores in a chain's room change nothing of the state
-pub record FillsSo {F : Type 0} (s : LiveState F) (c : OutChain) (stores : List Store) (after : LiveState F) : Type 0 where
+pub record FillsSo {F : Type 0} (s : LiveState F) (c : OutChain) (stores : List Store) (after : LiveState F) :
+    Type 0 where
   pub before : List OutChain
   pub behind : List OutChain
   pub out : s.outs ≡ before ++ c ∷ behind
@@ -294,8 +344,10 @@ pub record FillsSo {F : Type 0} (s : LiveState F) (c : OutChain) (stores : List 
 -- ---- chains that don't go back by an answer
 
 -- the state after a giving up
-abbrev pub after_drop : {F : Type 0} → LiveState F → (before behind : List OutChain) → OutChain → LiveQueue → LiveState F
-after_drop s before behind c w = record s { queues = changed_at s.queues c.queue (λ _. untook w); outs = before ++ behind }
+abbrev pub after_drop :
+    {F : Type 0} → LiveState F → (before behind : List OutChain) → OutChain → LiveQueue → LiveState F
+after_drop s before behind c w =
+    record s { queues = changed_at s.queues c.queue (λ _. untook w); outs = before ++ behind }
 
 -- a chain that wasn't asked, and behind which none of its queue was taken, is out no more
 pub record DropsSo {F : Type 0} (s : LiveState F) (c : OutChain) (after : LiveState F) : Type 0 where
@@ -316,25 +368,30 @@ lost_chain c = record c { phase = Lost (fault_of c.phase) }
 abbrev pub after_loss : {F : Type 0} → LiveState F → (before behind : List OutChain) → OutChain → LiveState F
 after_loss s before behind c = record s { outs = before ++ lost_chain c ∷ behind }
 
--- a chain is lost to its queue, wherever it was. What the file system did by then for a call that waits is its answer (`Answers`) before
+-- a chain is lost to its queue, wherever it was. What the file system did by then for a call that waits is
+-- its answer (`Answers`) before
 pub record AbandonsSo {F : Type 0} (s : LiveState F) (c : OutChain) (after : LiveState F) : Type 0 where
   pub before : List OutChain
   pub behind : List OutChain
   pub out : s.outs ≡ before ++ c ∷ behind
   pub state : after ≡ after_loss s before behind c
 
--- the request of a chain that its caller may reply to: it wasn't asked, or it was by this one, whatever of its calls the file system has answered by then
+-- the request of a chain that its caller may reply to: it wasn't asked, or it was by this one, whatever of
+-- its calls the file system has answered by then
 abbrev pub IsUnreplied : OutChain → Phase → (request : List ℕ) → Type 0
 IsUnreplied c Fetched request = length request ≡ total_len (readable c.descriptors)
 IsUnreplied c (Asked asked options calls) request = request ≡ asked
 IsUnreplied c _ request = ⊥
 
 -- the state after such a reply
-abbrev pub after_own : {F : Type 0} → LiveState F → (before behind : List OutChain) → OutChain → (request reply : List ℕ) → (options : ℕ) → LiveState F
-after_own s before behind c request reply options = record s { outs = before ++ (record c { phase = Own request reply }) ∷ behind; options = options }
+abbrev pub after_own : {F : Type 0} → LiveState F → (before behind : List OutChain) → OutChain →
+    (request reply : List ℕ) → (options : ℕ) → LiveState F
+after_own s before behind c request reply options =
+    record s { outs = before ++ (record c { phase = Own request reply }) ∷ behind; options = options }
 
 -- the caller's bytes have room, and the used element tells how many they are
-pub record RepliesSo {F : Type 0} (s : LiveState F) (c : OutChain) (request reply : List ℕ) (options : ℕ) (after : LiveState F) : Type 0 where
+pub record RepliesSo {F : Type 0} (s : LiveState F) (c : OutChain) (request reply : List ℕ) (options : ℕ)
+    (after : LiveState F) : Type 0 where
   pub before : List OutChain
   pub behind : List OutChain
   pub out : s.outs ≡ before ++ c ∷ behind
@@ -345,9 +402,11 @@ pub record RepliesSo {F : Type 0} (s : LiveState F) (c : OutChain) (request repl
 
 -- ---- other places, and another host
 
--- what a queue's chains go back by has places by another memory just if it has them by this one: its used ring, at whichever position, its used index, its available flags, and used_event
+-- what a queue's chains go back by has places by another memory just if it has them by this one: its used
+-- ring, at whichever position, its used index, its available flags, and used_event
 pub record KeepsReturns (m m' : Memory) (w : LiveQueue) : Type 0 where
-  pub returns : (p : ℕ) → return_fault m' (record (w.queue) { position = p }) ≡ return_fault m (record (w.queue) { position = p })
+  pub returns : (p : ℕ) →
+      return_fault m' (record (w.queue) { position = p }) ≡ return_fault m (record (w.queue) { position = p })
   pub event : reach m' Read (used_event_at w.queue) 2 ≡ reach m Read (used_event_at w.queue) 2
 
 abbrev pub IfKeepsReturns : (m m' : Memory) → Option LiveQueue → Type 0
@@ -358,14 +417,16 @@ IfKeepsReturns m m' (Some w) = KeepsReturns m m' w
 abbrev pub KeepsQueue : {F : Type 0} → LiveState F → Memory → OutChain → Type 0
 KeepsQueue s m c = IfKeepsReturns s.places m (slice_get s.queues c.queue)
 
--- addresses have other places from now on, or none: but those that the queue of a chain that is out is returned to by. A chain itself goes on over the places of its walk. While none is out they
--- may be any
+-- addresses have other places from now on, or none: but those that the queue of a chain that is out is
+-- returned to by. A chain itself goes on over the places of its walk. While none is out they may be any
 pub record MapsSo {F : Type 0} (s : LiveState F) (m : Memory) (after : LiveState F) : Type 0 where
   pub keeps : AllByRecursion (KeepsQueue s m) s.outs
   pub state : after ≡ record s { places = m }
 
--- a device of which no chain is out moves: each queue stands where it did, stopped or not, in a memory of other places. How many chains may be out, and the event index, no record tells
-pub record MovesSo {F : Type 0} (s : LiveState F) (m : Memory) (queues : List LiveQueue) (after : LiveState F) : Type 0 where
+-- a device of which no chain is out moves: each queue stands where it did, stopped or not, in a memory of
+-- other places. How many chains may be out, and the event index, no record tells
+pub record MovesSo {F : Type 0} (s : LiveState F) (m : Memory) (queues : List LiveQueue)
+    (after : LiveState F) : Type 0 where
   pub none_out : s.outs ≡ []
   pub same : map (λ w. w.queue) queues ≡ map (λ w. w.queue) s.queues
   pub even : AllByRecursion IsEven queues
@@ -395,7 +456,8 @@ LiveRun {F} may s (e ∷ es) after = (mid : LiveState F) × Happens may s e mid 
 
 -- ---- what is stored, and what is called
 
--- the acts of an event; the calls' data is stored with the reply, at the return. `LoadsFlags` is the load of the two bytes that are seen: the available flags, with the event index used_event
+-- the acts of an event; the calls' data is stored with the reply, at the return. `LoadsFlags` is the load of
+-- the two bytes that are seen: the available flags, with the event index used_event
 abbrev pub acts_of : LiveEvent → List Act
 acts_of (Returns c x notice last used seen) = return_acts (reply_stores (room_of c) x.reply last ++ used) seen
 acts_of (Sleeps i store) = Stores store ∷ []

@@ -1,5 +1,7 @@
--- What calls of handles that answer nothing give a run: chains that are given up, freed, or replied by bytes of the caller's own; other regions; and moves.
-use Rattle.std.specs.Prelude.{◌≡◌, ◌⊎◌, ◌≤◌, ◌<◌, ◌^◌, ℕ, Bool, List, [], ◌∷◌, ◌++◌, length, map, Some, None, slice_get}
+-- What calls of handles that answer nothing give a run: chains that are given up, freed, or replied by bytes
+-- of the caller's own; other regions; and moves.
+use Rattle.std.specs.Prelude.{◌≡◌, ◌⊎◌, ◌≤◌, ◌<◌, ◌^◌, ℕ, Bool, List, [], ◌∷◌, ◌++◌, length, map, Some, None}
+use Rattle.std.specs.Prelude.{slice_get}
 use Rattle.std.specs.List.{AllByRecursion}
 use Rattle.fs_queue.specs.Queue.{Queue}
 use Rattle.fs_queue.specs.ReturningView.{stores_of}
@@ -24,24 +26,33 @@ use Rattle.fs_chain.specs.declared.state.ChainState.TheVariants as at
 use Rattle.fs_chain.specs.declared.chain_handle.ChainHandle.{ChainHandle}
 use Rattle.plain_machine.specs.Step.{Calls}
 use Rattle.plain_machine.specs.StepBy.{Act, reply_stores, return_acts}
-use Rattle.fs_live.specs.Live.{Abandons, Asked, Drops, Fetched, KeepsQueue, LiveState, Maps, MayBeOut, Moves, OutChain, Own, Replies, Happens, after_drop, after_loss, after_own, room_of}
+use Rattle.fs_live.specs.Live.{Abandons, Asked, Drops, Fetched, KeepsQueue, LiveState, Maps, MayBeOut, Moves}
+use Rattle.fs_live.specs.Live.{OutChain, Own, Replies, Happens, after_drop, after_loss, after_own, room_of}
 use Rattle.fs_live.specs.Runs.{IsEven}
 use Rattle.fs_live.specs.Handles.{IsKept, IsOut, IsReached, IsReturn, live_of}
 
 -- ---- chains that are given up, and handles that are freed
 
--- a chain that a handle gives up is the event of its giving up; the queue is then as the call left it. Of a walk that is given up a run knows nothing: its queue isn't told
+-- a chain that a handle gives up is the event of its giving up; the queue is then as the call left it. Of a
+-- walk that is given up a run knows nothing: its queue isn't told
 abbrev pub HandleDrops : {F : Type 0} → May F → Type 0
 HandleDrops {F} may =
-    (s : LiveState F) (c : OutChain) (before behind : List OutChain) (w : ChainHandle) (kept : QueueState) → s.outs ≡ before ++ c ∷ behind → slice_get s.queues c.queue ≡ Some (live_of kept) →
-    c.phase ≡ Fetched → IsOut s.limit c w → give_up_error w.state kept ≡ None →
-    Happens may s (Drops c) (after_drop s before behind c (live_of kept)) × (slice_get (after_drop s before behind c (live_of kept)).queues c.queue ≡ Some (live_of (untook kept)))
+    (s : LiveState F) (c : OutChain) (before behind : List OutChain) (w : ChainHandle) (kept : QueueState) →
+    s.outs ≡ before ++ c ∷ behind →
+    slice_get s.queues c.queue ≡ Some (live_of kept) →
+    c.phase ≡ Fetched →
+    IsOut s.limit c w →
+    give_up_error w.state kept ≡ None →
+    Happens may s (Drops c) (after_drop s before behind c (live_of kept))
+    × (slice_get (after_drop s before behind c (live_of kept)).queues c.queue ≡ Some (live_of (untook kept)))
 
 -- a handle that is freed, wherever its chain is, leaves that out: no queue is told
 abbrev pub HandleAbandons : {F : Type 0} → May F → Type 0
 HandleAbandons {F} may =
-    (s : LiveState F) (c : OutChain) (before behind : List OutChain) → s.outs ≡ before ++ c ∷ behind →
-    Happens may s (Abandons c) (after_loss s before behind c) × ((after_loss s before behind c).queues ≡ s.queues)
+    (s : LiveState F) (c : OutChain) (before behind : List OutChain) →
+    s.outs ≡ before ++ c ∷ behind →
+    Happens may s (Abandons c) (after_loss s before behind c)
+    × ((after_loss s before behind c).queues ≡ s.queues)
 
 -- ---- replies of the caller's own bytes
 
@@ -61,15 +72,25 @@ IfOut (at.Waits out waiting) P = P out
 IfOut (at.Lists out listing) P = P out
 IfOut _ P = ⊥
 
--- a chain that a handle replies so is the event of its reply: one that wasn't asked, whatever its request was as its caller loaded it
+-- a chain that a handle replies so is the event of its reply: one that wasn't asked, whatever its request was
+-- as its caller loaded it
 abbrev pub HandleReplies : {F : Type 0} → May F → Type 0
 HandleReplies {F} may =
-    (s : LiveState F) (c : OutChain) (before behind : List OutChain) (w : ChainHandle) (serial options : ℕ) (request reply : List ℕ) → IsReached may s → s.limit ≤ 2 ^ 31 →
-    s.outs ≡ before ++ c ∷ behind → c.phase ≡ Fetched → IsOut s.limit c w → FromTaken w.state (λ out. out.request_len ≡ length request) → own_error w.state w.serial serial (length reply) ≡ None →
+    (s : LiveState F) (c : OutChain) (before behind : List OutChain) (w : ChainHandle) (serial options : ℕ)
+    (request reply : List ℕ) →
+    IsReached may s →
+    s.limit ≤ 2 ^ 31 →
+    s.outs ≡ before ++ c ∷ behind →
+    c.phase ≡ Fetched →
+    IsOut s.limit c w →
+    FromTaken w.state (λ out. out.request_len ≡ length request) →
+    own_error w.state w.serial serial (length reply) ≡ None →
     Happens may s (Replies c request reply options) (after_own s before behind c request reply options)
-    × IfOut w.state (λ out. IsOwn (record c { phase = Own request reply }) reply (at.HasReply out (own_reply (length reply))))
+    × IfOut w.state
+    (λ out. IsOwn (record c { phase = Own request reply }) reply (at.HasReply out (own_reply (length reply))))
 
--- a handle has this chain, which was asked: the call that waits, or the listing that gathers entries, is of it
+-- a handle has this chain, which was asked: the call that waits, or the listing that gathers entries, is of
+-- it
 pub record IsHeldAsked (c : OutChain) (w : ChainHandle) : Type 0 where
   pub out : InFlight
   pub head : out.head ≡ c.head
@@ -80,39 +101,56 @@ pub record IsHeldAsked (c : OutChain) (w : ChainHandle) : Type 0 where
 -- one that was asked, and told a call, does
 abbrev pub AskedIsHeld : Type 0
 AskedIsHeld =
-    (page_size options : ℕ) (request : List ℕ) (c : OutChain) (made : made_call.FileCall) (w : ChainHandle) → IsKept page_size options request c (asks.Call made) w → IsHeldAsked c w
+    (page_size options : ℕ) (request : List ℕ) (c : OutChain) (made : made_call.FileCall) (w : ChainHandle) →
+    IsKept page_size options request c (asks.Call made) w →
+    IsHeldAsked c w
 
--- or one that was asked, in place of the answer that its call waits for, whatever the file system has answered by then
+-- or one that was asked, in place of the answer that its call waits for, whatever the file system has
+-- answered by then
 abbrev pub HandleRepliesInstead : {F : Type 0} → May F → Type 0
 HandleRepliesInstead {F} may =
-    (s : LiveState F) (c : OutChain) (before behind : List OutChain) (w : ChainHandle) (serial asked options : ℕ) (request reply : List ℕ) (calls : Calls) →
-    s.outs ≡ before ++ c ∷ behind → c.phase ≡ Asked request asked calls → IsHeldAsked c w → own_error w.state w.serial serial (length reply) ≡ None →
+    (s : LiveState F) (c : OutChain) (before behind : List OutChain) (w : ChainHandle)
+    (serial asked options : ℕ) (request reply : List ℕ) (calls : Calls) →
+    s.outs ≡ before ++ c ∷ behind →
+    c.phase ≡ Asked request asked calls →
+    IsHeldAsked c w →
+    own_error w.state w.serial serial (length reply) ≡ None →
     Happens may s (Replies c request reply options) (after_own s before behind c request reply options)
-    × IfOut w.state (λ out. IsOwn (record c { phase = Own request reply }) reply (at.HasReply out (own_reply (length reply))))
+    × IfOut w.state
+    (λ out. IsOwn (record c { phase = Own request reply }) reply (at.HasReply out (own_reply (length reply))))
 
--- a chain goes back by what its caller stores, his bytes over the room's first places in any two parts, and loads
-pub record GoesBackOwn (back : QueueState) (room reply : List ℕ) (from : state.ChainState) (acts : List Act) (last : ℕ) (notice : Bool) : Type 0 where
+-- a chain goes back by what its caller stores, his bytes over the room's first places in any two parts, and
+-- loads
+pub record GoesBackOwn (back : QueueState) (room reply : List ℕ) (from : state.ChainState) (acts : List Act)
+    (last : ℕ) (notice : Bool) : Type 0 where
   pub stores : PushStores
   pub flags : List ℕ
   pub flags_len : length flags ≡ 2
-  pub returns : FromReplied back from (λ kept s. acts ≡ return_acts (reply_stores room reply last ++ stores_of s.used) flags) stores
+  pub returns : FromReplied back from
+      (λ kept s. acts ≡ return_acts (reply_stores room reply last ++ stores_of s.used) flags) stores
   pub notified : notice ≡ tells_of back flags
 
 -- that is the event of its return, whichever chains of its queue were taken and went back meanwhile
 abbrev pub HandleReturnsOwn : {F : Type 0} → May F → Type 0
 HandleReturnsOwn {F} may =
-    (s : LiveState F) (c : OutChain) (before behind : List OutChain) (st : state.ChainState) (kept : QueueState) (request reply : List ℕ) (acts : List Act) (last : ℕ) (notice : Bool) →
-    s.outs ≡ before ++ c ∷ behind → slice_get s.queues c.queue ≡ Some (live_of kept) → c.taken ≡ queue_of (course_of (record kept { position = c.taken.position }) 0) →
-    c.phase ≡ Own request reply → IsOwn c reply st → (back : GoesBackOwn kept (room_of c) reply st acts last notice) →
+    (s : LiveState F) (c : OutChain) (before behind : List OutChain) (st : state.ChainState)
+    (kept : QueueState) (request reply : List ℕ) (acts : List Act) (last : ℕ) (notice : Bool) →
+    s.outs ≡ before ++ c ∷ behind →
+    slice_get s.queues c.queue ≡ Some (live_of kept) →
+    c.taken ≡ queue_of (course_of (record kept { next_avail = c.taken.position }) 0) →
+    c.phase ≡ Own request reply →
+    IsOwn c reply st →
+    (back : GoesBackOwn kept (room_of c) reply st acts last notice) →
     IsReturn may s before behind c kept acts last notice back.stores
 
 -- ---- other regions
 
--- that a handle is told other regions is the event of other places, by which its next walks are events, if the queues of chains that are out are returned to by them as by those of before: so it is
--- while none is out
+-- that a handle is told other regions is the event of other places, by which its next walks are events, if
+-- the queues of chains that are out are returned to by them as by those of before: so it is while none is out
 abbrev pub HandleMaps : {F : Type 0} → May F → Type 0
 HandleMaps {F} may =
-    (s : LiveState F) (w : ChainHandle) → (s.outs ≡ []) ⊎ AllByRecursion (KeepsQueue s (places_in w.regions)) s.outs →
+    (s : LiveState F) (w : ChainHandle) →
+    (s.outs ≡ []) ⊎ AllByRecursion (KeepsQueue s (places_in w.regions)) s.outs →
     Happens may s (Maps (places_in w.regions)) (record s { places = places_in w.regions })
 
 -- ---- moves
@@ -127,10 +165,17 @@ pub record AreBegunBy (queues : List Queue) (kept : List QueueState) : Type 0 wh
   pub even : AllByRecursion IsEven (map live_of kept)
   pub few : AllByRecursion MayBeOut (map live_of kept)
 
--- a record that is made of a run's options and queues, while no chain is out, and read elsewhere is the event of a move: the options that it tells are the run's, and the queues that are begun by it
--- are the run's from then on
+-- a record that is made of a run's options and queues, while no chain is out, and read elsewhere is the event
+-- of a move: the options that it tells are the run's, and the queues that are begun by it are the run's from
+-- then on
 abbrev pub HandleMoves : {F : Type 0} → May F → Type 0
 HandleMoves {F} may =
-    (s : LiveState F) (here there : List QueueState) (m : Memory) (bytes : List ℕ) (v v' : Version) (options : ℕ) (queues : List Queue) → s.outs ≡ [] → s.queues ≡ map live_of here →
-    IsRecord bytes v s.options (map recorded here) → IsRecord bytes v' options queues → AreBegunBy queues there →
-    (options ≡ s.options) × Happens may s (Moves m (map live_of there)) (record s { places = m; queues = map live_of there })
+    (s : LiveState F) (here there : List QueueState) (m : Memory) (bytes : List ℕ) (v v' : Version)
+    (options : ℕ) (queues : List Queue) →
+    s.outs ≡ [] →
+    s.queues ≡ map live_of here →
+    IsRecord bytes v s.options (map recorded here) →
+    IsRecord bytes v' options queues →
+    AreBegunBy queues there →
+    (options ≡ s.options)
+    × Happens may s (Moves m (map live_of there)) (record s { places = m; queues = map live_of there })

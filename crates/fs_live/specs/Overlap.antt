@@ -27,35 +27,82 @@ entry address bytes = record { address = address; came = Some bytes }
 
 -- what the first walk loads: an index of 2, head 0, and the table's first two entries
 abbrev pub first_loads : Loaded
-first_loads = record { index = Some (le16 2); entry = Some (le16 0); entries = entry 0 (descriptor_bytes 0x1000 40 1 1) ∷ entry 16 (descriptor_bytes 0x2000 16 2 0) ∷ [] }
+first_loads =
+    record {
+      index = Some (le16 2);
+      entry = Some (le16 0);
+      entries = entry 0 (descriptor_bytes 0x1000 40 1 1) ∷ entry 16 (descriptor_bytes 0x2000 16 2 0) ∷ [];
+    }
 
 -- what the second one loads: head 2, and the other two
 abbrev pub second_loads : Loaded
-second_loads = record { index = Some (le16 2); entry = Some (le16 2); entries = entry 32 (descriptor_bytes 0x3000 40 1 3) ∷ entry 48 (descriptor_bytes 0x4000 16 2 0) ∷ [] }
+second_loads =
+    record {
+      index = Some (le16 2);
+      entry = Some (le16 2);
+      entries = entry 32 (descriptor_bytes 0x3000 40 1 3) ∷ entry 48 (descriptor_bytes 0x4000 16 2 0) ∷ [];
+    }
 
 -- the first chain's descriptors
 abbrev pub first_table : List Descriptor
-first_table = record { addr = 0x1000; len = 40; flags = 1; next = 1 } ∷ record { addr = 0x2000; len = 16; flags = 2; next = 0 } ∷ []
+first_table =
+    record { addr = 0x1000; len = 40; flags = 1; next = 1 }
+    ∷ record { addr = 0x2000; len = 16; flags = 2; next = 0 } ∷ []
 
 -- the second chain's
 abbrev pub second_table : List Descriptor
-second_table = record { addr = 0x3000; len = 40; flags = 1; next = 3 } ∷ record { addr = 0x4000; len = 16; flags = 2; next = 0 } ∷ []
+second_table =
+    record { addr = 0x3000; len = 40; flags = 1; next = 3 }
+    ∷ record { addr = 0x4000; len = 16; flags = 2; next = 0 } ∷ []
 
 -- the queue with its two positions
 abbrev pub at_positions : (taken next_used : ℕ) → LiveQueue
-at_positions taken next_used = record { queue = record queue { position = taken }; next_used = next_used; max_in_flight = 4; event_index = false }
+at_positions taken next_used =
+    record {
+      queue = record queue { position = taken };
+      next_used = next_used;
+      max_in_flight = 4;
+      event_index = false;
+    }
 
 -- one queue over 64 KiB from address 0 on
 abbrev pub state : {F : Type 0} → F → LiveQueue → (options : ℕ) → List OutChain → LiveState F
-state files w options outs = record { places = blank; limit = 0x101000; page_size = 4096; queues = w ∷ []; options = options; outs = outs; files = files }
+state files w options outs =
+    record {
+      places = blank;
+      limit = 0x101000;
+      page_size = 4096;
+      queues = w ∷ [];
+      options = options;
+      outs = outs;
+      files = files;
+    }
 
 -- the first chain, as it is taken
 abbrev pub first : OutChain
-first = record { places = blank; queue = 0; taken = queue; loaded = first_loads; descriptors = first_table; head = 0; phase = Fetched }
+first =
+    record {
+      places = blank;
+      queue = 0;
+      taken = queue;
+      loaded = first_loads;
+      descriptors = first_table;
+      head = 0;
+      phase = Fetched;
+    }
 
 -- the second one
 abbrev pub second : OutChain
-second = record { places = blank; queue = 0; taken = record queue { position = 1 }; loaded = second_loads; descriptors = second_table; head = 2; phase = Fetched }
+second =
+    record {
+      places = blank;
+      queue = 0;
+      taken = record queue { position = 1 };
+      loaded = second_loads;
+      descriptors = second_table;
+      head = 2;
+      phase = Fetched;
+    }
 
 -- it was asked in the options 1
 abbrev pub first_asked : OutChain
@@ -75,17 +122,28 @@ first_exchange = record { head = 0; request = destroy; reply = []; fault = None 
 
 -- ENOSYS
 abbrev pub second_exchange : Exchange
-second_exchange = record { head = 2; request = unknown; reply = 0x10 ∷ 0 ∷ 0 ∷ 0 ∷ 0xda ∷ 0xff ∷ 0xff ∷ 0xff ∷ 2 ∷ zeros 7; fault = None }
+second_exchange =
+    record {
+      head = 2;
+      request = unknown;
+      reply = 0x10 ∷ 0 ∷ 0 ∷ 0 ∷ 0xda ∷ 0xff ∷ 0xff ∷ 0xff ∷ 2 ∷ zeros 7;
+      fault = None;
+    }
 
 -- head, length and index: the second chain goes to the used ring's first element
 abbrev pub second_used : List Store
-second_used = record { address = 0x204; bytes = le32 2 } ∷ record { address = 0x208; bytes = le32 16 } ∷ record { address = 0x202; bytes = le16 1 } ∷ []
+second_used =
+    record { address = 0x204; bytes = le32 2 } ∷ record { address = 0x208; bytes = le32 16 }
+    ∷ record { address = 0x202; bytes = le16 1 } ∷ []
 
 -- the first one goes to the second element
 abbrev pub first_used : List Store
-first_used = record { address = 0x20c; bytes = le32 0 } ∷ record { address = 0x210; bytes = le32 0 } ∷ record { address = 0x202; bytes = le16 2 } ∷ []
+first_used =
+    record { address = 0x20c; bytes = le32 0 } ∷ record { address = 0x210; bytes = le32 0 }
+    ∷ record { address = 0x202; bytes = le16 2 } ∷ []
 
--- the second chain is taken, asked and returned while the call of the first one waits; DESTROY's answer leaves no options
+-- the second chain is taken, asked and returned while the call of the first one waits; DESTROY's answer
+-- leaves no options
 abbrev pub Overlap : {F : Type 0} → May F → Type 0
 Overlap {F} may =
     (before after : F) → may before Destroy Done after → LiveRun may (state before (at_positions 0 0) 1 [])

@@ -29,15 +29,32 @@ queue = record { size = 1; desc = 0; avail = 0x100; used = 0x200; position = 0; 
 
 -- the queue with its two positions
 abbrev pub at_positions : (taken next_used : ℕ) → LiveQueue
-at_positions taken next_used = record { queue = record queue { position = taken }; next_used = next_used; max_in_flight = 2; event_index = false }
+at_positions taken next_used =
+    record {
+      queue = record queue { position = taken };
+      next_used = next_used;
+      max_in_flight = 2;
+      event_index = false;
+    }
 
 -- the same once it is stopped
 abbrev pub stopped_at : (taken next_used : ℕ) → LiveQueue
-stopped_at taken next_used = record { queue = with_stop (record queue { position = taken }); next_used = next_used; max_in_flight = 2; event_index = false }
+stopped_at taken next_used =
+    record {
+      queue = with_stop (record queue { position = taken });
+      next_used = next_used;
+      max_in_flight = 2;
+      event_index = false;
+    }
 
 -- what the first walk loads: an index of 1, head 0, and the table's one entry
 abbrev pub first_loads : Loaded
-first_loads = record { index = Some (le16 1); entry = Some (le16 0); entries = entry 0 (descriptor_bytes 0x1000 48 0 0) ∷ [] }
+first_loads =
+    record {
+      index = Some (le16 1);
+      entry = Some (le16 0);
+      entries = entry 0 (descriptor_bytes 0x1000 48 0 0) ∷ [];
+    }
 
 -- what the second one loads: an index of 2, and head 1 where head 0 was, which the table hasn't
 abbrev pub second_loads : Loaded
@@ -49,7 +66,16 @@ table = record { addr = 0x1000; len = 48; flags = 0; next = 0 } ∷ []
 
 -- the chain, as it is taken
 abbrev pub first : OutChain
-first = record { places = blank; queue = 0; taken = queue; loaded = first_loads; descriptors = table; head = 0; phase = Fetched }
+first =
+    record {
+      places = blank;
+      queue = 0;
+      taken = queue;
+      loaded = first_loads;
+      descriptors = table;
+      head = 0;
+      phase = Fetched;
+    }
 
 -- it was asked without options
 abbrev pub first_asked : OutChain
@@ -65,7 +91,9 @@ exchange = record { head = 0; request = forget; reply = []; fault = None }
 
 -- head 0 and no length in the used ring's one element, and an index of 1
 abbrev pub used : List Store
-used = record { address = 0x204; bytes = le32 0 } ∷ record { address = 0x208; bytes = le32 0 } ∷ record { address = 0x202; bytes = le16 1 } ∷ []
+used =
+    record { address = 0x204; bytes = le32 0 } ∷ record { address = 0x208; bytes = le32 0 }
+    ∷ record { address = 0x202; bytes = le16 1 } ∷ []
 
 -- the rewritten entry stops the queue; the chain that is out is served as it was loaded, and goes back
 abbrev pub Rewritten : {F : Type 0} → May F → Type 0

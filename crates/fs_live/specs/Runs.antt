@@ -1,5 +1,7 @@
 -- What holds of each run.
-use Rattle.std.specs.Prelude.{◌≡◌, ◌≤◌, ◌/◌, ℕ, Bool, true, false, take, ◌==◌, List, [], ◌∷◌, ◌++◌, length, map, filter, flat_map, is_some, IsPermutation, Option, Some, None, slice_get, if◌then◌else◌}
+use Rattle.std.specs.Prelude.{◌≡◌, ◌≤◌, ◌/◌, ℕ, Bool, true, false, take, ◌==◌, List, [], ◌∷◌, ◌++◌, length}
+use Rattle.std.specs.Prelude.{map, filter, flat_map, is_some, IsPermutation, Option, Some, None, slice_get}
+use Rattle.std.specs.Prelude.{if◌then◌else◌}
 use Rattle.std.specs.List.{AllByRecursion, Contains, list_all, list_any}
 use Rattle.vm_iotlb.specs.declared.permissions.Permissions.TheVariants.{Read, Write}
 use Rattle.vm_memory_core.specs.Host.{changed_at}
@@ -14,18 +16,27 @@ use Rattle.virtiofsd_fuse.specs.Serving.{May}
 use Rattle.plain_machine.specs.MarkedPages.{Marks, returned_addresses}
 use Rattle.plain_machine.specs.Step.{State, Exchange, Exchanged}
 use Rattle.fs_regions.specs.Walks.{OffersBy}
-use Rattle.plain_machine.specs.StepBy.{Act, StepLoads, StepBy, ReturnsBy, after_stores, return_acts, return_stores, stores_among}
-use Rattle.fs_live.specs.Several.{LiveQueue, InFlightId, QueueEvent, RunsOver, UsedFrom, heads_taken, heads_ended, returns_among, returning, avail_event_at, seen_at, used_event_at}
+use Rattle.plain_machine.specs.StepBy.{Act, StepLoads, StepBy, ReturnsBy, after_stores, return_acts}
+use Rattle.plain_machine.specs.StepBy.{return_stores, stores_among}
+use Rattle.fs_live.specs.Several.{LiveQueue, InFlightId, QueueEvent, RunsOver, UsedFrom, heads_taken}
+use Rattle.fs_live.specs.Several.{heads_ended, returns_among, returning, avail_event_at, seen_at}
+use Rattle.fs_live.specs.Several.{used_event_at}
 use Rattle.fs_live.specs.Several as several
 pub use Rattle.fs_live.specs.Live.{IsEven}
-use Rattle.fs_live.specs.Live.{Phase, Asked, Own, OutChain, LiveState, LiveEvent, Walks, Returns, Sleeps, Begins, Fills, Drops, Maps, Moves, Happens, LiveRun, acts_of, calls_among, calls_in, room_of, serving}
+use Rattle.fs_live.specs.Live.{Phase, Asked, Own, OutChain, LiveState, LiveEvent, Walks, Returns, Sleeps}
+use Rattle.fs_live.specs.Live.{Begins, Fills, Drops, Maps, Moves, Happens, LiveRun, acts_of, calls_among}
+use Rattle.fs_live.specs.Live.{calls_in, room_of, serving}
 use Rattle.fs_live.specs.Live.{own_exchange}
 
 -- ---- the calls
 
--- where each answer stands in the file system's relation as it was given, the calls in the order of their answers are a run of it, whichever chains they are of
+-- where each answer stands in the file system's relation as it was given, the calls in the order of their
+-- answers are a run of it, whichever chains they are of
 abbrev pub CallsAreARun : {F : Type 0} → May F → Type 0
-CallsAreARun {F} may = (s after : LiveState F) (es : List LiveEvent) → LiveRun may s es after → FileRun may s.files (calls_among es) after.files
+CallsAreARun {F} may =
+    (s after : LiveState F) (es : List LiveEvent) →
+    LiveRun may s es after →
+    FileRun may s.files (calls_among es) after.files
 
 -- ---- each chain by itself
 
@@ -42,7 +53,8 @@ IsAskedIn _ options = Unit {0}
 
 -- the options that a chain leaves by itself, by its answers so far
 abbrev pub options_left : (page_size options : ℕ) → OutChain → Phase → ℕ
-options_left page_size options c (Asked request asked calls) = (serving page_size asked asked request (room_of c) calls).options
+options_left page_size options c (Asked request asked calls) =
+    (serving page_size asked asked request (room_of c) calls).options
 options_left page_size options c _ = options
 
 -- a chain that the server answers, or that is faulty: the reply isn't its caller's own
@@ -50,7 +62,8 @@ abbrev pub IsServedPhase : Phase → Type 0
 IsServedPhase (Own request reply) = ⊥
 IsServedPhase _ = Unit {0}
 
--- the plain machine before a chain: a memory with the places as the chain was taken, whatever bytes are there; the queue as it was taken; the options at its asking
+-- the plain machine before a chain: a memory with the places as the chain was taken, whatever bytes are
+-- there; the queue as it was taken; the options at its asking
 pub record IsBefore {F G : Type 0} (s : LiveState F) (c : OutChain) (m : State G) : Type 0 where
   pub places : location m.memory ≡ location c.places
   pub limit : m.limit ≡ s.limit
@@ -61,41 +74,82 @@ pub record IsBefore {F G : Type 0} (s : LiveState F) (c : OutChain) (m : State G
 -- the plain machine after the chain alone
 abbrev pub after_alone : {G : Type 0} → State G → OutChain → G → State G
 after_alone m c files =
-    record m { queues = changed_at m.queues c.queue (λ _. advanced c.taken); options = options_left m.page_size m.options c c.phase; files = files }
+    record m {
+      queues = changed_at m.queues c.queue (λ _. advanced c.taken);
+      options = options_left m.page_size m.options c c.phase;
+      files = files;
+    }
 
 -- the loads of its step, with those of entries that have no place
 abbrev pub chain_loads : OutChain → (lost : List Load) → StepLoads
-chain_loads c lost = record { index = c.loaded.index; entry = c.loaded.entry; entries = c.loaded.entries ++ lost; request = request_in c.phase }
+chain_loads c lost =
+    record {
+      index = c.loaded.index;
+      entry = c.loaded.entry;
+      entries = c.loaded.entries ++ lost;
+      request = request_in c.phase;
+    }
 
--- a chain that goes back is a step by its loads, of a machine that takes what was seen for the flags: its calls with their answers, its exchange; and its acts are the
--- step's, with the used element and index of the queue's next used position
-pub record IsAStep {G : Type 0} (other : May G) (m : State G) (files : G) (w : LiveQueue) (c : OutChain) (x : Exchange) (last : ℕ) (used : List Store) (seen : List ℕ) (notice : Bool) : Type 0 where
+-- a chain that goes back is a step by its loads, of a machine that takes what was seen for the flags: its
+-- calls with their answers, its exchange; and its acts are the step's, with the used element and index of the
+-- queue's next used position
+pub record IsAStep {G : Type 0} (other : May G) (m : State G) (files : G) (w : LiveQueue) (c : OutChain)
+    (x : Exchange) (last : ℕ) (used : List Store) (seen : List ℕ) (notice : Bool) : Type 0 where
   pub lost : List Load
   pub step : StepBy other m c.queue (chain_loads c lost) (calls_in c.phase) (Exchanged x (tells seen))
-      (record { acts = return_acts (return_stores c.taken c.head (room_of c) x.reply last) seen; last = last }) (after_alone m c files)
-  pub acts : acts_of (Returns c x notice last used seen) ≡ return_acts (return_stores (returning w) c.head (room_of c) x.reply last) seen
+      (record {
+        acts = return_acts (return_stores c.taken c.head (room_of c) x.reply last) seen;
+        last = last;
+      }) (after_alone m c files)
+  pub acts : acts_of (Returns c x notice last used seen)
+      ≡ return_acts (return_stores (returning w) c.head (room_of c) x.reply last) seen
 
--- whatever other chains do between its walk and its return, and whatever the guest writes; for each file system of which its own calls are a run
+-- whatever other chains do between its walk and its return, and whatever the guest writes; for each file
+-- system of which its own calls are a run
 abbrev pub ReturnedIsStepBy : {F G : Type 0} → May F → May G → Type 0
 ReturnedIsStepBy {F} {G} may other =
-    (s now after : LiveState F) (es : List LiveEvent) (c : OutChain) (x : Exchange) (notice : Bool) (last : ℕ) (used : List Store) (seen : List ℕ) (m : State G) (files : G) →
-    s.outs ≡ [] → LiveRun may s es now → Happens may now (Returns c x notice last used seen) after → IsServedPhase c.phase → IsBefore now c m → FileRun other m.files (calls_in c.phase) files →
-    (w : LiveQueue) × (slice_get now.queues c.queue ≡ Some w) × IsAStep other m files w c x last used seen notice
+    (s now after : LiveState F) (es : List LiveEvent) (c : OutChain) (x : Exchange) (notice : Bool) (last : ℕ)
+    (used : List Store) (seen : List ℕ) (m : State G) (files : G) →
+    s.outs ≡ [] →
+    LiveRun may s es now →
+    Happens may now (Returns c x notice last used seen) after →
+    IsServedPhase c.phase →
+    IsBefore now c m →
+    FileRun other m.files (calls_in c.phase) files →
+    (w : LiveQueue)
+    × (slice_get now.queues c.queue ≡ Some w)
+    × IsAStep other m files w c x last used seen notice
 
--- a chain that goes back with its caller's own bytes is offered by its loads, and they and the used element and index are stored as a step stores a reply: of its queue's next used position
-pub record IsAReturn {G : Type 0} (m : State G) (limit : ℕ) (w : LiveQueue) (c : OutChain) (request reply : List ℕ) (x : Exchange) (last : ℕ) (used : List Store) (seen : List ℕ) : Type 0 where
-  pub offered : OffersBy m.memory limit c.taken c.loaded request (Offers c.head (IsRequest request (room_of c)))
+-- a chain that goes back with its caller's own bytes is offered by its loads, and they and the used element
+-- and index are stored as a step stores a reply: of its queue's next used position
+pub record IsAReturn {G : Type 0} (m : State G) (limit : ℕ) (w : LiveQueue) (c : OutChain)
+    (request reply : List ℕ) (x : Exchange) (last : ℕ) (used : List Store) (seen : List ℕ) : Type 0 where
+  pub offered :
+      OffersBy m.memory limit c.taken c.loaded request (Offers c.head (IsRequest request (room_of c)))
   pub fits : length reply ≤ length (room_of c)
-  pub returns : ReturnsBy m c.queue c.taken (room_of c) (own_exchange c.head request reply) m.options x (tells seen)
-      (record { acts = return_acts (return_stores c.taken c.head (room_of c) x.reply last) seen; last = last }) (after_alone m c m.files)
-  pub acts : (notice : Bool) → acts_of (Returns c x notice last used seen) ≡ return_acts (return_stores (returning w) c.head (room_of c) x.reply last) seen
+  pub returns :
+      ReturnsBy m c.queue c.taken (room_of c) (own_exchange c.head request reply) m.options x (tells seen)
+      (record {
+        acts = return_acts (return_stores c.taken c.head (room_of c) x.reply last) seen;
+        last = last;
+      }) (after_alone m c m.files)
+  pub acts : (notice : Bool) →
+      acts_of (Returns c x notice last used seen)
+      ≡ return_acts (return_stores (returning w) c.head (room_of c) x.reply last) seen
 
 -- so it is of each such chain of a run: no call is made, and the options stay
 abbrev pub OwnIsReturned : {F : Type 0} → (G : Type 0) → May F → Type 0
 OwnIsReturned {F} G may =
-    (s now after : LiveState F) (es : List LiveEvent) (c : OutChain) (x : Exchange) (notice : Bool) (last : ℕ) (used : List Store) (seen : List ℕ) (request reply : List ℕ) (m : State G) →
-    s.outs ≡ [] → LiveRun may s es now → Happens may now (Returns c x notice last used seen) after → c.phase ≡ Own request reply → IsBefore now c m →
-    (w : LiveQueue) × (slice_get now.queues c.queue ≡ Some w) × IsAReturn m now.limit w c request reply x last used seen
+    (s now after : LiveState F) (es : List LiveEvent) (c : OutChain) (x : Exchange) (notice : Bool) (last : ℕ)
+    (used : List Store) (seen : List ℕ) (request reply : List ℕ) (m : State G) →
+    s.outs ≡ [] →
+    LiveRun may s es now →
+    Happens may now (Returns c x notice last used seen) after →
+    c.phase ≡ Own request reply →
+    IsBefore now c m →
+    (w : LiveQueue)
+    × (slice_get now.queues c.queue ≡ Some w)
+    × IsAReturn m now.limit w c request reply x last used seen
 
 -- ---- where stores go
 
@@ -107,7 +161,8 @@ queue_addresses (Some w) = addresses (element_at (returning w)) 8 ++ addresses (
 -- of a queue before a sleep: avail_event, or the used ring's flags
 abbrev pub sleep_addresses : Option LiveQueue → List ℕ
 sleep_addresses None = []
-sleep_addresses (Some w) = if w.event_index then addresses (avail_event_at w.queue) 2 else addresses w.queue.used 2
+sleep_addresses (Some w) =
+    if w.event_index then addresses (avail_event_at w.queue) 2 else addresses w.queue.used 2
 
 -- where an event may store
 abbrev pub may_store : {F : Type 0} → LiveState F → LiveEvent → List ℕ
@@ -124,16 +179,21 @@ IsOutThen s _ = Unit {0}
 
 -- it stores nothing elsewhere
 abbrev pub StoresThere : {F : Type 0} → LiveState F → LiveEvent → Type 0
-StoresThere s e = IsOutThen s e × AllByRecursion (λ (w : ℕ × ℕ). Contains (may_store s e) w.0) (flat_map writes_of (stores_among (acts_of e)))
+StoresThere s e =
+    IsOutThen s e × AllByRecursion (λ (w : ℕ
+    × ℕ). Contains (may_store s e) w.0) (flat_map writes_of (stores_among (acts_of e)))
 
 -- nor does any event of a run
-abbrev pub EachStoresThere : {F : Type 0} → (may : May F) → (s : LiveState F) → (es : List LiveEvent) → (after : LiveState F) → LiveRun may s es after → Type 0
+abbrev pub EachStoresThere : {F : Type 0} → (may : May F) → (s : LiveState F) → (es : List LiveEvent) →
+    (after : LiveState F) → LiveRun may s es after → Type 0
 EachStoresThere may s [] after run = Unit {0}
 EachStoresThere may s (e ∷ es) after run = StoresThere s e × EachStoresThere may run.0 es after run.2
 
 -- so it is in each run
 abbrev pub StoresStayThere : {F : Type 0} → May F → Type 0
-StoresStayThere {F} may = (s after : LiveState F) (es : List LiveEvent) (run : LiveRun may s es after) → EachStoresThere may s es after run
+StoresStayThere {F} may =
+    (s after : LiveState F) (es : List LiveEvent) (run : LiveRun may s es after) →
+    EachStoresThere may s es after run
 
 -- ---- places
 
@@ -145,8 +205,9 @@ HasUsedEvent m w = w.event_index ≡ true → reach m Read (used_event_at w.queu
 abbrev pub has_places : Memory → (room : List ℕ) → Bool
 has_places m room = list_all (λ a. is_some (location m Write a)) room
 
--- what a return stores at the queue's next used position has places to be written: used element, used index and the chain's room; and the two bytes that tell have one to be read: the
--- available flags, with the event index used_event besides
+-- what a return stores at the queue's next used position has places to be written: used element, used index
+-- and the chain's room; and the two bytes that tell have one to be read: the available flags, with the event
+-- index used_event besides
 pub record ReturnHasPlaces (m : Memory) (w : LiveQueue) (c : OutChain) : Type 0 where
   pub element : reach m Write (element_at (returning w)) 8 ≡ true
   pub index : reach m Write (index_at (returning w)) 2 ≡ true
@@ -155,12 +216,17 @@ pub record ReturnHasPlaces (m : Memory) (w : LiveQueue) (c : OutChain) : Type 0 
   pub seen : reach m Read (seen_at w) 2 ≡ true
   pub room : has_places m (room_of c) ≡ true
 
--- from no chain out on, whichever chains go back first or are given up, whatever the guest writes, and whichever other places it is given, each return has places by those that there were as its chain
--- was walked, over which its handle goes on
+-- from no chain out on, whichever chains go back first or are given up, whatever the guest writes, and
+-- whichever other places it is given, each return has places by those that there were as its chain was
+-- walked, over which its handle goes on
 abbrev pub ReturnsHavePlaces : {F : Type 0} → May F → Type 0
 ReturnsHavePlaces {F} may =
-    (s now after : LiveState F) (es : List LiveEvent) (c : OutChain) (x : Exchange) (notice : Bool) (last : ℕ) (used : List Store) (seen : List ℕ) →
-    s.outs ≡ [] → AllByRecursion IsEven s.queues → LiveRun may s es now → Happens may now (Returns c x notice last used seen) after →
+    (s now after : LiveState F) (es : List LiveEvent) (c : OutChain) (x : Exchange) (notice : Bool) (last : ℕ)
+    (used : List Store) (seen : List ℕ) →
+    s.outs ≡ [] →
+    AllByRecursion IsEven s.queues →
+    LiveRun may s es now →
+    Happens may now (Returns c x notice last used seen) after →
     (w : LiveQueue) × (slice_get now.queues c.queue ≡ Some w) × ReturnHasPlaces c.places w c
 
 -- ---- one queue of a run
@@ -169,7 +235,8 @@ ReturnsHavePlaces {F} may =
 abbrev pub event_on : ℕ → LiveEvent → List QueueEvent
 event_on i (Walks j loaded ds (step.Chain head fault)) = if j == i then several.Takes head ∷ [] else []
 event_on i (Drops c) = if c.queue == i then several.Drops (c.taken.position, c.head) ∷ [] else []
-event_on i (Returns c x notice last used seen) = if c.queue == i then several.Returns (c.taken.position, c.head) (length x.reply) used ∷ [] else []
+event_on i (Returns c x notice last used seen) =
+    if c.queue == i then several.Returns (c.taken.position, c.head) (length x.reply) used ∷ [] else []
 event_on i _ = []
 
 -- what happens on it in a run
@@ -193,19 +260,32 @@ NotAnew i _ = Unit {0}
 -- queue i of a run is a run of takes and returns, whatever happens on the others
 abbrev pub RunsOnQueue : {F : Type 0} → May F → Type 0
 RunsOnQueue {F} may =
-    (s after : LiveState F) (es : List LiveEvent) (i : ℕ) (w : LiveQueue) → slice_get s.queues i ≡ Some w → AllByRecursion (NotAnew i) es → LiveRun may s es after →
-    (w' : LiveQueue) × (slice_get after.queues i ≡ Some w') × RunsOver (going w) (tickets_on i s.outs) (events_on i es) (going w') (tickets_on i after.outs)
+    (s after : LiveState F) (es : List LiveEvent) (i : ℕ) (w : LiveQueue) →
+    slice_get s.queues i ≡ Some w →
+    AllByRecursion (NotAnew i) es →
+    LiveRun may s es after →
+    (w' : LiveQueue)
+    × (slice_get after.queues i ≡ Some w')
+    × RunsOver (going w) (tickets_on i s.outs) (events_on i es) (going w') (tickets_on i after.outs)
 
 -- so each chain that was taken of it went back once, or was given up once, or is out
 abbrev pub OncePerLiveChain : {F : Type 0} → May F → Type 0
 OncePerLiveChain {F} may =
-    (s after : LiveState F) (es : List LiveEvent) (i : ℕ) (w : LiveQueue) → slice_get s.queues i ≡ Some w → tickets_on i s.outs ≡ [] → AllByRecursion (NotAnew i) es → LiveRun may s es after →
-    IsPermutation (heads_ended (events_on i es) ++ map (λ t. t.1) (tickets_on i after.outs)) (heads_taken (events_on i es))
+    (s after : LiveState F) (es : List LiveEvent) (i : ℕ) (w : LiveQueue) →
+    slice_get s.queues i ≡ Some w →
+    tickets_on i s.outs ≡ [] →
+    AllByRecursion (NotAnew i) es →
+    LiveRun may s es after →
+    IsPermutation (heads_ended (events_on i es) ++ map (λ t. t.1) (tickets_on i after.outs))
+    (heads_taken (events_on i es))
 
 -- and its returns fill the used ring in order, whatever was taken when
 abbrev pub LiveUsedInOrder : {F : Type 0} → May F → Type 0
 LiveUsedInOrder {F} may =
-    (s after : LiveState F) (es : List LiveEvent) (i : ℕ) (w : LiveQueue) → slice_get s.queues i ≡ Some w → AllByRecursion (NotAnew i) es → LiveRun may s es after →
+    (s after : LiveState F) (es : List LiveEvent) (i : ℕ) (w : LiveQueue) →
+    slice_get s.queues i ≡ Some w →
+    AllByRecursion (NotAnew i) es →
+    LiveRun may s es after →
     UsedFrom (going w) (returns_among (events_on i es))
 
 -- ---- pages
@@ -223,53 +303,84 @@ abbrev pub told_of_queue : Option LiveQueue → List ℕ
 told_of_queue None = []
 told_of_queue (Some w) = addresses (element_at (returning w)) 8 ++ addresses (index_at (returning w)) 2
 
--- the addresses that an event tells its caller to mark: of a return as many of the room, from its first on, as the reply has bytes, the used element and the used index; of a sleep the two bytes of its store; of other stores in a room just those
+-- the addresses that an event tells its caller to mark: of a return as many of the room, from its first on,
+-- as the reply has bytes, the used element and the used index; of a sleep the two bytes of its store; of
+-- other stores in a room just those
 abbrev pub told_by : {F : Type 0} → LiveState F → LiveEvent → List ℕ
-told_by s (Returns c x notice last used seen) = take (length x.reply) (room_of c) ++ told_of_queue (slice_get s.queues c.queue)
+told_by s (Returns c x notice last used seen) =
+    take (length x.reply) (room_of c) ++ told_of_queue (slice_get s.queues c.queue)
 told_by s (Sleeps i store) = addresses store.address 2
 told_by s (Fills c stores) = flat_map (λ store. addresses store.address (length store.bytes)) stores
 told_by s _ = []
 
--- over each memory an event's stores mark the pages of the addresses that it tells, of blocks or of I/O pages, and no others: so do those of the plain machine's step, which stores the same
+-- over each memory an event's stores mark the pages of the addresses that it tells, of blocks or of I/O
+-- pages, and no others: so do those of the plain machine's step, which stores the same
 abbrev pub MarksAsTold : {F : Type 0} → LiveState F → LiveEvent → Type 0
 MarksAsTold s e = (m : Memory) → Marks m (told_by s e) (after_stores m (stores_among (acts_of e))).host
 
 -- and a log by the guest's pages has those that the stores write to, if what is told is marked
 abbrev pub LogsAsTold : {F : Type 0} → LiveState F → LiveEvent → Type 0
-LogsAsTold s e = (page : ℕ) → list_any (λ a. page_of a == page) (written_by (acts_of e)) ≡ list_any (λ a. page_of a == page) (told_by s e)
+LogsAsTold s e =
+    (page : ℕ) → list_any (λ a. page_of a == page) (written_by (acts_of e))
+    ≡ list_any (λ a. page_of a == page) (told_by s e)
 
 -- so does each event of a run
-abbrev pub EachIsTold : {F : Type 0} → (may : May F) → (s : LiveState F) → (es : List LiveEvent) → (after : LiveState F) → LiveRun may s es after → Type 0
+abbrev pub EachIsTold : {F : Type 0} → (may : May F) → (s : LiveState F) → (es : List LiveEvent) →
+    (after : LiveState F) → LiveRun may s es after → Type 0
 EachIsTold may s [] after run = Unit {0}
 EachIsTold may s (e ∷ es) after run = (MarksAsTold s e × LogsAsTold s e) × EachIsTold may run.0 es after run.2
 
 abbrev pub PagesAreTold : {F : Type 0} → May F → Type 0
-PagesAreTold {F} may = (s after : LiveState F) (es : List LiveEvent) (run : LiveRun may s es after) → EachIsTold may s es after run
+PagesAreTold {F} may =
+    (s after : LiveState F) (es : List LiveEvent) (run : LiveRun may s es after) →
+    EachIsTold may s es after run
 
--- what a return tells are the addresses that the plain machine's step writes, where its queue's next one goes back
+-- what a return tells are the addresses that the plain machine's step writes, where its queue's next one goes
+-- back
 abbrev pub ReturnsTell : {F : Type 0} → May F → Type 0
 ReturnsTell {F} may =
-    (s after : LiveState F) (c : OutChain) (x : Exchange) (notice : Bool) (last : ℕ) (used : List Store) (seen : List ℕ) → Happens may s (Returns c x notice last used seen) after →
-    (w : LiveQueue) × (slice_get s.queues c.queue ≡ Some w) × (told_by s (Returns c x notice last used seen) ≡ returned_addresses (returning w) c.head (room_of c) x.reply)
+    (s after : LiveState F) (c : OutChain) (x : Exchange) (notice : Bool) (last : ℕ) (used : List Store)
+    (seen : List ℕ) →
+    Happens may s (Returns c x notice last used seen) after →
+    (w : LiveQueue)
+    × (slice_get s.queues c.queue ≡ Some w)
+    × (told_by s (Returns c x notice last used seen)
+    ≡ returned_addresses (returning w) c.head (room_of c) x.reply)
 
 -- ---- standing still, and moves
 
--- from no chain out on, a queue of which none is out stands where the next one goes back: one number tells both (GET_VRING_BASE), and to begin it there anew (SET_VRING_BASE) changes nothing
+-- from no chain out on, a queue of which none is out stands where the next one goes back: one number tells
+-- both (GET_VRING_BASE), and to begin it there anew (SET_VRING_BASE) changes nothing
 abbrev pub StandsEven : {F : Type 0} → May F → Type 0
 StandsEven {F} may =
-    (s now : LiveState F) (es : List LiveEvent) (i : ℕ) (w : LiveQueue) → s.outs ≡ [] → AllByRecursion IsEven s.queues → LiveRun may s es now → slice_get now.queues i ≡ Some w →
-    tickets_on i now.outs ≡ [] → IsEven w × ((after : LiveState F) → Happens may now (Begins i w) after → after ≡ now)
+    (s now : LiveState F) (es : List LiveEvent) (i : ℕ) (w : LiveQueue) →
+    s.outs ≡ [] →
+    AllByRecursion IsEven s.queues →
+    LiveRun may s es now →
+    slice_get now.queues i ≡ Some w →
+    tickets_on i now.outs ≡ [] →
+    IsEven w × ((after : LiveState F) → Happens may now (Begins i w) after → after ≡ now)
 
 -- what no record tells of a queue
 abbrev pub untold : LiveQueue → ℕ × Bool
 untold w = (w.max_in_flight, w.event_index)
 
--- a device that moves between two chains, and is told there what no record tells, goes on as one that didn't move and whose guest's memory got these places: over the same places as if nothing had
--- happened
+-- a device that moves between two chains, and is told there what no record tells, goes on as one that didn't
+-- move and whose guest's memory got these places: over the same places as if nothing had happened
 abbrev pub MovedGoesOn : {F : Type 0} → May F → Type 0
 MovedGoesOn {F} may =
-    (s now moved : LiveState F) (es : List LiveEvent) (m : Memory) (queues : List LiveQueue) → s.outs ≡ [] → AllByRecursion IsEven s.queues → LiveRun may s es now →
-    Happens may now (Moves m queues) moved → map untold queues ≡ map untold now.queues →
-    Happens may now (Maps m) moved × (m ≡ now.places → moved ≡ now)
-    × ((later : List LiveEvent) (end : LiveState F) → LiveRun may moved later end → LiveRun may s (es ++ Maps m ∷ later) end)
-    × (m ≡ now.places → (later : List LiveEvent) (end : LiveState F) → LiveRun may moved later end → LiveRun may s (es ++ later) end)
+    (s now moved : LiveState F) (es : List LiveEvent) (m : Memory) (queues : List LiveQueue) →
+    s.outs ≡ [] →
+    AllByRecursion IsEven s.queues →
+    LiveRun may s es now →
+    Happens may now (Moves m queues) moved →
+    map untold queues ≡ map untold now.queues →
+    Happens may now (Maps m) moved
+    × (m ≡ now.places → moved ≡ now)
+    × ((later : List LiveEvent) (end : LiveState F) →
+    LiveRun may moved later end →
+    LiveRun may s (es ++ Maps m ∷ later) end)
+    × (m ≡ now.places →
+    (later : List LiveEvent) (end : LiveState F) →
+    LiveRun may moved later end →
+    LiveRun may s (es ++ later) end)

@@ -1,5 +1,6 @@
 -- One chain at a time: a kick of the plain machine.
-use Rattle.std.specs.Prelude.{◌≡◌, ℕ, Bool, false, List, [], ◌∷◌, ◌++◌, length, map, Option, Some, None, slice_get}
+use Rattle.std.specs.Prelude.{◌≡◌, ℕ, Bool, false, List, [], ◌∷◌, ◌++◌, length, map, Option, Some, None}
+use Rattle.std.specs.Prelude.{slice_get}
 use Rattle.std.specs.List.{AllByRecursion}
 use Rattle.vm_memory.specs.Memory.{Memory, location}
 use Rattle.fs_queue.specs.declared.fault.ChainFault.{ChainFault}
@@ -13,7 +14,8 @@ use Rattle.plain_machine.specs.Run.{KickRun, Turn}
 use Rattle.plain_machine.specs.Step.{State, Exchange, Exchanged, Step}
 use Rattle.plain_machine.specs.StepBy.{FindFlags, MayStoreLast, after_stores, stores_among}
 use Rattle.fs_live.specs.Several.{LiveQueue}
-use Rattle.fs_live.specs.Live.{OutChain, LiveState, LiveEvent, Walks, Asks, Answers, Returns, LiveRun, acts_of, calls_in, room_of}
+use Rattle.fs_live.specs.Live.{OutChain, LiveState, LiveEvent, Walks, Asks, Answers, Returns, LiveRun}
+use Rattle.fs_live.specs.Live.{acts_of, calls_in, room_of}
 use Rattle.fs_live.specs.Runs.{request_in}
 
 -- a chain from its walk to its return, with what happens between
@@ -37,7 +39,8 @@ return_in r = Returns r.chain r.exchange r.notice r.last r.used r.seen
 
 -- all its events
 abbrev pub events_in : Single → List LiveEvent
-events_in r = Walks r.queue r.loaded r.descriptors (step.Chain r.head r.fault) ∷ (r.between ++ return_in r ∷ [])
+events_in r =
+    Walks r.queue r.loaded r.descriptors (step.Chain r.head r.fault) ∷ (r.between ++ return_in r ∷ [])
 
 -- between them the chain is asked and answered, and nothing else happens
 abbrev pub IsOfChain : LiveEvent → Type 0
@@ -48,32 +51,59 @@ IsOfChain _ = ⊥
 -- the plain machine over a memory
 abbrev pub plain : {F : Type 0} → LiveState F → Memory → State F
 plain s m =
-    record { memory = m; queues = map (λ w. w.queue) s.queues; options = s.options; files = s.files; limit = s.limit; page_size = s.page_size }
+    record {
+      memory = m;
+      queues = map (λ w. w.queue) s.queues;
+      options = s.options;
+      files = s.files;
+      limit = s.limit;
+      page_size = s.page_size;
+    }
 
 -- a queue without the event index of which no chain is out: its two positions are one
 abbrev pub IsAtRest : LiveQueue → Type 0
 IsAtRest w = (w.event_index ≡ false) × (w.next_used ≡ w.queue.position)
 
--- one memory has what was loaded, the flags too, at the moment of each load; its places are the run's; what is stored last of the reply lies apart from the rest
+-- one memory has what was loaded, the flags too, at the moment of each load; its places are the run's; what
+-- is stored last of the reply lies apart from the rest
 pub record FoundIn {F : Type 0} (m : Memory) (s : LiveState F) (r : Single) : Type 0 where
   pub places : location m ≡ location s.places
-  pub loads : (w : LiveQueue) → slice_get s.queues r.queue ≡ Some w → HasLoaded m w.queue r.loaded (request_in r.chain.phase)
-  pub flags : (w : LiveQueue) → slice_get s.queues r.queue ≡ Some w → FindFlags m w.queue (acts_of (return_in r))
+  pub loads : (w : LiveQueue) →
+      slice_get s.queues r.queue ≡ Some w →
+      HasLoaded m w.queue r.loaded (request_in r.chain.phase)
+  pub flags :
+      (w : LiveQueue) →
+      slice_get s.queues r.queue ≡ Some w →
+      FindFlags m w.queue (acts_of (return_in r))
   pub apart : MayStoreLast m (room_of r.chain) r.last
 
 -- such a chain is a step of the plain machine, which leaves the memory with the stores in it
 abbrev pub SingleIsStep : {F : Type 0} → May F → Type 0
 SingleIsStep {F} may =
-    (s after : LiveState F) (r : Single) (m : Memory) (w : LiveQueue) → s.outs ≡ [] → slice_get s.queues r.queue ≡ Some w → IsAtRest w → AllByRecursion IsOfChain r.between →
-    LiveRun may s (events_in r) after → FoundIn m s r →
-    Step may (plain s m) r.queue (calls_in r.chain.phase) (Exchanged r.exchange r.notice) (plain after (after_stores m (stores_among (acts_of (return_in r)))))
-    × (after.outs ≡ []) × (w' : LiveQueue) × (slice_get after.queues r.queue ≡ Some w') × IsAtRest w'
+    (s after : LiveState F) (r : Single) (m : Memory) (w : LiveQueue) →
+    s.outs ≡ [] →
+    slice_get s.queues r.queue ≡ Some w →
+    IsAtRest w →
+    AllByRecursion IsOfChain r.between →
+    LiveRun may s (events_in r) after →
+    FoundIn m s r →
+    Step may (plain s m) r.queue (calls_in r.chain.phase) (Exchanged r.exchange r.notice)
+    (plain after (after_stores m (stores_among (acts_of (return_in r)))))
+    × (after.outs ≡ [])
+    × (w' : LiveQueue)
+    × (slice_get after.queues r.queue ≡ Some w')
+    × IsAtRest w'
 
 -- such chains of queue i, one after the other
-abbrev pub SerialRun : {F : Type 0} → May F → ℕ → Memory → LiveState F → List Single → Memory → LiveState F → Type 0
+abbrev pub SerialRun :
+    {F : Type 0} → May F → ℕ → Memory → LiveState F → List Single → Memory → LiveState F → Type 0
 SerialRun may i m s [] m' after = (m' ≡ m) × (after ≡ s)
 SerialRun {F} may i m s (r ∷ rs) m' after =
-    (mid : LiveState F) × (r.queue ≡ i) × AllByRecursion IsOfChain r.between × LiveRun may s (events_in r) mid × FoundIn m s r
+    (mid : LiveState F)
+    × (r.queue ≡ i)
+    × AllByRecursion IsOfChain r.between
+    × LiveRun may s (events_in r) mid
+    × FoundIn m s r
     × SerialRun may i (after_stores m (stores_among (acts_of (return_in r)))) mid rs m' after
 
 -- what the plain machine is told of it
@@ -83,5 +113,9 @@ turn_of r = record { exchange = r.exchange; notice = r.notice; calls = calls_in 
 -- a serial run by loads that one memory has is a kick of the plain machine over it
 abbrev pub SerialIsKick : {F : Type 0} → May F → Type 0
 SerialIsKick {F} may =
-    (s after : LiveState F) (rs : List Single) (m m' : Memory) (i : ℕ) (w : LiveQueue) → s.outs ≡ [] → slice_get s.queues i ≡ Some w → IsAtRest w → SerialRun may i m s rs m' after →
+    (s after : LiveState F) (rs : List Single) (m m' : Memory) (i : ℕ) (w : LiveQueue) →
+    s.outs ≡ [] →
+    slice_get s.queues i ≡ Some w →
+    IsAtRest w →
+    SerialRun may i m s rs m' after →
     KickRun may (plain s m) i (length rs) (map turn_of rs) None (plain after m')

@@ -1,8 +1,9 @@
 -- Drops and returns of chains in flight.
-use Rattle.std.proofs.Common.{arith, ◌≡◌, ℕ, ◌+◌, ◌-◌, ◌%◌, ◌^◌, ◌<◌, ◌==◌, ◌&&◌, ◌||◌, Bool, true, false, not, Some, None, refl, sym, ap, subst, ◌∙◌}
+use Rattle.std.proofs.Common.{arith, ◌≡◌, ℕ, ◌+◌, ◌-◌, ◌%◌, ◌^◌, ◌<◌, ◌==◌, ◌&&◌, ◌||◌, Bool, true, false, not, Some, None, refl, sym, ap}
+use Rattle.std.proofs.Common.{subst, ◌∙◌}
 use Rattle.std.specs.Prelude.{nat_lt, nat_le, if◌then◌else◌}
 use Rattle.std.proofs.lemmas.Bool.Decides.{nat_tests}
-use Rattle.fs_chain.specs.declared.error.ChainError.TheVariants.{ChainOut, OtherQueue, WrongOrder}
+use Rattle.fs_chain.specs.declared.error.ChainError.TheVariants.{ChainInFlight, OtherQueue, WrongOrder}
 use Rattle.fs_chain.specs.declared.queue.QueueState.{QueueState}
 use Rattle.fs_chain.specs.declared.state.InFlight.{InFlight}
 use Rattle.fs_chain.specs.declared.state.ChainState as state
@@ -18,7 +19,7 @@ some_out : (n : ℕ) (same laid : Bool) → (not (n == 0) && same && laid) ≡ t
 some_out n same laid is = grind (arith, nat_tests)
 
 out_of_queue : (q : QueueState) (out : InFlight) → is_out_of q out ≡ true → 0 < in_flight q
-out_of_queue q out is = some_out (in_flight q) (q.begun == out.ticket.begun) (is_laid_out q.layout out.course.layout) is
+out_of_queue q out is = some_out (in_flight q) (q.reset_count == out.pop_id.reset_count) (is_laid_out q.layout out.course.layout) is
 
 -- one less by a drop, and by a return
 one_dropped : (p r : ℕ) → p < 2 ^ 16 → r < 2 ^ 16 → 0 < (p + (2 ^ 16 - r)) % 2 ^ 16
@@ -40,14 +41,16 @@ both a b is so = rw (is, so) refl
 
 -- ---- a drop
 
-dropped_of : (out_of last : Bool) → (if not out_of then Some OtherQueue else if not last then Some WrongOrder else None) ≡ None → out_of ≡ true
+dropped_of :
+    (out_of last : Bool) → (if not out_of then Some OtherQueue else if not last then Some WrongOrder else None) ≡ None → out_of ≡ true
 dropped_of true last none = refl
 dropped_of false last none = cc
 
 pub drops : DropIsAnAct
 drops q out s counted ok is walker =
     let some = out_of_queue q out (dropped_of (is_out_of q out) (is_last q out) ok) in
-    let same : s.out - 1 ≡ in_flight (untook q) = ap (λ (n : ℕ). n - 1) is.1 ∙ one_dropped q.position q.returned counted.0 counted.1 some in (
+    let same : s.out - 1 ≡ in_flight (untook q) =
+    ap (λ (n : ℕ). n - 1) is.1 ∙ one_dropped q.next_avail q.next_used counted.0 counted.1 some in (
       both (walks s.holder) (nat_lt 0 s.out) (ap walks walker) (lt_of s.out (subst (λ (n : ℕ). 0 < n) (sym is.1) some)),
       (ap (λ (n : ℕ). (n + (2 ^ 16 - 1)) % 2 ^ 16) is.0, same),
     )
@@ -55,7 +58,7 @@ drops q out s counted ok is walker =
 -- ---- a return
 
 ended_of : (q : QueueState) (from : state.ChainState) → end_error from q ≡ None → 0 < in_flight q
-ended_of q (at.Returning out) ok = out_of_queue q out (ended (is_out_of q out) q.returning ok)
+ended_of q (at.Pushing out) ok = out_of_queue q out (ended (is_out_of q out) q.pushing ok)
   where
     ended : (out_of returning : Bool) → (if out_of && returning then None else Some OtherQueue) ≡ None → out_of ≡ true
     ended true returning none = refl
@@ -73,7 +76,8 @@ holds_lock s rest walker = rw walker refl
 pub ends_return : ReturnIsAnAct
 ends_return q from s counted ok is walker =
     let some = ended_of q from ok in
-    let same : s.out - 1 ≡ in_flight (gave q) = ap (λ (n : ℕ). n - 1) is.1 ∙ one_returned q.position q.returned counted.0 counted.1 some in (
+    let same : s.out - 1 ≡ in_flight (gave q) =
+    ap (λ (n : ℕ). n - 1) is.1 ∙ one_returned q.next_avail q.next_used counted.0 counted.1 some in (
       both (not (is_free s.holder) || (nat_lt 0 s.comers || false)) (nat_le 1 s.out) (holds_lock s (nat_lt 0 s.comers || false) walker)
           (le_of s.out (subst (λ (n : ℕ). 0 < n) (sym is.1) some)),
       (is.0, same),
@@ -81,10 +85,10 @@ ends_return q from s counted ok is walker =
 
 -- ---- as many as may be
 
-full_of : (n most : ℕ) → (if not (nat_lt n most) then Some ChainOut else None) ≡ Some ChainOut → nat_le most n ≡ true
+full_of : (n most : ℕ) → (if not (nat_lt n most) then Some ChainInFlight else None) ≡ Some ChainInFlight → nat_le most n ≡ true
 full_of n most is = by_test (nat_lt n most) refl is
   where
-    by_test : (b : Bool) → nat_lt n most ≡ b → (if not b then Some ChainOut else None) ≡ Some ChainOut → nat_le most n ≡ true
+    by_test : (b : Bool) → nat_lt n most ≡ b → (if not b then Some ChainInFlight else None) ≡ Some ChainInFlight → nat_le most n ≡ true
     by_test true e is = cc
     by_test false e is = grind (arith, nat_tests)
 

@@ -1,5 +1,6 @@
 -- Returns, as the giver's steps.
-use Rattle.std.proofs.Common.{◌≡◌, ℕ, ◌+◌, ◌^◌, ◌<◌, ◌==◌, ◌||◌, Bool, true, false, not, List, [], ◌∷◌, refl, sym, ap, ◌∙◌, if◌then◌else◌, arith, ◌≤◌, ◌&&◌, subst}
+use Rattle.std.proofs.Common.{◌≡◌, ℕ, ◌+◌, ◌^◌, ◌<◌, ◌==◌, ◌||◌, Bool, true, false, not, List, [], ◌∷◌, refl, sym, ap, ◌∙◌, if◌then◌else◌}
+use Rattle.std.proofs.Common.{arith, ◌≤◌, ◌&&◌, subst}
 use Rattle.std.specs.Int.{w16, w32, to_le_bytes, from_le_bytes}
 use Rattle.std.proofs.lemmas.Bool.Decides.{nat_tests}
 use Rattle.std.specs.Prelude.{nat_le, nat_lt}
@@ -15,14 +16,15 @@ use Rattle.fs_notify.specs.Takers.{SaysWish}
 pub publishes : PublishesByStore
 publishes q out reply s u by at =
     let Q = at_return q out in
-    let next : moved u.published 1 ≡ moved q.returned 1 = ap (λ (n : ℕ). moved n 1) at in (
+    let next : moved u.published 1 ≡ moved q.next_used 1 = ap (λ (n : ℕ). moved n 1) at in (
       record { address = element_at Q; bytes = to_le_bytes w32 out.head }
           ∷ record { address = element_at Q + 4; bytes = to_le_bytes w32 (reply_len out reply) } ∷ [],
       rw next by.1,
       sym next,
     )
 
-seen_by : (b : Bool) (event returned : ℕ) (muted : Bool) (seen : List ℕ) → returned < 2 ^ 16 → from_le_bytes w16 seen < 2 ^ 16 → SaysWish b seen event muted
+seen_by : (b : Bool) (event returned : ℕ) (muted : Bool) (seen : List ℕ) → returned < 2 ^ 16 → from_le_bytes w16 seen < 2 ^ 16
+    → SaysWish b seen event muted
     → must b event muted (moved returned 1) 1 ≡ (if b then from_le_bytes w16 seen == returned else tells seen)
 seen_by true event returned muted seen fr fs says =
     ap (λ (n : ℕ). must true n muted (moved returned 1) 1) (sym says) ∙ of_one_chain (from_le_bytes w16 seen) returned true muted fs fr
@@ -30,9 +32,9 @@ seen_by false event returned muted seen fr fs says = ap not (sym says)
 
 pub checks : ChecksBySeen
 checks q seen u fr fs at one says =
-    let e : must q.event_index u.event u.muted u.published u.unchecked ≡ must q.event_index u.event u.muted (moved q.returned 1) 1 =
+    let e : must q.event_index u.event u.muted u.published u.unchecked ≡ must q.event_index u.event u.muted (moved q.next_used 1) 1 =
     rw (at, one) refl in
-    ap (λ (b : Bool). u.owes || b) (e ∙ seen_by q.event_index u.event q.returned u.muted seen fr fs says)
+    ap (λ (b : Bool). u.owes || b) (e ∙ seen_by q.event_index u.event q.next_used u.muted seen fr fs says)
 
 pub machine : MachineChecks
 machine m q event = (refl, refl)
@@ -54,10 +56,15 @@ few n none = grind (arith, nat_tests, none)
 pub order : ReturnsInOrder
 order q u fits at same none room =
     let small : u.published < 2 ^ 16 = subst (λ (n : ℕ). n < 2 ^ 16) (sym at) fits in
-    let one : ahead (moved u.published 1) u.index ≡ 1 = ap (λ (n : ℕ). ahead (moved u.published 1) n) same ∙ waits u.published 1 small (omega arith) in (
+    let one : ahead (moved u.published 1) u.index ≡ 1 =
+    ap (λ (n : ℕ). ahead (moved u.published 1) n) same ∙ waits u.published 1 small (omega arith) in (
       (
-        both (nat_le (ahead u.published u.position + 1) q.layout.size) (nat_lt (u.unchecked + 1) (2 ^ 16)) (le_test _ _ room) (few u.unchecked none),
-        (le_test 1 (ahead (moved u.published 1) u.index) (omega (arith, one)), (eq_test (moved u.index 1) (moved u.published 1) (ap (λ (n : ℕ). moved n 1) same), refl)),
+        both (nat_le (ahead u.published u.position + 1) q.layout.size) (nat_lt (u.unchecked + 1) (2 ^ 16)) (le_test _ _ room)
+            (few u.unchecked none),
+        (
+          le_test 1 (ahead (moved u.published 1) u.index) (omega (arith, one)),
+          (eq_test (moved u.index 1) (moved u.published 1) (ap (λ (n : ℕ). moved n 1) same), refl),
+        ),
       ),
       ap (λ (n : ℕ). moved n 1) at,
     )

@@ -1,5 +1,6 @@
 -- Whole walks: by which index they take a chain, and by which they find none.
-use Rattle.std.proofs.Common.{arith, ◌≡◌, ℕ, ◌+◌, ◌-◌, ◌%◌, ◌^◌, ◌<◌, ◌==◌, ◌&&◌, ◌||◌, Bool, true, false, not, List, [], ◌∷◌, ◌++◌, length, replicate, Option, Some, None, IsTrue, refl, sym, ap, subst, ◌∙◌, if◌then◌else◌}
+use Rattle.std.proofs.Common.{arith, ◌≡◌, ℕ, ◌+◌, ◌-◌, ◌%◌, ◌^◌, ◌<◌, ◌==◌, ◌&&◌, ◌||◌, Bool, true, false, not, List, [], ◌∷◌, ◌++◌, length}
+use Rattle.std.proofs.Common.{replicate, Option, Some, None, IsTrue, refl, sym, ap, subst, ◌∙◌, if◌then◌else◌}
 use Rattle.std.specs.Prelude.{is_some, nat_lt, nat_le, option_and_then, option_map}
 use Rattle.std.specs.Int.{w16, from_le_bytes}
 use Rattle.std.proofs.lemmas.Bool.{eqb-true}
@@ -9,7 +10,8 @@ use Rattle.std.proofs.lemmas.Nat.{mod_below}
 use Rattle.vm_iotlb.specs.declared.permissions.Permissions.TheVariants.{Read, Write}
 use Rattle.vm_memory.specs.Memory.{Memory, number, reach}
 use Rattle.fs_queue.specs.declared.layout.QueueLayout.{QueueLayout}
-use Rattle.fs_queue.specs.declared.fault.QueueError.TheVariants.{AvailFlagsUnreachable, AvailIndexUnreachable, RingEntryUnreachable, HeadOutOfTable, UsedUnreachable}
+use Rattle.fs_queue.specs.declared.fault.QueueError.TheVariants.{AvailFlagsUnreachable, AvailIndexUnreachable, RingEntryUnreachable}
+use Rattle.fs_queue.specs.declared.fault.QueueError.TheVariants.{HeadOutOfTable, UsedUnreachable}
 use Rattle.fs_queue.specs.Chain.{Found, IsChain, HasFault, StopsQueue}
 use Rattle.fs_queue.specs.Queue.{Queue as Ring, avail_index_at, element_at, index_at, ring_entry_at}
 use Rattle.fs_queue.specs.NextAvail.{NextAvail, Idle, Head, Refused, next_avail}
@@ -25,7 +27,7 @@ use Rattle.fs_regions.specs.declared.step.CourseStep as comes
 use Rattle.fs_regions.specs.declared.step.CourseStep.TheVariants as step
 use Rattle.fs_regions.specs.Places.{places_in}
 use Rattle.fs_regions.specs.Walks.{Loaded, IsCourseStep, OffersBy, queue_of}
-use Rattle.fs_chain.specs.declared.error.ChainError.TheVariants.{BadArgument, ChainOut}
+use Rattle.fs_chain.specs.declared.error.ChainError.TheVariants.{BadArgument, ChainInFlight}
 use Rattle.fs_chain.specs.declared.loads.LoadOutcome as went
 use Rattle.fs_chain.specs.declared.loads.LoadOutcome.TheVariants as wents
 use Rattle.fs_chain.specs.declared.queue.QueueState.{QueueState}
@@ -81,11 +83,13 @@ by_found m limit h head bs (IsChain ds) = by_fetch h head _
 by_found m limit h head bs (HasFault fault) = by_fetch h head _
 by_found m limit h head bs StopsQueue = on_request (IsBy (Head h)) bs _ tt
 
-by_chain : (m : Memory) (limit h head : ℕ) (bs : List ℕ) (f : Option Found) → Says (IsBy (Head h)) (option_and_then (λ f. with_loaded bs (offer_of m limit head f)) f)
+by_chain : (m : Memory) (limit h head : ℕ) (bs : List ℕ) (f : Option Found) →
+    Says (IsBy (Head h)) (option_and_then (λ f. with_loaded bs (offer_of m limit head f)) f)
 by_chain m limit h head bs None = tt
 by_chain m limit h head bs (Some f) = by_found m limit h head bs f
 
-by_tests : (h : ℕ) (ls : List Load) (bs : List ℕ) (a b : Bool) (one two : Offer) (x : Option Offer) → IsBy (Head h) one → IsBy (Head h) two → Says (IsBy (Head h)) x
+by_tests : (h : ℕ) (ls : List Load) (bs : List ℕ) (a b : Bool) (one two : Offer) (x : Option Offer) → IsBy (Head h) one → IsBy (Head h) two
+    → Says (IsBy (Head h)) x
     → Says (IsBy (Head h)) (if a then without_chain ls bs one else if b then without_chain ls bs two else x)
 by_tests h ls bs true b one two x p q says = on_chain (IsBy (Head h)) ls bs one p
 by_tests h ls bs false true one two x p q says = on_chain (IsBy (Head h)) ls bs two q
@@ -94,10 +98,13 @@ by_tests h ls bs false false one two x p q says = says
 by_next : (m : Memory) (limit : ℕ) (q : Ring) (ls : List Load) (bs : List ℕ) (w : NextAvail) → Says (IsBy w) (on_waits m limit q ls bs w)
 by_next m limit q ls bs Idle = on_chain (IsBy Idle) ls bs taking.Idle refl
 by_next m limit q ls bs (Refused e) = on_chain (IsBy (Refused e)) ls bs (taking.Refuses e) tt
-by_next m limit q ls bs (Head head) = by_tests head ls bs (not (reach m Write (element_at q) 8 && reach m Write (index_at q) 2)) (not (reach m Read q.avail 2))
-    (taking.Refuses UsedUnreachable) (taking.Refuses AvailFlagsUnreachable) _ tt tt (by_chain m limit head head bs (chain_exactly ls q head))
+by_next m limit q ls bs (Head head) =
+    by_tests head ls bs (not (reach m Write (element_at q) 8 && reach m Write (index_at q) 2)) (not (reach m Read q.avail 2))
+    (taking.Refuses UsedUnreachable) (taking.Refuses AvailFlagsUnreachable) _ tt tt
+    (by_chain m limit head head bs (chain_exactly ls q head))
 
-by_waits : (m : Memory) (limit : ℕ) (q : Ring) (ls : List Load) (bs : List ℕ) (x : Option NextAvail) (o : Offer) → option_and_then (on_waits m limit q ls bs) x ≡ Some o
+by_waits : (m : Memory) (limit : ℕ) (q : Ring) (ls : List Load) (bs : List ℕ) (x : Option NextAvail) (o : Offer)
+    → option_and_then (on_waits m limit q ls bs) x ≡ Some o
     → (w : NextAvail) × (x ≡ Some w) × IsBy w o
 by_waits m limit q ls bs None o is = cc
 by_waits m limit q ls bs (Some w) o is = (w, refl, says_is (IsBy w) (on_waits m limit q ls bs w) o is (by_next m limit q ls bs w))
@@ -113,8 +120,10 @@ WaitsBy (Refused e) n = Unit {0}
 some_ahead : (n : ℕ) → (n == 0) ≡ false → 0 < n
 some_ahead n is = grind (arith, nat_tests)
 
-ring_says : (n : ℕ) (z far whole : Bool) (entry : Option (List ℕ)) (both w : NextAvail) → (n == 0) ≡ z → (whole ≡ true → z ≡ false → far ≡ false → both ≡ Idle → ⊥)
-    → (if not (asks_entry (pick true z far (Refused RingEntryUnreachable))) then without_entry entry (pick true z far (Refused RingEntryUnreachable))
+ring_says : (n : ℕ) (z far whole : Bool) (entry : Option (List ℕ)) (both w : NextAvail) → (n == 0) ≡ z
+    → (whole ≡ true → z ≡ false → far ≡ false → both ≡ Idle → ⊥)
+    → (if not (asks_entry (pick true z far (Refused RingEntryUnreachable)))
+    then without_entry entry (pick true z far (Refused RingEntryUnreachable))
     else if not whole then None else Some both) ≡ Some w → WaitsBy w n
 ring_says n true far whole entry both Idle is never e = eqb-true n 0 is
 ring_says n true far whole None both (Head h) is never e = cc
@@ -126,7 +135,8 @@ ring_says n false false false entry both Idle is never e = cc
 ring_says n false false true entry both Idle is never e = absurd (never refl refl refl (cc))
 ring_says n z far whole entry both (Refused e) is never h = tt
 
-entry_idle : (c far : Bool) (n : ℕ) → (if not c then Refused RingEntryUnreachable else if far then Refused HeadOutOfTable else Head n) ≡ Idle → ⊥
+entry_idle :
+    (c far : Bool) (n : ℕ) → (if not c then Refused RingEntryUnreachable else if far then Refused HeadOutOfTable else Head n) ≡ Idle → ⊥
 entry_idle false far n is = cc
 entry_idle true true n is = cc
 entry_idle true false n is = cc
@@ -138,7 +148,8 @@ pair_of a (Some bs) fits whole = (eqb-true (length bs) 2 whole, fits)
 none_some : (w : NextAvail) → None ≡ Some w → ⊥
 none_some w is = cc
 
-waits_some : (q : Ring) (bs : List ℕ) (entry : Option (List ℕ)) (w : NextAvail) (whole : Bool) → (length bs == 2) ≡ whole → avail_index_at q + 2 < 2 ^ 64 → ring_entry_at q + 2 < 2 ^ 64
+waits_some : (q : Ring) (bs : List ℕ) (entry : Option (List ℕ)) (w : NextAvail) (whole : Bool) → (length bs == 2) ≡ whole
+    → avail_index_at q + 2 < 2 ^ 64 → ring_entry_at q + 2 < 2 ^ 64
     → waits_by q (Some bs) entry ≡ Some w → WaitsBy w (ahead (from_le_bytes w16 bs) q.position)
 waits_some q bs entry w false is index_fits entry_fits e =
     let unfolded : waits_by q (Some bs) entry ≡ None = rw is refl in
@@ -148,15 +159,18 @@ waits_some q bs entry w true is index_fits entry_fits e =
     let one = next_avail (holding (index_load q (Some bs) ∷ [])) q in
     let both = next_avail (holding (index_load q (Some bs) ∷ entry_load q entry ∷ [])) q in
     let len = eqb-true (length bs) 2 is in
-    let unfolded : waits_by q (Some bs) entry ≡ (if not (asks_entry one) then without_entry entry one else if not (is_whole 2 entry) then None else Some both) = rw is refl in
-    let tells : one ≡ pick true (n == 0) (nat_lt q.size n) (Refused RingEntryUnreachable) = index_tells q (Some bs) bs (from_le_bytes w16 bs) n refl len index_fits refl refl in
+    let unfolded : waits_by q (Some bs) entry
+    ≡ (if not (asks_entry one) then without_entry entry one else if not (is_whole 2 entry) then None else Some both) = rw is refl in
+    let tells : one ≡ pick true (n == 0) (nat_lt q.size n) (Refused RingEntryUnreachable) =
+    index_tells q (Some bs) bs (from_le_bytes w16 bs) n refl len index_fits refl refl in
     let never : is_whole 2 entry ≡ true → (n == 0) ≡ false → nat_lt q.size n ≡ false → both ≡ Idle → ⊥ = λ whole z far idle.
     let asked : asks_entry one ≡ true = rw (tells, z, far) refl in
     let says = entry_tells q bs entry len index_fits (pair_of (ring_entry_at q) entry entry_fits whole) asked in
     entry_idle (is_some entry) (nat_le q.size (number (holding (index_load q (Some bs) ∷ entry_load q entry ∷ [])) w16 (ring_entry_at q)))
     (number (holding (index_load q (Some bs) ∷ entry_load q entry ∷ [])) w16 (ring_entry_at q)) (sym says ∙ idle) in
     ring_says n (n == 0) (nat_lt q.size n) (is_whole 2 entry) entry both w refl never
-    (subst (λ (v : NextAvail). (if not (asks_entry v) then without_entry entry v else if not (is_whole 2 entry) then None else Some both) ≡ Some w) tells (sym unfolded ∙ e))
+    (subst (λ (v : NextAvail). (if not (asks_entry v) then without_entry entry v else if not (is_whole 2 entry) then None else Some both)
+    ≡ Some w) tells (sym unfolded ∙ e))
 
 -- ---- what is offered by the index
 
@@ -185,7 +199,8 @@ offers_at (Head k) (Offers head fetched) n by h = h
 offers_at (Refused e) (Offers head fetched) n by h = absurd by
 offers_at w (taking.Refuses e) n by h = tt
 
-lost_entry : (entry : Option (List ℕ)) (w : NextAvail) (o : Offer) → without_entry entry (Refused AvailIndexUnreachable) ≡ Some w → IsBy w o → IsNoRefusal o → ⊥
+lost_entry : (entry : Option (List ℕ)) (w : NextAvail) (o : Offer) → without_entry entry (Refused AvailIndexUnreachable) ≡ Some w →
+    IsBy w o → IsNoRefusal o → ⊥
 lost_entry None (Refused e) taking.Idle is by offers = cc
 lost_entry None (Refused e) (Offers head fetched) is by offers = by
 lost_entry None Idle o is by offers = cc
@@ -197,16 +212,21 @@ lost_entry (Some bs) w o is by offers = none_some w is
 abbrev IndexSays : (index : Option (List ℕ)) → (position : ℕ) → Offer → Type 0
 IndexSays index position o = (bs : List ℕ) × (index ≡ Some bs) × OffersAt o (ahead (from_le_bytes w16 bs) position)
 
-index_says : (l : QueueLayout) (position : ℕ) (index entry : Option (List ℕ)) (w : NextAvail) (o : Offer) → waits_by (at_position l position) index entry ≡ Some w → IsBy w o → IsNoRefusal o
+index_says : (l : QueueLayout) (position : ℕ) (index entry : Option (List ℕ)) (w : NextAvail) (o : Offer)
+    → waits_by (at_position l position) index entry ≡ Some w → IsBy w o → IsNoRefusal o
     → IndexSays index position o
 index_says l position None entry w o is by offers =
     let q = at_position l position in
     let unfolded : waits_by q None entry ≡ without_entry entry (Refused AvailIndexUnreachable) = rw (index_lost q None refl) refl in
     absurd (lost_entry entry w o (sym unfolded ∙ is) by offers)
-index_says l position (Some bs) entry w o is by offers =
-    (bs, refl, offers_at w o _ by (waits_some (at_position l position) bs entry w (length bs == 2) refl (begins l position) (ends l position) is))
+index_says l position (Some bs) entry w o is by offers = (
+  bs,
+  refl,
+  offers_at w o _ by (waits_some (at_position l position) bs entry w (length bs == 2) refl (begins l position) (ends l position) is),
+)
 
-offer_says : (m : Memory) (limit : ℕ) (l : QueueLayout) (position : ℕ) (loaded : Loaded) (request : List ℕ) (o : Offer) → OffersBy m limit (at_position l position) loaded request o → IsNoRefusal o
+offer_says : (m : Memory) (limit : ℕ) (l : QueueLayout) (position : ℕ) (loaded : Loaded) (request : List ℕ) (o : Offer)
+    → OffersBy m limit (at_position l position) loaded request o → IsNoRefusal o
     → IndexSays loaded.index position o
 offer_says m limit l position loaded request o by offers =
     let q = at_position l position in
@@ -215,20 +235,24 @@ offer_says m limit l position loaded request o by offers =
 
 -- ---- a walk
 
-may_of : (b c : Bool) → (if not b then Some BadArgument else if not c then Some ChainOut else None) ≡ None → c ≡ true
+may_of : (b c : Bool) → (if not b then Some BadArgument else if not c then Some ChainInFlight else None) ≡ None → c ≡ true
 may_of false c none = cc
 may_of true false none = cc
 may_of true true none = refl
 
-first_may : (old new : ChainHandle) (before after : QueueState) (told : went.LoadOutcome) → BeginsPopBy old new before after told → may_take before ≡ true
+first_may : (old new : ChainHandle) (before after : QueueState) (told : went.LoadOutcome) → BeginsPopBy old new before after told →
+    may_take before ≡ true
 first_may old new before after wents.Part by =
-    let none : begin_error before (load_len old.state) ≡ None = subst (λ (s : state.ChainState). walk_error s before (load_len old.state) ≡ None) by.0 by.1.2 in
+    let none : begin_error before (load_len old.state) ≡ None =
+    subst (λ (s : state.ChainState). walk_error s before (load_len old.state) ≡ None) by.0 by.1.2 in
     may_of (load_len old.state == 0) (may_take before) none
 first_may old new before after (wents.On told) by =
-    let none : begin_error before (length (whole old [])) ≡ None = subst (λ (s : state.ChainState). walk_error s before (length (whole old [])) ≡ None) by.0 by.1.3 in
+    let none : begin_error before (length (whole old [])) ≡ None =
+    subst (λ (s : state.ChainState). walk_error s before (length (whole old [])) ≡ None) by.0 by.1.3 in
     may_of (length (whole old []) == 0) (may_take before) none
 
-walk_may : (given : List (List ℕ)) (old new : ChainHandle) (before after : QueueState) (told : went.LoadOutcome) → WalksBy given old new before after told → may_take before ≡ true
+walk_may : (given : List (List ℕ)) (old new : ChainHandle) (before after : QueueState) (told : went.LoadOutcome) →
+    WalksBy given old new before after told → may_take before ≡ true
 walk_may [] old new before after told by = first_may old new before after told by
 walk_may (bs ∷ given) old new before after told by = walk_may given old by.0 before by.1 by.2 by.3
 
@@ -245,27 +269,31 @@ lt_of : (n : ℕ) → 0 < n → nat_lt 0 n ≡ true
 lt_of n some = grind (arith, nat_tests)
 
 -- the act of taking, where so many are ahead
-takes_so : (q after : QueueState) (s : ThreadedQueue) (index : ℕ) → IsCounted q → may_take q ≡ true → 0 < ahead index q.position → after ≡ took q → IsOf q s → s.holder ≡ Walker → s.known ≡ index
+takes_so : (q after : QueueState) (s : ThreadedQueue) (index : ℕ) → IsCounted q → may_take q ≡ true → 0 < ahead index q.next_avail
+    → after ≡ took q → IsOf q s → s.holder ≡ Walker → s.known ≡ index
     → IsTrue (may_act (ways_of q) s TakesOne) × IsOf after (after_act (ways_of q) s TakesOne)
 takes_so q after s index counted may some gone is walker known =
-    let ahead_is : ahead s.known s.position ≡ ahead index q.position = rw (known, is.0) refl in
+    let ahead_is : ahead s.known s.position ≡ ahead index q.next_avail = rw (known, is.0) refl in
     let there : IsOf (took q) (after_act (ways_of q) s TakesOne) = (
       ap (λ (n : ℕ). (n + 1) % 2 ^ 16) is.0,
-      ap (λ (n : ℕ). n + 1) is.1 ∙ one_taken q.position q.returned q.max_in_flight counted.0 counted.1 counted.2 may,
+      ap (λ (n : ℕ). n + 1) is.1 ∙ one_taken q.next_avail q.next_used q.max_in_flight counted.0 counted.1 counted.2 may,
     ) in (
       three (walks s.holder) (nat_lt s.out q.max_in_flight) (nat_lt 0 (ahead s.known s.position)) (ap walks walker) (rw is.1 may)
           (lt_of (ahead s.known s.position) (subst (λ (n : ℕ). 0 < n) (sym ahead_is) some)),
       subst (λ (k : QueueState). IsOf k (after_act (ways_of q) s TakesOne)) (sym gone) there,
     )
 
-abbrev TakesSo : (given : List (List ℕ)) (old new : ChainHandle) (before after : QueueState) (told : walked.PopOutcome) (s : ThreadedQueue) → WalksBy given old new before after (wents.On told) → Type 0
+abbrev TakesSo : (given : List (List ℕ)) (old new : ChainHandle) (before after : QueueState) (told : walked.PopOutcome)
+    (s : ThreadedQueue) → WalksBy given old new before after (wents.On told) → Type 0
 TakesSo given old new before after told s walks =
     (loaded : Loaded) × LoadsOf given old new before after (wents.On told) walks loaded × (index : ℕ) × IsIndex loaded index
     × (s.known ≡ index → IsTrue (may_act (ways_of before) s TakesOne) × IsOf after (after_act (ways_of before) s TakesOne))
 
 -- by what was offered
-takes_by : (given : List (List ℕ)) (old new : ChainHandle) (before after : QueueState) (told : walked.PopOutcome) (s : ThreadedQueue) (walks : WalksBy given old new before after (wents.On told)) (loaded : Loaded)
-    (head : ℕ) (fetched : RequestAndRoom) → LoadsOf given old new before after (wents.On told) walks loaded → IndexSays loaded.index before.position (Offers head fetched)
+takes_by : (given : List (List ℕ)) (old new : ChainHandle) (before after : QueueState) (told : walked.PopOutcome) (s : ThreadedQueue)
+    (walks : WalksBy given old new before after (wents.On told)) (loaded : Loaded)
+    (head : ℕ) (fetched : RequestAndRoom) → LoadsOf given old new before after (wents.On told) walks loaded
+    → IndexSays loaded.index before.next_avail (Offers head fetched)
     → IsCounted before → after ≡ took before → IsOf before s → s.holder ≡ Walker → TakesSo given old new before after told s walks
 takes_by given old new before after told s walks loaded head fetched loads says counted gone is walker = (
   loaded,
@@ -273,7 +301,8 @@ takes_by given old new before after told s walks loaded head fetched loads says 
   from_le_bytes w16 says.0,
   (says.0, says.1, refl),
   λ known.
-      takes_so before after s (from_le_bytes w16 says.0) counted (walk_may given old new before after (wents.On told) walks) says.2 gone is walker known,
+      takes_so before after s (from_le_bytes w16 says.0) counted (walk_may given old new before after (wents.On told) walks) says.2 gone is
+      walker known,
 )
 
 pub takes : TakesByWalk
@@ -286,22 +315,26 @@ takes given old new before after (says.Chain head request_len room_len) s counte
     let all = walk_comes given old new before after (says.Chain head request_len room_len) goes tt walks in
     let came = (came_is new.descriptors.items all.2.0 head request_len room_len all.2.1.0).0 in
     let ds = new.descriptors.items in
-    let found : IsCourseStep m old.limit q all.0 ds (step.Chain head None) = subst (λ (c : comes.CourseStep). IsCourseStep m old.limit q all.0 ds c) came all.2.2 in
+    let found : IsCourseStep m old.limit q all.0 ds (step.Chain head None) =
+    subst (λ (c : comes.CourseStep). IsCourseStep m old.limit q all.0 ds c) came all.2.2 in
     let n = total_len (readable ds) in
     let by = found.1 (replicate n 0) (length-replicate n 0) in
     let gone : after ≡ took before = all.2.1.2 ∙ ap (queue_after before) came in
-    takes_by given old new before after (says.Chain head request_len room_len) s walks all.0 head (IsRequest (replicate n 0) (addresses_of (writable ds))) all.1
-    (offer_says m old.limit before.layout before.position all.0 (replicate n 0) (Offers head (IsRequest (replicate n 0) (addresses_of (writable ds)))) by tt) counted gone is walker
+    takes_by given old new before after (says.Chain head request_len room_len) s walks all.0 head
+    (IsRequest (replicate n 0) (addresses_of (writable ds))) all.1
+    (offer_says m old.limit before.layout before.next_avail all.0 (replicate n 0)
+    (Offers head (IsRequest (replicate n 0) (addresses_of (writable ds)))) by tt) counted gone is walker
 takes given old new before after (says.Faulty head fault) s counted goes taken walks is walker =
     let m = places_in old.regions in
     let q = queue_of (course_of before old.limit) in
     let all = walk_comes given old new before after (says.Faulty head fault) goes tt walks in
     let came = faulty_is new.descriptors.items all.2.0 head fault all.2.1.0 in
     let ds = new.descriptors.items in
-    let found : IsCourseStep m old.limit q all.0 ds (step.Chain head (Some fault)) = subst (λ (c : comes.CourseStep). IsCourseStep m old.limit q all.0 ds c) came all.2.2 in
+    let found : IsCourseStep m old.limit q all.0 ds (step.Chain head (Some fault)) =
+    subst (λ (c : comes.CourseStep). IsCourseStep m old.limit q all.0 ds c) came all.2.2 in
     let gone : after ≡ took before = all.2.1.2 ∙ ap (queue_after before) came in
     takes_by given old new before after (says.Faulty head fault) s walks all.0 head (CannotFetch fault) all.1
-    (offer_says m old.limit before.layout before.position all.0 [] (Offers head (CannotFetch fault)) found tt) counted gone is walker
+    (offer_says m old.limit before.layout before.next_avail all.0 [] (Offers head (CannotFetch fault)) found tt) counted gone is walker
 
 -- ---- none is found
 
@@ -322,7 +355,8 @@ same_index i p is = grind (arith, nat_tests, is)
 or_left : (a b : Bool) → a ≡ true → (a || b) ≡ true
 or_left a b is = rw is refl
 
-sleeps_so : (q : QueueState) (s : ThreadedQueue) → s.index ≡ s.position → IsOf q s → s.holder ≡ Asker → s.hidden ≡ false → IsTrue (may_act (ways_of q) s SleepsNow)
+sleeps_so : (q : QueueState) (s : ThreadedQueue) → s.index ≡ s.position → IsOf q s → s.holder ≡ Asker → s.hidden ≡ false →
+    IsTrue (may_act (ways_of q) s SleepsNow)
 sleeps_so q s none is asker shown =
     three (asks s.holder) (not s.hidden) (s.index == s.position || nat_le q.max_in_flight s.out) (ap asks asker) (ap not shown)
     (or_left (s.index == s.position) (nat_le q.max_in_flight s.out) (same_index s.index s.position none))
@@ -334,22 +368,29 @@ finds_none given old new before after s counted fits goes walks is asker shown =
     let all = walk_comes given old new before after says.Idle goes tt walks in
     let came = idle_is new.descriptors.items all.2.0 all.2.1.0 in
     let ds = new.descriptors.items in
-    let found : IsCourseStep m old.limit q all.0 ds step.Idle = subst (λ (c : comes.CourseStep). IsCourseStep m old.limit q all.0 ds c) came all.2.2 in
+    let found : IsCourseStep m old.limit q all.0 ds step.Idle =
+    subst (λ (c : comes.CourseStep). IsCourseStep m old.limit q all.0 ds c) came all.2.2 in
     let gone : after ≡ before = all.2.1.2 ∙ ap (queue_after before) came in
-    let says = offer_says m old.limit before.layout before.position all.0 [] taking.Idle found tt in
+    let says = offer_says m old.limit before.layout before.next_avail all.0 [] taking.Idle found tt in
     let index = from_le_bytes w16 says.0 in (
       all.0,
       all.1,
       index,
       (says.0, says.1, refl),
       λ same.
-          let none : s.index ≡ before.position = ahead_zero s.index before.position fits counted.0 (ap (λ (i : ℕ). ahead i before.position) same ∙ says.2) in
-          (sleeps_so before s (none ∙ sym is.0) is asker shown, subst (λ (k : QueueState). IsOf k (after_act (ways_of before) s SleepsNow)) (sym gone) is),
+          let none : s.index ≡ before.next_avail =
+          ahead_zero s.index before.next_avail fits counted.0 (ap (λ (i : ℕ). ahead i before.next_avail) same ∙ says.2) in (
+            sleeps_so before s (none ∙ sym is.0) is asker shown,
+            subst (λ (k : QueueState). IsOf k (after_act (ways_of before) s SleepsNow)) (sym gone) is,
+          ),
     )
 
 pub sleeps : SleepsInOrder
 sleeps q s is walker none = (
-  (ap walks walker, (refl, (or_left (s.index == s.position) (nat_le q.max_in_flight s.out) (same_index s.index s.position (none ∙ sym is.0)), refl))),
+  (
+    ap walks walker,
+    (refl, (or_left (s.index == s.position) (nat_le q.max_in_flight s.out) (same_index s.index s.position (none ∙ sym is.0)), refl)),
+  ),
   is,
   refl,
 )

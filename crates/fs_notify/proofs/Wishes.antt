@@ -22,12 +22,12 @@ AsksSo q s =
 
 asks_so : (q : QueueState) (s : ThreadedQueue) (b : Bool) → q.event_index ≡ b → IsCounted q → IsOf q s → s.holder ≡ Walker → AsksSo q s
 asks_so q s true e counted is walker = (
-  record { address = avail_event_at q.layout; bytes = to_le_bytes w16 q.position },
+  record { address = avail_event_at q.layout; bytes = to_le_bytes w16 q.next_avail },
   rw e refl,
   rw e refl,
   ap walks walker,
   refl,
-  rw e (from_le_bytes-to_le_bytes_2 q.position counted.0 ∙ sym is.0),
+  rw e (from_le_bytes-to_le_bytes_2 q.next_avail counted.0 ∙ sym is.0),
   is,
 )
 asks_so q s false e counted is walker = (

@@ -29,21 +29,21 @@ abbrev pub PublishesByStore : Type 0
 PublishesByStore =
     (q : QueueState) (out : InFlight) (reply : ChainReply) (s : PushStores) (u : NotifyState)
     → PushesBy q out reply s
-    → u.published ≡ q.returned
+    → u.published ≡ q.next_used
     → let published = (after (rules_of q) u (Publishes 1)).published in
     (first : List Store)
     × (stores_of s.used
     ≡ first ++ record { address = index_at (at_return q out); bytes = to_le_bytes w16 published } ∷ [])
-    × ((gave q).returned ≡ published)
+    × ((gave q).next_used ≡ published)
 
 -- of the two bytes that are loaded behind a barrier, a return tells what the model's giver checks: whether it
 -- must notify of the one chain that it published
 abbrev pub ChecksBySeen : Type 0
 ChecksBySeen =
     (q : QueueState) (seen : List ℕ) (u : NotifyState)
-    → q.returned < 2 ^ 16
+    → q.next_used < 2 ^ 16
     → from_le_bytes w16 seen < 2 ^ 16
-    → u.published ≡ (gave q).returned
+    → u.published ≡ (gave q).next_used
     → u.unchecked ≡ 1
     → SaysWish q.event_index seen u.event u.muted
     → (after (rules_of q) u Checks).owes ≡ (u.owes || tells_of q seen)
@@ -53,14 +53,14 @@ ChecksBySeen =
 abbrev pub ReturnsInOrder : Type 0
 ReturnsInOrder =
     (q : QueueState) (u : NotifyState)
-    → q.returned < 2 ^ 16
-    → u.published ≡ q.returned
+    → q.next_used < 2 ^ 16
+    → u.published ≡ q.next_used
     → u.index ≡ u.published
     → u.unchecked ≡ 0
     → ahead u.published u.position + 1 ≤ q.layout.size
     → let rules = rules_of q in
     let end = after rules (after rules (after rules u (Publishes 1)) (IndexArrives 1)) Checks in
-    Runs rules u (Publishes 1 ∷ IndexArrives 1 ∷ Checks ∷ []) end × (end.published ≡ (gave q).returned)
+    Runs rules u (Publishes 1 ∷ IndexArrives 1 ∷ Checks ∷ []) end × (end.published ≡ (gave q).next_used)
 
 -- the plain machine has no event index: so it publishes and checks by the available ring's flags
 abbrev pub MachineChecks : Type 0

@@ -9,7 +9,7 @@ use Rattle.std.specs.Int.{w16, from_le_bytes}
 use Rattle.fs_queue.specs.Queue.{has_bit}
 use Rattle.fs_queue.specs.Returning.{Store}
 use Rattle.fs_regions.specs.Walks.{Loaded}
-use Rattle.fs_chain.specs.declared.error.ChainError.TheVariants.{ChainOut}
+use Rattle.fs_chain.specs.declared.error.ChainError.TheVariants.{ChainInFlight}
 use Rattle.fs_chain.specs.declared.loads.LoadOutcome.TheVariants as wents
 use Rattle.fs_chain.specs.declared.queue.QueueState.{QueueState}
 use Rattle.fs_chain.specs.declared.state.ChainState as state
@@ -22,7 +22,8 @@ use Rattle.fs_chain.specs.Events.{avail_event_at, notification_store}
 use Rattle.fs_chain.specs.Orders.{begin_error, end_error, give_up_error}
 use Rattle.fs_chain.specs.Queues.{gave, in_flight, untook}
 use Rattle.fs_chain.specs.Whole.{LoadsOf, WalksBy}
-use Rattle.notify.specs.Threads.{Ways, right_ways, ThreadedQueue, Walker, Asker, Nobody, may_act, after_act, ActsOver}
+use Rattle.notify.specs.Threads.{Ways, right_ways, ThreadedQueue, Walker, Asker, Nobody, may_act, after_act}
+use Rattle.notify.specs.Threads.{ActsOver}
 use Rattle.notify.specs.Threads.{Wishes, WishIsThere, Silences, TakesOne, DropsOne, SleepsNow, Returns}
 
 -- the ways that a queue's threads keep
@@ -31,11 +32,11 @@ ways_of q = right_ways q.layout.size q.max_in_flight q.event_index
 
 -- the numbers of a queue are u16
 abbrev pub IsCounted : QueueState → Type 0
-IsCounted q = (q.position < 2 ^ 16) × (q.returned < 2 ^ 16) × (q.max_in_flight < 2 ^ 16)
+IsCounted q = (q.next_avail < 2 ^ 16) × (q.next_used < 2 ^ 16) × (q.max_in_flight < 2 ^ 16)
 
 -- the model's queue takes where this one does, and has as many chains in flight
 abbrev pub IsOf : QueueState → ThreadedQueue → Type 0
-IsOf q s = (s.position ≡ q.position) × (s.out ≡ in_flight q)
+IsOf q s = (s.position ≡ q.next_avail) × (s.out ≡ in_flight q)
 
 -- ---- the wish
 
@@ -78,7 +79,8 @@ MutesByStore =
     (q : QueueState) (s : ThreadedQueue)
     → IsOf q s
     → s.holder ≡ Walker
-    → MutesBy q.event_index q s (notification_store q false) × IsTrue (may_act (ways_of q) s (Silences s.event))
+    → MutesBy q.event_index q s (notification_store q false)
+    × IsTrue (may_act (ways_of q) s (Silences s.event))
 
 -- ---- the walk
 
@@ -134,7 +136,7 @@ FindsNoneByWalk =
 abbrev pub FullIsAnAct : Type 0
 FullIsAnAct =
     (q : QueueState) (s : ThreadedQueue)
-    → begin_error q 0 ≡ Some ChainOut
+    → begin_error q 0 ≡ Some ChainInFlight
     → IsOf q s
     → s.holder ≡ Asker
     → s.hidden ≡ false
@@ -146,7 +148,7 @@ SleepsInOrder =
     (q : QueueState) (s : ThreadedQueue)
     → IsOf q s
     → s.holder ≡ Walker
-    → s.index ≡ q.position
+    → s.index ≡ q.next_avail
     → let ways = ways_of q in
     let end = after_act ways (after_act ways (after_act ways s Wishes) WishIsThere) SleepsNow in
     ActsOver ways s (Wishes ∷ WishIsThere ∷ SleepsNow ∷ []) end × IsOf q end × (end.holder ≡ Nobody)

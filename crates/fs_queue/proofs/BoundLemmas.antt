@@ -1,12 +1,14 @@
 -- No walk is cut short: it ends by itself within size + 2 steps.
-use Rattle.std.proofs.Common.{◌≡◌, ℕ, zero, suc, ◌+◌, ◌-◌, ◌*◌, ◌%◌, ◌<◌, ◌≤◌, Bool, true, false, cond, not, eqb, ◌∷◌, Option, Some, None, refl, ap, sym, ◌∙◌, arith}
+use Rattle.std.proofs.Common.{◌≡◌, ℕ, zero, suc, ◌+◌, ◌-◌, ◌*◌, ◌%◌, ◌<◌, ◌≤◌, Bool, true, false, cond, not, eqb, ◌∷◌, Option, Some, None}
+use Rattle.std.proofs.Common.{refl, ap, sym, ◌∙◌, arith}
 use Rattle.std.specs.Prelude.{◌==◌, ◌||◌, nat_le}
 use Rattle.std.proofs.lemmas.Bool.{eqb-false}
 use Rattle.vm_iotlb.specs.declared.permissions.Permissions.TheVariants.{Read}
 use Rattle.vm_memory.specs.Memory.{Memory, reach}
 use Rattle.fs_queue.specs.declared.fault.ChainFault.{ChainFault}
 use Rattle.fs_queue.specs.Queue.{Queue}
-use Rattle.fs_queue.specs.Chain.{Descriptor, DescriptorTable, Visit, WalkStep, Ordinary, Table, Faulty, Stops, descriptor_at, has_next, walk_step, walk_step_at}
+use Rattle.fs_queue.specs.Chain.{Descriptor, DescriptorTable, Visit, WalkStep, Ordinary, Table, Faulty, Stops, descriptor_at, has_next}
+use Rattle.fs_queue.specs.Chain.{walk_step, walk_step_at}
 use Rattle.fs_queue.specs.Chain.{indirect_step, ordinary_step, is_indirect, ends_in_64_bits, next_visit, onward, path, first_visit, walk}
 use Rattle.fs_queue.proofs.WalkLemmas.{tables_left}
 
@@ -43,17 +45,20 @@ names_table size v t h e = (h, e)
 
 allowed_ordinary : (size : ℕ) (v : Visit) (d : Descriptor) → Allows size v (ordinary_step size v d)
 allowed_ordinary size v d =
-    either (Allows size v) _ _ _ (λ _. faulty size v _) (λ more. either (Allows size v) _ _ _ (λ _. faulty size v _) (λ _. ordinary size v d more))
+    either (Allows size v) _ _ _ (λ _. faulty size v _)
+    (λ more. either (Allows size v) _ _ _ (λ _. faulty size v _) (λ _. ordinary size v d more))
 
 -- an if-chain whose first tests are faults
-past_fault : (size : ℕ) (v : Visit) (b : Bool) (f : ChainFault) (w : WalkStep) → (b ≡ false → Allows size v w) → Allows size v (cond b (Faulty f) w)
+past_fault :
+    (size : ℕ) (v : Visit) (b : Bool) (f : ChainFault) (w : WalkStep) → (b ≡ false → Allows size v w) → Allows size v (cond b (Faulty f) w)
 past_fault size v true f w h = faulty size v f
 past_fault size v false f w h = h refl
 
 allowed_indirect : (size : ℕ) (v : Visit) (d : Descriptor) → Allows size v (indirect_step v d)
 allowed_indirect size v d =
     past_fault size v (has_next d) _ _ (λ _. past_fault size v v.table.indirect _ _ (λ own.
-    past_fault size v (d.len == 0 || not (d.len % 16 == 0)) _ _ (λ _. past_fault size v (not (ends_in_64_bits d)) _ _ (λ _. names_table size v _ own refl))))
+    past_fault size v (d.len == 0 || not (d.len % 16 == 0)) _ _
+    (λ _. past_fault size v (not (ends_in_64_bits d)) _ _ (λ _. names_table size v _ own refl))))
 
 allowed_at : (m : Memory) (size : ℕ) (v : Visit) (a : ℕ) → Allows size v (walk_step_at m size v a)
 allowed_at m size v a =
@@ -83,7 +88,8 @@ falls size v (Table t) le h = (rw (h.0, h.1) (omega arith), le)
 falls size v (Faulty f) le h = tt
 falls size v Stops le h = tt
 
-mutual_step : (m : Memory) (size n : ℕ) → ((w : Visit) → w.earlier ≤ size → steps_left size w ≤ n → path m size n w ≡ path m size (suc n) w) →
+mutual_step :
+    (m : Memory) (size n : ℕ) → ((w : Visit) → w.earlier ≤ size → steps_left size w ≤ n → path m size n w ≡ path m size (suc n) w) →
     (k : ℕ) → k ≤ suc n → (a : Option Visit) → Falls size k a → onward (path m size n) a ≡ onward (path m size (suc n)) a
 mutual_step m size n same k le None h = refl
 mutual_step m size n same k le (Some w) h = let fewer = h.0 in same w h.1 (omega (arith, fewer, le))
@@ -97,7 +103,8 @@ same_path m size zero v few le = absurd (none v.table.indirect le)
     none true h = omega arith
     none false h = omega arith
 same_path m size (suc n) v few le =
-    ap (λ rest. v ∷ rest) (mutual_step m size n (same_path m size n) (steps_left size v) le (next_visit v (walk_step m size v)) (falls size v (walk_step m size v) few (allowed m size v)))
+    ap (λ rest. v ∷ rest) (mutual_step m size n (same_path m size n) (steps_left size v) le (next_visit v (walk_step m size v))
+    (falls size v (walk_step m size v) few (allowed m size v)))
 
 -- nor do any number of steps more
 same_paths : (m : Memory) (size k n : ℕ) (v : Visit) → v.earlier ≤ size → steps_left size v ≤ n → path m size (k + n) v ≡ path m size n v
@@ -111,4 +118,5 @@ same_paths m size (suc k) n v few le =
 pub walks_end : (m : Memory) (q : Queue) (head n : ℕ) → q.size + 2 ≤ n → path m q.size n (first_visit q head) ≡ walk m q head
 walks_end m q head n le =
     let count : n ≡ n - (q.size + 2) + (q.size + 2) = omega (arith, le) in
-    ap (λ j. path m q.size j (first_visit q head)) count ∙ same_paths m q.size (n - (q.size + 2)) (q.size + 2) (first_visit q head) (omega arith) (omega arith)
+    ap (λ j. path m q.size j (first_visit q head)) count
+    ∙ same_paths m q.size (n - (q.size + 2)) (q.size + 2) (first_visit q head) (omega arith) (omega arith)

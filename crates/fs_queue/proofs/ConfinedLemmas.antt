@@ -12,12 +12,14 @@ use Rattle.fs_queue.specs.NextAvail as avail
 use Rattle.fs_queue.specs.Chain.{Descriptor, Found, IsChain, HasFault, StopsQueue}
 use Rattle.fs_queue.specs.Taking.{IsRequest, CannotFetch, readable, writable, total_len, all_reach, Offer, Refuses, Offers, offer_of}
 use Rattle.fs_queue.specs.Loads.{Load, chain_exactly}
-use Rattle.fs_queue.specs.OfferLoads.{without_chain, without_loads, waits_by, with_request, with_loaded, on_waits, SameReachOfChain, SameReach, OnlyPlacesCount, OffersAreConfined}
+use Rattle.fs_queue.specs.OfferLoads.{without_chain, without_loads, waits_by, with_request, with_loaded, on_waits, SameReachOfChain}
+use Rattle.fs_queue.specs.OfferLoads.{SameReach, OnlyPlacesCount, OffersAreConfined}
 use Rattle.fs_queue.proofs.ReadLemmas.{length-bytes}
 use Rattle.fs_queue.proofs.OfferByLemmas.{offer_is_still}
 
 -- as many bytes are read in each memory
-same_lengths : (m n : Memory) (ds : List Descriptor) → length (flat_map (λ d. bytes m d.addr d.len) ds) ≡ length (flat_map (λ d. bytes n d.addr d.len) ds)
+same_lengths : (m n : Memory) (ds : List Descriptor) →
+    length (flat_map (λ d. bytes m d.addr d.len) ds) ≡ length (flat_map (λ d. bytes n d.addr d.len) ds)
 same_lengths m n [] = refl
 same_lengths m n (d ∷ ds) =
     length-append (bytes m d.addr d.len) (flat_map (λ d. bytes m d.addr d.len) ds)
@@ -27,8 +29,10 @@ same_lengths m n (d ∷ ds) =
 
 -- of the request that a memory has only the length counts
 fetched_alike : (bs r s room : List ℕ) (over a b : Bool) → length r ≡ length s →
-    with_request bs (if over then CannotFetch OverLimit else if not a then CannotFetch RequestUnreachable else if not b then CannotFetch RoomUnreachable else IsRequest r room)
-    ≡ with_request bs (if over then CannotFetch OverLimit else if not a then CannotFetch RequestUnreachable else if not b then CannotFetch RoomUnreachable else IsRequest s room)
+    with_request bs (if over then CannotFetch OverLimit else if not a then CannotFetch RequestUnreachable
+    else if not b then CannotFetch RoomUnreachable else IsRequest r room)
+    ≡ with_request bs (if over then CannotFetch OverLimit else if not a then CannotFetch RequestUnreachable
+    else if not b then CannotFetch RoomUnreachable else IsRequest s room)
 fetched_alike bs r s room true a b same = refl
 fetched_alike bs r s room false false b same = refl
 fetched_alike bs r s room false true false same = refl
@@ -45,36 +49,43 @@ chain_alike m n limit head bs ds (reads, writes) =
     (fetched_alike bs r s room over (all_reach m Read (readable ds)) (all_reach m Write (writable ds)) (same_lengths m n (readable ds))
     ∙ ap (λ c. with_request bs (if over then CannotFetch OverLimit else if not c then CannotFetch RequestUnreachable
     else if not (all_reach m Write (writable ds)) then CannotFetch RoomUnreachable else IsRequest s room)) reads
-    ∙ ap (λ c. with_request bs (if over then CannotFetch OverLimit else if not (all_reach n Read (readable ds)) then CannotFetch RequestUnreachable
+    ∙ ap (λ c. with_request bs (if over then CannotFetch OverLimit
+    else if not (all_reach n Read (readable ds)) then CannotFetch RequestUnreachable
     else if not c then CannotFetch RoomUnreachable else IsRequest s room)) writes)
 
-found_alike : (m n : Memory) (limit head : ℕ) (bs : List ℕ) (o : Option Found) → ((ds : List Descriptor) → o ≡ Some (IsChain ds) → SameReachOfChain m n ds) →
+found_alike : (m n : Memory) (limit head : ℕ) (bs : List ℕ) (o : Option Found) →
+    ((ds : List Descriptor) → o ≡ Some (IsChain ds) → SameReachOfChain m n ds) →
     option_and_then (λ f. with_loaded bs (offer_of m limit head f)) o ≡ option_and_then (λ f. with_loaded bs (offer_of n limit head f)) o
 found_alike m n limit head bs None same = refl
 found_alike m n limit head bs (Some (IsChain ds)) same = chain_alike m n limit head bs ds (same ds refl)
 found_alike m n limit head bs (Some (HasFault fault)) same = refl
 found_alike m n limit head bs (Some StopsQueue) same = refl
 
-waits_alike : (m n : Memory) (limit : ℕ) (q : Queue) (ls : List Load) (bs : List ℕ) (w : NextAvail) → SameReach m n q ls → on_waits m limit q ls bs w ≡ on_waits n limit q ls bs w
+waits_alike : (m n : Memory) (limit : ℕ) (q : Queue) (ls : List Load) (bs : List ℕ) (w : NextAvail) → SameReach m n q ls →
+    on_waits m limit q ls bs w ≡ on_waits n limit q ls bs w
 waits_alike m n limit q ls bs avail.Idle same = refl
 waits_alike m n limit q ls bs (avail.Refused e) same = refl
 waits_alike m n limit q ls bs (avail.Head head) same =
     let by : Bool → Bool → Bool → Option Offer → Option Offer =
-    λ a b c o. if not (a && b) then without_chain ls bs (Refuses stop.UsedUnreachable) else if not c then without_chain ls bs (Refuses stop.AvailFlagsUnreachable) else o in
+    λ a b c o. if not (a && b) then without_chain ls bs (Refuses stop.UsedUnreachable)
+    else if not c then without_chain ls bs (Refuses stop.AvailFlagsUnreachable) else o in
     let at_m = option_and_then (λ f. with_loaded bs (offer_of m limit head f)) (chain_exactly ls q head) in
     ap (λ a. by a (reach m Write (index_at q) 2) (reach m Read q.avail 2) at_m) same.element
     ∙ ap (λ b. by (reach n Write (element_at q) 8) b (reach m Read q.avail 2) at_m) same.index
     ∙ ap (λ c. by (reach n Write (element_at q) 8) (reach n Write (index_at q) 2) c at_m) same.flags
-    ∙ ap (by (reach n Write (element_at q) 8) (reach n Write (index_at q) 2) (reach n Read q.avail 2)) (found_alike m n limit head bs (chain_exactly ls q head) (same.chain head))
+    ∙ ap (by (reach n Write (element_at q) 8) (reach n Write (index_at q) 2) (reach n Read q.avail 2))
+    (found_alike m n limit head bs (chain_exactly ls q head) (same.chain head))
 
-each_alike : (g h : NextAvail → Option Offer) (o : Option NextAvail) → ((w : NextAvail) → g w ≡ h w) → option_and_then g o ≡ option_and_then h o
+each_alike :
+    (g h : NextAvail → Option Offer) (o : Option NextAvail) → ((w : NextAvail) → g w ≡ h w) → option_and_then g o ≡ option_and_then h o
 each_alike g h None same = refl
 each_alike g h (Some w) same = same w
 
 pub only_places_count : OnlyPlacesCount
 only_places_count m n limit q index entry ls request same =
     ap (λ (o : Option Offer). if q.stopped then without_loads index entry ls request (Refuses stop.Stopped) else o)
-    (each_alike (on_waits m limit q ls request) (on_waits n limit q ls request) (waits_by q index entry) (λ w. waits_alike m n limit q ls request w same))
+    (each_alike (on_waits m limit q ls request) (on_waits n limit q ls request) (waits_by q index entry)
+    (λ w. waits_alike m n limit q ls request w same))
 
 pub offers_are_confined : OffersAreConfined
 offers_are_confined m n limit q index entry ls request o same here there e =

@@ -1,5 +1,6 @@
 -- what a memory has that holds a load and nothing else
-use Rattle.std.proofs.Common.{◌≡◌, ℕ, Bool, true, false, suc, ◌+◌, ◌-◌, ◌^◌, ◌<◌, ◌≤◌, List, [], ◌∷◌, length, take, drop, Option, Some, None, refl, ap, sym, ◌∙◌, arith}
+use Rattle.std.proofs.Common.{◌≡◌, ℕ, Bool, true, false, suc, ◌+◌, ◌-◌, ◌^◌, ◌<◌, ◌≤◌, List, [], ◌∷◌, length, take, drop, Option, Some}
+use Rattle.std.proofs.Common.{None, refl, ap, sym, ◌∙◌, arith}
 use Rattle.std.specs.Prelude.{is_some, if◌then◌else◌, nat_lt, nat_le, not}
 use Rattle.std.specs.Int.{w16, w32, w64, from_le_bytes}
 use Rattle.std.specs.List.{list_all}
@@ -15,7 +16,8 @@ use Rattle.vm_memory.specs.Memory.{Memory, addresses, bytes, located, location, 
 use Rattle.vm_memory.proofs.Places.{located_in, bytes-located}
 use Rattle.fs_queue.specs.declared.fault.ChainFault.TheVariants.{TableUnreachable}
 use Rattle.fs_queue.specs.Records.{descriptor}
-use Rattle.fs_queue.specs.Chain.{Descriptor, Visit, WalkStep, Faulty, Stops, descriptor_at, is_indirect, indirect_step, ordinary_step, walk_step}
+use Rattle.fs_queue.specs.Chain.{Descriptor, Visit, WalkStep, Faulty, Stops, descriptor_at, is_indirect, indirect_step, ordinary_step}
+use Rattle.fs_queue.specs.Chain.{walk_step}
 use Rattle.fs_queue.specs.Chain.{entry_address}
 use Rattle.fs_queue.specs.Loads.{Load, holding, step_by, IsEntryOf}
 use Rattle.fs_queue.proofs.ReadLemmas.{decoded, front_bytes, back_bytes, length-bytes}
@@ -34,7 +36,8 @@ places_with : (a : ℕ) (bs : List ℕ) → 0 < length bs → a + length bs < 2 
 places_with a bs some fits =
     let none : a - a ≡ 0 = omega arith in
     let whole : a - a + length bs ≤ length bs = omega arith in
-    rw none at (located_in (region a bs ∷ []) 0 a (length bs) (region a bs) (some, omega (arith, fits), tt, tt) (omega arith) (omega arith) whole)
+    rw none at (located_in (region a bs ∷ []) 0 a (length bs) (region a bs) (some, omega (arith, fits), tt, tt) (omega arith)
+    (omega arith) whole)
 
 -- each can be read
 pub reach_with : (a : ℕ) (bs : List ℕ) → 0 < length bs → a + length bs < 2 ^ 64 → reach (memory_with a (Some bs)) Read a (length bs) ≡ true
@@ -79,16 +82,19 @@ step_reads m size v inside =
     rw in_table (by_reach (reach m Read (entry_address v) 16))
   where
     by_reach : (b : Bool) → (if not b then (if v.table.indirect then Faulty TableUnreachable else Stops)
-        else if is_indirect (descriptor_at m (entry_address v)) then indirect_step v (descriptor_at m (entry_address v)) else ordinary_step size v (descriptor_at m (entry_address v)))
+        else if is_indirect (descriptor_at m (entry_address v)) then indirect_step v (descriptor_at m (entry_address v))
+        else ordinary_step size v (descriptor_at m (entry_address v)))
         ≡ step_at size v (if b then Some (descriptor_at m (entry_address v)) else None)
     by_reach true = refl
     by_reach false = refl
 
 -- a step by a load that found no place
-pub step_lost : (size : ℕ) (v : Visit) → v.index < v.table.entries → walk_step (memory_with (entry_address v) None) size v ≡ step_at size v None
+pub step_lost :
+    (size : ℕ) (v : Visit) → v.index < v.table.entries → walk_step (memory_with (entry_address v) None) size v ≡ step_at size v None
 step_lost size v inside =
     let m = memory_with (entry_address v) None in
-    step_reads m size v inside ∙ ap (λ b. step_at size v (if b then Some (descriptor_at m (entry_address v)) else None)) (reach_none (entry_address v) 15)
+    step_reads m size v inside
+    ∙ ap (λ b. step_at size v (if b then Some (descriptor_at m (entry_address v)) else None)) (reach_none (entry_address v) 15)
 
 -- a step by bytes that came
 step_came : (size : ℕ) (v : Visit) (bs : List ℕ) → v.index < v.table.entries → entry_address v + 16 < 2 ^ 64 → length bs ≡ 16 →
@@ -98,14 +104,17 @@ step_came size v bs inside fits len =
     let m = memory_with (entry_address v) (Some bs) in
     let some : 0 < length bs = omega (arith, len) in
     let ends : entry_address v + length bs < 2 ^ 64 = omega (arith, len, fits) in
-    let there : reach m Read (entry_address v) 16 ≡ true = ap (λ n. reach m Read (entry_address v) n) (sym len) ∙ reach_with (entry_address v) bs some ends in (
+    let there : reach m Read (entry_address v) 16 ≡ true =
+    ap (λ n. reach m Read (entry_address v) n) (sym len) ∙ reach_with (entry_address v) bs some ends in (
       ap (λ n. bytes m (entry_address v) n) (sym len) ∙ bytes_with (entry_address v) bs some ends,
       step_reads m size v inside ∙ ap (λ b. step_at size v (if b then Some (descriptor_at m (entry_address v)) else None)) there,
     )
 
 -- a step by the bytes that spell an entry
-pub step_spelled : (size : ℕ) (v : Visit) (bs : List ℕ) (d : Descriptor) → v.index < v.table.entries → entry_address v + 16 < 2 ^ 64 → length bs ≡ 16 →
-    bs ≡ spelled (descriptor d) → AllFit (descriptor d) → walk_step (memory_with (entry_address v) (Some bs)) size v ≡ step_at size v (Some d)
+pub step_spelled :
+    (size : ℕ) (v : Visit) (bs : List ℕ) (d : Descriptor) → v.index < v.table.entries → entry_address v + 16 < 2 ^ 64 → length bs ≡ 16 →
+    bs ≡ spelled (descriptor d) → AllFit (descriptor d) →
+    walk_step (memory_with (entry_address v) (Some bs)) size v ≡ step_at size v (Some d)
 step_spelled size v bs d inside fits len is fit =
     let m = memory_with (entry_address v) (Some bs) in
     let came = step_came size v bs inside fits len in
@@ -115,17 +124,22 @@ still_at : (m : Memory) (size : ℕ) (v : Visit) (b : Bool) → v.index < v.tabl
     walk_step (memory_with (entry_address v) (if b then Some (bytes m (entry_address v) 16) else None)) size v ≡ walk_step m size v
 still_at m size v true inside there =
     let fits : entry_address v + 16 < 2 ^ 64 = ltb-true (entry_address v + 16) (2 ^ 64)
-    (and_parts (nat_lt (entry_address v + 16) (2 ^ 64)) (list_all (λ x. is_some (location m Read x)) (addresses (entry_address v) 16)) there).0 in
+    (and_parts (nat_lt (entry_address v + 16) (2 ^ 64))
+    (list_all (λ x. is_some (location m Read x)) (addresses (entry_address v) 16)) there).0 in
     let came = step_came size v (bytes m (entry_address v) 16) inside fits (length-bytes m (entry_address v) 16) in
-    came.1 ∙ ap (λ (x : Descriptor). step_at size v (Some x)) (same_entry (memory_with (entry_address v) (Some (bytes m (entry_address v) 16))) m (entry_address v) came.0)
+    came.1 ∙ ap (λ (x : Descriptor). step_at size v (Some x))
+    (same_entry (memory_with (entry_address v) (Some (bytes m (entry_address v) 16))) m (entry_address v) came.0)
     ∙ sym (step_reads m size v inside ∙ ap (λ b. step_at size v (if b then Some (descriptor_at m (entry_address v)) else None)) there)
 still_at m size v false inside there =
-    step_lost size v inside ∙ sym (step_reads m size v inside ∙ ap (λ b. step_at size v (if b then Some (descriptor_at m (entry_address v)) else None)) there)
+    step_lost size v inside
+    ∙ sym (step_reads m size v inside ∙ ap (λ b. step_at size v (if b then Some (descriptor_at m (entry_address v)) else None)) there)
 
 -- a step by a load that found what a memory has is the memory's
-pub step_still : (m : Memory) (size : ℕ) (v : Visit) (l : Load) → v.index < v.table.entries → l.address ≡ entry_address v → IsEntryOf m l → step_by size v l ≡ walk_step m size v
+pub step_still : (m : Memory) (size : ℕ) (v : Visit) (l : Load) → v.index < v.table.entries → l.address ≡ entry_address v → IsEntryOf m l →
+    step_by size v l ≡ walk_step m size v
 step_still m size v l inside at is =
     let came : l.came ≡ (if reach m Read (entry_address v) 16 then Some (bytes m (entry_address v) 16) else None) =
     is ∙ ap (λ a. if reach m Read a 16 then Some (bytes m a 16) else None) at in
-    ap (λ a. walk_step (memory_with a l.came) size v) at ∙ ap (λ (o : Option (List ℕ)). walk_step (memory_with (entry_address v) o) size v) came
+    ap (λ a. walk_step (memory_with a l.came) size v) at
+    ∙ ap (λ (o : Option (List ℕ)). walk_step (memory_with (entry_address v) o) size v) came
     ∙ still_at m size v (reach m Read (entry_address v) 16) inside refl

@@ -1,5 +1,6 @@
 -- what a queue offers, by what was found on the way
-use Rattle.std.proofs.Common.{◌≡◌, ℕ, true, false, ◌+◌, ◌*◌, ◌%◌, ◌^◌, ◌<◌, ◌&&◌, not, List, refl, ap, sym, ◌∙◌, arith, Option, Some, None, Ok, Err, Result}
+use Rattle.std.proofs.Common.{◌≡◌, ℕ, true, false, ◌+◌, ◌*◌, ◌%◌, ◌^◌, ◌<◌, ◌&&◌, not, List, refl, ap, sym, ◌∙◌, arith, Option, Some, None}
+use Rattle.std.proofs.Common.{Ok, Err, Result}
 use Rattle.std.specs.Prelude.{IsTrue, is_some, if◌then◌else◌}
 use Rattle.std.proofs.lemmas.Nat.{mod_below}
 use Rattle.vm_memory_core.specs.Host.{Place}
@@ -17,7 +18,8 @@ use Rattle.fs_queue.specs.WalkingView.{at_position}
 use Rattle.fs_queue.specs.Chain.{Found, IsChain, HasFault, StopsQueue, chain}
 use Rattle.fs_queue.specs.NextAvail.{next_avail}
 use Rattle.fs_queue.specs.NextAvail as avail
-use Rattle.fs_queue.specs.Taking.{Offer, Offers, Refuses, RequestAndRoom, CannotFetch, request_and_room, offer_of, on_head, on_next_avail, offer, may_lack_memory, stops_queue}
+use Rattle.fs_queue.specs.Taking.{Offer, Offers, Refuses, RequestAndRoom, CannotFetch, request_and_room, offer_of, on_head, on_next_avail}
+use Rattle.fs_queue.specs.Taking.{offer, may_lack_memory, stops_queue}
 use Rattle.fs_queue.specs.Windows.{ReturnPlaces, Lacks, Takes, HoldsChain, HoldsFound, HoldsReturnWindows, RefusesFound}
 use Rattle.fs_queue.specs.Windows.{RefusesHeld, WantsMemory, DoesNotStop, missing_of, return_places_found, return_places_at, used_addresses}
 use Rattle.fs_queue.specs.Windows as held
@@ -46,7 +48,8 @@ used_reached : (m : Memory) (q : Queue) → element_at q + 8 < 2 ^ 64 → index_
 used_reached m q fits room =
     let r1 = reach-each m Write (element_at q) 8 fits in
     let r2 = reach-each m Write (index_at q) 2 room in
-    rw (r1, r2) (list_all-append (addresses (element_at q) 8) (addresses (index_at q) 2) (location m Write) ∙ all_located (used_addresses q) (location m Write))
+    rw (r1, r2) (list_all-append (addresses (element_at q) 8) (addresses (index_at q) 2) (location m Write)
+    ∙ all_located (used_addresses q) (location m Write))
 
 -- where a layout's parts end
 element_fits : (l : QueueLayout) (position : ℕ) → l.used + 4 + 8 * (position % l.size) + 8 < 2 ^ 64
@@ -55,17 +58,21 @@ element_fits l position =
     omega (arith, l.used_ring)
 
 pub on_head-return_places : (m : Memory) (limit : ℕ) (l : QueueLayout) (position at : ℕ) →
-    on_head m limit (at_position l position) at ≡ on_return_places (return_places_at m (at_position l position)) (offer_of m limit at (chain m (at_position l position) at))
+    on_head m limit (at_position l position) at
+    ≡ on_return_places (return_places_at m (at_position l position)) (offer_of m limit at (chain m (at_position l position) at))
 on_head-return_places m limit l position at =
     let r1 = used_reached m (at_position l position) (element_fits l position) (omega (arith, l.used_ring)) in
     let r2 = reach-range m Read l.avail 2 (omega (arith, l.available)) in
-    rw (r1, r2) (two (located (location m Write) (used_addresses (at_position l position))) (located (location m Read) (addresses l.avail 2)) _)
+    rw (r1, r2) (two (located (location m Write) (used_addresses (at_position l position)))
+    (located (location m Read) (addresses l.avail 2)) _)
 
 -- a head was found, and then the windows of the return
 pub offer_head : (m : Memory) (limit : ℕ) (l : QueueLayout) (position at : ℕ) → avail.Head at ≡ next_avail m (at_position l position) →
-    offer m limit (at_position l position) ≡ on_return_places (return_places_at m (at_position l position)) (offer_of m limit at (chain m (at_position l position) at))
+    offer m limit (at_position l position)
+    ≡ on_return_places (return_places_at m (at_position l position)) (offer_of m limit at (chain m (at_position l position) at))
 offer_head m limit l position at e =
-    offer_next_avail m limit (at_position l position) refl ∙ sym (ap (on_next_avail m limit (at_position l position)) e) ∙ on_head-return_places m limit l position at
+    offer_next_avail m limit (at_position l position) refl ∙ sym (ap (on_next_avail m limit (at_position l position)) e)
+    ∙ on_head-return_places m limit l position at
 
 stays_offered : (m : Memory) (limit h : ℕ) (f : Found) → DoesNotStop f → may_lack_memory (offer_of m limit h f) ≡ true
 stays_offered m limit h (IsChain ds) stays = refl
@@ -78,9 +85,11 @@ nothing_missing (Lacks e) rest none = absurd (cc)
 
 -- if the return can be written and the walk doesn't stop the queue, a chain is offered
 pub lacks_memory : (m : Memory) (limit : ℕ) (l : QueueLayout) (position at : ℕ) → avail.Head at ≡ next_avail m (at_position l position) →
-    missing_of (return_places_at m (at_position l position)) ≡ None → DoesNotStop (chain m (at_position l position) at) → IsTrue (may_lack_memory (offer m limit (at_position l position)))
+    missing_of (return_places_at m (at_position l position)) ≡ None → DoesNotStop (chain m (at_position l position) at) →
+    IsTrue (may_lack_memory (offer m limit (at_position l position)))
 lacks_memory m limit l position at e none stays =
-    ap may_lack_memory (offer_head m limit l position at e ∙ nothing_missing _ _ none) ∙ stays_offered m limit at (chain m (at_position l position) at) stays
+    ap may_lack_memory (offer_head m limit l position at e ∙ nothing_missing _ _ none)
+    ∙ stays_offered m limit at (chain m (at_position l position) at) stays
 
 by_places : (used flags : Option (List Place)) →
     missing_of (return_places_found used flags)
@@ -98,31 +107,38 @@ pub missing_reached : (m : Memory) (l : QueueLayout) (position : ℕ) →
 missing_reached m l position =
     let r1 = used_reached m (at_position l position) (element_fits l position) (omega (arith, l.used_ring)) in
     let r2 = reach-range m Read l.avail 2 (omega (arith, l.available)) in
-    rw (r1, r2) (by_places (located (location m Write) (used_addresses (at_position l position))) (located (location m Read) (addresses l.avail 2)))
+    rw (r1, r2) (by_places (located (location m Write) (used_addresses (at_position l position)))
+    (located (location m Read) (addresses l.avail 2)))
 
 held_missing : (p : ReturnPlaces) (a b : List Place) → held.Holds a b ≡ p → missing_of p ≡ None
 held_missing p a b e = sym (ap missing_of e)
 
 -- the windows of the return are those of their addresses
-pub found_return_places : (used flags : List Place) (o1 o2 : Option (List Place)) → held.Holds used flags ≡ return_places_found o1 o2 → (o1 ≡ Some used) × (o2 ≡ Some flags)
+pub found_return_places : (used flags : List Place) (o1 o2 : Option (List Place)) → held.Holds used flags ≡ return_places_found o1 o2 →
+    (o1 ≡ Some used) × (o2 ≡ Some flags)
 found_return_places used flags None o2 e = absurd (cc)
 found_return_places used flags (Some a) None e = absurd (cc)
 found_return_places used flags (Some a) (Some b) e = (cc, cc)
 
-pub offer_lacks : (m : Memory) (limit : ℕ) (l : QueueLayout) (position at : ℕ) (e : QueueError) → avail.Head at ≡ next_avail m (at_position l position) →
+pub offer_lacks :
+    (m : Memory) (limit : ℕ) (l : QueueLayout) (position at : ℕ) (e : QueueError) → avail.Head at ≡ next_avail m (at_position l position) →
     Lacks e ≡ return_places_at m (at_position l position) → offer m limit (at_position l position) ≡ Refuses e
 offer_lacks m limit l position at e head places =
-    offer_head m limit l position at head ∙ sym (ap (λ (x : ReturnPlaces). on_return_places x (offer_of m limit at (chain m (at_position l position) at))) places)
+    offer_head m limit l position at head
+    ∙ sym (ap (λ (x : ReturnPlaces). on_return_places x (offer_of m limit at (chain m (at_position l position) at))) places)
 
-pub offer_found : (m : Memory) (limit : ℕ) (l : QueueLayout) (position at : ℕ) (a b : List Place) (f : Found) → avail.Head at ≡ next_avail m (at_position l position) →
-    held.Holds a b ≡ return_places_at m (at_position l position) → f ≡ chain m (at_position l position) at → offer m limit (at_position l position) ≡ offer_of m limit at f
+pub offer_found : (m : Memory) (limit : ℕ) (l : QueueLayout) (position at : ℕ) (a b : List Place) (f : Found) →
+    avail.Head at ≡ next_avail m (at_position l position) →
+    held.Holds a b ≡ return_places_at m (at_position l position) → f ≡ chain m (at_position l position) at →
+    offer m limit (at_position l position) ≡ offer_of m limit at f
 offer_found m limit l position at a b f head places found =
     offer_head m limit l position at head
     ∙ sym (ap (λ (x : ReturnPlaces). on_return_places x (offer_of m limit at (chain m (at_position l position) at))) places)
     ∙ sym (ap (offer_of m limit at) found)
 
 -- a refusal that stops the queue is answered as it is offered
-pub refuses : (m : Memory) (limit : ℕ) (q : Queue) (e : QueueError) → IsTrue (stops_queue e) → offer m limit q ≡ Refuses e → Takes m limit q (Err e)
+pub refuses :
+    (m : Memory) (limit : ℕ) (q : Queue) (e : QueueError) → IsTrue (stops_queue e) → offer m limit q ≡ Refuses e → Takes m limit q (Err e)
 refuses m limit q stop.OutOfMemory stops is = absurd (cc)
 refuses m limit q stop.Stopped stops is = is
 refuses m limit q stop.AvailIndexUnreachable stops is = is
@@ -134,8 +150,10 @@ refuses m limit q stop.AvailFlagsUnreachable stops is = is
 refuses m limit q stop.DescriptorUnreachable stops is = is
 
 -- so is a refusal of the walk, if the return can be written
-pub refused_walk : (m : Memory) (limit : ℕ) (l : QueueLayout) (position at : ℕ) (e : QueueError) → avail.Head at ≡ next_avail m (at_position l position) →
-    missing_of (return_places_at m (at_position l position)) ≡ None → RefusesFound (chain m (at_position l position) at) e → Takes m limit (at_position l position) (Err e)
+pub refused_walk :
+    (m : Memory) (limit : ℕ) (l : QueueLayout) (position at : ℕ) (e : QueueError) → avail.Head at ≡ next_avail m (at_position l position) →
+    missing_of (return_places_at m (at_position l position)) ≡ None → RefusesFound (chain m (at_position l position) at) e →
+    Takes m limit (at_position l position) (Err e)
 refused_walk m limit l position at stop.OutOfMemory head none r = lacks_memory m limit l position at head none r
 refused_walk m limit l position at stop.DescriptorUnreachable head none r =
     offer_head m limit l position at head ∙ nothing_missing _ _ none ∙ ap (offer_of m limit at) r
@@ -163,8 +181,10 @@ held_found limit room f stop.HeadOutOfTable r = absurd r
 held_found limit room f stop.UsedUnreachable r = absurd r
 held_found limit room f stop.AvailFlagsUnreachable r = absurd r
 
-pub refused_found : (m : Memory) (limit room : ℕ) (l : QueueLayout) (position at : ℕ) (a b : List Place) (e : QueueError) → avail.Head at ≡ next_avail m (at_position l position) →
-    held.Holds a b ≡ return_places_at m (at_position l position) → RefusesHeld limit room (chain m (at_position l position) at) e → Takes m limit (at_position l position) (Err e)
+pub refused_found : (m : Memory) (limit room : ℕ) (l : QueueLayout) (position at : ℕ) (a b : List Place) (e : QueueError) →
+    avail.Head at ≡ next_avail m (at_position l position) →
+    held.Holds a b ≡ return_places_at m (at_position l position) → RefusesHeld limit room (chain m (at_position l position) at) e →
+    Takes m limit (at_position l position) (Err e)
 refused_found m limit room l position at a b e head places r =
     refused_walk m limit l position at e head (held_missing _ a b places) (held_found limit room (chain m (at_position l position) at) e r)
 
@@ -176,8 +196,10 @@ fetched_of m limit at (HasFault fault) c h = (CannotFetch fault, refl, h)
 fetched_of m limit at StopsQueue c h = absurd h
 
 -- a chain that was walked and has its windows is taken
-pub taken_found : (m : Memory) (limit : ℕ) (l : QueueLayout) (position at : ℕ) (w : ReturnWindows) (c : Result Chain ChainFault) → avail.Head at ≡ next_avail m (at_position l position) →
-    held.Holds (places w.used.items) (places w.flags.items) ≡ return_places_at m (at_position l position) → HoldsFound m limit (chain m (at_position l position) at) c →
+pub taken_found : (m : Memory) (limit : ℕ) (l : QueueLayout) (position at : ℕ) (w : ReturnWindows) (c : Result Chain ChainFault) →
+    avail.Head at ≡ next_avail m (at_position l position) →
+    held.Holds (places w.used.items) (places w.flags.items) ≡ return_places_at m (at_position l position) →
+    HoldsFound m limit (chain m (at_position l position) at) c →
     Takes m limit (at_position l position) (Ok (Some (record { head = at; chain = c; return_windows = w })))
 taken_found m limit l position at w c head found h =
     let both = found_return_places _ _ _ _ found in

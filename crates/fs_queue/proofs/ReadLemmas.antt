@@ -19,7 +19,8 @@ unreached m access a n fits un =
     sym (ap (λ b. is_some (if b then located (location m access) (circular a n) else None)) un) ∙ reach-from m access a n fits
 
 -- what is read of a range that ends below 2^64
-pub have_read : (m : Memory) (a n : ℕ) (found : Bool) (new : List ℕ) → a + n < 2 ^ 64 → (IsTrue found → new ≡ map (byte m) (circular a n)) → IsTrue found → new ≡ bytes m a n
+pub have_read : (m : Memory) (a n : ℕ) (found : Bool) (new : List ℕ) → a + n < 2 ^ 64 → (IsTrue found → new ≡ map (byte m) (circular a n)) →
+    IsTrue found → new ≡ bytes m a n
 have_read m a n found new fits h all = h all ∙ ap (map (byte m)) (circular-is n a fits)
 
 -- the front and the rest of a range's bytes
@@ -43,8 +44,10 @@ pub decoded : (m : Memory) (a : ℕ) (r : Descriptor) → spelled (descriptor r)
 unfolding fields.field_bytes fields.Fits
 decoded m a r is fits =
     let p1 : to_le_bytes w64 r.addr ≡ bytes m a 8 = ap (take 8) is ∙ front_bytes m a 8 8 in
-    let p2 : to_le_bytes w32 r.len ≡ bytes m (a + 8) 4 = ap (λ (l : List ℕ). take 4 (drop 8 l)) is ∙ ap (take 4) (back_bytes m a 8 8) ∙ front_bytes m (a + 8) 4 4 in
-    let p3 : to_le_bytes w16 r.flags ≡ bytes m (a + 12) 2 = ap (λ (l : List ℕ). take 2 (drop 12 l)) is ∙ ap (take 2) (back_bytes m a 12 4) ∙ front_bytes m (a + 12) 2 2 in
+    let p2 : to_le_bytes w32 r.len ≡ bytes m (a + 8) 4 =
+    ap (λ (l : List ℕ). take 4 (drop 8 l)) is ∙ ap (take 4) (back_bytes m a 8 8) ∙ front_bytes m (a + 8) 4 4 in
+    let p3 : to_le_bytes w16 r.flags ≡ bytes m (a + 12) 2 =
+    ap (λ (l : List ℕ). take 2 (drop 12 l)) is ∙ ap (take 2) (back_bytes m a 12 4) ∙ front_bytes m (a + 12) 2 2 in
     let p4 : to_le_bytes w16 r.next ≡ bytes m (a + 14) 2 = ap (drop 14) is ∙ back_bytes m a 14 2 in
     let n1 : r.addr ≡ number m w64 a = sym (from_le_bytes-to_le_bytes_8 r.addr fits.0) ∙ ap (from_le_bytes w64) p1 in
     let n2 : r.len ≡ number m w32 (a + 8) = sym (from_le_bytes-to_le_bytes_4 r.len fits.1.0) ∙ ap (from_le_bytes w32) p2 in

@@ -1,5 +1,6 @@
 -- the stores of a return are the writes at their addresses
-use Rattle.std.proofs.Common.{◌≡◌, ℕ, ◌+◌, [], ◌∷◌, ◌++◌, List, length, map, drop, append_assoc, append-nil, length-append, arith, refl, ap, sym, ◌∙◌, Ok, Err, Option, Some, None}
+use Rattle.std.proofs.Common.{◌≡◌, ℕ, ◌+◌, [], ◌∷◌, ◌++◌, List, length, map, drop, append_assoc, append-nil, length-append, arith, refl, ap}
+use Rattle.std.proofs.Common.{sym, ◌∙◌, Ok, Err, Option, Some, None}
 use Rattle.std.specs.Prelude.{Result}
 use Rattle.std.specs.List.{zip}
 use Rattle.std.proofs.lemmas.List.{take_at, drop_at}
@@ -46,7 +47,8 @@ stored_one : (a x : ℕ) (as' xs : List ℕ) (ps qs : List Place) (p : Place) (m
     stored_all m (zip (a ∷ as') (x ∷ xs)) ≡ over m (put_all m.host (zip ps (x ∷ xs)))
 unfolding stored_all put_all
 stored_one a x as' xs ps qs p m at is ih =
-    ap (λ (o : Option Place). stored_all (stored_at m x o) (zip as' xs)) at ∙ ih ∙ sym (ap (λ (rs : List Place). over m (put_all m.host (zip rs (x ∷ xs)))) is)
+    ap (λ (o : Option Place). stored_all (stored_at m x o) (zip as' xs)) at ∙ ih
+    ∙ sym (ap (λ (rs : List Place). over m (put_all m.host (zip rs (x ∷ xs)))) is)
 
 -- stores at addresses are stores at their places
 pub stored_located : (as' : List ℕ) (ps : List Place) (xs : List ℕ) (m : Memory) → located (location m Write) as' ≡ Some ps →
@@ -57,7 +59,8 @@ stored_located (a ∷ as') ps [] m e = ap (over m) (put_none ps m.host)
 stored_located (a ∷ as') ps (x ∷ xs) m e =
     let s = parts (location m Write a) (located (location m Write) as') ps e in
     let kept = same_location m (put_byte m.host s.0 x) (put_tables m.host s.0 x) in
-    stored_one a x as' xs ps s.1 s.0 m s.2 s.4 (stored_located as' s.1 xs (over m (put_byte m.host s.0 x)) (ap (λ f. located (f Write) as') kept ∙ s.3))
+    stored_one a x as' xs ps s.1 s.0 m s.2 s.4
+    (stored_located as' s.1 xs (over m (put_byte m.host s.0 x)) (ap (λ f. located (f Write) as') kept ∙ s.3))
 
 -- ---- the stores of a return
 
@@ -70,7 +73,8 @@ room_stored m reply (CannotFetch why) (Ok c) held = absurd held
 room_stored m reply (CannotFetch why) (Err fault) held = refl
 
 -- a store through windows that were held before
-stored_held : (m : Memory) (h h' : Host) (as' xs : List ℕ) (ws vs : List Window) → h.tables ≡ m.host.tables → located (location m Write) as' ≡ Some (places vs) →
+stored_held : (m : Memory) (h h' : Host) (as' xs : List ℕ) (ws vs : List Window) → h.tables ≡ m.host.tables →
+    located (location m Write) as' ≡ Some (places vs) →
     ws ≡ vs → h' ≡ put_all h (zip (places ws) xs) → stored_all (over m h) (zip as' xs) ≡ over m h'
 stored_held m h h' as' xs ws vs kept at e is =
     stored_located as' (places vs) xs (over m h) (ap (λ f. located (f Write) as') (same_location m h kept) ∙ at)
@@ -83,39 +87,49 @@ zip_used a b x y e =
     ∙ ap (λ (l : List ℕ). zip a l ++ zip b (drop (length x) (x ++ y))) (take_at x y (length x) refl)
     ∙ ap (λ (l : List ℕ). zip a x ++ zip b l) (drop_at x y (length x) refl)
 
-pub returned_is : (m : Memory) (h0 h1 h2 : Host) (q : Queue) (fetched : RequestAndRoom) (t : Taken) (reply bytes : List ℕ) (ws : List Window) → m.host ≡ h0 → IsTaken m q fetched t →
+pub returned_is : (m : Memory) (h0 h1 h2 : Host) (q : Queue) (fetched : RequestAndRoom) (t : Taken) (reply bytes : List ℕ)
+    (ws : List Window) → m.host ≡ h0 → IsTaken m q fetched t →
     h1 ≡ put_all h0 (zip (chain_places t.chain) reply) →
-    ws ≡ t.return_windows.used.items → bytes ≡ to_le_bytes w32 t.head ++ to_le_bytes w32 (length reply) ++ to_le_bytes w16 (next_position q) → h2 ≡ put_all h1 (zip (places ws) bytes) →
+    ws ≡ t.return_windows.used.items → bytes ≡ to_le_bytes w32 t.head ++ to_le_bytes w32 (length reply)
+    ++ to_le_bytes w16 (next_position q) → h2 ≡ put_all h1 (zip (places ws) bytes) →
     over m h2 ≡ returned m q t.head (room_of fetched) reply
 returned_is m h0 h1 h2 q fetched t reply bytes ws host taken a e1 e2 b =
     let room : List (ℕ × ℕ) = zip (room_of fetched) reply in
     let element : List ℕ = to_le_bytes w32 t.head ++ to_le_bytes w32 (length reply) in
     let index : List ℕ = to_le_bytes w16 (next_position q) in
     let at_used : List (ℕ × ℕ) = zip (used_addresses q) bytes in
-    let stored : h1 ≡ put_all m.host (zip (chain_places t.chain) reply) = a ∙ ap (λ (h : Host). put_all h (zip (chain_places t.chain) reply)) (sym host) in
+    let stored : h1 ≡ put_all m.host (zip (chain_places t.chain) reply) =
+    a ∙ ap (λ (h : Host). put_all h (zip (chain_places t.chain) reply)) (sym host) in
     let t1 : h1.tables ≡ m.host.tables = ap (λ (h : Host). h.tables) stored ∙ all_tables (zip (chain_places t.chain) reply) m.host in
     let first : stored_all m room ≡ over m h1 = room_stored m reply fetched t.chain taken.chain ∙ ap (over m) (sym stored) in
-    let second : stored_all (over m h1) at_used ≡ over m h2 = stored_held m h1 h2 (used_addresses q) bytes ws t.return_windows.used.items t1 taken.return_windows.used e1 b in
+    let second : stored_all (over m h1) at_used ≡ over m h2 =
+    stored_held m h1 h2 (used_addresses q) bytes ws t.return_windows.used.items t1 taken.return_windows.used e1 b in
     let cut : at_used ≡ zip (addresses (element_at q) 8) element ++ zip (addresses (index_at q) 2) index =
-    ap (zip (used_addresses q)) e2 ∙ zip_used (addresses (element_at q) 8) (addresses (index_at q) 2) element index (length-addresses 8 (element_at q)) in
+    ap (zip (used_addresses q)) e2
+    ∙ zip_used (addresses (element_at q) 8) (addresses (index_at q) 2) element index (length-addresses 8 (element_at q)) in
     let joined : room ++ zip (addresses (element_at q) 8) element ++ zip (addresses (index_at q) 2) index ≡ room ++ at_used =
-    append_assoc room (zip (addresses (element_at q) 8) element) (zip (addresses (index_at q) 2) index) ∙ ap (λ (l : List (ℕ × ℕ)). room ++ l) (sym cut) in
+    append_assoc room (zip (addresses (element_at q) 8) element) (zip (addresses (index_at q) 2) index)
+    ∙ ap (λ (l : List (ℕ × ℕ)). room ++ l) (sym cut) in
     sym (ap (stored_all m) joined
     ∙ stored_all-append room at_used m
     ∙ ap (λ (n : Memory). stored_all n at_used) first ∙ second)
 
-pub told_is : (m : Memory) (h2 : Host) (q : Queue) (fetched : RequestAndRoom) (t : Taken) (flags : List ℕ) (fs : List Window) → h2.tables ≡ m.host.tables → IsTaken m q fetched t →
+pub told_is : (m : Memory) (h2 : Host) (q : Queue) (fetched : RequestAndRoom) (t : Taken) (flags : List ℕ) (fs : List Window) →
+    h2.tables ≡ m.host.tables → IsTaken m q fetched t →
     fs ≡ t.return_windows.flags.items → flags ≡ map (byte_in h2) (places fs) → tells flags ≡ wants_notice (over m h2) q
 told_is m h2 q fetched t flags fs kept taken e f =
     let read : bytes (over m h2) q.avail 2 ≡ flags =
-    bytes-located (addresses q.avail 2) (over m h2) (places t.return_windows.flags.items) (ap (λ g. located (g Read) (addresses q.avail 2)) (same_location m h2 kept) ∙ taken.return_windows.flags)
+    bytes-located (addresses q.avail 2) (over m h2) (places t.return_windows.flags.items)
+    (ap (λ g. located (g Read) (addresses q.avail 2)) (same_location m h2 kept) ∙ taken.return_windows.flags)
     ∙ ap (λ (ws : List Window). map (byte_in h2) (places ws)) (sym e) ∙ sym f in
     ap tells (sym read)
 
 -- both stores keep the tables
-pub kept_tables : (m : Memory) (h0 h1 h2 : Host) (ws1 ws2 : List (Place × ℕ)) → m.host ≡ h0 → h1 ≡ put_all h0 ws1 → h2 ≡ put_all h1 ws2 → h2.tables ≡ m.host.tables
+pub kept_tables : (m : Memory) (h0 h1 h2 : Host) (ws1 ws2 : List (Place × ℕ)) → m.host ≡ h0 → h1 ≡ put_all h0 ws1 → h2 ≡ put_all h1 ws2 →
+    h2.tables ≡ m.host.tables
 kept_tables m h0 h1 h2 ws1 ws2 host a b =
-    ap (λ (h : Host). h.tables) b ∙ all_tables ws2 h1 ∙ ap (λ (h : Host). h.tables) a ∙ all_tables ws1 h0 ∙ ap (λ (h : Host). h.tables) (sym host)
+    ap (λ (h : Host). h.tables) b ∙ all_tables ws2 h1 ∙ ap (λ (h : Host). h.tables) a ∙ all_tables ws1 h0
+    ∙ ap (λ (h : Host). h.tables) (sym host)
 
 -- the bytes of three stores, one after another
 abbrev joined : List Store → List ℕ
@@ -129,8 +143,10 @@ pub used_bytes_are : (r : Return) (q : Queue) (head len : ℕ) (bs : List ℕ) �
 used_bytes_are r q head len bs is e = e ∙ ap joined is
 
 -- a reply, and then the bytes of a return, at the places that were taken
-pub put_back_is : (h0 h1 h2 : Host) (q : Queue) (t : Taken) (front bytes : List ℕ) (len : ℕ) (ws : List Window) → h1 ≡ put_all h0 (zip (chain_places t.chain) front) →
-    ws ≡ t.return_windows.used.items → bytes ≡ used_bytes q t.head len → h2 ≡ put_all h1 (zip (places ws) bytes) → h2 ≡ put_back h0 q t front len
+pub put_back_is : (h0 h1 h2 : Host) (q : Queue) (t : Taken) (front bytes : List ℕ) (len : ℕ) (ws : List Window) →
+    h1 ≡ put_all h0 (zip (chain_places t.chain) front) →
+    ws ≡ t.return_windows.used.items → bytes ≡ used_bytes q t.head len → h2 ≡ put_all h1 (zip (places ws) bytes) →
+    h2 ≡ put_back h0 q t front len
 put_back_is h0 h1 h2 q t front bytes len ws a e1 e2 b =
     b
     ∙ ap (λ (h : Host). put_all h (zip (places ws) bytes)) a
@@ -146,7 +162,9 @@ returns_by_stores q head room reply =
     let a = zip (addresses (element_at q) 4) id in
     let b = zip (addresses (element_at q + 4) 4) len in
     let halves : zip (addresses (element_at q) 8) (id ++ len) ≡ a ++ b =
-    ap (λ (l : List ℕ). zip l (id ++ len)) (addresses-append 4 4 (element_at q)) ∙ zip_used (addresses (element_at q) 4) (addresses (element_at q + 4) 4) id len (length-addresses 4 (element_at q)) in
+    ap (λ (l : List ℕ). zip l (id ++ len)) (addresses-append 4 4 (element_at q))
+    ∙ zip_used (addresses (element_at q) 4) (addresses (element_at q + 4) 4) id len (length-addresses 4 (element_at q)) in
     ap (λ (l : List (ℕ × ℕ)). zip room reply ++ l ++ index) halves
     ∙ append_assoc (zip room reply) (a ++ b) index
-    ∙ ap (λ (l : List (ℕ × ℕ)). zip room reply ++ l) (append_assoc a b index ∙ ap (λ (l : List (ℕ × ℕ)). a ++ (b ++ l)) (sym (append-nil index)))
+    ∙ ap (λ (l : List (ℕ × ℕ)). zip room reply ++ l)
+    (append_assoc a b index ∙ ap (λ (l : List (ℕ × ℕ)). a ++ (b ++ l)) (sym (append-nil index)))

@@ -2,7 +2,8 @@
 use Rattle.std.proofs.Common.{◌≡◌, ℕ, Bool, true, false, ◌++◌, List, [], ◌∷◌, refl, ap, sym, suc}
 use Rattle.vm_memory.specs.Memory.{Memory}
 use Rattle.fs_queue.specs.declared.fault.ChainFault.{ChainFault}
-use Rattle.fs_queue.specs.Chain.{Descriptor, Visit, WalkStep, walk_step, next_visit, onward, path, with_front, after_walk_step, Found, IsChain, HasFault, StopsQueue, found}
+use Rattle.fs_queue.specs.Chain.{Descriptor, Visit, WalkStep, walk_step, next_visit, onward, path, with_front, after_walk_step, Found}
+use Rattle.fs_queue.specs.Chain.{IsChain, HasFault, StopsQueue, found}
 
 -- how many steps a walk may still have for other than ordinary descriptors: the one that ends it, and one that names a table
 abbrev pub tables_left : Bool → ℕ

@@ -1,10 +1,14 @@
--- What holds of a walk whatever its loads find, as a guest that writes meanwhile may have it (VIRTIO 1.2, 2.7.5).
-use Rattle.std.specs.Prelude.{◌≡◌, ◌⊎◌, ℕ, ◌+◌, ◌<◌, ◌≤◌, List, [], ◌∷◌, ◌++◌, length, map, Option, Some, if◌then◌else◌}
+-- What holds of a walk whatever its loads find, as a guest that writes meanwhile may have it (VIRTIO 1.2,
+-- 2.7.5).
+use Rattle.std.specs.Prelude.{◌≡◌, ◌⊎◌, ℕ, ◌+◌, ◌<◌, ◌≤◌, List, [], ◌∷◌, ◌++◌, length, map, Option, Some}
+use Rattle.std.specs.Prelude.{if◌then◌else◌}
 use Rattle.fs_queue.specs.declared.fault.ChainFault.TheVariants.{NextOutOfTable}
 use Rattle.fs_queue.specs.Queue.{Queue}
-use Rattle.fs_queue.specs.Chain.{Descriptor, Visit, WalkStep, Ordinary, Table, Faulty, Stops, next_visit, onward, first_visit, Found, IsChain, HasFault, StopsQueue}
+use Rattle.fs_queue.specs.Chain.{Descriptor, Visit, WalkStep, Ordinary, Table, Faulty, Stops, next_visit}
+use Rattle.fs_queue.specs.Chain.{onward, first_visit, Found, IsChain, HasFault, StopsQueue}
 use Rattle.fs_queue.specs.Chain.{entry_address}
-use Rattle.fs_queue.specs.Loads.{Load, Ahead, Reads, Ends, reads_entry, step_by, ahead_at, ahead_after, chain_by}
+use Rattle.fs_queue.specs.Loads.{Load, Ahead, Reads, Ends, reads_entry, step_by, ahead_at, ahead_after}
+use Rattle.fs_queue.specs.Loads.{chain_by}
 
 -- what lies before the walk from a head
 abbrev pub ahead_of_head : Queue → ℕ → Ahead
@@ -18,11 +22,14 @@ load_at v came = record { address = entry_address v; came = came }
 unfoldable pub loads_by : (size : ℕ) → (came : List (Option (List ℕ))) → Ahead → List Load
 loads_by size [] a = []
 loads_by size (c ∷ cs) (Ends f) = []
-loads_by size (c ∷ cs) (Reads v) = load_at v c ∷ loads_by size cs (ahead_after size v (step_by size v (load_at v c)))
+loads_by size (c ∷ cs) (Reads v) =
+    load_at v c ∷ loads_by size cs (ahead_after size v (step_by size v (load_at v c)))
 
 -- whatever comes, a walk makes at most size + 2 loads
 abbrev pub FewLoads : Type 0
-FewLoads = (q : Queue) (head : ℕ) (came : List (Option (List ℕ))) → length (loads_by q.size came (ahead_of_head q head)) ≤ q.size + 2
+FewLoads =
+    (q : Queue) (head : ℕ) (came : List (Option (List ℕ))) →
+    length (loads_by q.size came (ahead_of_head q head)) ≤ q.size + 2
 
 -- where so much comes it ends
 abbrev pub LoadsEnd : Type 0
@@ -30,10 +37,12 @@ LoadsEnd =
     (q : Queue) (head : ℕ) (came : List (Option (List ℕ))) → q.size + 2 ≤ length came →
     (f : Found) × (chain_by (loads_by q.size came (ahead_of_head q head)) q head ≡ Some f)
 
--- the steps of a walk by some loads, from one on: each reads its entry by the next load, but for a last one past its table's end, which is at fault unread
+-- the steps of a walk by some loads, from one on: each reads its entry by the next load, but for a last one
+-- past its table's end, which is at fault unread
 unfoldable pub steps_by : (size : ℕ) → List Load → Visit → List Visit
 steps_by size [] v = if reads_entry v then [] else v ∷ []
-steps_by size (l ∷ ls) v = v ∷ (if reads_entry v then onward (steps_by size ls) (next_visit v (step_by size v l)) else [])
+steps_by size (l ∷ ls) v =
+    v ∷ (if reads_entry v then onward (steps_by size ls) (next_visit v (step_by size v l)) else [])
 
 -- the descriptor that joins a chain by a step
 abbrev pub joined : WalkStep → List Descriptor
@@ -70,15 +79,20 @@ pub record PastTable (size : ℕ) (ls : List Load) (first : Visit) : Type 0 wher
   pub step : LastStep size ls first
   pub past : step.last.table.entries ≤ step.last.index
 
--- a chain is told by the bytes of the loads for its steps; a fault by those of the load for the walk's last step, unless that is past its table's end; a stop by a load for it that found no place
+-- a chain is told by the bytes of the loads for its steps; a fault by those of the load for the walk's last
+-- step, unless that is past its table's end; a stop by a load for it that found no place
 abbrev pub IsReadIn : (size : ℕ) → List Load → (first : Visit) → Found → Type 0
 IsReadIn size ls first (IsChain ds) = ds ≡ joined_by size (steps_by size ls first) ls
-IsReadIn size ls first (HasFault fault) = WasReadBy size ls first (Faulty fault) ⊎ ((fault ≡ NextOutOfTable) × PastTable size ls first)
+IsReadIn size ls first (HasFault fault) =
+    WasReadBy size ls first (Faulty fault) ⊎ ((fault ≡ NextOutOfTable) × PastTable size ls first)
 IsReadIn size ls first StopsQueue = WasReadBy size ls first Stops
 
 -- so is what a walk by any loads finds
 abbrev pub EndsAreRead : Type 0
-EndsAreRead = (q : Queue) (head : ℕ) (ls : List Load) (f : Found) → chain_by ls q head ≡ Some f → IsReadIn q.size ls (first_visit q head) f
+EndsAreRead =
+    (q : Queue) (head : ℕ) (ls : List Load) (f : Found) →
+    chain_by ls q head ≡ Some f →
+    IsReadIn q.size ls (first_visit q head) f
 
 -- the steps of a walk by some loads whose entries were loaded
 unfoldable pub visits_by : (size : ℕ) → List Load → Ahead → List Visit
@@ -95,8 +109,16 @@ pub record OneForEach (size : ℕ) (ls : List Load) (a : Ahead) : Type 0 where
 
 -- so no entry is loaded again unless the chain visits it again
 abbrev pub Once : Type 0
-Once = (q : Queue) (head : ℕ) (ls : List Load) (f : Found) → chain_by ls q head ≡ Some f → OneForEach q.size ls (ahead_of_head q head)
+Once =
+    (q : Queue) (head : ℕ) (ls : List Load) (f : Found) →
+    chain_by ls q head ≡ Some f →
+    OneForEach q.size ls (ahead_of_head q head)
 
 -- and no two entries of a table have an address in common
 abbrev pub EntriesApart : Type 0
-EntriesApart = (v w : Visit) → v.table ≡ w.table → entry_address v < entry_address w + 16 → entry_address w < entry_address v + 16 → v.index ≡ w.index
+EntriesApart =
+    (v w : Visit) →
+    v.table ≡ w.table →
+    entry_address v < entry_address w + 16 →
+    entry_address w < entry_address v + 16 →
+    v.index ≡ w.index

@@ -1,13 +1,17 @@
 -- The chain of descriptors that begins at a head (VIRTIO 1.2, 2.7.5 and 2.7.5.3).
-use Rattle.std.specs.Prelude.{ℕ, zero, suc, ◌+◌, ◌*◌, ◌/◌, ◌%◌, ◌^◌, Bool, true, false, not, ◌&&◌, ◌||◌, nat_le, nat_lt, ◌==◌, List, [], ◌∷◌, Option, Some, None, if◌then◌else◌}
+use Rattle.std.specs.Prelude.{ℕ, zero, suc, ◌+◌, ◌*◌, ◌/◌, ◌%◌, ◌^◌, Bool, true, false, not, ◌&&◌, ◌||◌}
+use Rattle.std.specs.Prelude.{nat_le, nat_lt, ◌==◌, List, [], ◌∷◌, Option, Some, None, if◌then◌else◌}
 use Rattle.std.specs.Int.{w16, w32, w64}
 use Rattle.vm_iotlb.specs.declared.permissions.Permissions.TheVariants.{Read}
 use Rattle.vm_memory.specs.Memory.{Memory, number, reach}
 use Rattle.fs_queue.specs.declared.fault.ChainFault.{ChainFault}
-use Rattle.fs_queue.specs.declared.fault.ChainFault.TheVariants.{TooLong, NextOutOfTable, AddressOverflow, IndirectWithNext, IndirectNested, IndirectLength, TableUnreachable}
+use Rattle.fs_queue.specs.declared.fault.ChainFault.TheVariants.{TooLong, NextOutOfTable, AddressOverflow}
+use Rattle.fs_queue.specs.declared.fault.ChainFault.TheVariants.{IndirectWithNext, IndirectNested}
+use Rattle.fs_queue.specs.declared.fault.ChainFault.TheVariants.{IndirectLength, TableUnreachable}
 use Rattle.fs_queue.specs.Queue.{Queue, has_bit}
 
--- an entry of a descriptor table: where its bytes are, how many, its flags, and the entry that follows (2.7.5)
+-- an entry of a descriptor table: where its bytes are, how many, its flags, and the entry that follows
+-- (2.7.5)
 pub record Descriptor : Type 0 where
   pub addr : ℕ
   pub len : ℕ
@@ -16,7 +20,13 @@ pub record Descriptor : Type 0 where
 
 -- the entry of a table at an address: le64 addr, le32 len, le16 flags, le16 next (2.7.5)
 abbrev pub descriptor_at : Memory → ℕ → Descriptor
-descriptor_at m a = record { addr = number m w64 a; len = number m w32 (a + 8); flags = number m w16 (a + 12); next = number m w16 (a + 14) }
+descriptor_at m a =
+    record {
+      addr = number m w64 a;
+      len = number m w32 (a + 8);
+      flags = number m w16 (a + 12);
+      next = number m w16 (a + 14);
+    }
 
 -- VIRTQ_DESC_F_NEXT: another descriptor follows
 abbrev pub has_next : Descriptor → Bool
@@ -30,7 +40,8 @@ is_writable d = has_bit d.flags 1
 abbrev pub is_indirect : Descriptor → Bool
 is_indirect d = has_bit d.flags 2
 
--- a table of descriptors: where it begins, how many entries it has, and whether a descriptor names it; else it is the queue's own
+-- a table of descriptors: where it begins, how many entries it has, and whether a descriptor names it; else
+-- it is the queue's own
 pub record DescriptorTable : Type 0 where
   pub address : ℕ
   pub entries : ℕ
@@ -46,7 +57,8 @@ pub record Visit : Type 0 where
 abbrev pub entry_address : Visit → ℕ
 entry_address v = v.table.address + 16 * v.index
 
--- what a step comes to: an ordinary descriptor, which joins the chain, a table to be read on from, a faulty chain, or a stop of the queue
+-- what a step comes to: an ordinary descriptor, which joins the chain, a table to be read on from, a faulty
+-- chain, or a stop of the queue
 pub data WalkStep : Type 0 where
   Ordinary : Descriptor → WalkStep
   Table : DescriptorTable → WalkStep
@@ -57,7 +69,8 @@ pub data WalkStep : Type 0 where
 abbrev pub ends_in_64_bits : Descriptor → Bool
 ends_in_64_bits d = nat_lt (d.addr + d.len) (2 ^ 64)
 
--- a descriptor that names a table, which is read from its entry 0 on (2.7.5.3 and 2.7.5.3.2). It isn't counted, and its WRITE says nothing
+-- a descriptor that names a table, which is read from its entry 0 on (2.7.5.3 and 2.7.5.3.2). It isn't
+-- counted, and its WRITE says nothing
 abbrev pub indirect_step : Visit → Descriptor → WalkStep
 indirect_step v d =
     if has_next d then Faulty IndirectWithNext
@@ -88,7 +101,8 @@ walk_step m size v =
 
 -- the step after one, if any
 abbrev pub next_visit : Visit → WalkStep → Option Visit
-next_visit v (Ordinary d) = if has_next d then Some (record { table = v.table; index = d.next; earlier = v.earlier + 1 }) else None
+next_visit v (Ordinary d) =
+    if has_next d then Some (record { table = v.table; index = d.next; earlier = v.earlier + 1 }) else None
 next_visit v (Table table) = Some (record { table = table; index = 0; earlier = v.earlier })
 next_visit v (Faulty fault) = None
 next_visit v Stops = None

@@ -1,4 +1,5 @@
--- Worked offers that compute, behind an IOMMU: a queue of one descriptor with a room of 4 bytes at 0x28. Then chains of two descriptors in a table.
+-- Worked offers that compute, behind an IOMMU: a queue of one descriptor with a room of 4 bytes at 0x28. Then
+-- chains of two descriptors in a table.
 use Rattle.std.specs.Prelude.{◌≡◌, ℕ, ◌+◌, Bool, true, false, List, [], ◌∷◌, refl}
 use Rattle.vm_iotlb.specs.declared.permissions.Permissions.{Permissions}
 use Rattle.vm_iotlb.specs.declared.permissions.Permissions.TheVariants.{Read, Write, ReadWrite}
@@ -13,7 +14,8 @@ use Rattle.fs_queue.specs.Queue.{Queue, fresh}
 use Rattle.fs_queue.specs.Returning.{stores_after_reply, tells}
 use Rattle.fs_queue.specs.Taking.{Offer, Refuses, Offers, IsRequest, CannotFetch, offer, may_lack_memory}
 
--- a descriptor of the room, then the available ring with head 0 at position 0, then the used ring and the room
+-- a descriptor of the room, then the available ring with head 0 at position 0, then the used ring and the
+-- room
 abbrev block_bytes : List ℕ
 block_bytes =
     0x28 ∷ 0 ∷ 0 ∷ 0 ∷ 0 ∷ 0 ∷ 0 ∷ 0 ∷ 4 ∷ 0 ∷ 0 ∷ 0 ∷ 2 ∷ 0 ∷ 0 ∷ 0
@@ -28,7 +30,11 @@ range start end perm = record { start = start; end = end; target = 0x100 + start
 -- these bytes at 0x100, behind a table
 abbrev memory : List IotlbRange → Memory
 memory ranges =
-    io_memory (record { blocks = record { bytes = block_bytes; marks = false ∷ [] } ∷ []; tables = ranges ∷ []; io_marks = [] })
+    io_memory (record {
+      blocks = record { bytes = block_bytes; marks = false ∷ [] } ∷ [];
+      tables = ranges ∷ [];
+      io_marks = [];
+    })
     (record { start = 0x100; size = 0x2c; block = 0 } ∷ []) 0 0
 
 -- its descriptor stands at 0, its rings at 0x10 and 0x18
@@ -60,7 +66,8 @@ entry_unmapped_takes = refl
 
 -- the ring's entry is mapped to where no region is
 abbrev entry_elsewhere : List IotlbRange
-entry_elsewhere = range 0 0x14 ReadWrite ∷ record { start = 0x14; end = 0x16; target = 0x400; perm = Read } ∷ []
+entry_elsewhere =
+    range 0 0x14 ReadWrite ∷ record { start = 0x14; end = 0x16; target = 0x400; perm = Read } ∷ []
 
 -- so it can't be read either
 entry_nowhere : gives entry_elsewhere ≡ Refuses stop.RingEntryUnreachable
@@ -73,17 +80,20 @@ unfolding offer place addresses table_kept path found
 entry_nowhere_takes = refl
 
 -- the used ring may only be read
-used_not_written : gives (range 0 0x18 ReadWrite ∷ range 0x18 0x28 Read ∷ range 0x28 0x2c ReadWrite ∷ []) ≡ Refuses stop.UsedUnreachable
+used_not_written : gives (range 0 0x18 ReadWrite ∷ range 0x18 0x28 Read ∷ range 0x28 0x2c ReadWrite ∷ [])
+    ≡ Refuses stop.UsedUnreachable
 unfolding offer place addresses table_kept path found
 used_not_written = refl
 
 -- the available flags aren't mapped, but the index and the entry behind them are
-flags_unmapped : gives (range 0 0x10 ReadWrite ∷ range 0x12 0x2c ReadWrite ∷ []) ≡ Refuses stop.AvailFlagsUnreachable
+flags_unmapped :
+    gives (range 0 0x10 ReadWrite ∷ range 0x12 0x2c ReadWrite ∷ []) ≡ Refuses stop.AvailFlagsUnreachable
 unfolding offer place addresses table_kept path found
 flags_unmapped = refl
 
 -- the room may only be read
-room_not_written : gives (range 0 0x28 ReadWrite ∷ range 0x28 0x2c Read ∷ []) ≡ Offers 0 (CannotFetch RoomUnreachable)
+room_not_written :
+    gives (range 0 0x28 ReadWrite ∷ range 0x28 0x2c Read ∷ []) ≡ Offers 0 (CannotFetch RoomUnreachable)
 unfolding offer place addresses table_kept path found
 room_not_written = refl
 
@@ -93,11 +103,13 @@ unfolding offer place addresses table_kept path found
 room_not_written_takes = refl
 
 -- it need not be read, nor need the used ring
-room_written : gives (range 0 0x18 Read ∷ range 0x18 0x2c Write ∷ []) ≡ Offers 0 (IsRequest [] (addresses 0x28 4))
+room_written :
+    gives (range 0 0x18 Read ∷ range 0x18 0x2c Write ∷ []) ≡ Offers 0 (IsRequest [] (addresses 0x28 4))
 unfolding offer place addresses table_kept path found
 room_written = refl
 
--- a head that names a table of two entries at 0x20, and an entry that nothing names; in the table a descriptor with NEXT, then one without
+-- a head that names a table of two entries at 0x20, and an entry that nothing names; in the table a
+-- descriptor with NEXT, then one without
 abbrev table_bytes : List ℕ
 table_bytes =
     0x20 ∷ 0 ∷ 0 ∷ 0 ∷ 0 ∷ 0 ∷ 0 ∷ 0 ∷ 0x20 ∷ 0 ∷ 0 ∷ 0 ∷ 4 ∷ 0 ∷ 0 ∷ 0
@@ -108,7 +120,9 @@ table_bytes =
 -- these bytes at 0, by physical addresses
 abbrev table_memory : Memory
 table_memory =
-    memory_of (record { blocks = record { bytes = table_bytes; marks = false ∷ [] } ∷ []; tables = []; io_marks = [] }) (record { start = 0; size = 0x40; block = 0 } ∷ [])
+    memory_of
+    (record { blocks = record { bytes = table_bytes; marks = false ∷ [] } ∷ []; tables = []; io_marks = [] })
+    (record { start = 0; size = 0x40; block = 0 } ∷ [])
 
 -- two descriptors in a queue of one are too long a chain, though none follows the second
 one_more_than_the_queue : chain table_memory (fresh 1 0 0x50 0x60) 0 ≡ HasFault TooLong
@@ -117,13 +131,18 @@ one_more_than_the_queue = refl
 
 -- in a queue of two they are a chain
 as_many_as_the_queue : chain table_memory (fresh 2 0 0x50 0x60) 0
-    ≡ IsChain (record { addr = 0x40; len = 4; flags = 1; next = 1 } ∷ record { addr = 0x44; len = 8; flags = 2; next = 0 } ∷ [])
+    ≡ IsChain (record { addr = 0x40; len = 4; flags = 1; next = 1 }
+    ∷ record { addr = 0x44; len = 8; flags = 2; next = 0 } ∷ [])
 unfolding place addresses path found
 as_many_as_the_queue = refl
 
--- the last position of a queue of four comes before position 0: its slot is 3, and the used index after it is 0
-last_position : stores_after_reply (record { size = 4; desc = 0; avail = 0x50; used = 0x60; position = 0xffff; stopped = false }) 2 16
-    ≡ record { address = 0x7c; bytes = 2 ∷ 0 ∷ 0 ∷ 0 ∷ [] } ∷ record { address = 0x80; bytes = 16 ∷ 0 ∷ 0 ∷ 0 ∷ [] } ∷ record { address = 0x62; bytes = 0 ∷ 0 ∷ [] } ∷ []
+-- the last position of a queue of four comes before position 0: its slot is 3, and the used index after it is
+-- 0
+last_position : stores_after_reply
+    (record { size = 4; desc = 0; avail = 0x50; used = 0x60; position = 0xffff; stopped = false }) 2 16
+    ≡ record { address = 0x7c; bytes = 2 ∷ 0 ∷ 0 ∷ 0 ∷ [] }
+    ∷ record { address = 0x80; bytes = 16 ∷ 0 ∷ 0 ∷ 0 ∷ [] }
+    ∷ record { address = 0x62; bytes = 0 ∷ 0 ∷ [] } ∷ []
 last_position = refl
 
 -- bit 0 of the flags alone says that the driver isn't told

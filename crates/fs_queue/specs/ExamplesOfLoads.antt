@@ -11,7 +11,8 @@ use Rattle.fs_queue.specs.Taking.{Idle, Offers, Refuses, IsRequest, CannotFetch}
 use Rattle.fs_queue.specs.OfferLoads.{offer_by}
 use Rattle.fs_queue.specs.AnyLoads.{ahead_of_head, joined_by, loads_by, steps_by, visits_by}
 use Rattle.fs_queue.specs.Chain.{Visit, first_visit, own_table, IsChain, HasFault, StopsQueue}
-use Rattle.fs_queue.specs.Loads.{Load, Reads, Ends, AreEntriesInTurn, ahead_by, found_in_turn, holding, chain_by, found_by, found_exactly, asks_entry, index_load, entry_load}
+use Rattle.fs_queue.specs.Loads.{Load, Reads, Ends, AreEntriesInTurn, ahead_by, found_in_turn, holding}
+use Rattle.fs_queue.specs.Loads.{chain_by, found_by, found_exactly, asks_entry, index_load, entry_load}
 
 abbrev queue : Queue
 queue = fresh 4 0 0x50 0x60
@@ -25,7 +26,8 @@ loaded a bs = record { address = a; came = Some bs }
 
 -- entry 2 is visited twice, and the guest wrote it between the two loads: no memory has such a chain
 rewritten_meanwhile : chain_by (loaded 0x20 (entry 0 1 2) ∷ loaded 0x20 (entry 8 0 0) ∷ []) queue 2
-    ≡ Some (IsChain (record { addr = 0x40; len = 4; flags = 1; next = 2 } ∷ record { addr = 0x48; len = 4; flags = 0; next = 0 } ∷ []))
+    ≡ Some (IsChain (record { addr = 0x40; len = 4; flags = 1; next = 2 }
+    ∷ record { addr = 0x48; len = 4; flags = 0; next = 0 } ∷ []))
 unfolding place addresses found_by
 rewritten_meanwhile = refl
 
@@ -54,7 +56,8 @@ index_asks : asks_entry (next_avail (holding (index_load queue (Some (1 ∷ 0 �
 unfolding place addresses
 index_asks = refl
 
-entry_tells : next_avail (holding (index_load queue (Some (1 ∷ 0 ∷ [])) ∷ entry_load queue (Some (3 ∷ 0 ∷ [])) ∷ [])) queue ≡ Head 3
+entry_tells : next_avail (holding (index_load queue (Some (1 ∷ 0 ∷ [])) ∷ entry_load queue (Some (3 ∷ 0 ∷ []))
+    ∷ [])) queue ≡ Head 3
 unfolding place addresses
 entry_tells = refl
 
@@ -63,45 +66,54 @@ unfolding place addresses
 nothing_waits = refl
 
 -- the third answer isn't wanted: the second load found no place, which stops the queue
-stops_early : loads_by 4 (Some (entry 0 1 3) ∷ None ∷ Some (entry 8 0 0) ∷ []) (ahead_of_head queue 2) ≡ loaded 0x20 (entry 0 1 3) ∷ record { address = 0x30; came = None } ∷ []
+stops_early : loads_by 4 (Some (entry 0 1 3) ∷ None ∷ Some (entry 8 0 0) ∷ []) (ahead_of_head queue 2)
+    ≡ loaded 0x20 (entry 0 1 3) ∷ record { address = 0x30; came = None } ∷ []
 unfolding place addresses loads_by
 stops_early = refl
 
 -- a chain that always goes on has as many loads as the queue has entries, and one more, which is TooLong
-goes_round : length (loads_by 1 (Some (entry 0 1 0) ∷ Some (entry 0 1 0) ∷ Some (entry 0 1 0) ∷ []) (ahead_of_head (fresh 1 0 0x50 0x60) 0)) ≡ 2
+goes_round : length (loads_by 1 (Some (entry 0 1 0) ∷ Some (entry 0 1 0) ∷ Some (entry 0 1 0) ∷ [])
+    (ahead_of_head (fresh 1 0 0x50 0x60) 0)) ≡ 2
 unfolding place addresses loads_by
 goes_round = refl
 
 -- the steps whose entries were loaded
-two_visits : map (λ (v : Visit). v.index) (visits_by 4 (loaded 0x20 (entry 0 1 3) ∷ loaded 0x30 (entry 8 0 0) ∷ []) (ahead_of_head queue 2)) ≡ 2 ∷ 3 ∷ []
+two_visits : map (λ (v : Visit). v.index) (visits_by 4
+    (loaded 0x20 (entry 0 1 3) ∷ loaded 0x30 (entry 8 0 0) ∷ []) (ahead_of_head queue 2)) ≡ 2 ∷ 3 ∷ []
 unfolding place addresses visits_by
 two_visits = refl
 
 -- places for all of the queue's parts, and for the bytes of its chains
 abbrev everywhere : Memory
-everywhere = memory_of (record { blocks = []; tables = []; io_marks = [] }) (record { start = 0; size = 0x100; block = 0 } ∷ [])
+everywhere =
+    memory_of (record { blocks = []; tables = []; io_marks = [] })
+    (record { start = 0; size = 0x100; block = 0 } ∷ [])
 
 -- the loads of a chain of one descriptor: entry 2, which names four bytes
 abbrev one_entry : List Load
 one_entry = loaded 0x20 (entry 0 0 0) ∷ []
 
 -- a request of four bytes is offered as it was loaded
-offered : offer_by everywhere 0x1000 queue (Some (1 ∷ 0 ∷ [])) (Some (2 ∷ 0 ∷ [])) one_entry (9 ∷ 8 ∷ 7 ∷ 6 ∷ []) ≡ Some (Offers 2 (IsRequest (9 ∷ 8 ∷ 7 ∷ 6 ∷ []) []))
+offered : offer_by everywhere 0x1000 queue (Some (1 ∷ 0 ∷ [])) (Some (2 ∷ 0 ∷ [])) one_entry
+    (9 ∷ 8 ∷ 7 ∷ 6 ∷ []) ≡ Some (Offers 2 (IsRequest (9 ∷ 8 ∷ 7 ∷ 6 ∷ []) []))
 unfolding place addresses found_exactly
 offered = refl
 
 -- an index of four bytes is no load of a ring
-index_too_long : offer_by everywhere 0x1000 queue (Some (1 ∷ 0 ∷ 0 ∷ 0 ∷ [])) (Some (2 ∷ 0 ∷ [])) one_entry (9 ∷ 8 ∷ 7 ∷ 6 ∷ []) ≡ None
+index_too_long : offer_by everywhere 0x1000 queue (Some (1 ∷ 0 ∷ 0 ∷ 0 ∷ [])) (Some (2 ∷ 0 ∷ [])) one_entry
+    (9 ∷ 8 ∷ 7 ∷ 6 ∷ []) ≡ None
 unfolding place addresses
 index_too_long = refl
 
 -- nor is an entry of fewer than 16 bytes one of a table
-entry_too_short : offer_by everywhere 0x1000 queue (Some (1 ∷ 0 ∷ [])) (Some (2 ∷ 0 ∷ [])) (loaded 0x20 (9 ∷ 8 ∷ 7 ∷ 6 ∷ []) ∷ []) (9 ∷ 8 ∷ 7 ∷ 6 ∷ []) ≡ None
+entry_too_short : offer_by everywhere 0x1000 queue (Some (1 ∷ 0 ∷ [])) (Some (2 ∷ 0 ∷ []))
+    (loaded 0x20 (9 ∷ 8 ∷ 7 ∷ 6 ∷ []) ∷ []) (9 ∷ 8 ∷ 7 ∷ 6 ∷ []) ≡ None
 unfolding place addresses found_exactly
 entry_too_short = refl
 
 -- the walk asks for no load behind its end
-one_too_many : offer_by everywhere 0x1000 queue (Some (1 ∷ 0 ∷ [])) (Some (2 ∷ 0 ∷ [])) (one_entry ++ one_entry) (9 ∷ 8 ∷ 7 ∷ 6 ∷ []) ≡ None
+one_too_many : offer_by everywhere 0x1000 queue (Some (1 ∷ 0 ∷ [])) (Some (2 ∷ 0 ∷ []))
+    (one_entry ++ one_entry) (9 ∷ 8 ∷ 7 ∷ 6 ∷ []) ≡ None
 unfolding place addresses found_exactly
 one_too_many = refl
 
@@ -115,7 +127,8 @@ unfolding place addresses
 idle = refl
 
 -- a request of more than the limit isn't loaded
-over_limit : offer_by everywhere 3 queue (Some (1 ∷ 0 ∷ [])) (Some (2 ∷ 0 ∷ [])) one_entry [] ≡ Some (Offers 2 (CannotFetch OverLimit))
+over_limit : offer_by everywhere 3 queue (Some (1 ∷ 0 ∷ [])) (Some (2 ∷ 0 ∷ [])) one_entry []
+    ≡ Some (Offers 2 (CannotFetch OverLimit))
 unfolding place addresses found_exactly
 over_limit = refl
 
@@ -129,7 +142,8 @@ unfolding place addresses
 index_lost = refl
 
 -- the steps of a walk: the last one, past the table's end, is loaded by none of them
-steps_past : map (λ (v : Visit). v.index) (steps_by 4 (loaded 0x20 (entry 0 1 4) ∷ loaded 0x40 (entry 0 0 0) ∷ []) (first_visit queue 2)) ≡ 2 ∷ 4 ∷ []
+steps_past : map (λ (v : Visit). v.index) (steps_by 4
+    (loaded 0x20 (entry 0 1 4) ∷ loaded 0x40 (entry 0 0 0) ∷ []) (first_visit queue 2)) ≡ 2 ∷ 4 ∷ []
 unfolding place addresses steps_by
 steps_past = refl
 
@@ -141,13 +155,16 @@ abbrev then_came : Load
 then_came = loaded 0x20 (entry 8 0 0)
 
 -- each found what another memory has
-one_memory_each : AreEntriesInTurn (holding (first_came ∷ []) ∷ holding (then_came ∷ []) ∷ []) (first_came ∷ then_came ∷ [])
+one_memory_each :
+    AreEntriesInTurn (holding (first_came ∷ []) ∷ holding (then_came ∷ []) ∷ []) (first_came ∷ then_came ∷ [])
 unfolding place addresses
 one_memory_each = (refl, (refl, tt))
 
 -- and a walk that reads one memory after the other finds the chain of which no memory has both
-walked_in_turn : found_in_turn 4 (holding (first_came ∷ []) ∷ holding (then_came ∷ []) ∷ []) (ahead_of_head queue 2)
-    ≡ Some (IsChain (record { addr = 0x40; len = 4; flags = 1; next = 2 } ∷ record { addr = 0x48; len = 4; flags = 0; next = 0 } ∷ []))
+walked_in_turn :
+    found_in_turn 4 (holding (first_came ∷ []) ∷ holding (then_came ∷ []) ∷ []) (ahead_of_head queue 2)
+    ≡ Some (IsChain (record { addr = 0x40; len = 4; flags = 1; next = 2 }
+    ∷ record { addr = 0x48; len = 4; flags = 0; next = 0 } ∷ []))
 unfolding place addresses found_in_turn
 walked_in_turn = refl
 
@@ -157,7 +174,8 @@ unfolding place addresses found_in_turn
 too_few_memories = refl
 
 -- a walk that is cut off after its first load would have asked for entry 3
-cut_off : ahead_by 4 (loaded 0x20 (entry 0 1 3) ∷ []) (ahead_of_head queue 2) ≡ Some (Reads (record { table = own_table queue; index = 3; earlier = 1 }))
+cut_off : ahead_by 4 (loaded 0x20 (entry 0 1 3) ∷ []) (ahead_of_head queue 2)
+    ≡ Some (Reads (record { table = own_table queue; index = 3; earlier = 1 }))
 unfolding place addresses ahead_by
 cut_off = refl
 
@@ -167,19 +185,24 @@ unfolding place addresses ahead_by
 not_cut_off = refl
 
 -- a load of another entry than the next brings a walk nowhere
-cut_off_elsewhere : ahead_by 4 (loaded 0x20 (entry 0 1 3) ∷ loaded 0x10 (entry 0 1 0) ∷ []) (ahead_of_head queue 2) ≡ None
+cut_off_elsewhere :
+    ahead_by 4 (loaded 0x20 (entry 0 1 3) ∷ loaded 0x10 (entry 0 1 0) ∷ []) (ahead_of_head queue 2) ≡ None
 unfolding place addresses ahead_by
 cut_off_elsewhere = refl
 
 -- the descriptors that loads tell, in their order
-two_joined : joined_by 4 (steps_by 4 (first_came ∷ then_came ∷ []) (first_visit queue 2)) (first_came ∷ then_came ∷ [])
-    ≡ record { addr = 0x40; len = 4; flags = 1; next = 2 } ∷ record { addr = 0x48; len = 4; flags = 0; next = 0 } ∷ []
+two_joined :
+    joined_by 4 (steps_by 4 (first_came ∷ then_came ∷ []) (first_visit queue 2)) (first_came ∷ then_came ∷ [])
+    ≡ record { addr = 0x40; len = 4; flags = 1; next = 2 }
+    ∷ record { addr = 0x48; len = 4; flags = 0; next = 0 } ∷ []
 unfolding place addresses steps_by
 two_joined = refl
 
 -- one that names a table doesn't join
-no_table_joined : joined_by 4 (steps_by 4 (loaded 0x20 (0x40 ∷ 0 ∷ 0 ∷ 0 ∷ 0 ∷ 0 ∷ 0 ∷ 0 ∷ 16 ∷ 0 ∷ 0 ∷ 0 ∷ 4 ∷ 0 ∷ 0 ∷ 0 ∷ []) ∷ loaded 0x40 (entry 8 0 0) ∷ []) (first_visit queue 2))
-    (loaded 0x20 (0x40 ∷ 0 ∷ 0 ∷ 0 ∷ 0 ∷ 0 ∷ 0 ∷ 0 ∷ 16 ∷ 0 ∷ 0 ∷ 0 ∷ 4 ∷ 0 ∷ 0 ∷ 0 ∷ []) ∷ loaded 0x40 (entry 8 0 0) ∷ [])
+no_table_joined : joined_by 4 (steps_by 4 (loaded 0x20 (0x40 ∷ 0 ∷ 0 ∷ 0 ∷ 0 ∷ 0 ∷ 0 ∷ 0 ∷ 16 ∷ 0 ∷ 0 ∷ 0 ∷ 4
+    ∷ 0 ∷ 0 ∷ 0 ∷ []) ∷ loaded 0x40 (entry 8 0 0) ∷ []) (first_visit queue 2))
+    (loaded 0x20 (0x40 ∷ 0 ∷ 0 ∷ 0 ∷ 0 ∷ 0 ∷ 0 ∷ 0 ∷ 16 ∷ 0 ∷ 0 ∷ 0 ∷ 4 ∷ 0 ∷ 0 ∷ 0 ∷ [])
+    ∷ loaded 0x40 (entry 8 0 0) ∷ [])
     ≡ record { addr = 0x48; len = 4; flags = 0; next = 0 } ∷ []
 unfolding place addresses steps_by
 no_table_joined = refl

@@ -6,4 +6,7 @@ use Rattle.fs_queue.specs.Chain.{path, first_visit, walk}
 
 -- a walk ends by itself: with any greater bound it has the same steps
 abbrev pub WalksEnd : Type 0
-WalksEnd = (m : Memory) (q : Queue) (head n : ℕ) → q.size + 2 ≤ n → path m q.size n (first_visit q head) ≡ walk m q head
+WalksEnd =
+    (m : Memory) (q : Queue) (head n : ℕ) →
+    q.size + 2 ≤ n →
+    path m q.size n (first_visit q head) ≡ walk m q head

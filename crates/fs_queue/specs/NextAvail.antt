@@ -1,9 +1,11 @@
--- What a queue that isn't stopped finds in its available ring (VIRTIO 1.2, 2.7.6 and 2.7.13 from the device's side).
+-- What a queue that isn't stopped finds in its available ring (VIRTIO 1.2, 2.7.6 and 2.7.13 from the device's
+-- side).
 use Rattle.std.specs.Prelude.{ℕ, not, nat_le, nat_lt, ◌==◌, if◌then◌else◌}
 use Rattle.vm_iotlb.specs.declared.permissions.Permissions.TheVariants.{Read}
 use Rattle.vm_memory.specs.Memory.{Memory, reach}
 use Rattle.fs_queue.specs.declared.fault.QueueError.{QueueError}
-use Rattle.fs_queue.specs.declared.fault.QueueError.TheVariants.{AvailIndexUnreachable, AvailTooFar, RingEntryUnreachable, HeadOutOfTable}
+use Rattle.fs_queue.specs.declared.fault.QueueError.TheVariants.{AvailIndexUnreachable, AvailTooFar}
+use Rattle.fs_queue.specs.declared.fault.QueueError.TheVariants.{RingEntryUnreachable, HeadOutOfTable}
 use Rattle.fs_queue.specs.Queue.{Queue, avail_index_at, waiting, ring_entry_at, head}
 
 -- what waits in the available ring: nothing, the head of a chain, or why there is none

@@ -1,12 +1,18 @@
--- Paths in the standard's words (VIRTIO 1.2, 2.7.5 and 2.7.5.3): a relation, beside the walk of Chain, which computes.
-use Rattle.std.specs.Prelude.{◌≡◌, ◌↔◌, ◌⊎◌, ℕ, ◌+◌, ◌/◌, ◌%◌, ◌^◌, ◌<◌, ◌≤◌, true, false, not, List, [], ◌∷◌, ◌++◌, map, filter, All}
+-- Paths in the standard's words (VIRTIO 1.2, 2.7.5 and 2.7.5.3): a relation, beside the walk of Chain, which
+-- computes.
+use Rattle.std.specs.Prelude.{◌≡◌, ◌↔◌, ◌⊎◌, ℕ, ◌+◌, ◌/◌, ◌%◌, ◌^◌, ◌<◌, ◌≤◌, true, false, not, List, [], ◌∷◌}
+use Rattle.std.specs.Prelude.{◌++◌, map, filter, All}
 use Rattle.vm_iotlb.specs.declared.permissions.Permissions.TheVariants.{Read}
 use Rattle.vm_memory.specs.Memory.{Memory, reach}
 use Rattle.fs_queue.specs.declared.fault.ChainFault.{ChainFault}
-use Rattle.fs_queue.specs.declared.fault.ChainFault.TheVariants.{TooLong, NextOutOfTable, AddressOverflow, IndirectWithNext, IndirectNested, IndirectLength, TableUnreachable}
-use Rattle.fs_queue.specs.declared.fault.ChainFault.TheVariants.{OverLimit, RequestUnreachable, RoomUnreachable}
+use Rattle.fs_queue.specs.declared.fault.ChainFault.TheVariants.{TooLong, NextOutOfTable, AddressOverflow}
+use Rattle.fs_queue.specs.declared.fault.ChainFault.TheVariants.{IndirectWithNext, IndirectNested}
+use Rattle.fs_queue.specs.declared.fault.ChainFault.TheVariants.{IndirectLength, TableUnreachable}
+use Rattle.fs_queue.specs.declared.fault.ChainFault.TheVariants.{OverLimit, RequestUnreachable}
+use Rattle.fs_queue.specs.declared.fault.ChainFault.TheVariants.{RoomUnreachable}
 use Rattle.fs_queue.specs.Queue.{Queue}
-use Rattle.fs_queue.specs.Chain.{Descriptor, Visit, entry_address, descriptor_at, has_next, is_indirect, first_visit, walk, Found, IsChain, HasFault, StopsQueue, chain}
+use Rattle.fs_queue.specs.Chain.{Descriptor, Visit, entry_address, descriptor_at, has_next, is_indirect}
+use Rattle.fs_queue.specs.Chain.{first_visit, walk, Found, IsChain, HasFault, StopsQueue, chain}
 
 -- the entry of a step
 abbrev pub entry_of : Memory → Visit → Descriptor
@@ -17,13 +23,15 @@ pub record EntryIsThere (m : Memory) (v : Visit) : Type 0 where
   pub inside : v.index < v.table.entries
   pub read : reach m Read (entry_address v) 16 ≡ true
 
--- an ordinary descriptor passes: fewer of them came before it than the queue has entries, and where it has bytes its end is an address
+-- an ordinary descriptor passes: fewer of them came before it than the queue has entries, and where it has
+-- bytes its end is an address
 pub record PassesOrdinary (q : Queue) (v : Visit) (d : Descriptor) : Type 0 where
   pub ordinary : is_indirect d ≡ false
   pub room : v.earlier < q.size
   pub ends : (d.len ≡ 0) ⊎ (d.addr + d.len < 2 ^ 64)
 
--- a descriptor that names a table passes: it has no NEXT and stands in no such table itself; its bytes are one entry or more, and their end is an address
+-- a descriptor that names a table passes: it has no NEXT and stands in no such table itself; its bytes are
+-- one entry or more, and their end is an address
 pub record PassesTable (v : Visit) (d : Descriptor) : Type 0 where
   pub indirect : is_indirect d ≡ true
   pub last : has_next d ≡ false
@@ -32,7 +40,8 @@ pub record PassesTable (v : Visit) (d : Descriptor) : Type 0 where
   pub whole : d.len % 16 ≡ 0
   pub ends : d.addr + d.len < 2 ^ 64
 
--- a step by NEXT, after an ordinary one that passes: the descriptor's next in the same table, with one more before it
+-- a step by NEXT, after an ordinary one that passes: the descriptor's next in the same table, with one more
+-- before it
 pub record FollowsByNext (m : Memory) (q : Queue) (v w : Visit) : Type 0 where
   pub there : EntryIsThere m v
   pub passes : PassesOrdinary q v (entry_of m v)
@@ -41,11 +50,13 @@ pub record FollowsByNext (m : Memory) (q : Queue) (v w : Visit) : Type 0 where
   pub index : w.index ≡ (entry_of m v).next
   pub earlier : w.earlier ≡ v.earlier + 1
 
--- a step by INDIRECT, after one that passes: entry 0 of the table that the descriptor names, which itself isn't counted
+-- a step by INDIRECT, after one that passes: entry 0 of the table that the descriptor names, which itself
+-- isn't counted
 pub record FollowsByTable (m : Memory) (v w : Visit) : Type 0 where
   pub there : EntryIsThere m v
   pub passes : PassesTable v (entry_of m v)
-  pub table : w.table ≡ record { address = (entry_of m v).addr; entries = (entry_of m v).len / 16; indirect = true }
+  pub table :
+      w.table ≡ record { address = (entry_of m v).addr; entries = (entry_of m v).len / 16; indirect = true }
   pub index : w.index ≡ 0
   pub earlier : w.earlier ≡ v.earlier
 
@@ -73,13 +84,19 @@ WalksArePaths = (m : Memory) (q : Queue) (head : ℕ) → IsPath m q head (walk 
 
 -- each path from a head is a front of the walk, which is the longest one
 abbrev pub PathsAreFronts : Type 0
-PathsAreFronts = (m : Memory) (q : Queue) (head : ℕ) (vs : List Visit) → IsPath m q head vs → IsFront vs (walk m q head)
+PathsAreFronts =
+    (m : Memory) (q : Queue) (head : ℕ) (vs : List Visit) → IsPath m q head vs → IsFront vs (walk m q head)
 
 -- no step comes after a walk's last
 abbrev pub NothingFollows : Type 0
-NothingFollows = (m : Memory) (q : Queue) (head : ℕ) (front : List Visit) (last next : Visit) → walk m q head ≡ front ++ last ∷ [] → Follows m q last next → ⊥
+NothingFollows =
+    (m : Memory) (q : Queue) (head : ℕ) (front : List Visit) (last next : Visit) →
+    walk m q head ≡ front ++ last ∷ [] →
+    Follows m q last next →
+    ⊥
 
--- a step passes, also a path's last: its entry is there, and is an ordinary descriptor that passes or one that names a table and passes
+-- a step passes, also a path's last: its entry is there, and is an ordinary descriptor that passes or one
+-- that names a table and passes
 pub record Passes (m : Memory) (q : Queue) (v : Visit) : Type 0 where
   pub there : EntryIsThere m v
   pub passes : PassesOrdinary q v (entry_of m v) ⊎ PassesTable v (entry_of m v)
@@ -104,7 +121,8 @@ pub record NamesTableLast (m : Memory) (v : Visit) : Type 0 where
   pub names : NamesTable m v
   pub last : has_next (entry_of m v) ≡ false
 
--- the step is at such a one in the queue's own table: in a table that a descriptor names there must be none (2.7.5.3.1)
+-- the step is at such a one in the queue's own table: in a table that a descriptor names there must be none
+-- (2.7.5.3.1)
 pub record NamesTableFromOwn (m : Memory) (v : Visit) : Type 0 where
   pub names : NamesTableLast m v
   pub own : v.table.indirect ≡ false
@@ -116,20 +134,23 @@ pub record TableOverflows (m : Memory) (v : Visit) : Type 0 where
   pub whole : (entry_of m v).len % 16 ≡ 0
   pub past : 2 ^ 64 ≤ (entry_of m v).addr + (entry_of m v).len
 
--- the step is at an ordinary descriptor before which fewer came than the queue has entries, and which has bytes, but they end past 2^64 - 1
+-- the step is at an ordinary descriptor before which fewer came than the queue has entries, and which has
+-- bytes, but they end past 2^64 - 1
 pub record OrdinaryOverflows (m : Memory) (q : Queue) (v : Visit) : Type 0 where
   pub ordinary : IsOrdinary m v
   pub room : v.earlier < q.size
   pub some : 0 < (entry_of m v).len
   pub past : 2 ^ 64 ≤ (entry_of m v).addr + (entry_of m v).len
 
--- the fault of a step: the first rule that it breaks (2.7.5 and 2.7.5.3.1). An ordinary one is TooLong if as many came before it as the queue has entries, with NEXT or without
+-- the fault of a step: the first rule that it breaks (2.7.5 and 2.7.5.3.1). An ordinary one is TooLong if as
+-- many came before it as the queue has entries, with NEXT or without
 abbrev pub StepHasFault : Memory → Queue → Visit → ChainFault → Type 0
 StepHasFault m q v NextOutOfTable = v.table.entries ≤ v.index
 StepHasFault m q v TableUnreachable = EntryIsUnreadable m v × (v.table.indirect ≡ true)
 StepHasFault m q v IndirectWithNext = NamesTable m v × (has_next (entry_of m v) ≡ true)
 StepHasFault m q v IndirectNested = NamesTableLast m v × (v.table.indirect ≡ true)
-StepHasFault m q v IndirectLength = NamesTableFromOwn m v × (((entry_of m v).len ≡ 0) ⊎ (0 < (entry_of m v).len % 16))
+StepHasFault m q v IndirectLength =
+    NamesTableFromOwn m v × (((entry_of m v).len ≡ 0) ⊎ (0 < (entry_of m v).len % 16))
 StepHasFault m q v AddressOverflow = TableOverflows m v ⊎ OrdinaryOverflows m q v
 StepHasFault m q v TooLong = IsOrdinary m v × (v.earlier ≡ q.size)
 StepHasFault m q v OverLimit = ⊥
@@ -152,7 +173,8 @@ pub record EndsAt (m : Memory) (q : Queue) (vs : List Visit) (IsSo : Visit → T
 abbrev pub ordinary_entries : Memory → List Visit → List Descriptor
 ordinary_entries m vs = filter (λ d. not (is_indirect d)) (map (entry_of m) vs)
 
--- what some steps come to: the chain of their ordinary descriptors where each passes; else the fault that the last has, or a stop of the queue there
+-- what some steps come to: the chain of their ordinary descriptors where each passes; else the fault that the
+-- last has, or a stop of the queue there
 abbrev pub ComesTo : Memory → Queue → List Visit → Found → Type 0
 ComesTo m q vs (IsChain ds) = All (Passes m q) vs × (ds ≡ ordinary_entries m vs)
 ComesTo m q vs (HasFault fault) = EndsAt m q vs (λ v. StepHasFault m q v fault)
@@ -160,4 +182,6 @@ ComesTo m q vs StopsQueue = EndsAt m q vs (StepStops m)
 
 -- a walk, the longest path, finds exactly what its steps come to
 abbrev pub WalksFind : Type 0
-WalksFind = (m : Memory) (q : Queue) (head : ℕ) (finds : Found) → (chain m q head ≡ finds) ↔ ComesTo m q (walk m q head) finds
+WalksFind =
+    (m : Memory) (q : Queue) (head : ℕ) (finds : Found) →
+    (chain m q head ≡ finds) ↔ ComesTo m q (walk m q head) finds

@@ -4,7 +4,8 @@ use Rattle.std.specs.Int.{w16}
 pub use Rattle.vm_values.specs.Bits.{has_bit}
 use Rattle.vm_memory.specs.Memory.{Memory, number}
 
--- where a queue's parts are, its position and whether it stopped. The position is how many chains were taken, modulo 2^16; for a return it is how many went back, which is the same where one is taken at a time
+-- where a queue's parts are, its position and whether it stopped. The position is how many chains were taken,
+-- modulo 2^16; for a return it is how many went back, which is the same where one is taken at a time
 pub record Queue : Type 0 where
   pub size : ℕ
   pub desc : ℕ
@@ -15,11 +16,13 @@ pub record Queue : Type 0 where
 
 -- a queue of this layout of which no chain was taken
 abbrev pub fresh : (size desc avail used : ℕ) → Queue
-fresh size desc avail used = record { size = size; desc = desc; avail = avail; used = used; position = 0; stopped = false }
+fresh size desc avail used =
+    record { size = size; desc = desc; avail = avail; used = used; position = 0; stopped = false }
 
 -- a queue of this layout at this position, which is stopped or not
 abbrev pub resumed : (size desc avail used position : ℕ) → (stopped : Bool) → Queue
-resumed size desc avail used position stopped = record { size = size; desc = desc; avail = avail; used = used; position = position; stopped = stopped }
+resumed size desc avail used position stopped =
+    record { size = size; desc = desc; avail = avail; used = used; position = position; stopped = stopped }
 
 -- a queue that hands out no chain until it is reset
 abbrev pub with_stop : Queue → Queue

@@ -52,7 +52,9 @@ BeginsWalk q _ = ⊥
 
 -- where a chain waits, its walk begins
 abbrev pub BeginsChain : QueueLayout → code.Walk → Type 0
-BeginsChain l (says.Chain head progress) = (ahead_of progress ≡ ahead_at l.size (first_visit (at_position l 0) head)) × IfWants progress (λ w. w.size ≡ l.size)
+BeginsChain l (says.Chain head progress) =
+    (ahead_of progress ≡ ahead_at l.size (first_visit (at_position l 0) head))
+    × IfWants progress (λ w. w.size ≡ l.size)
 BeginsChain l _ = Unit {0}
 
 -- of a walk that asks for the ring's entry

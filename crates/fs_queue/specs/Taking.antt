@@ -1,11 +1,13 @@
 -- What a queue offers: a chain's request and room, or why there is none.
-use Rattle.std.specs.Prelude.{ℕ, Bool, true, false, not, ◌&&◌, ◌||◌, nat_lt, List, [], Option, Some, None, if◌then◌else◌, sum_by, filter, flat_map}
+use Rattle.std.specs.Prelude.{ℕ, Bool, true, false, not, ◌&&◌, ◌||◌, nat_lt, List, [], Option, Some, None}
+use Rattle.std.specs.Prelude.{if◌then◌else◌, sum_by, filter, flat_map}
 use Rattle.std.specs.List.{list_all}
 use Rattle.vm_iotlb.specs.declared.permissions.Permissions.{Permissions}
 use Rattle.vm_iotlb.specs.declared.permissions.Permissions.TheVariants.{Read, Write}
 use Rattle.vm_memory.specs.Memory.{Memory, reach, bytes, addresses}
 use Rattle.fs_queue.specs.declared.fault.ChainFault.{ChainFault}
-use Rattle.fs_queue.specs.declared.fault.ChainFault.TheVariants.{OverLimit, RequestUnreachable, RoomUnreachable}
+use Rattle.fs_queue.specs.declared.fault.ChainFault.TheVariants.{OverLimit, RequestUnreachable}
+use Rattle.fs_queue.specs.declared.fault.ChainFault.TheVariants.{RoomUnreachable}
 use Rattle.fs_queue.specs.declared.fault.QueueError.{QueueError}
 use Rattle.fs_queue.specs.declared.fault.QueueError.TheVariants as stop
 use Rattle.fs_queue.specs.Queue.{Queue, element_at, index_at, with_stop}
@@ -43,18 +45,22 @@ total_len ds = sum_by (λ d. d.len) ds
 abbrev pub all_reach : Memory → Permissions → List Descriptor → Bool
 all_reach m access ds = list_all (λ d. reach m access d.addr d.len) ds
 
--- what is fetched of a chain: the flat bytes of its request, and the addresses of its room; or why they can't be
+-- what is fetched of a chain: the flat bytes of its request, and the addresses of its room; or why they can't
+-- be
 pub data RequestAndRoom : Type 0 where
   IsRequest : (request : List ℕ) (room : List ℕ) → RequestAndRoom
   CannotFetch : ChainFault → RequestAndRoom
 
--- what is fetched by the descriptors of a chain: too much, what can't be read, what can't be written, in this order, or a request and a room
+-- what is fetched by the descriptors of a chain: too much, what can't be read, what can't be written, in this
+-- order, or a request and a room
 abbrev pub request_and_room : Memory → ℕ → List Descriptor → RequestAndRoom
 request_and_room m limit ds =
-    if nat_lt limit (total_len (readable ds)) || nat_lt limit (total_len (writable ds)) then CannotFetch OverLimit
+    if nat_lt limit (total_len (readable ds)) || nat_lt limit (total_len (writable ds))
+    then CannotFetch OverLimit
     else if not (all_reach m Read (readable ds)) then CannotFetch RequestUnreachable
     else if not (all_reach m Write (writable ds)) then CannotFetch RoomUnreachable
-    else IsRequest (flat_map (λ d. bytes m d.addr d.len) (readable ds)) (flat_map (λ d. addresses d.addr d.len) (writable ds))
+    else IsRequest (flat_map (λ d. bytes m d.addr d.len) (readable ds))
+    (flat_map (λ d. addresses d.addr d.len) (writable ds))
 
 -- why that can't be fetched, if it can't
 abbrev pub chain_fault : Memory → (limit : ℕ) → List Descriptor → Option ChainFault
@@ -76,7 +82,8 @@ offer_of m limit head (IsChain ds) = Offers head (request_and_room m limit ds)
 offer_of m limit head (HasFault fault) = Offers head (CannotFetch fault)
 offer_of m limit head StopsQueue = Refuses stop.DescriptorUnreachable
 
--- what is offered once a head waits and the walk from it found this, by the places of what a return writes and reads (2.7.8 and 2.7.7)
+-- what is offered once a head waits and the walk from it found this, by the places of what a return writes
+-- and reads (2.7.8 and 2.7.7)
 abbrev pub on_found : Memory → ℕ → Queue → (head : ℕ) → Found → Offer
 on_found m limit q head f =
     if not (reach m Write (element_at q) 8 && reach m Write (index_at q) 2) then Refuses stop.UsedUnreachable
@@ -86,7 +93,8 @@ on_found m limit q head f =
 abbrev pub on_head : Memory → ℕ → Queue → (head : ℕ) → Offer
 on_head m limit q head = on_found m limit q head (chain m q head)
 
--- why a chain can't go back, if it can't: the used element or the used index can't be written, the available flags can't be read (2.7.8 and 2.7.7)
+-- why a chain can't go back, if it can't: the used element or the used index can't be written, the available
+-- flags can't be read (2.7.8 and 2.7.7)
 abbrev pub return_fault : Memory → Queue → Option QueueError
 return_fault m q =
     if not (reach m Write (element_at q) 8 && reach m Write (index_at q) 2) then Some stop.UsedUnreachable
@@ -108,7 +116,8 @@ abbrev pub is_idle : Offer → Bool
 is_idle Idle = true
 is_idle _ = false
 
--- whether a step may be refused since an allocation fails: only if a chain is offered, so that no other refusal is hidden
+-- whether a step may be refused since an allocation fails: only if a chain is offered, so that no other
+-- refusal is hidden
 abbrev pub may_lack_memory : Offer → Bool
 may_lack_memory (Offers head fetched) = true
 may_lack_memory _ = false

@@ -8,7 +8,8 @@ use Rattle.fs_queue.specs.declared.chain_walk.WalkEnd as walked
 use Rattle.fs_queue.specs.declared.chain_walk.WalkEnd.TheVariants as comes_to
 use Rattle.fs_queue.specs.declared.layout.QueueLayout.{QueueLayout}
 use Rattle.fs_queue.specs.Queue.{Queue, resumed}
-use Rattle.fs_queue.specs.Chain.{Descriptor, DescriptorTable, Visit, WalkStep, Ordinary, Table, Faulty, Stops, Found, IsChain, HasFault, StopsQueue}
+use Rattle.fs_queue.specs.Chain.{Descriptor, DescriptorTable, Visit, WalkStep, Ordinary, Table, Faulty, Stops}
+use Rattle.fs_queue.specs.Chain.{Found, IsChain, HasFault, StopsQueue}
 
 -- the queue with the numbers of a layout, at a position, which isn't stopped
 abbrev pub at_position : QueueLayout → (position : ℕ) → Queue

@@ -1,5 +1,7 @@
--- What is kept of a chain that was taken: the windows of its descriptors and of its return, each address translated by itself.
-use Rattle.std.specs.Prelude.{◌≡◌, ◌<◌, ◌≤◌, ◌⊎◌, ℕ, Bool, true, false, IsTrue, List, [], ◌++◌, length, map, Option, Some, None, Result, Ok, Err}
+-- What is kept of a chain that was taken: the windows of its descriptors and of its return, each address
+-- translated by itself.
+use Rattle.std.specs.Prelude.{◌≡◌, ◌<◌, ◌≤◌, ◌⊎◌, ℕ, Bool, true, false, IsTrue, List, [], ◌++◌, length, map}
+use Rattle.std.specs.Prelude.{Option, Some, None, Result, Ok, Err}
 use Rattle.vm_iotlb.specs.declared.permissions.Permissions.TheVariants.{Read, Write}
 use Rattle.vm_memory_core.specs.Host.{Place}
 use Rattle.vm_memory_core.specs.Window.{places, AllLieIn, byte_in}
@@ -11,9 +13,12 @@ use Rattle.fs_queue.specs.declared.chain.Chain.{Chain}
 use Rattle.fs_queue.specs.declared.chain.ReturnWindows.{ReturnWindows}
 use Rattle.fs_queue.specs.Queue.{Queue, element_at, index_at}
 use Rattle.fs_queue.specs.Chain.{Descriptor, Found, IsChain, HasFault, StopsQueue, chain}
-use Rattle.fs_queue.specs.Taking.{readable, writable, addresses_of, total_len, request_and_room, RequestAndRoom, IsRequest, CannotFetch, Idle, Refuses, Offers, offer, may_lack_memory, after_refusal}
+use Rattle.fs_queue.specs.Taking.{readable, writable, addresses_of, total_len, request_and_room}
+use Rattle.fs_queue.specs.Taking.{RequestAndRoom, IsRequest, CannotFetch, Idle, Refuses, Offers, offer}
+use Rattle.fs_queue.specs.Taking.{may_lack_memory, after_refusal}
 
--- the places of the used element and the used index, and of the available flags (2.7.8 and 2.7.7), or which of them has an address without a place
+-- the places of the used element and the used index, and of the available flags (2.7.8 and 2.7.7), or which
+-- of them has an address without a place
 pub data ReturnPlaces : Type 0 where
   Holds : (used flags : List Place) → ReturnPlaces
   Lacks : QueueError → ReturnPlaces
@@ -30,7 +35,9 @@ used_addresses q = addresses (element_at q) 8 ++ addresses (index_at q) 2
 
 -- those of a queue: the element and the index to be written, the flags to be read
 abbrev pub return_places_at : Memory → Queue → ReturnPlaces
-return_places_at m q = return_places_found (located (location m Write) (used_addresses q)) (located (location m Read) (addresses q.avail 2))
+return_places_at m q =
+    return_places_found (located (location m Write) (used_addresses q))
+    (located (location m Read) (addresses q.avail 2))
 
 -- which of them is missing, if one is
 abbrev pub missing_of : ReturnPlaces → Option QueueError
@@ -42,7 +49,8 @@ abbrev pub return_places_of : Option QueueError → ReturnWindows → ReturnPlac
 return_places_of None windows = Holds (places windows.used.items) (places windows.flags.items)
 return_places_of (Some e) windows = Lacks e
 
--- windows of these places, for writing: of the used element and then the used index; for reading: of the available flags
+-- windows of these places, for writing: of the used element and then the used index; for reading: of the
+-- available flags
 pub record HoldsReturnWindows (m : Memory) (q : Queue) (windows : ReturnWindows) : Type 0 where
   pub used : located (location m Write) (used_addresses q) ≡ Some (places windows.used.items)
   pub flags : located (location m Read) (addresses q.avail 2) ≡ Some (places windows.flags.items)
@@ -50,7 +58,8 @@ pub record HoldsReturnWindows (m : Memory) (q : Queue) (windows : ReturnWindows)
 -- windows with the request's bytes and the room's places, or the fault
 abbrev pub HoldsChain : Memory → RequestAndRoom → Result Chain ChainFault → Type 0
 HoldsChain m (IsRequest request room) (Ok c) =
-    (request ≡ map (byte_in m.host) (places c.readable.items)) × (located (location m Write) room ≡ Some (places c.writable.items))
+    (request ≡ map (byte_in m.host) (places c.readable.items))
+    × (located (location m Write) room ≡ Some (places c.writable.items))
 HoldsChain m (CannotFetch why) (Err fault) = fault ≡ why
 HoldsChain m _ _ = ⊥
 
@@ -74,13 +83,15 @@ DoesNotStop (IsChain ds) = Unit {0}
 DoesNotStop (HasFault fault) = Unit {0}
 DoesNotStop StopsQueue = ⊥
 
--- what a walk found is refused so, if memory is wanting for the windows of its return: it stopped the queue, or it didn't and the want is answered
+-- what a walk found is refused so, if memory is wanting for the windows of its return: it stopped the queue,
+-- or it didn't and the want is answered
 abbrev pub RefusesFound : Found → QueueError → Type 0
 RefusesFound found stop.OutOfMemory = DoesNotStop found
 RefusesFound found stop.DescriptorUnreachable = found ≡ StopsQueue
 RefusesFound found _ = ⊥
 
--- what a walk found wants memory only for a chain: for the list of its descriptors, if there are more than it has room for, or for its windows, if it keeps the limit
+-- what a walk found wants memory only for a chain: for the list of its descriptors, if there are more than it
+-- has room for, or for its windows, if it keeps the limit
 abbrev pub WantsMemory : (limit room : ℕ) → Found → Type 0
 WantsMemory limit room (IsChain ds) = (room < length ds) ⊎ KeepsLimit limit ds
 WantsMemory limit room (HasFault fault) = ⊥
@@ -153,10 +164,12 @@ abbrev pub room_places : Result Chain ChainFault → ℕ
 room_places (Ok c) = length (places c.writable.items)
 room_places (Err fault) = 0
 
--- what taking answers: nothing waits, a chain as it was offered, or a refusal; a failed allocation only if it may come
+-- what taking answers: nothing waits, a chain as it was offered, or a refusal; a failed allocation only if it
+-- may come
 abbrev pub Takes : Memory → ℕ → Queue → Result (Option Taken) QueueError → Type 0
 Takes m limit q (Ok None) = offer m limit q ≡ Idle
-Takes m limit q (Ok (Some t)) = (fetched : RequestAndRoom) × (offer m limit q ≡ Offers t.head fetched) × IsTaken m q fetched t
+Takes m limit q (Ok (Some t)) =
+    (fetched : RequestAndRoom) × (offer m limit q ≡ Offers t.head fetched) × IsTaken m q fetched t
 Takes m limit q (Err stop.OutOfMemory) = IsTrue (may_lack_memory (offer m limit q))
 Takes m limit q (Err e) = offer m limit q ≡ Refuses e
 
@@ -171,7 +184,8 @@ abbrev pub after_taking : Queue → Result (Option Taken) QueueError → Queue
 after_taking q (Ok o) = q
 after_taking q (Err e) = after_refusal q e
 
--- a chain has this head, and windows of the places of these descriptors: of those that the device reads, and of those that it writes; a fault has none
+-- a chain has this head, and windows of the places of these descriptors: of those that the device reads, and
+-- of those that it writes; a fault has none
 abbrev pub HoldsWindows : Memory → (head : ℕ) → Result Chain ChainFault → Found → Type 0
 HoldsWindows m head (Ok c) (IsChain ds) =
     (c.head ≡ head)

@@ -14,8 +14,8 @@ use vm_memory::GuestMemory;
 use vm_memory_core::{GuestAddress, HostBlocks, Permissions, Windows};
 use vm_values::{ByteValued, Le16};
 
-/// Reads a buffer full of bytes from an address on, or answers false if one of them isn't there. A translation that fails
-/// may want memory: without it, it fails all the same.
+/// Reads a buffer full of bytes from an address on, or answers false if one of them isn't there. A
+/// translation that fails may want memory: without it, it fails all the same.
 #[inline(always)]
 pub(crate) fn read<M: GuestMemory, H: HostBlocks>(
     alloc: Global,
@@ -27,7 +27,8 @@ pub(crate) fn read<M: GuestMemory, H: HostBlocks>(
     requires fits { addr + length buffer.old < 2 ^ 64 }
     requires held { M.IsHeld mem.now (H.host host.now) }
     ensures found { result ≡ reach (M.memory mem.now (H.host host.now)) Read addr (length buffer.old) }
-    ensures bytes { IsTrue result → buffer.new ≡ bytes (M.memory mem.now (H.host host.now)) addr (length buffer.old) }
+    ensures bytes { IsTrue result
+        → buffer.new ≡ bytes (M.memory mem.now (H.host host.now)) addr (length buffer.old) }
 {
     match mem.read_range(alloc, host, GuestAddress(addr), buffer) {
         Ok(found) => found,
@@ -61,8 +62,8 @@ pub(crate) fn le16_number(bytes: &[u8; 2]) -> u16
     Le16::get_bytes(bytes).to_native()
 }
 
-/// The bytes of some addresses that follow one another, if one window has all of them. None says nothing of them:
-/// parts of the range are then read by themselves.
+/// The bytes of some addresses that follow one another, if one window has all of them. None says nothing of
+/// them: parts of the range are then read by themselves.
 #[inline(always)]
 pub(crate) fn whole_bytes<'a, M: GuestMemory, H: HostBlocks>(
     alloc: Global,
@@ -85,8 +86,8 @@ pub(crate) fn whole_bytes<'a, M: GuestMemory, H: HostBlocks>(
     }
 }
 
-/// Adds the windows of `len` addresses from `addr` on, for an access, or answers false if one of them can't be reached.
-/// An error is a failed allocation.
+/// Adds the windows of `len` addresses from `addr` on, for an access, or answers false if one of them can't
+/// be reached. An error is a failed allocation.
 #[inline(always)]
 pub(crate) fn add_windows<M: GuestMemory, H: HostBlocks>(
     alloc: Global,
@@ -100,9 +101,11 @@ pub(crate) fn add_windows<M: GuestMemory, H: HostBlocks>(
     requires fits { addr + len < 2 ^ 64 }
     requires held { M.IsHeld mem.now (H.host host.now) }
     ensures found { let m = M.memory mem.now (H.host host.now) in
-        IfOk result (λ found. after (places windows.old.items) (located (location m access) (addresses addr len))
+        IfOk result
+        (λ found. after (places windows.old.items) (located (location m access) (addresses addr len))
         ≡ (if found then Some (places windows.new.items) else None)) }
-    ensures lie { AllLieIn (lengths (H.host host.now)) windows.old.items → AllLieIn (lengths (H.host host.now)) windows.new.items }
+    ensures lie { AllLieIn (lengths (H.host host.now)) windows.old.items
+        → AllLieIn (lengths (H.host host.now)) windows.new.items }
 {
     // No address is translated for nothing.
     if len == 0 {

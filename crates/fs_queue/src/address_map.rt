@@ -2,7 +2,8 @@
 
 ghost use Rattle.std.specs.Prelude.{◌≡◌, ◌-◌, ◌^◌, [], ◌∷◌, min};
 ghost use Rattle.vm_memory.specs.Memory.{reach};
-ghost use Rattle.fs_queue.specs.Taking.{all_reach, access_of, chain_fault, of_direction, return_fault, total_len};
+ghost use Rattle.fs_queue.specs.Taking.{all_reach, access_of, chain_fault, of_direction, return_fault};
+ghost use Rattle.fs_queue.specs.Taking.{total_len};
 ghost use Rattle.fs_queue.specs.WalkingView.{at_position};
 
 use crate::access::reaches;
@@ -20,7 +21,8 @@ pub trait AddressMap {
     // the memory whose places these are
     ghost places: { Self → Memory };
 
-    /// Whether each of some addresses that follow one another has a place, for an access. None of them has one if they end past 2^64 - 1.
+    /// Whether each of some addresses that follow one another has a place, for an access. None of them has
+    /// one if they end past 2^64 - 1.
     fn has_places(&self, addr: u64, len: usize, access: Permissions) -> bool
         ensures { result ≡ reach (places self.now) access addr len };
 }
@@ -41,7 +43,8 @@ impl<'a, M: GuestMemory, H: HostBlocks> AddressMap for HostAddressMap<'a, M, H> 
     }
 }
 
-/// Why a chain at a position of a queue can't go back: `UsedUnreachable` or `AvailFlagsUnreachable`; none if it can (VIRTIO 1.2, 2.7.8 and 2.7.7).
+/// Why a chain at a position of a queue can't go back: `UsedUnreachable` or `AvailFlagsUnreachable`; none if
+/// it can (VIRTIO 1.2, 2.7.8 and 2.7.7).
 pub fn return_fault<P: AddressMap>(
     places: &P,
     layout: QueueLayout,
@@ -62,8 +65,9 @@ pub fn return_fault<P: AddressMap>(
     None
 }
 
-/// How many bytes the descriptors of a chain have in one direction: those that the device writes, or those that it reads.
-/// The answer is 2^64 - 1 if there are more. A chain with more than its limit in one of them is `OverLimit`.
+/// How many bytes the descriptors of a chain have in one direction: those that the device writes, or those
+/// that it reads. The answer is 2^64 - 1 if there are more. A chain with more than its limit in one of them
+/// is `OverLimit`.
 pub fn count_bytes(descriptors: &[Descriptor], write_only: bool) -> u64
     ensures { result ≡ min (total_len (of_direction write_only descriptors.now)) (2 ^ 64 - 1) }
 {
@@ -90,7 +94,8 @@ pub(crate) fn access_of(write_only: bool) -> Permissions
 
 // Whether all bytes of a descriptor have places, if it is of this direction.
 fn has_descriptor<P: AddressMap>(places: &P, descriptor: &Descriptor, write_only: bool) -> bool
-    ensures { result ≡ all_reach (P.places places.now) (access_of write_only) (of_direction write_only (descriptor.now ∷ [])) }
+    ensures { result ≡ all_reach (P.places places.now) (access_of write_only)
+        (of_direction write_only (descriptor.now ∷ [])) }
 {
     if descriptor.is_write_only() == write_only {
         places.has_places(
@@ -105,7 +110,8 @@ fn has_descriptor<P: AddressMap>(places: &P, descriptor: &Descriptor, write_only
 
 // Whether all bytes of one direction of a chain have places.
 fn has_bytes<P: AddressMap>(places: &P, descriptors: &[Descriptor], write_only: bool) -> bool
-    ensures { result ≡ all_reach (P.places places.now) (access_of write_only) (of_direction write_only descriptors.now) }
+    ensures { result ≡ all_reach (P.places places.now) (access_of write_only)
+        (of_direction write_only descriptors.now) }
 {
     for descriptor in descriptors {
         if !has_descriptor(places, descriptor, write_only) {
@@ -115,8 +121,8 @@ fn has_bytes<P: AddressMap>(places: &P, descriptors: &[Descriptor], write_only: 
     true
 }
 
-/// Why the request or the room of a chain can't be fetched: `OverLimit` if one of them has more than `limit` bytes, then `RequestUnreachable`,
-/// then `RoomUnreachable`; none if both can (VIRTIO 1.2, 2.7.5).
+/// Why the request or the room of a chain can't be fetched: `OverLimit` if one of them has more than `limit`
+/// bytes, then `RequestUnreachable`, then `RoomUnreachable`; none if both can (VIRTIO 1.2, 2.7.5).
 pub fn chain_fault<P: AddressMap>(
     places: &P,
     limit: u32,

@@ -1,6 +1,7 @@
 //! A walk whose loads are made from host memory: what waits in the available ring, and the chain of its head.
 
-ghost use Rattle.std.specs.Prelude.{◌≡◌, ℕ, ◌+◌, ◌*◌, ◌<◌, ◌≤◌, ◌^◌, IfOk, IfSome, IsTrue, OnOk, OnErr, Some, None, if◌then◌else◌, length, take, drop};
+ghost use Rattle.std.specs.Prelude.{◌≡◌, ℕ, ◌+◌, ◌*◌, ◌<◌, ◌≤◌, ◌^◌, IfOk, IfSome, IsTrue, OnOk, OnErr, Some};
+ghost use Rattle.std.specs.Prelude.{None, if◌then◌else◌, length, take, drop};
 ghost use Rattle.vm_iotlb.specs.declared.permissions.Permissions.TheVariants.{Read};
 ghost use Rattle.vm_memory.specs.Memory.{bytes, reach};
 ghost use Rattle.fs_queue.specs.Chain.{chain, first_visit};
@@ -10,7 +11,8 @@ ghost use Rattle.fs_queue.specs.RingingView.{stage_of, Told, BeginsChain, IfRefu
 ghost use Rattle.fs_queue.specs.NextAvail.{next_avail};
 ghost use Rattle.fs_queue.specs.Taking.{stops_queue};
 ghost use Rattle.fs_queue.specs.Windows.{IsLongChain};
-ghost use Rattle.fs_queue.specs.WalkingView.{at_position, found_of, AllEndIn64Bits, AreTheRing, AreTheTable, EndsIn64Bits};
+ghost use Rattle.fs_queue.specs.WalkingView.{at_position, found_of, AllEndIn64Bits, AreTheRing, AreTheTable};
+ghost use Rattle.fs_queue.specs.WalkingView.{EndsIn64Bits};
 
 use crate::access::{read, whole_bytes};
 use crate::chain_walk::{Progress, WalkEnd};
@@ -31,7 +33,8 @@ fn load_entry<M: GuestMemory, H: HostBlocks>(
 ) -> Option<[u8; 16]>
     requires fits { addr + 16 < 2 ^ 64 }
     requires held { M.IsHeld mem.now (H.host host.now) }
-    ensures { let m = M.memory mem.now (H.host host.now) in result ≡ (if reach m Read addr 16 then Some (bytes m addr 16) else None) }
+    ensures { let m = M.memory mem.now (H.host host.now) in
+        result ≡ (if reach m Read addr 16 then Some (bytes m addr 16) else None) }
 {
     let mut bytes = [0u8; 16];
     if read(alloc, host, mem, addr, &mut bytes) {
@@ -41,8 +44,8 @@ fn load_entry<M: GuestMemory, H: HostBlocks>(
     }
 }
 
-// The bytes of a table, if one window has all of them. None says nothing of the table: each entry is then read by
-// itself.
+// The bytes of a table, if one window has all of them. None says nothing of the table: each entry is then
+// read by itself.
 #[inline(always)]
 fn table_bytes<'a, M: GuestMemory, H: HostBlocks>(
     alloc: Global,
@@ -118,9 +121,9 @@ fn bytes_of<'a, M: GuestMemory, H: HostBlocks>(
     }
 }
 
-/// The walk through the chain of a head, whose ordinary descriptors take the place of those that a list has. An error is
-/// a failed allocation, for a chain of more descriptors than the list has room for: the walk goes on without keeping them,
-/// so that none of its faults and no stop is hidden by it.
+/// The walk through the chain of a head, whose ordinary descriptors take the place of those that a list has.
+/// An error is a failed allocation, for a chain of more descriptors than the list has room for: the walk goes
+/// on without keeping them, so that none of its faults and no stop is hidden by it.
 #[inline(always)]
 pub(crate) fn walk_chain<M: GuestMemory, H: HostBlocks>(
     alloc: Global,
@@ -134,9 +137,11 @@ pub(crate) fn walk_chain<M: GuestMemory, H: HostBlocks>(
     requires held { M.IsHeld mem.now (H.host host.now) }
     requires at { ahead_of first ≡ ahead_at layout.size (first_visit (at_position layout 0) head) }
     requires size { IfWants first (λ w. w.size ≡ layout.size) }
-    ensures chain { IfOk result (λ w. found_of w descriptors.new.items ≡ chain (M.memory mem.now (H.host host.now)) (at_position layout 0) head) }
+    ensures chain { IfOk result (λ w. found_of w descriptors.new.items
+        ≡ chain (M.memory mem.now (H.host host.now)) (at_position layout 0) head) }
     ensures fit { OnOk result (AllEndIn64Bits descriptors.new.items) }
-    ensures memory { OnErr result (IsLongChain descriptors.old.capacity (chain (M.memory mem.now (H.host host.now)) (at_position layout 0) head)) }
+    ensures memory { OnErr result (IsLongChain descriptors.old.capacity
+        (chain (M.memory mem.now (H.host host.now)) (at_position layout 0) head)) }
 {
     descriptors.clear();
     let mut kept = true;
@@ -184,7 +189,8 @@ fn load_pair<M: GuestMemory, H: HostBlocks>(
 ) -> Option<[u8; 2]>
     requires fits { addr + 2 < 2 ^ 64 }
     requires held { M.IsHeld mem.now (H.host host.now) }
-    ensures { let m = M.memory mem.now (H.host host.now) in result ≡ (if reach m Read addr 2 then Some (bytes m addr 2) else None) }
+    ensures { let m = M.memory mem.now (H.host host.now) in
+        result ≡ (if reach m Read addr 2 then Some (bytes m addr 2) else None) }
 {
     let mut pair = [0u8; 2];
     if read(alloc, host, mem, addr, &mut pair) {
@@ -241,7 +247,8 @@ pub(crate) fn walk_ring<M: GuestMemory, H: HostBlocks>(
     mem: &M,
 ) -> Walk
     requires { M.IsHeld mem.now (H.host host.now) }
-    ensures told { stage_of result ≡ Told (next_avail (M.memory mem.now (H.host host.now)) (at_position layout position)) }
+    ensures told { stage_of result
+        ≡ Told (next_avail (M.memory mem.now (H.host host.now)) (at_position layout position)) }
     ensures chain { BeginsChain layout result }
     ensures stops { IfRefuses result (λ e. IsTrue (stops_queue e)) }
 {

@@ -9,9 +9,9 @@ use std::alloc::Global;
 use std::marker::Model;
 use vm_memory_core::Windows;
 
-/// A chain (VIRTIO 1.2, 2.7.5): the windows of its request, which the device reads, and of the room for its reply,
-/// which it writes, each in the order of its descriptors, however these are mixed. The head is its first descriptor's
-/// index in the queue's table.
+/// A chain (VIRTIO 1.2, 2.7.5): the windows of its request, which the device reads, and of the room for its
+/// reply, which it writes, each in the order of its descriptors, however these are mixed. The head is its
+/// first descriptor's index in the queue's table.
 #[derive(Drop)]
 pub struct Chain {
     /// The index of its first descriptor in the queue's table.
@@ -69,8 +69,8 @@ impl Chain {
     }
 }
 
-/// The windows of a used element, 8 bytes, and, after it, of the used index, 2 bytes, and those of the available flags,
-/// 2 bytes: almost always one each.
+/// The windows of a used element, 8 bytes, and, after it, of the used index, 2 bytes, and those of the
+/// available flags, 2 bytes: almost always one each.
 #[derive(Drop)]
 pub struct ReturnWindows {
     /// Where the used element and then the used index are stored.
@@ -102,9 +102,9 @@ impl ReturnWindows {
     }
 }
 
-/// A place for a chain that was taken and not yet given back, or its fault, with the windows of its return and the
-/// descriptors that were walked. It is made once, and one chain after another is taken into it; its lists keep the
-/// memory that they grew to, also if a chain is faulty.
+/// A place for a chain that was taken and not yet given back, or its fault, with the windows of its return
+/// and the descriptors that were walked. It is made once, and one chain after another is taken into it; its
+/// lists keep the memory that they grew to, also if a chain is faulty.
 #[derive(Drop)]
 pub struct Taken {
     pub(crate) head: u16,
@@ -119,13 +119,15 @@ impl Model for Taken {
 
     ghost Value = { Taken };
 
-    ghost view = { λ t. record { head = t.head; chain = unless_faulty t.fault t.chain; return_windows = t.return_windows } };
+    ghost view = { λ t.
+        record { head = t.head; chain = unless_faulty t.fault t.chain; return_windows = t.return_windows } };
 }
 
 impl Taken {
     ghost use Rattle.fs_queue.specs.Windows.{IsEmpty};
 
-    /// A place into which nothing was taken: it has no windows, of a chain or of a return. It takes no memory.
+    /// A place into which nothing was taken: it has no windows, of a chain or of a return. It takes no
+    /// memory.
     pub fn empty(alloc: Global) -> Taken
         ensures { IsEmpty result }
     {
@@ -138,7 +140,8 @@ impl Taken {
         }
     }
 
-    // Takes all windows away, so that nothing can be given back, read or written. The lists keep their memory.
+    // Takes all windows away, so that nothing can be given back, read or written. The lists keep their
+    // memory.
     #[inline(always)]
     pub(crate) fn clear(&mut self)
         ensures { IsEmpty self.new }

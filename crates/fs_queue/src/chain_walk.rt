@@ -1,4 +1,5 @@
-//! The walk through a chain of descriptors by loads that another makes: it touches no memory (VIRTIO 1.2, 2.7.5).
+//! The walk through a chain of descriptors by loads that another makes: it touches no memory (VIRTIO 1.2,
+//! 2.7.5).
 
 ghost use Rattle.std.specs.Prelude.{◌≡◌, ◌+◌, ◌*◌, ◌<◌, ◌≤◌, ◌^◌, IfOk, IfSome, OnErr, true, false};
 
@@ -70,7 +71,8 @@ impl ChainWalk {
     ghost use Rattle.fs_queue.specs.Chain.{entry_address};
     ghost use Rattle.fs_queue.specs.Loads.{ahead_at, ahead_after, step_by};
     ghost use Rattle.fs_queue.specs.SteppingView.{visit_of, load_of, ahead_of, joining, steps_left, IfWants};
-    ghost use Rattle.fs_queue.specs.WalkingView.{at_position, in_table, walk_step_of, IfOrdinary, IfTable, EndsIn64Bits};
+    ghost use Rattle.fs_queue.specs.WalkingView.{at_position, in_table, walk_step_of, IfOrdinary, IfTable};
+    ghost use Rattle.fs_queue.specs.WalkingView.{EndsIn64Bits};
 
     // At an entry of a table, or past its end.
     #[inline(always)]
@@ -119,13 +121,16 @@ impl ChainWalk {
         (self.table, self.index)
     }
 
-    // What the step comes to. `came` has the entry's bytes, or is none if one of their addresses can't be reached.
+    // What the step comes to. `came` has the entry's bytes, or is none if one of their addresses can't be
+    // reached.
     #[inline(always)]
     fn step(self, came: Option<[u8; 16]>) -> WalkStep
         ensures step { walk_step_of result ≡ step_by self.size (visit_of self) (load_of self came) }
         ensures fits { IfOrdinary result (λ d. d.addr + d.len < 2 ^ 64) }
         ensures room { IfOrdinary result (λ _. self.earlier ≡ self.size → ⊥) }
-        ensures table { IfTable result (λ t. (self.table.indirect ≡ false) × (t.indirect ≡ true) × EndsIn64Bits t) }
+        ensures table { IfTable result (λ t. (self.table.indirect ≡ false)
+            × (t.indirect ≡ true)
+            × EndsIn64Bits t) }
     {
         let Some(bytes) = came else {
             return if self.table.indirect {
@@ -142,14 +147,16 @@ impl ChainWalk {
         }
     }
 
-    /// Takes the entry's bytes, or none if one of their addresses can't be reached, and answers the next state of the walk.
-    /// Each time fewer steps are left.
+    /// Takes the entry's bytes, or none if one of their addresses can't be reached, and answers the next
+    /// state of the walk. Each time fewer steps are left.
     #[inline(always)]
     pub fn give(self, came: Option<[u8; 16]>) -> WalkAdvance
         ensures joins { result.joins ≡ joining (step_by self.size (visit_of self) (load_of self came)) }
-        ensures then { ahead_of result.then ≡ ahead_after self.size (visit_of self) (step_by self.size (visit_of self) (load_of self came)) }
+        ensures then { ahead_of result.then
+            ≡ ahead_after self.size (visit_of self) (step_by self.size (visit_of self) (load_of self came)) }
         ensures size { IfWants result.then (λ w. w.size ≡ self.size) }
-        ensures fewer { IfWants result.then (λ w. steps_left self.size (visit_of w) < steps_left self.size (visit_of self)) }
+        ensures fewer { IfWants result.then
+            (λ w. steps_left self.size (visit_of w) < steps_left self.size (visit_of self)) }
         ensures fits { IfSome result.joins (λ d. d.addr + d.len < 2 ^ 64) }
     {
         let (size, table, earlier) = (self.size, self.table, self.earlier);

@@ -8,7 +8,8 @@ use smallvec::SmallVec;
 use std::marker::Model;
 use vm_values::{ByteValued, get_fields, put_fields};
 
-/// An entry of a descriptor table: le64 addr, le32 len, le16 flags, le16 next, 16 bytes in all (VIRTIO 1.2, 2.7.5).
+/// An entry of a descriptor table: le64 addr, le32 len, le16 flags, le16 next, 16 bytes in all (VIRTIO 1.2,
+/// 2.7.5).
 #[derive(Clone, Copy, Debug, Default, PartialEq, Eq)]
 pub struct Descriptor {
     /// The guest address of its bytes.

@@ -7,8 +7,8 @@ use thiserror::Error;
 /// The greatest limit that a request and a room may have, in bytes (`ChainFault::OverLimit`).
 pub const MOST_LIMIT: u32 = 1 << 31;
 
-/// Why a chain is returned without being served: it breaks a rule of VIRTIO 1.2, 2.7.5 or 2.7.5.3, is longer than the
-/// device takes, or names memory that isn't there. Numbered from 1 to 10.
+/// Why a chain is returned without being served: it breaks a rule of VIRTIO 1.2, 2.7.5 or 2.7.5.3, is longer
+/// than the device takes, or names memory that isn't there. Numbered from 1 to 10.
 #[derive(Clone, Copy, Debug, PartialEq, Eq, Error)]
 pub enum ChainFault {
     #[error("more descriptors than the queue has")]
@@ -44,7 +44,8 @@ impl ChainFault {
     }
 }
 
-/// Why a queue hands out no chain. All but `Stopped` and `OutOfMemory` stop it until it is reset. Numbered from 1 to 9.
+/// Why a queue hands out no chain. All but `Stopped` and `OutOfMemory` stop it until it is reset. Numbered
+/// from 1 to 9.
 #[derive(Clone, Copy, Debug, PartialEq, Eq, Error)]
 pub enum QueueError {
     #[error("the queue is stopped")]

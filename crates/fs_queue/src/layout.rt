@@ -5,8 +5,8 @@ ghost use Rattle.fs_queue.specs.Lawful.{layout_error};
 
 use crate::fault::QueueLayoutError;
 
-/// A queue's size and the guest addresses of its descriptor table (16 bytes for each descriptor), available ring (6
-/// bytes, and 2 for each descriptor) and used ring (6 bytes, and 8 for each descriptor).
+/// A queue's size and the guest addresses of its descriptor table (16 bytes for each descriptor), available
+/// ring (6 bytes, and 2 for each descriptor) and used ring (6 bytes, and 8 for each descriptor).
 #[derive(Clone, Copy, Debug)]
 pub struct QueueLayout {
     size: u16,
@@ -28,12 +28,16 @@ fn ends_past(addr: u64, len: u64) -> bool
 }
 
 impl QueueLayout {
-    /// The layout of a queue of `size` descriptors, whose parts begin at these addresses. Refused, in this order:
-    /// `BadSize` if the size is no power of two, `Misaligned` if the table, the available ring or the used ring
-    /// isn't aligned to 16, 2 and 4 bytes, `EndOverflow` if one of them ends past 2^64 - 1.
+    /// The layout of a queue of `size` descriptors, whose parts begin at these addresses. Refused, in this
+    /// order: `BadSize` if the size is no power of two, `Misaligned` if the table, the available ring or the
+    /// used ring isn't aligned to 16, 2 and 4 bytes, `EndOverflow` if one of them ends past 2^64 - 1.
     pub fn new(size: u16, desc: u64, avail: u64, used: u64) -> Result<QueueLayout, QueueLayoutError>
         ensures { MatchResult result
-            (λ l. (layout_error size desc avail used ≡ None) × (l.size ≡ size) × (l.desc ≡ desc) × (l.avail ≡ avail) × (l.used ≡ used))
+            (λ l. (layout_error size desc avail used ≡ None)
+            × (l.size ≡ size)
+            × (l.desc ≡ desc)
+            × (l.avail ≡ avail)
+            × (l.used ≡ used))
             (λ e. layout_error size desc avail used ≡ Some e) }
     {
         if !size.is_power_of_two() {

@@ -18,8 +18,8 @@ use std::marker::Model;
 use vm_memory::GuestMemory;
 use vm_memory_core::HostBlocks;
 
-/// A split virtqueue from the device's side: where its parts are, how many chains were taken, modulo 2^16 (its position;
-/// each goes back before the next is taken), and whether it stopped.
+/// A split virtqueue from the device's side: where its parts are, how many chains were taken, modulo 2^16
+/// (its position; each goes back before the next is taken), and whether it stopped.
 #[derive(Debug, Drop)]
 pub struct Queue {
     layout: QueueLayout,
@@ -45,9 +45,11 @@ impl Model for Queue {
 ghost use Rattle.fs_queue.specs.Queue.{fresh, resumed};
 ghost use Rattle.fs_queue.specs.RingingView.{BeginsWalk};
 ghost use Rattle.fs_queue.specs.Taking.{RequestAndRoom, after_refusal, is_idle, offer, room_of};
-ghost use Rattle.fs_queue.specs.Returning.{returned, stores_after_reply, wants_notice, advanced, PutFrontLast};
+ghost use Rattle.fs_queue.specs.Returning.{returned, stores_after_reply, wants_notice, advanced};
+ghost use Rattle.fs_queue.specs.Returning.{PutFrontLast};
 ghost use Rattle.fs_queue.specs.ReturningView.{stores_of, put_back, tells_by};
-ghost use Rattle.fs_queue.specs.Windows.{Takes, after_taking, taken_if, IsTaken, TakenLiesIn, ChainLiesIn, room_places, chain_places, HasItsWindows};
+ghost use Rattle.fs_queue.specs.Windows.{Takes, after_taking, taken_if, IsTaken, TakenLiesIn, ChainLiesIn};
+ghost use Rattle.fs_queue.specs.Windows.{room_places, chain_places, HasItsWindows};
 ghost use Rattle.fs_queue.specs.Windows.{IsEmpty, IsEmptyUnlessTaken};
 
 // Writes the reply over the room of a chain.
@@ -56,7 +58,8 @@ ghost use Rattle.fs_queue.specs.Windows.{IsEmpty, IsEmptyUnlessTaken};
 fn write_reply<H: HostBlocks>(host: &mut H, taken: &Taken, reply: &[u8])
     requires lies { ChainLiesIn (lengths (H.host host.old)) taken.now.chain }
     requires fits { length reply.now ≤ room_places taken.now.chain }
-    ensures stored { H.host host.new ≡ put_all (H.host host.old) (zip (chain_places taken.now.chain) reply.now) }
+    ensures stored { H.host host.new
+        ≡ put_all (H.host host.old) (zip (chain_places taken.now.chain) reply.now) }
     ensures shape { shape (H.host host.new) ≡ shape (H.host host.old) }
 {
     match taken.chain() {
@@ -119,8 +122,8 @@ impl Queue {
         self.stopped
     }
 
-    /// The walk through what waits at the queue's position, by loads that another makes: it asks for the available index.
-    /// A stopped queue refuses it: `Stopped`.
+    /// The walk through what waits at the queue's position, by loads that another makes: it asks for the
+    /// available index. A stopped queue refuses it: `Stopped`.
     pub fn begin_walk(&self) -> Walk
         ensures { BeginsWalk self.now result }
     {
@@ -155,8 +158,8 @@ impl Queue {
         self.position = self.position.wrapping_add(1);
     }
 
-    /// Whether a queue that isn't stopped has nothing at its position: no chain waits, and nothing is refused. It changes
-    /// nothing, and want of memory hides nothing of it.
+    /// Whether a queue that isn't stopped has nothing at its position: no chain waits, and nothing is
+    /// refused. It changes nothing, and want of memory hides nothing of it.
     pub fn is_idle<M: GuestMemory, H: HostBlocks>(&self, alloc: Global, host: &H, mem: &M) -> bool
         requires { M.IsHeld mem.now (H.host host.now) }
         ensures { (limit : ℕ) → result ≡ is_idle (offer (M.memory mem.now (H.host host.now)) limit self.now) }
@@ -170,13 +173,14 @@ impl Queue {
         )
     }
 
-    /// Takes the chain that waits at the queue's position, with its windows, into a place whatever that had, or answers
-    /// false, if none waits (VIRTIO 1.2, 2.7.13 from the device's side); unless a chain was taken, the place is
-    /// empty then: it has no windows, and its head says nothing. The position stays until the chain is given back. A
-    /// request or a room of more than `limit` bytes makes a chain faulty. Refused, in this order: `Stopped`,
-    /// `AvailIndexUnreachable`, then, if something waits, `AvailTooFar`, `RingEntryUnreachable`, `HeadOutOfTable`,
-    /// `UsedUnreachable`, `AvailFlagsUnreachable`, `DescriptorUnreachable`. Want of memory is `OutOfMemory`. All of
-    /// them but `Stopped` and `OutOfMemory` stop the queue.
+    /// Takes the chain that waits at the queue's position, with its windows, into a place whatever that had,
+    /// or answers false, if none waits (VIRTIO 1.2, 2.7.13 from the device's side); unless a chain was taken,
+    /// the place is empty then: it has no windows, and its head says nothing. The position stays until the
+    /// chain is given back. A request or a room of more than `limit` bytes makes a chain faulty. Refused, in
+    /// this order: `Stopped`, `AvailIndexUnreachable`, then, if something waits, `AvailTooFar`,
+    /// `RingEntryUnreachable`, `HeadOutOfTable`, `UsedUnreachable`, `AvailFlagsUnreachable`,
+    /// `DescriptorUnreachable`. Want of memory is `OutOfMemory`. All of them but `Stopped` and `OutOfMemory`
+    /// stop the queue.
     #[inline(always)]
     pub fn take<M: GuestMemory, H: HostBlocks>(
         &mut self,
@@ -187,10 +191,13 @@ impl Queue {
         taken: &mut Taken,
     ) -> Result<bool, QueueError>
         requires { M.IsHeld mem.now (H.host host.now) }
-        ensures takes { Takes (M.memory mem.now (H.host host.now)) limit self.old (taken_if taken.new result) }
-        ensures windows { IfOk (taken_if taken.new result) (λ o. IfSome o (HasItsWindows (M.memory mem.now (H.host host.now)) self.old)) }
+        ensures takes { Takes (M.memory mem.now (H.host host.now)) limit self.old
+            (taken_if taken.new result) }
+        ensures windows { IfOk (taken_if taken.new result)
+            (λ o. IfSome o (HasItsWindows (M.memory mem.now (H.host host.now)) self.old)) }
         ensures queue { self.new ≡ after_taking self.old (taken_if taken.new result) }
-        ensures lie { IfOk (taken_if taken.new result) (λ o. IfSome o (TakenLiesIn (lengths (H.host host.now)))) }
+        ensures lie { IfOk (taken_if taken.new result)
+            (λ o. IfSome o (TakenLiesIn (lengths (H.host host.now)))) }
         ensures short { IfOk (taken_if taken.new result) (λ o. IfSome o (λ t. room_places t.chain ≤ limit)) }
         ensures empty { IsEmptyUnlessTaken result taken.new }
     {
@@ -208,11 +215,12 @@ impl Queue {
         }
     }
 
-    /// Writes the reply over the room, then the used element (le32 head, le32 length of the reply in bytes), then the
-    /// le16 used index (VIRTIO 1.2, 2.7.8), and says whether the driver wants to be told: bit 0 of the available flags,
-    /// read last, is clear (2.7.7). The chain was taken at this position, and the reply is no longer than its room,
-    /// which is empty for a fault. The place is emptied: what lay in it can't be read, written or given back again.
-    /// Whatever was taken, and whatever changed since, bytes change at the places that the place holds alone.
+    /// Writes the reply over the room, then the used element (le32 head, le32 length of the reply in bytes),
+    /// then the le16 used index (VIRTIO 1.2, 2.7.8), and says whether the driver wants to be told: bit 0 of
+    /// the available flags, read last, is clear (2.7.7). The chain was taken at this position, and the reply
+    /// is no longer than its room, which is empty for a fault. The place is emptied: what lay in it can't be
+    /// read, written or given back again. Whatever was taken, and whatever changed since, bytes change at the
+    /// places that the place holds alone.
     #[inline(always)]
     pub fn give_back<H: HostBlocks>(
         &mut self,
@@ -222,11 +230,19 @@ impl Queue {
     ) -> bool
         requires lies { TakenLiesIn (lengths (H.host host.old)) taken.old }
         requires fits { length reply.now ≤ room_places taken.old.chain }
-        ensures stored { (m : Memory) (fetched : RequestAndRoom) → m.host ≡ H.host host.old → IsTaken m self.old fetched taken.old →
-            record m { host = H.host host.new } ≡ returned m self.old taken.old.head (room_of fetched) reply.now }
-        ensures told { (m : Memory) (fetched : RequestAndRoom) → m.host ≡ H.host host.old → IsTaken m self.old fetched taken.old →
+        ensures stored { (m : Memory) (fetched : RequestAndRoom)
+            → m.host ≡ H.host host.old
+            → IsTaken m self.old fetched taken.old
+            →
+            record m { host = H.host host.new }
+            ≡ returned m self.old taken.old.head (room_of fetched) reply.now }
+        ensures told { (m : Memory) (fetched : RequestAndRoom)
+            → m.host ≡ H.host host.old
+            → IsTaken m self.old fetched taken.old
+            →
             result ≡ wants_notice (record m { host = H.host host.new }) self.old }
-        ensures puts { H.host host.new ≡ put_back (H.host host.old) self.old taken.old reply.now (length reply.now) }
+        ensures puts { H.host host.new
+            ≡ put_back (H.host host.old) self.old taken.old reply.now (length reply.now) }
         ensures tells { result ≡ tells_by (H.host host.new) taken.old }
         ensures empty { IsEmpty taken.new }
         ensures queue { self.new ≡ advanced self.old }
@@ -235,9 +251,9 @@ impl Queue {
         self.give_back_front(host, taken, reply, reply.len())
     }
 
-    /// The same for a reply of `len` bytes that stands in the room already but for its first bytes, which are written
-    /// over the room's first places: with them the host is what a store of the whole reply makes of the host that the
-    /// chain was taken from.
+    /// The same for a reply of `len` bytes that stands in the room already but for its first bytes, which are
+    /// written over the room's first places: with them the host is what a store of the whole reply makes of
+    /// the host that the chain was taken from.
     #[inline(always)]
     pub fn give_back_front<H: HostBlocks>(
         &mut self,
@@ -249,12 +265,19 @@ impl Queue {
         requires lies { TakenLiesIn (lengths (H.host host.old)) taken.old }
         requires fits { length front.now ≤ room_places taken.old.chain }
         requires room { len ≤ room_places taken.old.chain }
-        ensures stored { (m : Memory) (fetched : RequestAndRoom) (reply : List ℕ) →
-            PutFrontLast m.host (H.host host.old) (chain_places taken.old.chain) front.now reply → length reply ≡ len →
-            IsTaken m self.old fetched taken.old →
+        ensures stored { (m : Memory) (fetched : RequestAndRoom) (reply : List ℕ)
+            →
+            PutFrontLast m.host (H.host host.old) (chain_places taken.old.chain) front.now reply
+            → length reply ≡ len
+            →
+            IsTaken m self.old fetched taken.old
+            →
             record m { host = H.host host.new } ≡ returned m self.old taken.old.head (room_of fetched) reply }
-        ensures told { (m : Memory) (fetched : RequestAndRoom) (reply : List ℕ) →
-            PutFrontLast m.host (H.host host.old) (chain_places taken.old.chain) front.now reply → IsTaken m self.old fetched taken.old →
+        ensures told { (m : Memory) (fetched : RequestAndRoom) (reply : List ℕ)
+            →
+            PutFrontLast m.host (H.host host.old) (chain_places taken.old.chain) front.now reply
+            → IsTaken m self.old fetched taken.old
+            →
             result ≡ wants_notice (record m { host = H.host host.new }) self.old }
         ensures puts { H.host host.new ≡ put_back (H.host host.old) self.old taken.old front.now len }
         ensures tells { result ≡ tells_by (H.host host.new) taken.old }

@@ -28,8 +28,8 @@ pub struct IndexStore {
     pub value: u16,
 }
 
-/// What a return stores once the reply stands in the room, one store after another, and what is loaded then. It touches
-/// no memory: whoever drives it makes the stores in this order (VIRTIO 1.2, 2.7.8).
+/// What a return stores once the reply stands in the room, one store after another, and what is loaded then.
+/// It touches no memory: whoever drives it makes the stores in this order (VIRTIO 1.2, 2.7.8).
 #[derive(Clone, Copy, Debug, PartialEq, Eq)]
 pub struct Return {
     /// The used element's first half: the chain's head.
@@ -38,7 +38,8 @@ pub struct Return {
     pub len: ElementStore,
     /// The used index, by a store that releases.
     pub index: IndexStore,
-    /// The guest address of the available flags, le16. They are loaded after all stores, with a full barrier between.
+    /// The guest address of the available flags, le16. They are loaded after all stores, with a full barrier
+    /// between.
     pub flags: u64,
 }
 
@@ -73,7 +74,8 @@ impl Return {
 
     /// The bytes of its stores, one after another.
     pub(crate) fn used_bytes(&self) -> [u8; 10]
-        ensures { result ≡ to_le_bytes w32 self.now.head.value ++ to_le_bytes w32 self.now.len.value ++ to_le_bytes w16 self.now.index.value }
+        ensures { result ≡ to_le_bytes w32 self.now.head.value ++ to_le_bytes w32 self.now.len.value
+            ++ to_le_bytes w16 self.now.index.value }
     {
         let update = UsedUpdate {
             id: self.head.value,
@@ -83,7 +85,8 @@ impl Return {
         update.to_bytes()
     }
 
-    /// Whether the driver wants to be told, by the two bytes of the available flags: bit 0 is clear (VIRTIO 1.2, 2.7.7).
+    /// Whether the driver wants to be told, by the two bytes of the available flags: bit 0 is clear (VIRTIO
+    /// 1.2, 2.7.7).
     pub fn tells(flags: [u8; 2]) -> bool
         ensures { result ≡ tells flags }
     {

@@ -1,5 +1,5 @@
-//! What is taken of a chain: windows with its request and its room, and those of its return (VIRTIO 1.2, 2.7.5 to
-//! 2.7.8).
+//! What is taken of a chain: windows with its request and its room, and those of its return (VIRTIO 1.2,
+//! 2.7.5 to 2.7.8).
 
 ghost use Rattle.std.specs.Prelude.{ℕ, ◌≡◌, ◌+◌, ◌<◌, ◌≤◌, ◌^◌, ◌++◌, ◌&&◌, List, []};
 ghost use Rattle.std.specs.Prelude.{false, true, not, is_some, None, Some, Ok, if◌then◌else◌};
@@ -9,10 +9,13 @@ ghost use Rattle.vm_memory_core.specs.Host.{lengths};
 ghost use Rattle.vm_memory_core.specs.Window.{places, AllLieIn};
 ghost use Rattle.vm_memory.specs.Memory.{addresses, after, located, location};
 ghost use Rattle.fs_queue.specs.WalkingView.{AllEndIn64Bits, at_position};
-ghost use Rattle.fs_queue.specs.Taking.{request_and_room, chain_fault, stops_queue, all_reach, of_direction, access_of, addresses_of};
+ghost use Rattle.fs_queue.specs.Taking.{request_and_room, chain_fault, stops_queue, all_reach, of_direction};
+ghost use Rattle.fs_queue.specs.Taking.{access_of, addresses_of};
 ghost use Rattle.fs_queue.specs.Windows.{used_addresses, return_places_of};
-ghost use Rattle.fs_queue.specs.Windows.{missing_of, return_places_at, room_places, ReturnWindowsLieIn, ChainLiesIn, TakenLiesIn};
-ghost use Rattle.fs_queue.specs.Windows.{HoldsChain, HoldsWindows, HasItsWindows, HasNoReturnWindows, HasNoWindows, IsEmpty, Takes, taken_if, unless_faulty};
+ghost use Rattle.fs_queue.specs.Windows.{missing_of, return_places_at, room_places, ReturnWindowsLieIn};
+ghost use Rattle.fs_queue.specs.Windows.{ChainLiesIn, TakenLiesIn};
+ghost use Rattle.fs_queue.specs.Windows.{HoldsChain, HoldsWindows, HasItsWindows, HasNoReturnWindows};
+ghost use Rattle.fs_queue.specs.Windows.{HasNoWindows, IsEmpty, Takes, taken_if, unless_faulty};
 ghost use Rattle.fs_queue.specs.Windows.{HoldsFound, KeepsLimit, RefusesFound, RefusesHeld};
 ghost use Rattle.fs_queue.specs.Chain.{IsChain, chain, first_visit};
 ghost use Rattle.fs_queue.specs.Loads.{ahead_at};
@@ -31,8 +34,9 @@ use std::alloc::{AllocError, Global};
 use vm_memory::GuestMemory;
 use vm_memory_core::{HostBlocks, Permissions, Windows};
 
-// Adds to an empty list the windows that a return at this position writes besides the room: of the used element, 8
-// bytes, then of the used index, 2 bytes. Or answers false if one of their addresses can't be reached.
+// Adds to an empty list the windows that a return at this position writes besides the room: of the used
+// element, 8 bytes, then of the used index, 2 bytes. Or answers false if one of their addresses can't be
+// reached.
 #[inline(always)]
 fn add_used<M: GuestMemory, H: HostBlocks>(
     alloc: Global,
@@ -44,7 +48,8 @@ fn add_used<M: GuestMemory, H: HostBlocks>(
 ) -> Result<bool, AllocError>
     requires held { M.IsHeld mem.now (H.host host.now) }
     requires none { windows.old.items ≡ [] }
-    ensures found { IfOk result (λ found. located (location (M.memory mem.now (H.host host.now)) Write) (used_addresses (at_position layout position))
+    ensures found { IfOk result (λ found. located (location (M.memory mem.now (H.host host.now)) Write)
+        (used_addresses (at_position layout position))
         ≡ (if found then Some (places windows.new.items) else None)) }
     ensures lie { AllLieIn (lengths (H.host host.now)) windows.new.items }
 {
@@ -57,8 +62,8 @@ fn add_used<M: GuestMemory, H: HostBlocks>(
     add_windows(alloc, host, mem, index, 2, Permissions::Write, windows)
 }
 
-// Adds to empty lists the windows of a return, or answers which of them has an address that can't be reached; then the lists
-// may have windows of what came before it.
+// Adds to empty lists the windows of a return, or answers which of them has an address that can't be reached;
+// then the lists may have windows of what came before it.
 #[inline(always)]
 fn add_used_and_flags<M: GuestMemory, H: HostBlocks>(
     alloc: Global,
@@ -71,8 +76,10 @@ fn add_used_and_flags<M: GuestMemory, H: HostBlocks>(
     requires held { M.IsHeld mem.now (H.host host.now) }
     requires none { HasNoReturnWindows windows.old }
     ensures places { let m = M.memory mem.now (H.host host.now) in
-        IfOk result (λ missing. return_places_of missing windows.new ≡ return_places_at m (at_position layout position)) }
-    ensures lie { IfOk result (λ missing. IfNone missing (ReturnWindowsLieIn (lengths (H.host host.now)) windows.new)) }
+        IfOk result (λ missing. return_places_of missing windows.new
+        ≡ return_places_at m (at_position layout position)) }
+    ensures lie { IfOk result
+        (λ missing. IfNone missing (ReturnWindowsLieIn (lengths (H.host host.now)) windows.new)) }
     ensures stops { IfOk result (λ missing. IfSome missing (λ e. IsTrue (stops_queue e))) }
 {
     if !add_used(alloc, layout, host, mem, position, &mut windows.used)? {
@@ -93,7 +100,8 @@ fn add_used_and_flags<M: GuestMemory, H: HostBlocks>(
     Ok(None)
 }
 
-// Which part of a return at this position has an address that can't be reached, if one has: looked at by itself, without a list.
+// Which part of a return at this position has an address that can't be reached, if one has: looked at by
+// itself, without a list.
 #[tactic(auto, using(crate::proofs::OfferLemmas::missing_reached))]
 fn missing_in_return<M: GuestMemory, H: HostBlocks>(
     alloc: Global,
@@ -102,15 +110,17 @@ fn missing_in_return<M: GuestMemory, H: HostBlocks>(
     mem: &M,
     position: u16,
 ) -> Option<QueueError>
-    ensures missing { result ≡ missing_of (return_places_at (M.memory mem.now (H.host host.now)) (at_position layout position)) }
+    ensures missing { result
+        ≡ missing_of (return_places_at (M.memory mem.now (H.host host.now)) (at_position layout position)) }
     ensures stops { IfSome result (λ e. IsTrue (stops_queue e)) }
 {
     return_fault(&HostAddressMap { alloc, host, mem }, layout, position)
 }
 
-/// Adds to empty lists the windows that a return at this position writes and reads besides the room, or answers which of
-/// them has an address that can't be reached: `UsedUnreachable` or `AvailFlagsUnreachable`. An error is a failed
-/// allocation, if all can be reached. At either the lists stay empty. `Queue::take` does so once a head is known, before the chain is walked.
+/// Adds to empty lists the windows that a return at this position writes and reads besides the room, or
+/// answers which of them has an address that can't be reached: `UsedUnreachable` or `AvailFlagsUnreachable`.
+/// An error is a failed allocation, if all can be reached. At either the lists stay empty. `Queue::take` does
+/// so once a head is known, before the chain is walked.
 #[inline(always)]
 pub fn add_return_windows<M: GuestMemory, H: HostBlocks>(
     alloc: Global,
@@ -123,12 +133,15 @@ pub fn add_return_windows<M: GuestMemory, H: HostBlocks>(
     requires held { M.IsHeld mem.now (H.host host.now) }
     requires none { HasNoReturnWindows windows.old }
     ensures places { let m = M.memory mem.now (H.host host.now) in
-        IfOk result (λ missing. return_places_of missing windows.new ≡ return_places_at m (at_position layout position)) }
-    ensures lie { IfOk result (λ missing. IfNone missing (ReturnWindowsLieIn (lengths (H.host host.now)) windows.new)) }
+        IfOk result (λ missing. return_places_of missing windows.new
+        ≡ return_places_at m (at_position layout position)) }
+    ensures lie { IfOk result
+        (λ missing. IfNone missing (ReturnWindowsLieIn (lengths (H.host host.now)) windows.new)) }
     ensures stops { IfOk result (λ missing. IfSome missing (λ e. IsTrue (stops_queue e))) }
     ensures missing_is_empty { IfOk result (λ missing. IfSome missing (λ e. HasNoReturnWindows windows.new)) }
     ensures failed_is_empty { OnErr result (HasNoReturnWindows windows.new) }
-    ensures memory { OnErr result (missing_of (return_places_at (M.memory mem.now (H.host host.now)) (at_position layout position)) ≡ None) }
+    ensures memory { OnErr result (missing_of (return_places_at (M.memory mem.now (H.host host.now))
+        (at_position layout position)) ≡ None) }
 {
     match add_used_and_flags(alloc, layout, host, mem, position, windows) {
         Ok(None) => Ok(None),
@@ -153,8 +166,9 @@ struct AddressRange {
     len: usize,
 }
 
-// Has a range grow by a descriptor's addresses, if they follow it. Else the range's windows are added to a list, and the
-// descriptor's addresses are the range; or the answer is false, if one of the former range's addresses can't be reached.
+// Has a range grow by a descriptor's addresses, if they follow it. Else the range's windows are added to a
+// list, and the descriptor's addresses are the range; or the answer is false, if one of the former range's
+// addresses can't be reached.
 #[inline(always)]
 fn extend_range<M: GuestMemory, H: HostBlocks>(
     alloc: Global,
@@ -170,10 +184,13 @@ fn extend_range<M: GuestMemory, H: HostBlocks>(
     requires held { M.IsHeld mem.now (H.host host.now) }
     ensures found { (rest : List ℕ) → let f = location (M.memory mem.now (H.host host.now)) access in
         IfOk result (λ found.
-        after (places windows.old.items) (located f (addresses range.old.start range.old.len ++ (addresses descriptor.addr descriptor.len ++ rest)))
-        ≡ (if found then after (places windows.new.items) (located f (addresses range.new.start range.new.len ++ rest)) else None)) }
+        after (places windows.old.items) (located f
+        (addresses range.old.start range.old.len ++ (addresses descriptor.addr descriptor.len ++ rest)))
+        ≡ (if found then after (places windows.new.items)
+        (located f (addresses range.new.start range.new.len ++ rest)) else None)) }
     ensures range { range.new.start + range.new.len < 2 ^ 64 }
-    ensures lie { AllLieIn (lengths (H.host host.now)) windows.old.items → AllLieIn (lengths (H.host host.now)) windows.new.items }
+    ensures lie { AllLieIn (lengths (H.host host.now)) windows.old.items
+        → AllLieIn (lengths (H.host host.now)) windows.new.items }
 {
     let len = descriptor.len as usize;
     if range.start + range.len as u64 == descriptor.addr {
@@ -186,9 +203,9 @@ fn extend_range<M: GuestMemory, H: HostBlocks>(
     Ok(found)
 }
 
-// Adds to an empty list the windows of the descriptors of one direction, in their order, or answers false if one of
-// their addresses can't be reached. Those whose addresses follow one another are looked up at once, and have one window
-// if one has them all.
+// Adds to an empty list the windows of the descriptors of one direction, in their order, or answers false if
+// one of their addresses can't be reached. Those whose addresses follow one another are looked up at once,
+// and have one window if one has them all.
 #[inline(always)]
 fn add_direction<M: GuestMemory, H: HostBlocks>(
     alloc: Global,
@@ -202,9 +219,11 @@ fn add_direction<M: GuestMemory, H: HostBlocks>(
     requires held { M.IsHeld mem.now (H.host host.now) }
     requires none { windows.old.items ≡ [] }
     ensures found { let m = M.memory mem.now (H.host host.now) in
-        IfOk result (λ found. located (location m (access_of write_only)) (addresses_of (of_direction write_only descriptors.now))
+        IfOk result (λ found. located (location m (access_of write_only))
+        (addresses_of (of_direction write_only descriptors.now))
         ≡ (if found then Some (places windows.new.items) else None)) }
-    ensures lie { IfOk result (λ found. IsTrue found → AllLieIn (lengths (H.host host.now)) windows.new.items) }
+    ensures lie { IfOk result (λ found. IsTrue found
+        → AllLieIn (lengths (H.host host.now)) windows.new.items) }
 {
     let access = access_of(write_only);
     let mut range = AddressRange { start: 0, len: 0 };
@@ -218,8 +237,8 @@ fn add_direction<M: GuestMemory, H: HostBlocks>(
     add_windows(alloc, host, mem, range.start, range.len, access, windows)
 }
 
-// Adds to two empty lists the windows of a request and of its room, or answers false if one of their addresses can't be reached.
-// An error is a failed allocation.
+// Adds to two empty lists the windows of a request and of its room, or answers false if one of their
+// addresses can't be reached. An error is a failed allocation.
 #[inline(always)]
 fn add_chain<M: GuestMemory, H: HostBlocks>(
     alloc: Global,
@@ -235,15 +254,20 @@ fn add_chain<M: GuestMemory, H: HostBlocks>(
     requires no_writable { writable.old.items ≡ [] }
     ensures found { let m = M.memory mem.now (H.host host.now) in
         IfOk result (λ found. found ≡
-        (all_reach m Read (of_direction false descriptors.now) && all_reach m Write (of_direction true descriptors.now))) }
+        (all_reach m Read (of_direction false descriptors.now)
+        && all_reach m Write (of_direction true descriptors.now))) }
     ensures readable { let m = M.memory mem.now (H.host host.now) in
         IfOk result (λ found. IsTrue found
-        → located (location m Read) (addresses_of (of_direction false descriptors.now)) ≡ Some (places readable.new.items)) }
+        → located (location m Read) (addresses_of (of_direction false descriptors.now))
+        ≡ Some (places readable.new.items)) }
     ensures writable { let m = M.memory mem.now (H.host host.now) in
         IfOk result (λ found. IsTrue found
-        → located (location m Write) (addresses_of (of_direction true descriptors.now)) ≡ Some (places writable.new.items)) }
-    ensures readable_lie { IfOk result (λ found. IsTrue found → AllLieIn (lengths (H.host host.now)) readable.new.items) }
-    ensures writable_lie { IfOk result (λ found. IsTrue found → AllLieIn (lengths (H.host host.now)) writable.new.items) }
+        → located (location m Write) (addresses_of (of_direction true descriptors.now))
+        ≡ Some (places writable.new.items)) }
+    ensures readable_lie { IfOk result (λ found. IsTrue found
+        → AllLieIn (lengths (H.host host.now)) readable.new.items) }
+    ensures writable_lie { IfOk result (λ found. IsTrue found
+        → AllLieIn (lengths (H.host host.now)) writable.new.items) }
 {
     if !add_direction(alloc, host, mem, descriptors, false, readable)? {
         return Ok(false);
@@ -254,8 +278,9 @@ fn add_chain<M: GuestMemory, H: HostBlocks>(
     Ok(true)
 }
 
-// Fills a chain without windows, or answers false if it has a fault: more bytes than a limit, or an address that can't be reached.
-// An error is a failed allocation, of a chain that keeps the limit. At both the chain still has no windows.
+// Fills a chain without windows, or answers false if it has a fault: more bytes than a limit, or an address
+// that can't be reached. An error is a failed allocation, of a chain that keeps the limit. At both the chain
+// still has no windows.
 #[inline(always)]
 fn fill_chain<M: GuestMemory, H: HostBlocks>(
     alloc: Global,
@@ -269,9 +294,12 @@ fn fill_chain<M: GuestMemory, H: HostBlocks>(
     requires fits { AllEndIn64Bits descriptors.now }
     requires held { M.IsHeld mem.now (H.host host.now) }
     requires no_windows { HasNoWindows chain.old }
-    ensures filled { IfOk result (λ filled. filled ≡ not (is_some (chain_fault (M.memory mem.now (H.host host.now)) limit descriptors.now))) }
-    ensures windows { IfOk result (λ filled. IsTrue filled → HoldsWindows (M.memory mem.now (H.host host.now)) head (Ok chain.new) (IsChain descriptors.now)) }
-    ensures lie { IfOk result (λ filled. IsTrue filled → ChainLiesIn (lengths (H.host host.now)) (Ok chain.new)) }
+    ensures filled { IfOk result (λ filled. filled
+        ≡ not (is_some (chain_fault (M.memory mem.now (H.host host.now)) limit descriptors.now))) }
+    ensures windows { IfOk result (λ filled. IsTrue filled
+        → HoldsWindows (M.memory mem.now (H.host host.now)) head (Ok chain.new) (IsChain descriptors.now)) }
+    ensures lie { IfOk result (λ filled. IsTrue filled
+        → ChainLiesIn (lengths (H.host host.now)) (Ok chain.new)) }
     ensures faulty_is_empty { IfOk result (λ filled. filled ≡ false → HasNoWindows chain.new) }
     ensures failed_is_empty { OnErr result (HasNoWindows chain.new) }
     ensures memory { OnErr result (KeepsLimit limit descriptors.now) }
@@ -308,9 +336,10 @@ fn fill_chain<M: GuestMemory, H: HostBlocks>(
     }
 }
 
-/// Puts the request and the room of a chain that was walked in a place, or answers its fault: `OverLimit` if one of them has
-/// more than `limit` bytes, then `RequestUnreachable`, then `RoomUnreachable`. An error is a failed allocation, if neither has more. At a fault
-/// and at an error the place has no windows, whatever it had. `Queue::take` does so with the descriptors that joined its walk.
+/// Puts the request and the room of a chain that was walked in a place, or answers its fault: `OverLimit` if
+/// one of them has more than `limit` bytes, then `RequestUnreachable`, then `RoomUnreachable`. An error is a
+/// failed allocation, if neither has more. At a fault and at an error the place has no windows, whatever it
+/// had. `Queue::take` does so with the descriptors that joined its walk.
 #[inline(always)]
 pub fn hold_chain<M: GuestMemory, H: HostBlocks>(
     alloc: Global,
@@ -324,9 +353,12 @@ pub fn hold_chain<M: GuestMemory, H: HostBlocks>(
     requires fits { AllEndIn64Bits descriptors.now }
     requires held { M.IsHeld mem.now (H.host host.now) }
     ensures fetched { let m = M.memory mem.now (H.host host.now) in
-        IfOk result (λ fault. HoldsChain m (request_and_room m limit descriptors.now) (unless_faulty fault chain.new)) }
-    ensures lie { IfOk result (λ fault. ChainLiesIn (lengths (H.host host.now)) (unless_faulty fault chain.new)) }
-    ensures windows { IfOk result (λ fault. HoldsWindows (M.memory mem.now (H.host host.now)) head (unless_faulty fault chain.new) (IsChain descriptors.now)) }
+        IfOk result
+        (λ fault. HoldsChain m (request_and_room m limit descriptors.now) (unless_faulty fault chain.new)) }
+    ensures lie { IfOk result
+        (λ fault. ChainLiesIn (lengths (H.host host.now)) (unless_faulty fault chain.new)) }
+    ensures windows { IfOk result (λ fault. HoldsWindows (M.memory mem.now (H.host host.now)) head
+        (unless_faulty fault chain.new) (IsChain descriptors.now)) }
     ensures short { IfOk result (λ fault. room_places (unless_faulty fault chain.new) ≤ limit) }
     ensures faulty_is_empty { IfOk result (λ fault. IfSome fault (λ why. HasNoWindows chain.new)) }
     ensures failed_is_empty { OnErr result (HasNoWindows chain.new) }
@@ -339,8 +371,9 @@ pub fn hold_chain<M: GuestMemory, H: HostBlocks>(
     Ok(chain_fault(&HostAddressMap { alloc, host, mem }, limit, descriptors))
 }
 
-// Walks the chain of a head, and puts its request and its room in a place, or answers its fault. `DescriptorUnreachable` and
-// `OutOfMemory` are refused. A fault that the walk itself finds is never refused for memory.
+// Walks the chain of a head, and puts its request and its room in a place, or answers its fault.
+// `DescriptorUnreachable` and `OutOfMemory` are refused. A fault that the walk itself finds is never refused
+// for memory.
 #[inline(always)]
 fn walk_and_hold<M: GuestMemory, H: HostBlocks>(
     alloc: Global,
@@ -357,12 +390,15 @@ fn walk_and_hold<M: GuestMemory, H: HostBlocks>(
     requires at { ahead_of first ≡ ahead_at layout.size (first_visit (at_position layout 0) head) }
     requires size { IfWants first (λ w. w.size ≡ layout.size) }
     ensures fetched { let m = M.memory mem.now (H.host host.now) in
-        IfOk result (λ fault. HoldsFound m limit (chain m (at_position layout 0) head) (unless_faulty fault kept.new)) }
+        IfOk result
+        (λ fault. HoldsFound m limit (chain m (at_position layout 0) head) (unless_faulty fault kept.new)) }
     ensures refused { let m = M.memory mem.now (H.host host.now) in
         IfErr result (RefusesHeld limit descriptors.old.capacity (chain m (at_position layout 0) head)) }
     ensures windows { let m = M.memory mem.now (H.host host.now) in
-        IfOk result (λ fault. HoldsWindows m head (unless_faulty fault kept.new) (chain m (at_position layout 0) head)) }
-    ensures lie { IfOk result (λ fault. ChainLiesIn (lengths (H.host host.now)) (unless_faulty fault kept.new)) }
+        IfOk result
+        (λ fault. HoldsWindows m head (unless_faulty fault kept.new) (chain m (at_position layout 0) head)) }
+    ensures lie { IfOk result
+        (λ fault. ChainLiesIn (lengths (H.host host.now)) (unless_faulty fault kept.new)) }
     ensures short { IfOk result (λ fault. room_places (unless_faulty fault kept.new) ≤ limit) }
 {
     match walk_chain(alloc, layout, host, mem, head, first, descriptors) {
@@ -377,8 +413,8 @@ fn walk_and_hold<M: GuestMemory, H: HostBlocks>(
     }
 }
 
-// Why a chain isn't taken if there is no memory for the windows of its return: `DescriptorUnreachable` if its walk stops the
-// queue, else `OutOfMemory`.
+// Why a chain isn't taken if there is no memory for the windows of its return: `DescriptorUnreachable` if its
+// walk stops the queue, else `OutOfMemory`.
 fn refusal_without_return<M: GuestMemory, H: HostBlocks>(
     alloc: Global,
     layout: QueueLayout,
@@ -399,8 +435,8 @@ fn refusal_without_return<M: GuestMemory, H: HostBlocks>(
     }
 }
 
-/// Takes the chain that waits at a position of a queue that isn't stopped into an empty place; false if none waits.
-/// The errors are those of `Queue::take` but `Stopped`, in the same order.
+/// Takes the chain that waits at a position of a queue that isn't stopped into an empty place; false if none
+/// waits. The errors are those of `Queue::take` but `Stopped`, in the same order.
 #[inline(always)]
 pub(crate) fn take_into<M: GuestMemory, H: HostBlocks>(
     alloc: Global,
@@ -413,9 +449,11 @@ pub(crate) fn take_into<M: GuestMemory, H: HostBlocks>(
 ) -> Result<bool, QueueError>
     requires held { M.IsHeld mem.now (H.host host.now) }
     requires empty { IsEmpty taken.old }
-    ensures takes { Takes (M.memory mem.now (H.host host.now)) limit (at_position layout position) (taken_if taken.new result) }
+    ensures takes { Takes (M.memory mem.now (H.host host.now)) limit (at_position layout position)
+        (taken_if taken.new result) }
     ensures lie { IfOk (taken_if taken.new result) (λ o. IfSome o (TakenLiesIn (lengths (H.host host.now)))) }
-    ensures windows { IfOk (taken_if taken.new result) (λ o. IfSome o (HasItsWindows (M.memory mem.now (H.host host.now)) (at_position layout position))) }
+    ensures windows { IfOk (taken_if taken.new result)
+        (λ o. IfSome o (HasItsWindows (M.memory mem.now (H.host host.now)) (at_position layout position))) }
     ensures short { IfOk (taken_if taken.new result) (λ o. IfSome o (λ t. room_places t.chain ≤ limit)) }
     ensures idle { IfOk result (λ waits. waits ≡ false → IsEmpty taken.new) }
 {

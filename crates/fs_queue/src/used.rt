@@ -7,8 +7,8 @@ ghost use Rattle.fs_queue.specs.Records.{used_update};
 
 use vm_values::{ByteValued, get_fields, put_fields};
 
-/// An entry of the used ring, le32 head of the chain and le32 length of its reply, and after it the le16 used index
-/// that goes with it, 10 bytes in all (VIRTIO 1.2, 2.7.8).
+/// An entry of the used ring, le32 head of the chain and le32 length of its reply, and after it the le16 used
+/// index that goes with it, 10 bytes in all (VIRTIO 1.2, 2.7.8).
 #[derive(Clone, Copy, Debug, Default, PartialEq, Eq)]
 pub(crate) struct UsedUpdate {
     pub(crate) id: u32,

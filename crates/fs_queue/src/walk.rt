@@ -1,4 +1,5 @@
-//! A walk through what waits in a queue, by loads that another makes: it touches no memory (VIRTIO 1.2, 2.7.5 and 2.7.6).
+//! A walk through what waits in a queue, by loads that another makes: it touches no memory (VIRTIO 1.2, 2.7.5
+//! and 2.7.6).
 
 ghost use Rattle.std.specs.Prelude.{◌≡◌, ℕ, ◌+◌, ◌*◌, ◌<◌, ◌≤◌, IsTrue, ◌^◌, List, length, Some, true};
 
@@ -7,8 +8,9 @@ use crate::chain_walk::{ChainWalk, Progress};
 use crate::fault::QueueError;
 use crate::layout::QueueLayout;
 
-/// A walk through what waits at a position of a queue: the load that it asks for next, or what it came to. Whoever drives
-/// it makes that load once, by a copy, and gives it the bytes, or says that one of their addresses can't be reached.
+/// A walk through what waits at a position of a queue: the load that it asks for next, or what it came to.
+/// Whoever drives it makes that load once, by a copy, and gives it the bytes, or says that one of their
+/// addresses can't be reached.
 #[derive(Debug, Drop)]
 pub enum Walk {
     /// It asks for the available index.
@@ -40,7 +42,8 @@ pub struct RingEntryWalk {
 ghost use Rattle.fs_queue.specs.Queue.{avail_index_at, ring_entry_at};
 ghost use Rattle.fs_queue.specs.Loads.{asks_entry};
 ghost use Rattle.fs_queue.specs.Taking.{stops_queue};
-ghost use Rattle.fs_queue.specs.RingingView.{by_index, by_entry, stage_of, stage_at, Told, BeginsAt, BeginsChain, IfRingEntry, IfRefuses};
+ghost use Rattle.fs_queue.specs.RingingView.{by_index, by_entry, stage_of, stage_at, Told, BeginsAt};
+ghost use Rattle.fs_queue.specs.RingingView.{BeginsChain, IfRingEntry, IfRefuses};
 ghost use Rattle.fs_queue.specs.WalkingView.{at_position};
 
 impl Walk {
@@ -69,8 +72,8 @@ impl IndexWalk {
         self.layout.avail() + 2
     }
 
-    /// Takes the index's bytes, or none if one of their addresses can't be reached (VIRTIO 1.2, 2.7.6 and 2.7.13).
-    /// Refused: `AvailIndexUnreachable`, then `AvailTooFar`.
+    /// Takes the index's bytes, or none if one of their addresses can't be reached (VIRTIO 1.2, 2.7.6 and
+    /// 2.7.13). Refused: `AvailIndexUnreachable`, then `AvailTooFar`.
     #[inline(always)]
     pub fn give(self, came: Option<[u8; 2]>) -> Walk
         ensures stage { stage_of result ≡ stage_at (by_index (at_position self.layout self.position) came) }
@@ -117,7 +120,10 @@ impl RingEntryWalk {
     /// `RingEntryUnreachable`, then `HeadOutOfTable`.
     #[inline(always)]
     pub fn give(self, came: Option<[u8; 2]>) -> Walk
-        ensures tells { (index : List ℕ) → length index ≡ 2 → asks_entry (by_index (at_position self.layout self.position) (Some index)) ≡ true →
+        ensures tells { (index : List ℕ)
+            → length index ≡ 2
+            → asks_entry (by_index (at_position self.layout self.position) (Some index)) ≡ true
+            →
             stage_of result ≡ Told (by_entry (at_position self.layout self.position) (Some index) came) }
         ensures stops { IfRefuses result (λ e. IsTrue (stops_queue e)) }
         ensures chain { BeginsChain self.layout result }

@@ -31,8 +31,8 @@ impl Model for DescriptorTable {
     ghost inverse = { λ t. record { address = t.address; entries = t.entries; indirect = t.indirect } };
 }
 
-/// What a step comes to: an ordinary descriptor, which joins the chain, a table to be read on from, a faulty chain, or
-/// a stop of the queue.
+/// What a step comes to: an ordinary descriptor, which joins the chain, a table to be read on from, a faulty
+/// chain, or a stop of the queue.
 #[derive(Clone, Copy, Debug, PartialEq, Eq)]
 pub(crate) enum WalkStep {
     Ordinary(Descriptor),
@@ -42,7 +42,8 @@ pub(crate) enum WalkStep {
 }
 
 ghost use Rattle.fs_queue.specs.Chain.{indirect_step, ordinary_step, own_table};
-ghost use Rattle.fs_queue.specs.WalkingView.{at_position, in_table, walk_step_of, IfOrdinary, IfTable, EndsIn64Bits};
+ghost use Rattle.fs_queue.specs.WalkingView.{at_position, in_table, walk_step_of, IfOrdinary, IfTable};
+ghost use Rattle.fs_queue.specs.WalkingView.{EndsIn64Bits};
 
 // What a step comes to at a descriptor that names a table, found in this one after `earlier` ordinary ones.
 pub(crate) fn indirect_step(
@@ -72,7 +73,8 @@ pub(crate) fn indirect_step(
     }
 }
 
-// What a step comes to at an ordinary descriptor, after `earlier` others in the chain of a queue of this size.
+// What a step comes to at an ordinary descriptor, after `earlier` others in the chain of a queue of this
+// size.
 pub(crate) fn ordinary_step(
     size: u16,
     table: DescriptorTable,

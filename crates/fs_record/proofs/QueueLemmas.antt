@@ -1,6 +1,8 @@
 -- The queues of a record, one after another.
-use Rattle.std.proofs.Common.{◌≡◌, ℕ, zero, suc, ◌+◌, ◌<◌, ◌^◌, Bool, true, false, inl, inr, List, [], ◌∷◌, ◌++◌, length, take, drop, get_or, Option, Some}
-use Rattle.std.proofs.Common.{None, Result, Ok, Err, arith, refl, sym, ap, ◌∙◌, subst, add-one, append_assoc, append-nil, length-append, drop-cons}
+use Rattle.std.proofs.Common.{◌≡◌, ℕ, zero, suc, ◌+◌, ◌<◌, ◌^◌, Bool, true, false, inl, inr, List, [], ◌∷◌, ◌++◌, length, take, drop}
+use Rattle.std.proofs.Common.{get_or, Option, Some}
+use Rattle.std.proofs.Common.{None, Result, Ok, Err, arith, refl, sym, ap, ◌∙◌, subst, add-one, append_assoc, append-nil, length-append}
+use Rattle.std.proofs.Common.{drop-cons}
 use Rattle.std.proofs.Math.Seq.{take-suc}
 use Rattle.std.proofs.lemmas.List.Elements.{All-append}
 use Rattle.std.proofs.lemmas.Grind.{flat_map-append}
@@ -12,16 +14,19 @@ use Rattle.std.proofs.KnownBytes.{Appends-trans}
 use Rattle.fs_queue.specs.Queue.{Queue}
 use Rattle.vm_values.specs.Fields.{spelled, AllFit}
 use Rattle.fs_record.specs.Fields.{head_fields}
-use Rattle.fs_record.specs.Record.{Version, Second, GoesWith, HasItsBits, IsRecordFor, head_error, head_of, record_front, queue_bytes, end_bytes, IsSavedQueue}
+use Rattle.fs_record.specs.Record.{Version, Second, GoesWith, HasItsBits, IsRecordFor, head_error, head_of, record_front, queue_bytes}
+use Rattle.fs_record.specs.Record.{end_bytes, IsSavedQueue}
 use Rattle.fs_record.specs.Restoring.{IsRecordFront, RefusesRecord, RefusesQueue, RefusesEnd, LeavesSource, told_by}
 use Rattle.fs_record.specs.declared.fields.RecordHead.{RecordHead}
 use Rattle.fs_record.specs.declared.fields.RecordVersion.{RecordVersion}
 use Rattle.fs_record.specs.declared.fields.RecordVersion.TheVariants as versions
 use Rattle.fs_record.specs.declared.error.RestoreError.{RestoreError}
-use Rattle.fs_record.specs.declared.error.RestoreError.TheVariants.{Truncated, BadMagic, BadVersion, BadCount, BadReserved, BadQueue, BadOptions, ReadFault, OutOfMemory, Mismatch}
+use Rattle.fs_record.specs.declared.error.RestoreError.TheVariants.{Truncated, BadMagic, BadVersion, BadCount, BadReserved, BadQueue}
+use Rattle.fs_record.specs.declared.error.RestoreError.TheVariants.{BadOptions, ReadFault, OutOfMemory, Mismatch}
 
 -- the next queue's bytes, and then those of the later ones
-pub next_queue : (queues : List Queue) (i : ℕ) (q : Queue) → i < length queues → q ≡ get_or queues i q → flat_map queue_bytes (drop i queues) ≡ queue_bytes q ++ flat_map queue_bytes (drop (i + 1) queues)
+pub next_queue : (queues : List Queue) (i : ℕ) (q : Queue) → i < length queues → q ≡ get_or queues i q →
+    flat_map queue_bytes (drop i queues) ≡ queue_bytes q ++ flat_map queue_bytes (drop (i + 1) queues)
 next_queue queues i q within is =
     ap (flat_map queue_bytes) (drop-cons queues i q within) ∙ flat_map-cons queue_bytes (get_or queues i q) (drop (suc i) queues)
     ∙ ap (λ (p : Queue). queue_bytes p ++ flat_map queue_bytes (drop (suc i) queues)) (sym is)
@@ -35,25 +40,30 @@ one_lawful : (q : Queue) → IsSavedQueue q → All IsSavedQueue (q ∷ [])
 one_lawful q h = λ k d below. one_at q d k below h
 
 -- one lawful queue more
-pub more_lawful : (queues : List Queue) (i : ℕ) (q : Queue) → i < length queues → q ≡ get_or queues i q → All IsSavedQueue (take i queues) → IsSavedQueue q → All IsSavedQueue (take (i + 1) queues)
+pub more_lawful : (queues : List Queue) (i : ℕ) (q : Queue) → i < length queues → q ≡ get_or queues i q → All IsSavedQueue (take i queues) →
+    IsSavedQueue q → All IsSavedQueue (take (i + 1) queues)
 more_lawful queues i q within is before one =
-    let cut : take (i + 1) queues ≡ take i queues ++ q ∷ [] = ap (λ k. take k queues) (add-one i) ∙ take-suc queues i q within ∙ ap (λ (p : Queue). take i queues ++ p ∷ []) (sym is) in
+    let cut : take (i + 1) queues ≡ take i queues ++ q ∷ [] =
+    ap (λ k. take k queues) (add-one i) ∙ take-suc queues i q within ∙ ap (λ (p : Queue). take i queues ++ p ∷ []) (sym is) in
     subst (All IsSavedQueue) (sym cut) (All-append IsSavedQueue (take i queues) (q ∷ []) before (one_lawful q one))
 
 -- a queue went out behind the part before it
-pub put_queue : (whole part one later left : List ℕ) (a b c : Option (List ℕ)) → whole ≡ part ++ left → left ≡ one ++ later → Appends a b part → Appends b c one
+pub put_queue : (whole part one later left : List ℕ) (a b c : Option (List ℕ)) → whole ≡ part ++ left → left ≡ one ++ later
+    → Appends a b part → Appends b c one
     → (x : List ℕ) × (whole ≡ x ++ later) × Appends a c x
 put_queue whole part one later left a b c all next before more =
     (part ++ one, all ∙ ap (λ l. part ++ l) next ∙ sym (append_assoc part one later), Appends-trans a b c part one before more)
 
 -- a front with one queue more
-pub front_more : (bytes : List ℕ) (v : Version) (options count : ℕ) (queues : List Queue) (q : Queue) → IsRecordFront bytes v options count queues → length queues < count → IsSavedQueue q
+pub front_more : (bytes : List ℕ) (v : Version) (options count : ℕ) (queues : List Queue) (q : Queue)
+    → IsRecordFront bytes v options count queues → length queues < count → IsSavedQueue q
     → IsRecordFront (bytes ++ queue_bytes q) v options count (queues ++ q ∷ [])
 front_more bytes v options count queues q front short one =
     let head = spelled (head_fields (head_of v options count)) in
     let all : flat_map queue_bytes (queues ++ q ∷ []) ≡ flat_map queue_bytes queues ++ queue_bytes q =
     flat_map-append queue_bytes queues (q ∷ []) ∙ ap (λ l. flat_map queue_bytes queues ++ l) (append-nil (queue_bytes q)) in (
-      ap (λ l. l ++ queue_bytes q) front.0 ∙ append_assoc head (flat_map queue_bytes queues) (queue_bytes q) ∙ ap (λ l. head ++ l) (sym all),
+      ap (λ l. l ++ queue_bytes q) front.0 ∙ append_assoc head (flat_map queue_bytes queues) (queue_bytes q)
+          ∙ ap (λ l. head ++ l) (sym all),
       front.1,
       front.2,
       front.3,
@@ -62,8 +72,10 @@ front_more bytes v options count queues q front short one =
     )
 
 -- what is wrong with a queue behind a front
-pub queue_refuses : (bytes part : List ℕ) (page_size limit : ℕ) (v : Version) (options count index : ℕ) (queues : List Queue) (e : RestoreError) → GoesWith page_size limit v
-    → IsRecordFront bytes v options count queues → length queues ≡ index → index < count → RefusesQueue part index e → RefusesRecord (bytes ++ part) page_size limit e
+pub queue_refuses : (bytes part : List ℕ) (page_size limit : ℕ) (v : Version) (options count index : ℕ) (queues : List Queue)
+    (e : RestoreError) → GoesWith page_size limit v
+    → IsRecordFront bytes v options count queues → length queues ≡ index → index < count → RefusesQueue part index e
+    → RefusesRecord (bytes ++ part) page_size limit e
 queue_refuses bytes part page_size limit v options count index queues Truncated goes front at below h =
     inr (inl (v, options, count, queues, bytes, part, goes, front, omega (arith, at, below), refl, h))
 queue_refuses bytes part page_size limit v options count index queues ReadFault goes front at below h =
@@ -79,7 +91,8 @@ queue_refuses bytes part page_size limit v options count index queues OutOfMemor
 queue_refuses bytes part page_size limit v options count index queues Mismatch goes front at below h = absurd h
 
 -- a source that hadn't failed before is left so too
-pub leaves_too : (e : RestoreError) (has : Option (List ℕ)) (before failed fails : Bool) → failed ≡ before → LeavesSource e has failed fails → LeavesSource e has before fails
+pub leaves_too : (e : RestoreError) (has : Option (List ℕ)) (before failed fails : Bool) → failed ≡ before →
+    LeavesSource e has failed fails → LeavesSource e has before fails
 leaves_too e has before failed fails same h = subst (λ (b : Bool). LeavesSource e has b fails) same h
 
 -- ---- what stands behind the queues
@@ -90,7 +103,8 @@ goes_with versions.First page_size limit = inl refl
 goes_with versions.Second page_size limit = inr refl
 
 -- a front doesn't tell the limit
-pub with_limit : (v : RecordVersion) (bytes : List ℕ) (page_size limit options count : ℕ) (queues : List Queue) → IsRecordFront bytes (told_by v page_size 0) options count queues
+pub with_limit : (v : RecordVersion) (bytes : List ℕ) (page_size limit options count : ℕ) (queues : List Queue)
+    → IsRecordFront bytes (told_by v page_size 0) options count queues
     → IsRecordFront bytes (told_by v page_size limit) options count queues
 with_limit versions.First bytes page_size limit options count queues front = front
 with_limit versions.Second bytes page_size limit options count queues front = front
@@ -105,7 +119,8 @@ has_its_bits versions.First page_size limit a b = tt
 has_its_bits versions.Second page_size limit a b = (a, b)
 
 -- a front with all its queues, and the end behind it, are a record
-pub whole_record : (bytes : List ℕ) (v : RecordVersion) (page_size limit options count : ℕ) (queues : List Queue) → page_size < 2 ^ 32 → limit < 2 ^ 64
+pub whole_record :
+    (bytes : List ℕ) (v : RecordVersion) (page_size limit options count : ℕ) (queues : List Queue) → page_size < 2 ^ 32 → limit < 2 ^ 64
     → IsRecordFront bytes (told_by v page_size limit) options count queues → length queues ≡ count
     → IsRecordFor (bytes ++ end_bytes (told_by v 0 limit)) page_size limit options queues
 whole_record bytes v page_size limit options count queues small low front all =
@@ -113,7 +128,8 @@ whole_record bytes v page_size limit options count queues small low front all =
       told,
       goes_with v page_size limit,
       (
-        ap (λ l. l ++ end_bytes (told_by v 0 limit)) front.0 ∙ ap (λ n. record_front told options n queues ++ end_bytes (told_by v 0 limit)) (sym all)
+        ap (λ l. l ++ end_bytes (told_by v 0 limit)) front.0
+            ∙ ap (λ n. record_front told options n queues ++ end_bytes (told_by v 0 limit)) (sym all)
             ∙ ap (λ l. record_front told options (length queues) queues ++ l) (same_end v page_size limit),
         has_its_bits v page_size limit small low,
         (front.1, omega (arith, front.2, all), omega (arith, front.3, all), front.5),
@@ -122,17 +138,31 @@ whole_record bytes v page_size limit options count queues small low front all =
 
 -- what is wrong behind the queues, of version 2
 second_front : (bytes : List ℕ) (v : RecordVersion) (page_size limit options count : ℕ) (queues : List Queue) → v ≡ versions.Second
-    → IsRecordFront bytes (told_by v page_size limit) options count queues → IsRecordFront bytes (Second page_size limit) options count queues
-second_front bytes v page_size limit options count queues is front = subst (λ (w : RecordVersion). IsRecordFront bytes (told_by w page_size limit) options count queues) is front
+    → IsRecordFront bytes (told_by v page_size limit) options count queues
+    → IsRecordFront bytes (Second page_size limit) options count queues
+second_front bytes v page_size limit options count queues is front =
+    subst (λ (w : RecordVersion). IsRecordFront bytes (told_by w page_size limit) options count queues) is front
 
 pub end_refuses : (bytes part : List ℕ) (v : RecordVersion) (page_size limit options count : ℕ) (queues : List Queue) (e : RestoreError)
-    → IsRecordFront bytes (told_by v page_size limit) options count queues → length queues ≡ count → RefusesEnd part v limit e → RefusesRecord (bytes ++ part) page_size limit e
+    → IsRecordFront bytes (told_by v page_size limit) options count queues → length queues ≡ count → RefusesEnd part v limit e
+    → RefusesRecord (bytes ++ part) page_size limit e
 end_refuses bytes part v page_size limit options count queues Truncated front all h =
     inr (inr (options, count, queues, bytes, part, second_front bytes v page_size limit options count queues h.0 front, all, refl, h.1))
 end_refuses bytes part v page_size limit options count queues ReadFault front all h =
     inr (inr (options, count, queues, bytes, part, second_front bytes v page_size limit options count queues h.0 front, all, refl, h.1))
 end_refuses bytes part v page_size limit options count queues Mismatch front all h =
-    inr (options, count, queues, bytes, h.1, second_front bytes v page_size limit options count queues h.0 front, all, ap (λ l. bytes ++ l) h.2, h.3, h.4)
+    inr (
+      options,
+      count,
+      queues,
+      bytes,
+      h.1,
+      second_front bytes v page_size limit options count queues h.0 front,
+      all,
+      ap (λ l. bytes ++ l) h.2,
+      h.3,
+      h.4,
+    )
 end_refuses bytes part v page_size limit options count queues (BadQueue i) front all h = absurd h
 end_refuses bytes part v page_size limit options count queues BadMagic front all h = absurd h
 end_refuses bytes part v page_size limit options count queues BadVersion front all h = absurd h
@@ -146,8 +176,10 @@ end_refuses bytes part v page_size limit options count queues OutOfMemory front 
 some_once : (x y : RestoreError) → Some x ≡ Some y → x ≡ y
 some_once x y h = cc
 
-one_of : (P : RestoreError → Type 0) (a b c d f g : Bool) (e : RestoreError) → P BadMagic → P BadVersion → P BadCount → P BadReserved → P Mismatch → P BadOptions
-    → (if a then Some BadMagic else if b then Some BadVersion else if c then Some BadCount else if d then Some BadReserved else if f then Some Mismatch else if g then Some BadOptions else None) ≡ Some e → P e
+one_of : (P : RestoreError → Type 0) (a b c d f g : Bool) (e : RestoreError) → P BadMagic → P BadVersion → P BadCount → P BadReserved
+    → P Mismatch → P BadOptions
+    → (if a then Some BadMagic else if b then Some BadVersion else if c then Some BadCount else if d then Some BadReserved
+    else if f then Some Mismatch else if g then Some BadOptions else None) ≡ Some e → P e
 one_of P true b c d f g e m v n r s o h = subst P (some_once BadMagic e h) m
 one_of P false true c d f g e m v n r s o h = subst P (some_once BadVersion e h) v
 one_of P false false true d f g e m v n r s o h = subst P (some_once BadCount e h) n
@@ -156,14 +188,18 @@ one_of P false false false false true g e m v n r s o h = subst P (some_once Mis
 one_of P false false false false false true e m v n r s o h = subst P (some_once BadOptions e h) o
 one_of P false false false false false false e m v n r s o h = absurd (cc)
 
-pub head_refuses : (bytes : List ℕ) (page_size limit : ℕ) (h : RecordHead) (e : RestoreError) → bytes ≡ spelled (head_fields h) → AllFit (head_fields h) → head_error page_size h ≡ Some e
+pub head_refuses : (bytes : List ℕ) (page_size limit : ℕ) (h : RecordHead) (e : RestoreError) → bytes ≡ spelled (head_fields h)
+    → AllFit (head_fields h) → head_error page_size h ≡ Some e
     → RefusesRecord bytes page_size limit e
 head_refuses bytes page_size limit h e are fit is =
-    one_of (λ x. head_error page_size h ≡ Some x → RefusesRecord bytes page_size limit x) _ _ _ _ _ _ e (λ i. (h, are, fit, i)) (λ i. (h, are, fit, i)) (λ i. (h, are, fit, i)) (λ i. (h, are, fit, i))
+    one_of (λ x. head_error page_size h ≡ Some x → RefusesRecord bytes page_size limit x) _ _ _ _ _ _ e (λ i. (h, are, fit, i))
+    (λ i. (h, are, fit, i)) (λ i. (h, are, fit, i)) (λ i. (h, are, fit, i))
     (λ i. inl (h, are, fit, i)) (λ i. (h, are, fit, i)) is is
 
-pub head_leaves : (page_size : ℕ) (h : RecordHead) (e : RestoreError) (has : Option (List ℕ)) (failed fails : Bool) → head_error page_size h ≡ Some e → fails ≡ failed → LeavesSource e has failed fails
-head_leaves page_size h e has failed fails is same = one_of (λ x. LeavesSource x has failed fails) _ _ _ _ _ _ e same same same same same same is
+pub head_leaves : (page_size : ℕ) (h : RecordHead) (e : RestoreError) (has : Option (List ℕ)) (failed fails : Bool) →
+    head_error page_size h ≡ Some e → fails ≡ failed → LeavesSource e has failed fails
+head_leaves page_size h e has failed fails is same =
+    one_of (λ x. LeavesSource x has failed fails) _ _ _ _ _ _ e same same same same same same is
 
 pub if_err : {X E : Type 0} {P Q : E → Type 0} (r : Result X E) → ((e : E) → P e → Q e) → IfErr r P → IfErr r Q
 if_err (Ok x) f p = tt

@@ -1,5 +1,6 @@
 -- What stands in front of an input is at most one record.
-use Rattle.std.proofs.Common.{◌≡◌, ℕ, suc, ◌+◌, ◌*◌, ◌<◌, ◌≤◌, ◌^◌, Bool, true, false, ◌||◌, nat_le, List, [], ◌∷◌, ◌++◌, length, Some, None, arith, refl, sym, ap, ◌∙◌, append_assoc}
+use Rattle.std.proofs.Common.{◌≡◌, ℕ, suc, ◌+◌, ◌*◌, ◌<◌, ◌≤◌, ◌^◌, Bool, true, false, ◌||◌, nat_le, List, [], ◌∷◌, ◌++◌, length, Some}
+use Rattle.std.proofs.Common.{None, arith, refl, sym, ap, ◌∙◌, append_assoc}
 use Rattle.std.proofs.lemmas.Bool.{leb-false}
 use Rattle.std.proofs.lemmas.List.Concat.{flat_map-cons}
 use Rattle.std.specs.Prelude.{All, if◌then◌else◌}
@@ -13,7 +14,8 @@ use Rattle.fs_queue.specs.Queue.{Queue}
 use Rattle.fs_queue.specs.declared.fault.QueueLayoutError.TheVariants.{BadSize, Misaligned, EndOverflow}
 use Rattle.fs_record.specs.Fields.{head_fields, queue_fields, limit_fields}
 use Rattle.fs_record.specs.Laws.{OneReading}
-use Rattle.fs_record.specs.Record.{Version, First, Second, version_number, page_size_word, HasItsBits, flag, saved, head_of, queue_bytes, end_bytes, record_bytes, HasKnownBits, IsSavedQueue}
+use Rattle.fs_record.specs.Record.{Version, First, Second, version_number, page_size_word, HasItsBits, flag, saved, head_of, queue_bytes}
+use Rattle.fs_record.specs.Record.{end_bytes, record_bytes, HasKnownBits, IsSavedQueue}
 use lib.Bits.{and_le_r}
 
 -- ---- the parts have one length each
@@ -47,9 +49,11 @@ page_size_fits : (v : Version) → HasItsBits v → page_size_word v < 2 ^ 32
 page_size_fits First h = omega arith
 page_size_fits (Second page_size limit) h = h.0
 
-head_fits : (v : Version) (options count : ℕ) → HasItsBits v → HasKnownBits options → count ≤ 64 → AllFit (head_fields (head_of v options count))
+head_fits :
+    (v : Version) (options count : ℕ) → HasItsBits v → HasKnownBits options → count ≤ 64 → AllFit (head_fields (head_of v options count))
 unfolding Fits
-head_fits v options count bits known few = (omega arith, (version_fits v, (omega (arith, few), (page_size_fits v bits, (options_fit options known, tt)))))
+head_fits v options count bits known few =
+    (omega arith, (version_fits v, (omega (arith, few), (page_size_fits v bits, (options_fit options known, tt)))))
 
 limit_fits : (limit : ℕ) → limit < 2 ^ 64 → AllFit (limit_fields limit)
 unfolding Fits
@@ -70,7 +74,8 @@ neither false false true h = absurd (cc)
 
 parts_fit : (size desc avail used : ℕ) → layout_error size desc avail used ≡ None → (desc < 2 ^ 64) × (avail < 2 ^ 64) × (used < 2 ^ 64)
 parts_fit size desc avail used lawful =
-    let ends = neither (nat_le (2 ^ 64) (desc + 16 * size)) (nat_le (2 ^ 64) (avail + (6 + 2 * size))) (nat_le (2 ^ 64) (used + (6 + 8 * size))) (no_overflow _ _ _ lawful) in (
+    let ends = neither (nat_le (2 ^ 64) (desc + 16 * size)) (nat_le (2 ^ 64) (avail + (6 + 2 * size)))
+    (nat_le (2 ^ 64) (used + (6 + 8 * size))) (no_overflow _ _ _ lawful) in (
       omega (arith, leb-false (2 ^ 64) (desc + 16 * size) ends.0),
       omega (arith, leb-false (2 ^ 64) (avail + (6 + 2 * size)) ends.1),
       omega (arith, leb-false (2 ^ 64) (used + (6 + 8 * size)) ends.2),
@@ -122,8 +127,10 @@ queues_once (x ∷ xs) (y ∷ ys) s t l p q e =
     let apart : queue_bytes x ++ (flat_map queue_bytes xs ++ s) ≡ queue_bytes y ++ (flat_map queue_bytes ys ++ t) =
     sym (append_assoc (queue_bytes x) (flat_map queue_bytes xs) s) ∙ ap (λ l. l ++ s) (sym (flat_map-cons queue_bytes x xs)) ∙ e
     ∙ ap (λ l. l ++ t) (flat_map-cons queue_bytes y ys) ∙ append_assoc (queue_bytes y) (flat_map queue_bytes ys) t in
-    let cut = halves (queue_bytes x) (queue_bytes y) (flat_map queue_bytes xs ++ s) (flat_map queue_bytes ys ++ t) (queue_length x ∙ sym (queue_length y)) apart in
-    let fields = fields_once (queue_fields (saved x)) (queue_fields (saved y)) refl (queue_fits x (lawful_first x xs p)) (queue_fits y (lawful_first y ys q)) cut.0 in
+    let cut = halves (queue_bytes x) (queue_bytes y) (flat_map queue_bytes xs ++ s) (flat_map queue_bytes ys ++ t)
+    (queue_length x ∙ sym (queue_length y)) apart in
+    let fields = fields_once (queue_fields (saved x)) (queue_fields (saved y)) refl (queue_fits x (lawful_first x xs p))
+    (queue_fits y (lawful_first y ys q)) cut.0 in
     let one : x ≡ y = same_saved x y fields in
     let others = queues_once xs ys s t (omega (arith, l)) (lawful_others x xs p) (lawful_others y ys q) cut.1 in
     (λ i. one i ∷ others.0 i, others.1)
@@ -133,13 +140,15 @@ queues_once (x ∷ xs) (y ∷ ys) s t l p q e =
 same_limit : (a b : ℕ) → limit_fields a ≡ limit_fields b → a ≡ b
 same_limit a b h = cc
 
-ends_once : (v v' : Version) (s t : List ℕ) → HasItsBits v → HasItsBits v' → version_number v ≡ version_number v' → page_size_word v ≡ page_size_word v'
+ends_once : (v v' : Version) (s t : List ℕ) → HasItsBits v → HasItsBits v' → version_number v ≡ version_number v'
+    → page_size_word v ≡ page_size_word v'
     → end_bytes v ++ s ≡ end_bytes v' ++ t → (v ≡ v') × (s ≡ t)
 ends_once First First s t b b' number size e = (refl, e)
 ends_once First (Second page_size limit) s t b b' number size e = absurd (omega (arith, number))
 ends_once (Second page_size limit) First s t b b' number size e = absurd (omega (arith, number))
 ends_once (Second page_size limit) (Second page_size' limit') s t b b' number size e =
-    let cut = halves (spelled (limit_fields limit)) (spelled (limit_fields limit')) s t (limit_length limit ∙ sym (limit_length limit')) e in
+    let cut = halves (spelled (limit_fields limit)) (spelled (limit_fields limit')) s t
+    (limit_length limit ∙ sym (limit_length limit')) e in
     let fields = fields_once (limit_fields limit) (limit_fields limit') refl (limit_fits limit b.1) (limit_fits limit' b'.1) cut.0 in
     let same : limit ≡ limit' = same_limit limit limit' fields in
     (λ i. Second (size i) (same i), cut.1)
@@ -150,18 +159,23 @@ parted : (v : Version) (options : ℕ) (queues : List Queue) (rest : List ℕ) �
     ≡ spelled (head_fields (head_of v options (length queues))) ++ (flat_map queue_bytes queues ++ (end_bytes v ++ rest))
 parted v options queues rest =
     let head = spelled (head_fields (head_of v options (length queues))) in
-    append_assoc (head ++ flat_map queue_bytes queues) (end_bytes v) rest ∙ append_assoc head (flat_map queue_bytes queues) (end_bytes v ++ rest)
+    append_assoc (head ++ flat_map queue_bytes queues) (end_bytes v) rest
+    ∙ append_assoc head (flat_map queue_bytes queues) (end_bytes v ++ rest)
 
 pub one_reading : OneReading
 one_reading v v' options options' queues queues' bytes bytes' rest rest' first second same =
     let head = spelled (head_fields (head_of v options (length queues))) in
     let head' = spelled (head_fields (head_of v' options' (length queues'))) in
-    let apart : head ++ (flat_map queue_bytes queues ++ (end_bytes v ++ rest)) ≡ head' ++ (flat_map queue_bytes queues' ++ (end_bytes v' ++ rest')) =
-    sym (parted v options queues rest) ∙ ap (λ l. l ++ rest) (sym first.0) ∙ same ∙ ap (λ l. l ++ rest') second.0 ∙ parted v' options' queues' rest' in
-    let cut = halves head head' (flat_map queue_bytes queues ++ (end_bytes v ++ rest)) (flat_map queue_bytes queues' ++ (end_bytes v' ++ rest'))
+    let apart : head ++ (flat_map queue_bytes queues ++ (end_bytes v ++ rest))
+    ≡ head' ++ (flat_map queue_bytes queues' ++ (end_bytes v' ++ rest')) =
+    sym (parted v options queues rest) ∙ ap (λ l. l ++ rest) (sym first.0) ∙ same ∙ ap (λ l. l ++ rest') second.0
+    ∙ parted v' options' queues' rest' in
+    let cut = halves head head' (flat_map queue_bytes queues ++ (end_bytes v ++ rest))
+    (flat_map queue_bytes queues' ++ (end_bytes v' ++ rest'))
     (head_length v options (length queues) ∙ sym (head_length v' options' (length queues'))) apart in
     let fields = fields_once (head_fields (head_of v options (length queues))) (head_fields (head_of v' options' (length queues'))) refl
-    (head_fits v options (length queues) first.1 first.2.0 first.2.2) (head_fits v' options' (length queues') second.1 second.2.0 second.2.2) cut.0 in
+    (head_fits v options (length queues) first.1 first.2.0 first.2.2)
+    (head_fits v' options' (length queues') second.1 second.2.0 second.2.2) cut.0 in
     let number : version_number v ≡ version_number v' = cc in
     let size : page_size_word v ≡ page_size_word v' = cc in
     let agreed : options ≡ options' = cc in

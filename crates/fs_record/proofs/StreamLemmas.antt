@@ -1,6 +1,8 @@
 -- Bytes that are put or read part by part.
-use Rattle.std.proofs.Common.{◌≡◌, ℕ, ◌+◌, ◌-◌, ◌<◌, ◌≤◌, Bool, false, true, List, [], ◌++◌, length, take, drop, slice_range, Option, Result, Ok, Err, arith, sym}
-use Rattle.std.proofs.Common.{ap, ◌∙◌, subst, le_refl, append_assoc, append-nil, length-append, take-append-drop, drop_at, length-take-le, take_all}
+use Rattle.std.proofs.Common.{◌≡◌, ℕ, ◌+◌, ◌-◌, ◌<◌, ◌≤◌, Bool, false, true, List, [], ◌++◌, length, take, drop, slice_range, Option}
+use Rattle.std.proofs.Common.{Result, Ok, Err, arith, sym}
+use Rattle.std.proofs.Common.{ap, ◌∙◌, subst, le_refl, append_assoc, append-nil, length-append, take-append-drop, drop_at, length-take-le}
+use Rattle.std.proofs.Common.{take_all}
 use Rattle.std.proofs.lemmas.List.{length-drop}
 use Rattle.std.proofs.lemmas.Slice.{take-put_mid_below}
 use Rattle.std.specs.Io.KnownBytes.{Appends, Consumes, Keeps}
@@ -11,12 +13,15 @@ use borrow.Rule.Slice.PartMut.{put_mid, post_of}
 use lib.Seq.{take-add, take-append-le}
 
 -- a part that was put, and what is left behind it
-pub put_more : (bytes part rest : List ℕ) (n m : ℕ) (a b c : Option (List ℕ)) → m ≡ length rest - n → bytes ≡ part ++ rest → Appends a b part → Appends b c (take n rest)
+pub put_more : (bytes part rest : List ℕ) (n m : ℕ) (a b c : Option (List ℕ)) → m ≡ length rest - n → bytes ≡ part ++ rest
+    → Appends a b part → Appends b c (take n rest)
     → (x : List ℕ) × (bytes ≡ x ++ take m (drop n rest)) × Appends a c x
 put_more bytes part rest n m a b c long whole before more =
-    let all : take m (drop n rest) ≡ drop n rest = ap (λ k. take k (drop n rest)) (long ∙ sym (length-drop n rest)) ∙ take_all (length (drop n rest)) (drop n rest) (le_refl _) in (
+    let all : take m (drop n rest) ≡ drop n rest =
+    ap (λ k. take k (drop n rest)) (long ∙ sym (length-drop n rest)) ∙ take_all (length (drop n rest)) (drop n rest) (le_refl _) in (
       part ++ take n rest,
-      whole ∙ ap (λ l. part ++ l) (sym (take-append-drop n rest)) ∙ sym (append_assoc part (take n rest) (drop n rest)) ∙ ap (λ l. (part ++ take n rest) ++ l) (sym all),
+      whole ∙ ap (λ l. part ++ l) (sym (take-append-drop n rest)) ∙ sym (append_assoc part (take n rest) (drop n rest))
+          ∙ ap (λ l. (part ++ take n rest) ++ l) (sym all),
       Appends-trans a b c part (take n rest) before more,
     )
 
@@ -24,7 +29,8 @@ slice_range-put_mid : (a k n : ℕ) (xs ys : List ℕ) → a ≤ length xs → n
 slice_range-put_mid a k n xs ys within fits =
     let same : (a + n) - a ≡ n = omega arith in
     let after = post_of a k xs in
-    ap (take ((a + n) - a)) (drop_at (take a xs) (ys ++ after) a (length-take-le a xs within)) ∙ ap (λ m. take m (ys ++ after)) same ∙ take-append-le n ys after fits
+    ap (take ((a + n) - a)) (drop_at (take a xs) (ys ++ after) a (length-take-le a xs within)) ∙ ap (λ m. take m (ys ++ after)) same
+    ∙ take-append-le n ys after fits
 
 take_split : (a b : ℕ) (old new : List ℕ) → a ≤ b → take a new ≡ take a old → take a old ++ slice_range new a b ≡ take b new
 take_split a b old new h front =
@@ -32,7 +38,8 @@ take_split a b old new h front =
     ap (λ l. l ++ slice_range new a b) (sym front) ∙ sym (take-add a (b - a) new) ∙ ap (λ n. take n new) same
 
 -- what was read behind what stood at the front
-pub read_more : (at n : ℕ) (buf part : List ℕ) (a b c : Option (List ℕ)) → at ≤ length buf → n ≤ length part → Consumes a b (take at buf) → Consumes b c (take n part)
+pub read_more : (at n : ℕ) (buf part : List ℕ) (a b c : Option (List ℕ)) → at ≤ length buf → n ≤ length part → Consumes a b (take at buf)
+    → Consumes b c (take n part)
     → Consumes a c (take (at + n) (put_mid at (length buf - at) buf part))
 read_more at n buf part a b c within fits before more =
     let room = length buf - at in
@@ -41,7 +48,8 @@ read_more at n buf part a b c within fits before more =
     subst (Consumes a c) (ap (λ l. take at buf ++ l) (sym got) ∙ joined) (Consumes-trans a b c _ _ before more)
 
 -- what was read before a source ended
-pub read_less : (at n : ℕ) (buf more : List ℕ) (a b c : Option (List ℕ)) → at < length buf → n ≡ 0 → Consumes a b (take at buf) → Consumes b c (take n more)
+pub read_less : (at n : ℕ) (buf more : List ℕ) (a b c : Option (List ℕ)) → at < length buf → n ≡ 0 → Consumes a b (take at buf)
+    → Consumes b c (take n more)
     → (part : List ℕ) × (length part < length buf) × Consumes a c part
 read_less at n buf more a b c short none before last =
     let front : length (take at buf) ≡ at = length-take-le at buf (omega (arith, short)) in
@@ -56,12 +64,14 @@ read_kept at buf a b c short before kept =
     (take at buf, omega (arith, short, front), Consumes-kept a b c (take at buf) before kept)
 
 -- a part of one piece went out behind those before it, and not all of it
-pub part_goes_out : (whole done one later part rest : List ℕ) (a b c : Option (List ℕ)) → whole ≡ done ++ (one ++ later) → one ≡ part ++ rest → 0 < length rest
+pub part_goes_out : (whole done one later part rest : List ℕ) (a b c : Option (List ℕ)) → whole ≡ done ++ (one ++ later)
+    → one ≡ part ++ rest → 0 < length rest
     → Appends a b done → Appends b c part → (x y : List ℕ) × (whole ≡ x ++ y) × (0 < length y) × Appends a c x
 part_goes_out whole done one later part rest a b c all piece some before last = (
   done ++ part,
   rest ++ later,
-  all ∙ ap (λ l. done ++ (l ++ later)) piece ∙ ap (λ l. done ++ l) (append_assoc part rest later) ∙ sym (append_assoc done part (rest ++ later)),
+  all ∙ ap (λ l. done ++ (l ++ later)) piece ∙ ap (λ l. done ++ l) (append_assoc part rest later)
+      ∙ sym (append_assoc done part (rest ++ later)),
   rw length-append (omega (arith, some)),
   Appends-trans a b c done part before last,
 )
@@ -73,9 +83,11 @@ goes_out_less bytes had has failed fails (Ok u) wrong part now = absurd (let h :
 goes_out_less bytes had has failed fails (Err e) wrong part now = (part.0, part.1, part.2, part.3, part.4, now)
 
 -- the last piece goes out, or a part of it, behind those before it
-pub goes_out_last : {E : Type 0} (whole done one : List ℕ) (a b c : Option (List ℕ)) (failed before fails : Bool) (result : Result Unit E) → whole ≡ done ++ one → Appends a b done
+pub goes_out_last : {E : Type 0} (whole done one : List ℕ) (a b c : Option (List ℕ)) (failed before fails : Bool) (result : Result Unit E)
+    → whole ≡ done ++ one → Appends a b done
     → before ≡ failed → GoesOut one b before result c fails → GoesOut whole a failed result c fails
-goes_out_last whole done one a b c failed before fails (Ok u) all front same last = (subst (Appends a c) (sym all) (Appends-trans a b c done one front last.0), last.1 ∙ same)
+goes_out_last whole done one a b c failed before fails (Ok u) all front same last =
+    (subst (Appends a c) (sym all) (Appends-trans a b c done one front last.0), last.1 ∙ same)
 goes_out_last whole done one a b c failed before fails (Err e) all front same last = (
   done ++ last.0,
   last.1,

@@ -1,10 +1,12 @@
--- Worked records that compute: a queue of 4 whose table is at 0, its rings at 0x100 and 0x200, of which one chain was returned.
+-- Worked records that compute: a queue of 4 whose table is at 0, its rings at 0x100 and 0x200, of which one
+-- chain was returned.
 use Rattle.std.specs.Prelude.{◌≡◌, ◌^◌, false, [], ◌∷◌, ◌++◌, codes, Some, refl}
 use lib.Count.{ones}
 use Rattle.bitflags.specs.Sets.{known_from}
 use Rattle.vm_values.specs.Fields.{field_bytes}
 use Rattle.fs_queue.specs.Queue.{Queue}
-use Rattle.fs_record.specs.declared.error.RestoreError.TheVariants.{BadMagic, BadVersion, BadReserved, Mismatch, BadOptions}
+use Rattle.fs_record.specs.declared.error.RestoreError.TheVariants.{BadMagic, BadVersion, BadReserved}
+use Rattle.fs_record.specs.declared.error.RestoreError.TheVariants.{Mismatch, BadOptions}
 use Rattle.fs_record.specs.Record.{First, Second, head_of, head_error, is_queue, record_bytes, saved}
 
 -- the queue
@@ -35,14 +37,17 @@ first_wrong = refl
 later_wrong : head_error 4096 (record (head_of First 0 1) { version = 3; count = 0 }) ≡ Some BadVersion
 later_wrong = refl
 
-reserved_wrong : head_error 4096 (record (head_of First 0 64) { page_size = 1; options = 2 ^ 63 }) ≡ Some BadReserved
+reserved_wrong :
+    head_error 4096 (record (head_of First 0 64) { page_size = 1; options = 2 ^ 63 }) ≡ Some BadReserved
 reserved_wrong = refl
 
 -- version 1 tells no page size; version 2's is the one that is wanted, before its options are looked at
-page_size_wrong : head_error 8192 (record (head_of (Second 4096 0x101000) 0 64) { options = 2 ^ 63 }) ≡ Some Mismatch
+page_size_wrong :
+    head_error 8192 (record (head_of (Second 4096 0x101000) 0 64) { options = 2 ^ 63 }) ≡ Some Mismatch
 page_size_wrong = refl
 
-options_wrong : head_error 4096 (record (head_of (Second 4096 0x101000) 0 64) { options = 2 ^ 63 }) ≡ Some BadOptions
+options_wrong :
+    head_error 4096 (record (head_of (Second 4096 0x101000) 0 64) { options = 2 ^ 63 }) ≡ Some BadOptions
 unfolding known_from
 options_wrong = refl
 

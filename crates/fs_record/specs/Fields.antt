@@ -7,11 +7,14 @@ use Rattle.fs_record.specs.declared.fields.SavedQueue.{SavedQueue}
 
 -- the head: "VFSD", the version, the number of queues, the page size (0 in version 1), the options
 abbrev pub head_fields : RecordHead → List Field
-head_fields r = fields.d r.magic ∷ fields.d r.version ∷ fields.d r.count ∷ fields.d r.page_size ∷ fields.q r.options ∷ []
+head_fields r =
+    fields.d r.magic ∷ fields.d r.version ∷ fields.d r.count ∷ fields.d r.page_size ∷ fields.q r.options ∷ []
 
 -- a queue: its size, its position, whether it stopped, and where its three parts are
 abbrev pub queue_fields : SavedQueue → List Field
-queue_fields r = fields.w r.size ∷ fields.w r.position ∷ fields.d r.stopped ∷ fields.q r.desc ∷ fields.q r.avail ∷ fields.q r.used ∷ []
+queue_fields r =
+    fields.w r.size ∷ fields.w r.position ∷ fields.d r.stopped ∷ fields.q r.desc ∷ fields.q r.avail
+    ∷ fields.q r.used ∷ []
 
 -- behind the queues, in version 2: the limit
 abbrev pub limit_fields : ℕ → List Field

@@ -5,7 +5,8 @@ use Rattle.fs_record.specs.Record.{Version, IsRecord}
 
 -- the values in front of an input are those of one record, in one version, and what stands behind it is one
 abbrev pub OneReading : Type 0
-OneReading = (v v' : Version) (options options' : ℕ) (queues queues' : List Queue) (bytes bytes' rest rest' : List ℕ) →
+OneReading =
+    (v v' : Version) (options options' : ℕ) (queues queues' : List Queue) (bytes bytes' rest rest' : List ℕ) →
     IsRecord bytes v options queues → IsRecord bytes' v' options' queues' → bytes ++ rest ≡ bytes' ++ rest' →
     (v ≡ v') × (options ≡ options') × (queues ≡ queues') × (rest ≡ rest')
 

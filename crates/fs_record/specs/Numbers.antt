@@ -1,7 +1,9 @@
 -- The numbers that tell refusals apart.
 use Rattle.std.specs.Prelude.{ℕ}
 use Rattle.fs_record.specs.declared.error.RestoreError.{RestoreError}
-use Rattle.fs_record.specs.declared.error.RestoreError.TheVariants.{Truncated, BadMagic, BadVersion, BadCount, BadReserved, BadQueue, BadOptions, ReadFault, OutOfMemory, Mismatch}
+use Rattle.fs_record.specs.declared.error.RestoreError.TheVariants.{Truncated, BadMagic, BadVersion, BadCount}
+use Rattle.fs_record.specs.declared.error.RestoreError.TheVariants.{BadReserved, BadQueue, BadOptions}
+use Rattle.fs_record.specs.declared.error.RestoreError.TheVariants.{ReadFault, OutOfMemory, Mismatch}
 
 -- why nothing is restored, 1 to 10
 abbrev pub restore_error_number : RestoreError → ℕ

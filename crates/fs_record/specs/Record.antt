@@ -1,5 +1,7 @@
 -- The saved record of a device, in its two versions.
-use Rattle.std.specs.Prelude.{◌≡◌, ◌⊎◌, ℕ, ◌<◌, ◌≤◌, ◌^◌, Bool, true, false, not, ◌||◌, ◌&&◌, ◌==◌, nat_lt, bit_and, List, [], ◌++◌, length, All, Option, Some, None, is_none, if◌then◌else◌}
+use Rattle.std.specs.Prelude.{◌≡◌, ◌⊎◌, ℕ, ◌<◌, ◌≤◌, ◌^◌, Bool, true, false, not, ◌||◌, ◌&&◌, ◌==◌, nat_lt}
+use Rattle.std.specs.Prelude.{bit_and, List, [], ◌++◌, length, All, Option, Some, None, is_none}
+use Rattle.std.specs.Prelude.{if◌then◌else◌}
 use Rattle.std.specs.List.{flat_map}
 use Rattle.bitflags.specs.Sets.{known_bits}
 use Rattle.vm_values.specs.Fields.{spelled}
@@ -10,13 +12,15 @@ use Rattle.fs_record.specs.Fields.{head_fields, queue_fields, limit_fields}
 use Rattle.fs_record.specs.declared.fields.RecordHead.{RecordHead}
 use Rattle.fs_record.specs.declared.fields.SavedQueue.{SavedQueue}
 use Rattle.fs_record.specs.declared.error.RestoreError.{RestoreError}
-use Rattle.fs_record.specs.declared.error.RestoreError.TheVariants.{BadMagic, BadVersion, BadCount, BadReserved, BadOptions, Mismatch}
+use Rattle.fs_record.specs.declared.error.RestoreError.TheVariants.{BadMagic, BadVersion, BadCount}
+use Rattle.fs_record.specs.declared.error.RestoreError.TheVariants.{BadReserved, BadOptions, Mismatch}
 
 -- "VFSD", its bytes read as a number
 abbrev pub magic_number : ℕ
 magic_number = 0x44534656
 
--- what a record tells besides options and queues: nothing in version 1, the page size and the limit in version 2
+-- what a record tells besides options and queues: nothing in version 1, the page size and the limit in
+-- version 2
 pub data Version : Type 0 where
   First : Version
   Second : (page_size limit : ℕ) → Version
@@ -33,7 +37,14 @@ page_size_word (Second page_size limit) = page_size
 
 -- the head of a record of so many queues
 abbrev pub head_of : Version → (options count : ℕ) → RecordHead
-head_of v options count = record { magic = magic_number; version = version_number v; count = count; page_size = page_size_word v; options = options }
+head_of v options count =
+    record {
+      magic = magic_number;
+      version = version_number v;
+      count = count;
+      page_size = page_size_word v;
+      options = options;
+    }
 
 -- what stands behind the queues: nothing in version 1, the limit in version 2
 abbrev pub end_bytes : Version → List ℕ
@@ -47,7 +58,15 @@ flag false = 0
 
 -- a queue as a record has it
 abbrev pub saved : Queue → SavedQueue
-saved q = record { size = q.size; position = q.position; stopped = flag q.stopped; desc = q.desc; avail = q.avail; used = q.used }
+saved q =
+    record {
+      size = q.size;
+      position = q.position;
+      stopped = flag q.stopped;
+      desc = q.desc;
+      avail = q.avail;
+      used = q.used;
+    }
 
 -- its bytes
 abbrev pub queue_bytes : Queue → List ℕ
@@ -55,7 +74,8 @@ queue_bytes q = spelled (queue_fields (saved q))
 
 -- the head of a record of so many queues, and some of these queues
 abbrev pub record_front : Version → (options count : ℕ) → List Queue → List ℕ
-record_front v options count queues = spelled (head_fields (head_of v options count)) ++ flat_map queue_bytes queues
+record_front v options count queues =
+    spelled (head_fields (head_of v options count)) ++ flat_map queue_bytes queues
 
 -- the whole record
 abbrev pub record_bytes : Version → (options : ℕ) → List Queue → List ℕ
@@ -67,11 +87,13 @@ HasKnownBits options = bit_and options (known_bits fs_options) ≡ options
 
 -- a queue can have this layout (VIRTIO 1.2, 2.7), and its size and its position have 16 bits
 abbrev pub IsSavedQueue : Queue → Type 0
-IsSavedQueue q = (layout_error q.size q.desc q.avail q.used ≡ None) × (q.size < 2 ^ 16) × (q.position < 2 ^ 16)
+IsSavedQueue q =
+    (layout_error q.size q.desc q.avail q.used ≡ None) × (q.size < 2 ^ 16) × (q.position < 2 ^ 16)
 
 -- what has a record: known options, and 1 to 64 queues
 abbrev pub IsSavable : (options : ℕ) → List Queue → Type 0
-IsSavable options queues = HasKnownBits options × (1 ≤ length queues) × (length queues ≤ 64) × All IsSavedQueue queues
+IsSavable options queues =
+    HasKnownBits options × (1 ≤ length queues) × (length queues ≤ 64) × All IsSavedQueue queues
 
 -- page size and limit have 32 and 64 bits
 abbrev pub HasItsBits : Version → Type 0
@@ -80,15 +102,18 @@ HasItsBits (Second page_size limit) = (page_size < 2 ^ 32) × (limit < 2 ^ 64)
 
 -- the bytes are the record of this version with these options and queues
 abbrev pub IsRecord : List ℕ → Version → (options : ℕ) → List Queue → Type 0
-IsRecord bytes v options queues = (bytes ≡ record_bytes v options queues) × HasItsBits v × IsSavable options queues
+IsRecord bytes v options queues =
+    (bytes ≡ record_bytes v options queues) × HasItsBits v × IsSavable options queues
 
--- a version that goes with this page size and this limit: version 1, which tells neither, or version 2 with both
+-- a version that goes with this page size and this limit: version 1, which tells neither, or version 2 with
+-- both
 abbrev pub GoesWith : (page_size limit : ℕ) → Version → Type 0
 GoesWith page_size limit v = (v ≡ First) ⊎ (v ≡ Second page_size limit)
 
 -- the bytes are a record of these options and queues that goes with this page size and this limit
 abbrev pub IsRecordFor : List ℕ → (page_size limit : ℕ) → (options : ℕ) → List Queue → Type 0
-IsRecordFor bytes page_size limit options queues = (v : Version) × GoesWith page_size limit v × IsRecord bytes v options queues
+IsRecordFor bytes page_size limit options queues =
+    (v : Version) × GoesWith page_size limit v × IsRecord bytes v options queues
 
 -- what is wrong with a head where the guest's pages have this size, if anything is
 abbrev pub head_error : (page_size : ℕ) → RecordHead → Option RestoreError

@@ -1,50 +1,79 @@
 -- What stands in an input from which a record is restored.
-use Rattle.std.specs.Prelude.{◌≡◌, ◌≢◌, ℕ, ◌<◌, ◌≤◌, ◌^◌, ◌⊎◌, Bool, true, false, List, [], ◌++◌, length, All, Option, Some}
+use Rattle.std.specs.Prelude.{◌≡◌, ◌≢◌, ℕ, ◌<◌, ◌≤◌, ◌^◌, ◌⊎◌, Bool, true, false, List, [], ◌++◌, length, All}
+use Rattle.std.specs.Prelude.{Option, Some}
 use Rattle.std.specs.Io.KnownBytes.{IsAtEnd}
 use Rattle.memory_requests.specs.Refused.{RoomWasRefused}
 use Rattle.vm_values.specs.Fields.{spelled, AllFit}
 use Rattle.fs_queue.specs.Queue.{Queue}
 use Rattle.fs_record.specs.Fields.{head_fields, queue_fields, limit_fields}
-use Rattle.fs_record.specs.Record.{Version, First, Second, GoesWith, record_front, HasKnownBits, IsSavedQueue, head_error, is_queue}
+use Rattle.fs_record.specs.Record.{Version, First, Second, GoesWith, record_front, HasKnownBits, IsSavedQueue}
+use Rattle.fs_record.specs.Record.{head_error, is_queue}
 use Rattle.fs_record.specs.declared.fields.RecordVersion.{RecordVersion}
 use Rattle.fs_record.specs.declared.fields.RecordVersion.TheVariants as versions
 use Rattle.fs_record.specs.declared.fields.RecordHead.{RecordHead}
 use Rattle.fs_record.specs.declared.fields.SavedQueue.{SavedQueue}
 use Rattle.fs_record.specs.declared.error.RestoreError.{RestoreError}
-use Rattle.fs_record.specs.declared.error.RestoreError.TheVariants.{Truncated, BadMagic, BadVersion, BadCount, BadReserved, BadQueue, BadOptions, ReadFault, OutOfMemory, Mismatch}
+use Rattle.fs_record.specs.declared.error.RestoreError.TheVariants.{Truncated, BadMagic, BadVersion, BadCount}
+use Rattle.fs_record.specs.declared.error.RestoreError.TheVariants.{BadReserved, BadQueue, BadOptions}
+use Rattle.fs_record.specs.declared.error.RestoreError.TheVariants.{ReadFault, OutOfMemory, Mismatch}
 
 -- the head of a record of so many queues, and the first of them
 abbrev pub IsRecordFront : List ℕ → Version → (options count : ℕ) → List Queue → Type 0
 IsRecordFront bytes v options count queues =
-    (bytes ≡ record_front v options count queues) × HasKnownBits options × (1 ≤ count) × (count ≤ 64) × (length queues ≤ count) × All IsSavedQueue queues
+    (bytes ≡ record_front v options count queues)
+    × HasKnownBits options
+    × (1 ≤ count)
+    × (count ≤ 64)
+    × (length queues ≤ count)
+    × All IsSavedQueue queues
 
 -- it ends within a queue behind a front of a version that goes with this page size and this limit
 abbrev pub EndsWithinQueue : List ℕ → (page_size limit : ℕ) → Type 0
-EndsWithinQueue bytes page_size limit = (v : Version) × (options count : ℕ) × (queues : List Queue) × (front part : List ℕ) × GoesWith page_size limit v
-    × IsRecordFront front v options count queues × (length queues < count) × (bytes ≡ front ++ part) × (length part < 32)
+EndsWithinQueue bytes page_size limit =
+    (v : Version) × (options count : ℕ) × (queues : List Queue) × (front part : List ℕ)
+    × GoesWith page_size limit v
+    × IsRecordFront front v options count queues
+    × (length queues < count)
+    × (bytes ≡ front ++ part)
+    × (length part < 32)
 
 -- it ends within the limit behind all queues of a record of version 2 with this page size
 abbrev pub EndsWithinLimit : List ℕ → (page_size limit : ℕ) → Type 0
 EndsWithinLimit bytes page_size limit = (options count : ℕ) × (queues : List Queue) × (front part : List ℕ)
-    × IsRecordFront front (Second page_size limit) options count queues × (length queues ≡ count) × (bytes ≡ front ++ part) × (length part < 8)
+    × IsRecordFront front (Second page_size limit) options count queues
+    × (length queues ≡ count)
+    × (bytes ≡ front ++ part)
+    × (length part < 8)
 
 -- it ends within the head, a queue or the limit
 abbrev pub EndsWithin : List ℕ → (page_size limit : ℕ) → Type 0
-EndsWithin bytes page_size limit = (length bytes < 24) ⊎ EndsWithinQueue bytes page_size limit ⊎ EndsWithinLimit bytes page_size limit
+EndsWithin bytes page_size limit =
+    (length bytes < 24) ⊎ EndsWithinQueue bytes page_size limit ⊎ EndsWithinLimit bytes page_size limit
 
 -- a head in which this is the first thing that is wrong
 abbrev pub IsBadHead : List ℕ → (page_size : ℕ) → RestoreError → Type 0
-IsBadHead bytes page_size error = (head : RecordHead) × (bytes ≡ spelled (head_fields head)) × AllFit (head_fields head) × (head_error page_size head ≡ Some error)
+IsBadHead bytes page_size error =
+    (head : RecordHead)
+    × (bytes ≡ spelled (head_fields head))
+    × AllFit (head_fields head)
+    × (head_error page_size head ≡ Some error)
 
 -- a front with so many of its queues, and then the numbers of no queue
 abbrev pub HasBadQueue : List ℕ → (page_size limit : ℕ) → ℕ → Type 0
-HasBadQueue bytes page_size limit i = (v : Version) × (options count : ℕ) × (queues : List Queue) × (front : List ℕ) × (bad : SavedQueue) × GoesWith page_size limit v
-    × IsRecordFront front v options count queues × (length queues ≡ i) × (i < count)
-    × (bytes ≡ front ++ spelled (queue_fields bad)) × AllFit (queue_fields bad) × (is_queue bad ≡ false)
+HasBadQueue bytes page_size limit i =
+    (v : Version) × (options count : ℕ) × (queues : List Queue) × (front : List ℕ) × (bad : SavedQueue)
+    × GoesWith page_size limit v
+    × IsRecordFront front v options count queues
+    × (length queues ≡ i)
+    × (i < count)
+    × (bytes ≡ front ++ spelled (queue_fields bad))
+    × AllFit (queue_fields bad)
+    × (is_queue bad ≡ false)
 
 -- all queues of a record of version 2 with this page size, and then another limit
 abbrev pub HasOtherLimit : List ℕ → (page_size limit : ℕ) → Type 0
-HasOtherLimit bytes page_size limit = (options count : ℕ) × (queues : List Queue) × (front : List ℕ) × (other : ℕ)
+HasOtherLimit bytes page_size limit =
+    (options count : ℕ) × (queues : List Queue) × (front : List ℕ) × (other : ℕ)
     × IsRecordFront front (Second page_size limit) options count queues × (length queues ≡ count)
     × (bytes ≡ front ++ spelled (limit_fields other)) × (other < 2 ^ 64) × (other ≢ limit)
 
@@ -58,8 +87,13 @@ RefusesRecord bytes page_size limit BadReserved = IsBadHead bytes page_size BadR
 RefusesRecord bytes page_size limit (BadQueue i) = HasBadQueue bytes page_size limit i
 RefusesRecord bytes page_size limit BadOptions = IsBadHead bytes page_size BadOptions
 RefusesRecord bytes page_size limit ReadFault = EndsWithin bytes page_size limit
-RefusesRecord bytes page_size limit OutOfMemory = (v : Version) × (options count : ℕ) × GoesWith page_size limit v × IsRecordFront bytes v options count [] × RoomWasRefused count
-RefusesRecord bytes page_size limit Mismatch = IsBadHead bytes page_size Mismatch ⊎ HasOtherLimit bytes page_size limit
+RefusesRecord bytes page_size limit OutOfMemory =
+    (v : Version) × (options count : ℕ)
+    × GoesWith page_size limit v
+    × IsRecordFront bytes v options count []
+    × RoomWasRefused count
+RefusesRecord bytes page_size limit Mismatch =
+    IsBadHead bytes page_size Mismatch ⊎ HasOtherLimit bytes page_size limit
 
 -- what a refusal says of the source: it is at its end, it failed, or it failed no more than before
 abbrev pub LeavesSource : RestoreError → (has : Option (List ℕ)) → (failed fails : Bool) → Type 0
@@ -94,13 +128,19 @@ RefusesQueue bytes index BadMagic = ⊥
 RefusesQueue bytes index BadVersion = ⊥
 RefusesQueue bytes index BadCount = ⊥
 RefusesQueue bytes index BadReserved = ⊥
-RefusesQueue bytes index (BadQueue i) = (i ≡ index) × (bad : SavedQueue) × (bytes ≡ spelled (queue_fields bad)) × AllFit (queue_fields bad) × (is_queue bad ≡ false)
+RefusesQueue bytes index (BadQueue i) =
+    (i ≡ index)
+    × (bad : SavedQueue)
+    × (bytes ≡ spelled (queue_fields bad))
+    × AllFit (queue_fields bad)
+    × (is_queue bad ≡ false)
 RefusesQueue bytes index BadOptions = ⊥
 RefusesQueue bytes index ReadFault = length bytes < 32
 RefusesQueue bytes index OutOfMemory = ⊥
 RefusesQueue bytes index Mismatch = ⊥
 
--- what was read where what stands behind the queues isn't as wanted: too little of version 2's limit, or another one
+-- what was read where what stands behind the queues isn't as wanted: too little of version 2's limit, or
+-- another one
 abbrev pub RefusesEnd : List ℕ → RecordVersion → (limit : ℕ) → RestoreError → Type 0
 RefusesEnd bytes version limit Truncated = (version ≡ versions.Second) × (length bytes < 8)
 RefusesEnd bytes version limit BadMagic = ⊥
@@ -111,7 +151,12 @@ RefusesEnd bytes version limit (BadQueue i) = ⊥
 RefusesEnd bytes version limit BadOptions = ⊥
 RefusesEnd bytes version limit ReadFault = (version ≡ versions.Second) × (length bytes < 8)
 RefusesEnd bytes version limit OutOfMemory = ⊥
-RefusesEnd bytes version limit Mismatch = (version ≡ versions.Second) × (other : ℕ) × (bytes ≡ spelled (limit_fields other)) × (other < 2 ^ 64) × (other ≢ limit)
+RefusesEnd bytes version limit Mismatch =
+    (version ≡ versions.Second)
+    × (other : ℕ)
+    × (bytes ≡ spelled (limit_fields other))
+    × (other < 2 ^ 64)
+    × (other ≢ limit)
 
 -- a version, with the page size and the limit that version 2 tells
 abbrev pub told_by : RecordVersion → (page_size limit : ℕ) → Version

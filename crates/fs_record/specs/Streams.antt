@@ -1,5 +1,6 @@
 -- What goes into a sink.
-use Rattle.std.specs.Prelude.{◌≡◌, ℕ, ◌<◌, Bool, true, ◌==◌, List, ◌++◌, length, Option, Result, Ok, Err, MatchResult}
+use Rattle.std.specs.Prelude.{◌≡◌, ℕ, ◌<◌, Bool, true, ◌==◌, List, ◌++◌, length, Option, Result, Ok, Err}
+use Rattle.std.specs.Prelude.{MatchResult}
 use Rattle.std.specs.Io.KnownBytes.{Appends}
 
 -- whether a put was an error or took nothing
@@ -8,7 +9,12 @@ took_nothing (Ok n) = n == 0
 took_nothing (Err e) = true
 
 -- all of some bytes went out, or a part of them, and then the sink failed
-abbrev pub GoesOut : {E : Type 0} → (bytes : List ℕ) → (had : Option (List ℕ)) → (failed : Bool) → Result Unit E → (has : Option (List ℕ)) → (fails : Bool) → Type 0
+abbrev pub GoesOut : {E : Type 0} → (bytes : List ℕ) → (had : Option (List ℕ)) → (failed : Bool) →
+    Result Unit E → (has : Option (List ℕ)) → (fails : Bool) → Type 0
 GoesOut bytes had failed result has fails = MatchResult result
     (λ _. Appends had has bytes × (fails ≡ failed))
-    (λ _. (part rest : List ℕ) × (bytes ≡ part ++ rest) × (0 < length rest) × Appends had has part × (fails ≡ true))
+    (λ _. (part rest : List ℕ)
+    × (bytes ≡ part ++ rest)
+    × (0 < length rest)
+    × Appends had has part
+    × (fails ≡ true))

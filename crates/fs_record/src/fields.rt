@@ -13,7 +13,8 @@ pub(crate) enum RecordVersion {
     Second,
 }
 
-/// What a record begins with: 24 bytes, each field with its lowest byte first. The page size is 0 in version 1.
+/// What a record begins with: 24 bytes, each field with its lowest byte first. The page size is 0 in version
+/// 1.
 #[derive(Clone, Copy, Debug, PartialEq, Eq)]
 pub(crate) struct RecordHead {
     pub(crate) magic: u32,

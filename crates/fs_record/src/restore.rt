@@ -4,9 +4,11 @@ ghost use Rattle.std.specs.Prelude.{◌≡◌, ◌==◌, ◌||◌, ◌<◌, ◌�
 ghost use Rattle.std.specs.Prelude.{length, OnOk, IfOk, IfErr, IfSome, IfNone};
 ghost use Rattle.std.specs.Io.KnownBytes.{Consumes};
 ghost use Rattle.vm_values.specs.Fields.{spelled, AllFit};
-ghost use Rattle.fs_record.specs.Record.{HasKnownBits, IsRecordFor, IsSavedQueue, end_bytes, head_error, head_of, saved, queue_bytes};
+ghost use Rattle.fs_record.specs.Record.{HasKnownBits, IsRecordFor, IsSavedQueue, end_bytes, head_error};
+ghost use Rattle.fs_record.specs.Record.{head_of, saved, queue_bytes};
 ghost use Rattle.fs_record.specs.Record.{is_queue, version_number};
-ghost use Rattle.fs_record.specs.Restoring.{LeavesSource, RefusesEnd, RefusesRecord, RefusesQueue, IsRecordFront, ends_early, told_by};
+ghost use Rattle.fs_record.specs.Restoring.{LeavesSource, RefusesEnd, RefusesRecord, RefusesQueue};
+ghost use Rattle.fs_record.specs.Restoring.{IsRecordFront, ends_early, told_by};
 
 use crate::error::RestoreError;
 use crate::fields::{RecordHead, RecordVersion, SavedQueue};
@@ -24,9 +26,13 @@ const MAX_QUEUES: u32 = 64;
 
 // Fills a buffer with the next bytes; Truncated if there are too few, ReadFault if the source fails.
 fn fill<S: RecordSource>(source: &mut S, buf: &mut [u8]) -> Result<(), RestoreError>
-    ensures ok { OnOk result (Consumes (S.left source.old) (S.left source.new) buf.new × (S.failed source.new ≡ S.failed source.old)) }
-    ensures err { IfErr result (λ e. (part : List ℕ) × (length part < length buf.old) × Consumes (S.left source.old) (S.left source.new) part
-        × (ends_early e ≡ true) × LeavesSource e (S.left source.new) (S.failed source.old) (S.failed source.new)) }
+    ensures ok { OnOk result (Consumes (S.left source.old) (S.left source.new) buf.new
+        × (S.failed source.new ≡ S.failed source.old)) }
+    ensures err { IfErr result (λ e. (part : List ℕ)
+        × (length part < length buf.old)
+        × Consumes (S.left source.old) (S.left source.new) part
+        × (ends_early e ≡ true)
+        × LeavesSource e (S.left source.new) (S.failed source.old) (S.failed source.new)) }
 {
     let mut at = 0;
     while at < buf.len() {
@@ -41,10 +47,14 @@ fn fill<S: RecordSource>(source: &mut S, buf: &mut [u8]) -> Result<(), RestoreEr
 
 // The value that the next bytes spell; Truncated if there are too few, ReadFault if the source fails.
 fn next_value<S: RecordSource, T: ByteValued>(source: &mut S) -> Result<T, RestoreError>
-    ensures ok { IfOk result (λ x. Consumes (S.left source.old) (S.left source.new) (spelled (T.fields x)) × AllFit (T.fields x)
+    ensures ok { IfOk result (λ x. Consumes (S.left source.old) (S.left source.new) (spelled (T.fields x))
+        × AllFit (T.fields x)
         × (S.failed source.new ≡ S.failed source.old)) }
-    ensures err { IfErr result (λ e. (part : List ℕ) × (length part < T.SIZE) × Consumes (S.left source.old) (S.left source.new) part
-        × (ends_early e ≡ true) × LeavesSource e (S.left source.new) (S.failed source.old) (S.failed source.new)) }
+    ensures err { IfErr result (λ e. (part : List ℕ)
+        × (length part < T.SIZE)
+        × Consumes (S.left source.old) (S.left source.new) part
+        × (ends_early e ≡ true)
+        × LeavesSource e (S.left source.new) (S.failed source.old) (S.failed source.new)) }
 {
     let mut buffer = [0; 256];
     fill(source, &mut buffer[..T::SIZE])?;
@@ -82,8 +92,11 @@ impl RecordHead {
 
     // What the head says where the guest's pages have this size, or the first thing that is wrong.
     fn checked(&self, page_size: u32) -> Result<CheckedHead, RestoreError>
-        ensures ok { IfOk result (λ h. (head_error page_size self.now ≡ None) × (self.now ≡ head_of (told_by h.version page_size 0) h.options.0 h.count)
-            × HasKnownBits h.options.0 × (1 ≤ h.count) × (h.count ≤ 64)) }
+        ensures ok { IfOk result (λ h. (head_error page_size self.now ≡ None)
+            × (self.now ≡ head_of (told_by h.version page_size 0) h.options.0 h.count)
+            × HasKnownBits h.options.0
+            × (1 ≤ h.count)
+            × (h.count ≤ 64)) }
         ensures err { IfErr result (λ e. head_error page_size self.now ≡ Some e) }
     {
         if self.magic != MAGIC {
@@ -133,10 +146,15 @@ impl SavedQueue {
 
 // What the next 24 bytes say, or why these aren't the head of a record that goes with this page size.
 fn read_head<S: RecordSource>(source: &mut S, page_size: u32) -> Result<CheckedHead, RestoreError>
-    ensures ok { IfOk result (λ h. (taken : List ℕ) × Consumes (S.left source.old) (S.left source.new) taken
-        × IsRecordFront taken (told_by h.version page_size 0) h.options.0 h.count [] × (S.failed source.new ≡ S.failed source.old)) }
-    ensures err { (limit : ℕ) → IfErr result (λ e. (taken : List ℕ) × Consumes (S.left source.old) (S.left source.new) taken
-        × RefusesRecord taken page_size limit e × LeavesSource e (S.left source.new) (S.failed source.old) (S.failed source.new)) }
+    ensures ok { IfOk result (λ h. (taken : List ℕ)
+        × Consumes (S.left source.old) (S.left source.new) taken
+        × IsRecordFront taken (told_by h.version page_size 0) h.options.0 h.count []
+        × (S.failed source.new ≡ S.failed source.old)) }
+    ensures err { (limit : ℕ)
+        → IfErr result (λ e. (taken : List ℕ)
+        × Consumes (S.left source.old) (S.left source.new) taken
+        × RefusesRecord taken page_size limit e
+        × LeavesSource e (S.left source.new) (S.failed source.old) (S.failed source.new)) }
 {
     let head: RecordHead = next_value(source)?;
     head.checked(page_size)
@@ -144,9 +162,12 @@ fn read_head<S: RecordSource>(source: &mut S, page_size: u32) -> Result<CheckedH
 
 // The queue that the next 32 bytes have, or why they are none: BadQueue of this number where they are there.
 fn read_queue<S: RecordSource>(source: &mut S, index: usize) -> Result<Queue, RestoreError>
-    ensures ok { IfOk result (λ q. Consumes (S.left source.old) (S.left source.new) (queue_bytes q) × IsSavedQueue q
+    ensures ok { IfOk result (λ q. Consumes (S.left source.old) (S.left source.new) (queue_bytes q)
+        × IsSavedQueue q
         × (S.failed source.new ≡ S.failed source.old)) }
-    ensures err { IfErr result (λ e. (taken : List ℕ) × Consumes (S.left source.old) (S.left source.new) taken × RefusesQueue taken index e
+    ensures err { IfErr result (λ e. (taken : List ℕ)
+        × Consumes (S.left source.old) (S.left source.new) taken
+        × RefusesQueue taken index e
         × LeavesSource e (S.left source.new) (S.failed source.old) (S.failed source.new)) }
 {
     let saved: SavedQueue = next_value(source)?;
@@ -159,9 +180,12 @@ fn read_end<S: RecordSource>(
     version: RecordVersion,
     limit: u32,
 ) -> Result<(), RestoreError>
-    ensures ok { OnOk result (Consumes (S.left source.old) (S.left source.new) (end_bytes (told_by version 0 limit))
+    ensures ok { OnOk result
+        (Consumes (S.left source.old) (S.left source.new) (end_bytes (told_by version 0 limit))
         × (S.failed source.new ≡ S.failed source.old)) }
-    ensures err { IfErr result (λ e. (taken : List ℕ) × Consumes (S.left source.old) (S.left source.new) taken × RefusesEnd taken version limit e
+    ensures err { IfErr result (λ e. (taken : List ℕ)
+        × Consumes (S.left source.old) (S.left source.new) taken
+        × RefusesEnd taken version limit e
         × LeavesSource e (S.left source.new) (S.failed source.old) (S.failed source.new)) }
 {
     match version {
@@ -177,13 +201,13 @@ fn read_end<S: RecordSource>(
     }
 }
 
-/// The options and the queues of the record that stands next in a source; no byte behind the record is taken. Version 1
-/// tells no page size and no limit; version 2 tells both, and they have to be these: the bytes of a guest's page, and
-/// the greatest length of a request and of a room, in bytes. A refusal says what stands there instead: Truncated or
-/// ReadFault if the head's 24 bytes can't be had, then BadMagic, BadVersion, BadCount, BadReserved (version 1) or
-/// Mismatch (version 2), BadOptions and OutOfMemory; then for each queue Truncated or ReadFault if its 32 bytes can't
-/// be had, and BadQueue; and last, in version 2, Truncated or ReadFault if the limit's 8 bytes can't be had, and
-/// Mismatch.
+/// The options and the queues of the record that stands next in a source; no byte behind the record is taken.
+/// Version 1 tells no page size and no limit; version 2 tells both, and they have to be these: the bytes of a
+/// guest's page, and the greatest length of a request and of a room, in bytes. A refusal says what stands
+/// there instead: Truncated or ReadFault if the head's 24 bytes can't be had, then BadMagic, BadVersion,
+/// BadCount, BadReserved (version 1) or Mismatch (version 2), BadOptions and OutOfMemory; then for each queue
+/// Truncated or ReadFault if its 32 bytes can't be had, and BadQueue; and last, in version 2, Truncated or
+/// ReadFault if the limit's 8 bytes can't be had, and Mismatch.
 pub fn restore_record<S: RecordSource>(
     alloc: Global,
     source: &mut S,
@@ -192,8 +216,10 @@ pub fn restore_record<S: RecordSource>(
 ) -> Result<(FsOptions, Vec<Queue>), RestoreError>
     ensures ok { IfOk result (λ v. (taken : List ℕ) × Consumes (S.left source.old) (S.left source.new) taken
         × IsRecordFor taken page_size limit v.0.0 v.1.items × (S.failed source.new ≡ S.failed source.old)) }
-    ensures err { IfErr result (λ e. (taken : List ℕ) × Consumes (S.left source.old) (S.left source.new) taken
-        × RefusesRecord taken page_size limit e × LeavesSource e (S.left source.new) (S.failed source.old) (S.failed source.new)) }
+    ensures err { IfErr result (λ e. (taken : List ℕ)
+        × Consumes (S.left source.old) (S.left source.new) taken
+        × RefusesRecord taken page_size limit e
+        × LeavesSource e (S.left source.new) (S.failed source.old) (S.failed source.new)) }
 {
     let head = read_head(source, page_size)?;
     let Ok(mut queues) = list_with_room(alloc, head.count) else {

@@ -21,7 +21,8 @@ const VERSION: u32 = 2;
 
 // Puts all of a slice.
 fn put_slice<S: RecordSink>(sink: &mut S, bytes: &[u8]) -> Result<(), WriteFault>
-    ensures { GoesOut bytes.now (S.sent sink.old) (S.failed sink.old) result (S.sent sink.new) (S.failed sink.new) }
+    ensures { GoesOut bytes.now (S.sent sink.old) (S.failed sink.old) result (S.sent sink.new)
+        (S.failed sink.new) }
 {
     let mut rest = bytes;
     while !rest.is_empty() {
@@ -35,7 +36,8 @@ fn put_slice<S: RecordSink>(sink: &mut S, bytes: &[u8]) -> Result<(), WriteFault
 
 // Puts the bytes that spell a value.
 fn put_value<S: RecordSink, T: ByteValued>(sink: &mut S, value: &T) -> Result<(), WriteFault>
-    ensures { GoesOut (spelled (T.fields value.now)) (S.sent sink.old) (S.failed sink.old) result (S.sent sink.new) (S.failed sink.new) }
+    ensures { GoesOut (spelled (T.fields value.now)) (S.sent sink.old) (S.failed sink.old) result
+        (S.sent sink.new) (S.failed sink.new) }
 {
     let mut buffer = [0; 256];
     value.put_bytes(&mut buffer[..T::SIZE]);
@@ -58,9 +60,9 @@ fn saved(queue: &Queue) -> SavedQueue
     }
 }
 
-/// Puts the record, of version 2, of some options and of 1 to 64 queues, with the bytes of a guest's page and the limit
-/// of requests and of rooms in bytes: a head of 24 bytes, 32 for each queue, and 8. WriteFault if the sink answers an
-/// error or takes nothing: a part of the record went out, and not all of it.
+/// Puts the record, of version 2, of some options and of 1 to 64 queues, with the bytes of a guest's page and
+/// the limit of requests and of rooms in bytes: a head of 24 bytes, 32 for each queue, and 8. WriteFault if
+/// the sink answers an error or takes nothing: a part of the record went out, and not all of it.
 pub fn save_record<S: RecordSink>(
     sink: &mut S,
     options: FsOptions,
@@ -71,7 +73,8 @@ pub fn save_record<S: RecordSink>(
     requires known { HasKnownBits options.0 }
     requires some { 1 ≤ length queues.now }
     requires few { length queues.now ≤ 64 }
-    ensures goes_out { GoesOut (record_bytes (Second page_size limit) options.0 queues.now) (S.sent sink.old) (S.failed sink.old) result
+    ensures goes_out { GoesOut (record_bytes (Second page_size limit) options.0 queues.now) (S.sent sink.old)
+        (S.failed sink.old) result
         (S.sent sink.new) (S.failed sink.new) }
     ensures savable { OnOk result (IsSavable options.0 queues.now) }
 {

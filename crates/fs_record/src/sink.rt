@@ -15,8 +15,8 @@ pub trait RecordSink {
     // Whether a put was an error or took nothing.
     ghost failed: { Self → Bool };
 
-    /// Takes bytes from the front of a slice that isn't empty, and answers how many, as `Write::write` does; or an
-    /// `io::Error` of the sink's own.
+    /// Takes bytes from the front of a slice that isn't empty, and answers how many, as `Write::write` does;
+    /// or an `io::Error` of the sink's own.
     fn put(&mut self, bytes: &[u8]) -> io::Result<usize>
         requires { 0 < length bytes.now }
         ensures bound { WritesAtMost result bytes.now }

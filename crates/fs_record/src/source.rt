@@ -14,8 +14,8 @@ pub trait RecordSource {
     // Whether a get was an error.
     ghost failed: { Self → Bool };
 
-    /// Puts bytes at the front of a buffer that isn't empty, and answers how many, as `Read::read` does: 0 at the end
-    /// alone; or an `io::Error` of the source's own.
+    /// Puts bytes at the front of a buffer that isn't empty, and answers how many, as `Read::read` does: 0 at
+    /// the end alone; or an `io::Error` of the source's own.
     fn get(&mut self, buf: &mut [u8]) -> io::Result<usize>
         requires { 0 < length buf.old }
         ensures bound { ReadsAtMost result buf.new }

@@ -25,41 +25,57 @@ length-request m (d ∷ ds) =
 -- by the tests of what can be fetched
 abbrev fetched_by : (over lost_request lost_room : Bool) → (request room : List ℕ) → RequestAndRoom
 fetched_by over lost_request lost_room request room =
-    if over then CannotFetch OverLimit else if lost_request then CannotFetch RequestUnreachable else if lost_room then CannotFetch RoomUnreachable else IsRequest request room
+    if over then CannotFetch OverLimit else if lost_request then CannotFetch RequestUnreachable
+    else if lost_room then CannotFetch RoomUnreachable else IsRequest request room
 
 abbrev why_by : (over lost_request lost_room : Bool) → Option ChainFault
-why_by over lost_request lost_room = if over then Some OverLimit else if lost_request then Some RequestUnreachable else if lost_room then Some RoomUnreachable else None
+why_by over lost_request lost_room =
+    if over then Some OverLimit else if lost_request then Some RequestUnreachable else if lost_room then Some RoomUnreachable else None
 
-faulty : (head : ℕ) (fault : ChainFault) (over lost_request lost_room : Bool) (request room : List ℕ) → why_by over lost_request lost_room ≡ Some fault →
-    option_map (Offers head) (with_request [] (fetched_by over lost_request lost_room request room)) ≡ Some (Offers head (CannotFetch fault))
-faulty head fault true b c request room e = let same : OverLimit ≡ fault = cc in ap (λ (x : ChainFault). Some (Offers head (CannotFetch x))) same
-faulty head fault false true c request room e = let same : RequestUnreachable ≡ fault = cc in ap (λ (x : ChainFault). Some (Offers head (CannotFetch x))) same
-faulty head fault false false true request room e = let same : RoomUnreachable ≡ fault = cc in ap (λ (x : ChainFault). Some (Offers head (CannotFetch x))) same
+faulty : (head : ℕ) (fault : ChainFault) (over lost_request lost_room : Bool) (request room : List ℕ) →
+    why_by over lost_request lost_room ≡ Some fault →
+    option_map (Offers head) (with_request [] (fetched_by over lost_request lost_room request room))
+    ≡ Some (Offers head (CannotFetch fault))
+faulty head fault true b c request room e =
+    let same : OverLimit ≡ fault = cc in ap (λ (x : ChainFault). Some (Offers head (CannotFetch x))) same
+faulty head fault false true c request room e =
+    let same : RequestUnreachable ≡ fault = cc in ap (λ (x : ChainFault). Some (Offers head (CannotFetch x))) same
+faulty head fault false false true request room e =
+    let same : RoomUnreachable ≡ fault = cc in ap (λ (x : ChainFault). Some (Offers head (CannotFetch x))) same
 faulty head fault false false false request room e = absurd (cc)
 
-whole : (head : ℕ) (over lost_request lost_room : Bool) (loaded request room : List ℕ) → why_by over lost_request lost_room ≡ None → length loaded ≡ length request →
-    option_map (Offers head) (with_request loaded (fetched_by over lost_request lost_room request room)) ≡ Some (Offers head (IsRequest loaded room))
+whole : (head : ℕ) (over lost_request lost_room : Bool) (loaded request room : List ℕ) → why_by over lost_request lost_room ≡ None →
+    length loaded ≡ length request →
+    option_map (Offers head) (with_request loaded (fetched_by over lost_request lost_room request room))
+    ≡ Some (Offers head (IsRequest loaded room))
 whole head true b c loaded request room e long = absurd (cc)
 whole head false true c loaded request room e long = absurd (cc)
 whole head false false true loaded request room e long = absurd (cc)
 whole head false false false loaded request room e long = rw (eq-eqb (length loaded) (length request) long) refl
 
 -- what is fetched of a chain that was found
-pub fetches : (m : Memory) (limit : ℕ) (q : Queue) (loaded : Loaded) (ds : List Descriptor) (head : ℕ) (o : Option ChainFault) → q.stopped ≡ false → o ≡ chain_fault m limit ds → Waits m q loaded head →
+pub fetches : (m : Memory) (limit : ℕ) (q : Queue) (loaded : Loaded) (ds : List Descriptor) (head : ℕ) (o : Option ChainFault) →
+    q.stopped ≡ false → o ≡ chain_fault m limit ds → Waits m q loaded head →
     FindsBy m q loaded head (IsChain ds) → FetchesBy m limit q loaded ds head o
 fetches m limit q loaded ds head (Some fault) runs why waits finds =
     on_found m limit q loaded head (IsChain ds) [] (Offers head (CannotFetch fault)) runs waits
-    (faulty head fault (nat_lt limit (total_len (readable ds)) || nat_lt limit (total_len (writable ds))) (not (all_reach m Read (readable ds))) (not (all_reach m Write (writable ds)))
+    (faulty head fault (nat_lt limit (total_len (readable ds)) || nat_lt limit (total_len (writable ds)))
+    (not (all_reach m Read (readable ds))) (not (all_reach m Write (writable ds)))
     (flat_map (λ d. bytes m d.addr d.len) (readable ds)) (flat_map (λ d. addresses d.addr d.len) (writable ds)) (sym why)) finds
 fetches m limit q loaded ds head None runs why waits finds = (
   finds,
   λ request long.
-      on_found m limit q loaded head (IsChain ds) request (Offers head (IsRequest request (flat_map (λ d. addresses d.addr d.len) (writable ds)))) runs waits
-      (whole head (nat_lt limit (total_len (readable ds)) || nat_lt limit (total_len (writable ds))) (not (all_reach m Read (readable ds))) (not (all_reach m Write (writable ds)))
-      request (flat_map (λ d. bytes m d.addr d.len) (readable ds)) (flat_map (λ d. addresses d.addr d.len) (writable ds)) (sym why) (long ∙ sym (length-request m (readable ds)))) finds,
+      on_found m limit q loaded head (IsChain ds) request
+      (Offers head (IsRequest request (flat_map (λ d. addresses d.addr d.len) (writable ds)))) runs waits
+      (whole head (nat_lt limit (total_len (readable ds)) || nat_lt limit (total_len (writable ds))) (not (all_reach m Read (readable ds)))
+      (not (all_reach m Write (writable ds)))
+      request (flat_map (λ d. bytes m d.addr d.len) (readable ds)) (flat_map (λ d. addresses d.addr d.len) (writable ds)) (sym why)
+      (long ∙ sym (length-request m (readable ds)))) finds,
 )
 
 -- a fault that the walk found
-pub fetches_fault : (m : Memory) (limit : ℕ) (q : Queue) (loaded : Loaded) (ds : List Descriptor) (head : ℕ) (fault : ChainFault) → q.stopped ≡ false → Waits m q loaded head →
+pub fetches_fault : (m : Memory) (limit : ℕ) (q : Queue) (loaded : Loaded) (ds : List Descriptor) (head : ℕ) (fault : ChainFault) →
+    q.stopped ≡ false → Waits m q loaded head →
     FindsBy m q loaded head (HasFault fault) → FetchesBy m limit q loaded ds head (Some fault)
-fetches_fault m limit q loaded ds head fault runs waits finds = on_found m limit q loaded head (HasFault fault) [] (Offers head (CannotFetch fault)) runs waits refl finds
+fetches_fault m limit q loaded ds head fault runs waits finds =
+    on_found m limit q loaded head (HasFault fault) [] (Offers head (CannotFetch fault)) runs waits refl finds

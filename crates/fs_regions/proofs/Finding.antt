@@ -5,7 +5,8 @@ use Rattle.std.proofs.lemmas.Bool.{eq-eqb}
 use Rattle.fs_queue.specs.declared.chain_walk.WalkEnd as walked
 use Rattle.fs_queue.specs.declared.chain_walk.WalkEnd.TheVariants as comes_to
 use Rattle.fs_queue.specs.declared.fault.ChainFault.{ChainFault}
-use Rattle.fs_queue.specs.Chain.{Descriptor, Visit, WalkStep, Ordinary, Table, Faulty, Stops, after_walk_step, with_front, Found, IsChain, HasFault, StopsQueue, entry_address}
+use Rattle.fs_queue.specs.Chain.{Descriptor, Visit, WalkStep, Ordinary, Table, Faulty, Stops, after_walk_step, with_front, Found, IsChain}
+use Rattle.fs_queue.specs.Chain.{HasFault, StopsQueue, entry_address}
 use Rattle.fs_queue.specs.WalkingView.{found_of}
 use Rattle.fs_queue.specs.Loads.{Load, Ahead, Reads, Ends, step_by, ahead_after, found_exactly, is_whole}
 use Rattle.fs_queue.specs.SteppingView.{joining}
@@ -32,22 +33,26 @@ before-stop : (ds : List Descriptor) → standing_before ds StopsQueue ≡ Stops
 before-stop [] = refl
 before-stop (d ∷ ds) = ap (with_front d) (before-stop ds)
 
-pushed : (ds : List Descriptor) (d : Descriptor) (o : Option Found) → option_map (standing_before (ds ++ d ∷ [])) o ≡ option_map (standing_before ds) (option_map (with_front d) o)
+pushed : (ds : List Descriptor) (d : Descriptor) (o : Option Found) →
+    option_map (standing_before (ds ++ d ∷ [])) o ≡ option_map (standing_before ds) (option_map (with_front d) o)
 pushed ds d None = refl
 pushed ds d (Some f) = ap Some (before-push ds d f)
 
-alone : (ds : List Descriptor) (o : Option Found) → option_map (standing_before ds) o ≡ option_map (standing_before ds) (option_map (λ f. f) o)
+alone :
+    (ds : List Descriptor) (o : Option Found) → option_map (standing_before ds) o ≡ option_map (standing_before ds) (option_map (λ f. f) o)
 alone ds None = refl
 alone ds (Some f) = refl
 
 -- a walk that has ended asks for nothing
-ended_alone : (size : ℕ) (ls : List Load) (f : Found) (g : Found → Found) → g f ≡ f → found_exactly size ls (Ends f) ≡ option_map g (found_exactly size ls (Ends f))
+ended_alone : (size : ℕ) (ls : List Load) (f : Found) (g : Found → Found) → g f ≡ f →
+    found_exactly size ls (Ends f) ≡ option_map g (found_exactly size ls (Ends f))
 unfolding found_exactly
 ended_alone size [] f g same = ap Some (sym same)
 ended_alone size (l ∷ ls) f g same = refl
 
 by_step : (size : ℕ) (v : Visit) (w : WalkStep) (ls : List Load) (ds : List Descriptor) →
-    option_map (standing_before (with_joining ds (joining w))) (found_exactly size ls (ahead_after size v w)) ≡ option_map (standing_before ds)
+    option_map (standing_before (with_joining ds (joining w))) (found_exactly size ls (ahead_after size v w))
+    ≡ option_map (standing_before ds)
     (option_map (after_walk_step w) (found_exactly size ls (ahead_after size v w)))
 by_step size v (Ordinary d) ls ds = pushed ds d _
 by_step size v (Table t) ls ds = alone ds _
@@ -55,15 +60,19 @@ by_step size v (Faulty f) ls ds = ap (option_map (standing_before ds)) (ended_al
 by_step size v Stops ls ds = ap (option_map (standing_before ds)) (ended_alone size ls StopsQueue (λ _. StopsQueue) refl)
 
 -- what is found by a load and those after it, by what came of the load
-given : (size : ℕ) (v : Visit) (l : Load) (ls : List Load) (ds : List Descriptor) (joins : Option Descriptor) (a : Ahead) → l.address ≡ entry_address v → is_whole 16 l.came ≡ true →
+given : (size : ℕ) (v : Visit) (l : Load) (ls : List Load) (ds : List Descriptor) (joins : Option Descriptor) (a : Ahead) →
+    l.address ≡ entry_address v → is_whole 16 l.came ≡ true →
     joins ≡ joining (step_by size v l) → a ≡ ahead_after size v (step_by size v l) →
-    option_map (standing_before ds) (found_exactly size (l ∷ ls) (Reads v)) ≡ option_map (standing_before (with_joining ds joins)) (found_exactly size ls a)
+    option_map (standing_before ds) (found_exactly size (l ∷ ls) (Reads v))
+    ≡ option_map (standing_before (with_joining ds joins)) (found_exactly size ls a)
 unfolding found_exactly
 given size v l ls ds joins a at whole joins-is a-is =
     let w = step_by size v l in
-    ap (λ (b : Bool). option_map (standing_before ds) (if b && is_whole 16 l.came then option_map (after_walk_step w) (found_exactly size ls (ahead_after size v w))
+    ap (λ (b : Bool). option_map (standing_before ds)
+    (if b && is_whole 16 l.came then option_map (after_walk_step w) (found_exactly size ls (ahead_after size v w))
     else None)) (eq-eqb l.address (entry_address v) at)
-    ∙ ap (λ (b : Bool). option_map (standing_before ds) (if b then option_map (after_walk_step w) (found_exactly size ls (ahead_after size v w)) else None)) whole
+    ∙ ap (λ (b : Bool). option_map (standing_before ds)
+    (if b then option_map (after_walk_step w) (found_exactly size ls (ahead_after size v w)) else None)) whole
     ∙ sym (by_step size v w ls ds)
     ∙ sym (ap (λ (x : Ahead). option_map (standing_before (with_joining ds (joining w))) (found_exactly size ls x)) a-is)
     ∙ sym (ap (λ (o : Option Descriptor). option_map (standing_before (with_joining ds o)) (found_exactly size ls a)) joins-is)
@@ -77,11 +86,14 @@ pub brings_none : (size : ℕ) (from to : Ahead) → to ≡ from → Brings size
 brings_none size from to is = λ more. ap (found_exactly size more) (sym is) ∙ same (found_exactly size more to)
 
 -- one load more
-pub brings_on : (size : ℕ) (ls : List Load) (from : Ahead) (ds : List Descriptor) (v : Visit) (l : Load) (joins : Option Descriptor) (a : Ahead) →
+pub brings_on :
+    (size : ℕ) (ls : List Load) (from : Ahead) (ds : List Descriptor) (v : Visit) (l : Load) (joins : Option Descriptor) (a : Ahead) →
     l.address ≡ entry_address v → is_whole 16 l.came ≡ true →
-    joins ≡ joining (step_by size v l) → a ≡ ahead_after size v (step_by size v l) → Brings size ls from ds (Reads v) → Brings size (ls ++ l ∷ []) from (with_joining ds joins) a
+    joins ≡ joining (step_by size v l) → a ≡ ahead_after size v (step_by size v l) → Brings size ls from ds (Reads v) →
+    Brings size (ls ++ l ∷ []) from (with_joining ds joins) a
 brings_on size ls from ds v l joins a at whole joins-is a-is so_far =
-    λ more. ap (λ (x : List Load). found_exactly size x from) (append_assoc ls (l ∷ []) more) ∙ so_far (l ∷ more) ∙ given size v l more ds joins a at whole joins-is a-is
+    λ more. ap (λ (x : List Load). found_exactly size x from) (append_assoc ls (l ∷ []) more) ∙ so_far (l ∷ more)
+    ∙ given size v l more ds joins a at whole joins-is a-is
 
 pub before : (w : walked.WalkEnd) (ds : List Descriptor) → standing_before ds (found_of w []) ≡ found_of w ds
 before comes_to.Chain ds = before-chain ds [] ∙ ap IsChain (append-nil ds)
@@ -89,7 +101,8 @@ before (comes_to.Faulty fault) ds = before-fault ds fault
 before comes_to.Stopped ds = before-stop ds
 
 -- a walk that has ended found this
-pub brings_end : (size : ℕ) (ls : List Load) (from : Ahead) (ds : List Descriptor) (w : walked.WalkEnd) → Brings size ls from ds (Ends (found_of w [])) →
+pub brings_end :
+    (size : ℕ) (ls : List Load) (from : Ahead) (ds : List Descriptor) (w : walked.WalkEnd) → Brings size ls from ds (Ends (found_of w [])) →
     found_exactly size (ls ++ []) from ≡ Some (found_of w ds)
 unfolding found_exactly
 brings_end size ls from ds w so_far = so_far [] ∙ ap Some (before w ds)

@@ -1,5 +1,6 @@
 -- where addresses are by a table
-use Rattle.std.proofs.Common.{◌≡◌, ℕ, Bool, true, false, zero, suc, ◌+◌, ◌-◌, ◌^◌, ◌<◌, ◌≤◌, ◌&&◌, min, List, Option, Some, None, inl, inr, refl, ap, sym, ◌∙◌, subst, arith}
+use Rattle.std.proofs.Common.{◌≡◌, ℕ, Bool, true, false, zero, suc, ◌+◌, ◌-◌, ◌^◌, ◌<◌, ◌≤◌, ◌&&◌, min, List, Option, Some, None, inl, inr}
+use Rattle.std.proofs.Common.{refl, ap, sym, ◌∙◌, subst, arith}
 use Rattle.std.specs.Prelude.{if◌then◌else◌, is_some}
 use Rattle.std.specs.List.{list_all}
 use Rattle.std.proofs.lemmas.Bool.{cases_lt}
@@ -16,17 +17,20 @@ use Rattle.vm_memory.proofs.TranslatedLemmas.{run_len-min, run_len-most, run_pla
 use Rattle.fs_queue.proofs.TakeLemmas.{list_all-append, reach-each}
 use Rattle.fs_regions.specs.Places.{places_in, untranslated}
 
-next_may : (access : Permissions) (o next : Option Mapping) → may_pass access o ≡ true → go_together o next ≡ true → may_pass access next ≡ true
+next_may :
+    (access : Permissions) (o next : Option Mapping) → may_pass access o ≡ true → go_together o next ≡ true → may_pass access next ≡ true
 next_may access None next pass e = absurd (cc)
 next_may access (Some to) None pass e = absurd (cc)
 next_may access (Some to) (Some next) pass e = subst (λ (p : Permissions). allows p access ≡ true) (together_parts to next e).1 pass
 
 -- an access that may go through an address may go through those that are mapped as one with it
-pub run_may : (n a : ℕ) (table : Table) (access : Permissions) → may_pass access (table a) ≡ true → may_all table access a (run_len table a n) ≡ true
+pub run_may :
+    (n a : ℕ) (table : Table) (access : Permissions) → may_pass access (table a) ≡ true → may_all table access a (run_len table a n) ≡ true
 unfolding may_all run_len
 run_may zero a table access first = refl
 run_may (suc n) a table access first =
-    elim (go_together (table a) (table (a + 1))) as (λ b. go_together (table a) (table (a + 1)) ≡ b → may_all table access a (if b then suc (run_len table (a + 1) n) else 1) ≡ true) [
+    elim (go_together (table a) (table (a + 1)))
+    as (λ b. go_together (table a) (table (a + 1)) ≡ b → may_all table access a (if b then suc (run_len table (a + 1) n) else 1) ≡ true) [
       | true ↦ λ joins. rw first (run_may n (a + 1) table access (next_may access (table a) (table (a + 1)) first joins))
       | false ↦ λ parts. rw first refl
     ] refl
@@ -38,11 +42,13 @@ run_told k most a table is =
     let short = run_len-min k most a table (omega (arith, is, few)) in
     omega (arith, short, is)
 
-pub told_may : (k most a : ℕ) (table : Table) (access : Permissions) → k ≡ run_len table a most → may_pass access (table a) ≡ true → may_all table access a k ≡ true
+pub told_may : (k most a : ℕ) (table : Table) (access : Permissions) → k ≡ run_len table a most → may_pass access (table a) ≡ true →
+    may_all table access a k ≡ true
 told_may k most a table access is first = rw is (run_may most a table access first)
 
 -- how long a window of it is
-pub left_told : (most a k len left : ℕ) (table : Table) (l : List Region) → a + k < 2 ^ 64 → k ≡ run_len table a most → left ≡ left_at l (target_of (table a)) → len ≡ min k left →
+pub left_told : (most a k len left : ℕ) (table : Table) (l : List Region) → a + k < 2 ^ 64 → k ≡ run_len table a most →
+    left ≡ left_at l (target_of (table a)) → len ≡ min k left →
     len ≡ min most (translated_left l table a)
 left_told most a k len left table l fits is at e =
     let few = run_len-most most a table in
@@ -52,7 +58,8 @@ left_told most a k len left table l fits is at e =
     ]
 
 -- an access may not go through an address: it has no place for it
-pub denied : (l : List Region) (set a : ℕ) (access : Permissions) (o : Option Mapping) → may_pass access o ≡ false → for_io set a (place_behind l access o) ≡ None
+pub denied : (l : List Region) (set a : ℕ) (access : Permissions) (o : Option Mapping) → may_pass access o ≡ false →
+    for_io set a (place_behind l access o) ≡ None
 denied l set a access None e = refl
 denied l set a access (Some to) e = rw e refl
 
@@ -78,26 +85,32 @@ shifted (suc k) a t f g each =
     rw (first, rest) refl
 
 -- the addresses of a run have places where those have that they are mapped to
-run_same : (k a t : ℕ) (table : Table) (access : Permissions) (l : List Region) → t ≡ target_of (table a) → run_len table a k ≡ k → may_all table access a k ≡ true →
+run_same : (k a t : ℕ) (table : Table) (access : Permissions) (l : List Region) → t ≡ target_of (table a) → run_len table a k ≡ k →
+    may_all table access a k ≡ true →
     list_all (λ x. is_some (translated l table 0 access x)) (addresses a k) ≡ list_all (λ x. is_some (place l x)) (addresses t k)
 run_same k a t table access l at whole all =
     shifted k a t (translated l table 0 access) (place l)
-    (λ j below. marked 0 (a + j) (place_behind l access (table (a + j))) ∙ ap is_some (run_place k a table access l all j (omega (arith, whole, below)) ∙ ap (λ x. place l (x + j)) (sym at)))
+    (λ j below. marked 0 (a + j) (place_behind l access (table (a + j)))
+    ∙ ap is_some (run_place k a table access l all j (omega (arith, whole, below)) ∙ ap (λ x. place l (x + j)) (sym at)))
 
 cut : (a n k : ℕ) (f : ℕ → Option Place) → k ≤ n →
-    list_all (λ x. is_some (f x)) (addresses a n) ≡ (list_all (λ x. is_some (f x)) (addresses a k) && list_all (λ x. is_some (f x)) (addresses (a + k) (n - k)))
+    list_all (λ x. is_some (f x)) (addresses a n)
+    ≡ (list_all (λ x. is_some (f x)) (addresses a k) && list_all (λ x. is_some (f x)) (addresses (a + k) (n - k)))
 cut a n k f within =
     let count : n ≡ k + (n - k) = omega (arith, within) in
     ap (λ c. list_all (λ x. is_some (f x)) (addresses a c)) count ∙ ap (list_all (λ x. is_some (f x))) (addresses-append k (n - k) a)
     ∙ sym (list_all-append (addresses a k) (addresses (a + k) (n - k)) f)
 
 -- whether the regions have what a piece is mapped to tells whether its addresses have places
-pub piece_reaches : (a n k t : ℕ) (has : Bool) (table : Table) (access : Permissions) (l : List Region) → k ≤ n → t + k < 2 ^ 64 → t ≡ target_of (table a) → run_len table a k ≡ k →
+pub piece_reaches : (a n k t : ℕ) (has : Bool) (table : Table) (access : Permissions) (l : List Region) → k ≤ n → t + k < 2 ^ 64 →
+    t ≡ target_of (table a) → run_len table a k ≡ k →
     may_all table access a k ≡ true → has ≡ reach (places_in (untranslated l)) access t k →
-    list_all (λ x. is_some (translated l table 0 access x)) (addresses a n) ≡ (has && list_all (λ x. is_some (translated l table 0 access x)) (addresses (a + k) (n - k)))
+    list_all (λ x. is_some (translated l table 0 access x)) (addresses a n)
+    ≡ (has && list_all (λ x. is_some (translated l table 0 access x)) (addresses (a + k) (n - k)))
 piece_reaches a n k t has table access l within fits at whole all is =
     let here = is ∙ reach-each (places_in (untranslated l)) access t k fits ∙ sym (run_same k a t table access l at whole all) in
-    cut a n k (translated l table 0 access) within ∙ ap (λ (b : Bool). b && list_all (λ x. is_some (translated l table 0 access x)) (addresses (a + k) (n - k))) (sym here)
+    cut a n k (translated l table 0 access) within
+    ∙ ap (λ (b : Bool). b && list_all (λ x. is_some (translated l table 0 access x)) (addresses (a + k) (n - k))) (sym here)
 
 -- an address without a mapping that lets the access through stands in the way
 pub stops : (a n : ℕ) (table : Table) (access : Permissions) (l : List Region) → 0 < n → may_pass access (table a) ≡ false →

@@ -12,7 +12,8 @@ use Rattle.fs_regions.specs.Laws.{OffersAreTheMemorys}
 use Rattle.fs_regions.specs.Places.{memory_over, places_in}
 use Rattle.fs_regions.specs.Walks.{IsLost}
 
-load_is : (m : Memory) (a : ℕ) (came : Option (List ℕ)) → (came ≡ None → reach m Read a 2 ≡ false) → ((bs : List ℕ) → came ≡ Some bs → IsLoadOf m 2 (record { address = a; came = came })) →
+load_is : (m : Memory) (a : ℕ) (came : Option (List ℕ)) → (came ≡ None → reach m Read a 2 ≡ false) →
+    ((bs : List ℕ) → came ≡ Some bs → IsLoadOf m 2 (record { address = a; came = came })) →
     IsLoadOf m 2 (record { address = a; came = came })
 load_is m a None lacks has = rw (lacks refl) refl
 load_is m a (Some bs) lacks has = has bs refl

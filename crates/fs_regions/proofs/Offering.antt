@@ -16,24 +16,28 @@ use Rattle.fs_queue.specs.Taking.{Offer, Refuses, offer_of, return_fault}
 use Rattle.fs_regions.specs.Walks.{Loaded, RingIsAsked, IsLost, HeadWaits, Waits, FindsBy, OffersBy}
 
 -- by what waits
-on_next : (m : Memory) (limit : ℕ) (q : Queue) (index entry : Option (List ℕ)) (ls : List Load) (request : List ℕ) (next : avail.NextAvail) → q.stopped ≡ false → waits_by q index entry ≡ Some next →
+on_next : (m : Memory) (limit : ℕ) (q : Queue) (index entry : Option (List ℕ)) (ls : List Load) (request : List ℕ)
+    (next : avail.NextAvail) → q.stopped ≡ false → waits_by q index entry ≡ Some next →
     offer_by m limit q index entry ls request ≡ on_waits m limit q ls request next
 on_next m limit q index entry ls request next runs waits = rw (runs, waits) refl
 
-return_has : (b c : Bool) → (if not b then Some UsedUnreachable else if not c then Some AvailFlagsUnreachable else None) ≡ None → (b ≡ true) × (c ≡ true)
+return_has : (b c : Bool) → (if not b then Some UsedUnreachable else if not c then Some AvailFlagsUnreachable else None) ≡ None →
+    (b ≡ true) × (c ≡ true)
 return_has true true e = (refl, refl)
 return_has true false e = absurd (cc)
 return_has false c e = absurd (cc)
 
 -- by what a walk from a head finds
-pub on_found : (m : Memory) (limit : ℕ) (q : Queue) (loaded : Loaded) (head : ℕ) (found : Found) (request : List ℕ) (o : Offer) → q.stopped ≡ false → Waits m q loaded head →
+pub on_found : (m : Memory) (limit : ℕ) (q : Queue) (loaded : Loaded) (head : ℕ) (found : Found) (request : List ℕ) (o : Offer) →
+    q.stopped ≡ false → Waits m q loaded head →
     with_loaded request (offer_of m limit head found) ≡ Some o → FindsBy m q loaded head found → OffersBy m limit q loaded request o
 on_found m limit q loaded head found request o runs waits with_request finds =
     let has = return_has (reach m Write (element_at q) 8 && reach m Write (index_at q) 2) (reach m Read q.avail 2) waits.returns in
     let by_head = on_next m limit q loaded.index loaded.entry (loaded.entries ++ finds.0) request (avail.Head head) runs waits.by_loads in
     (waits.asked, finds.0, finds.1, by_head ∙ (rw (has.0, has.1, finds.2) with_request))
 
-pub on_refused : (m : Memory) (limit : ℕ) (q : Queue) (loaded : Loaded) (e : QueueError) → q.stopped ≡ false → loaded.entries ≡ [] → RingIsAsked m q loaded →
+pub on_refused : (m : Memory) (limit : ℕ) (q : Queue) (loaded : Loaded) (e : QueueError) → q.stopped ≡ false → loaded.entries ≡ [] →
+    RingIsAsked m q loaded →
     waits_by q loaded.index loaded.entry ≡ Some (avail.Refused e) → OffersBy m limit q loaded [] (Refuses e)
 on_refused m limit q loaded e runs none asked waits = (
   asked,
@@ -44,13 +48,15 @@ on_refused m limit q loaded e runs none asked waits = (
 )
 
 -- where a chain can't go back
-lacks : (a b : Bool) (e : QueueError) (x : Option Offer) → (if not a then Some UsedUnreachable else if not b then Some AvailFlagsUnreachable else None) ≡ Some e →
+lacks : (a b : Bool) (e : QueueError) (x : Option Offer) →
+    (if not a then Some UsedUnreachable else if not b then Some AvailFlagsUnreachable else None) ≡ Some e →
     (if not a then Some (Refuses UsedUnreachable) else if not b then Some (Refuses AvailFlagsUnreachable) else x) ≡ Some (Refuses e)
 lacks false b e x is = let same : UsedUnreachable ≡ e = cc in ap (λ (y : QueueError). Some (Refuses y)) same
 lacks true false e x is = let same : AvailFlagsUnreachable ≡ e = cc in ap (λ (y : QueueError). Some (Refuses y)) same
 lacks true true e x is = absurd (cc)
 
-pub on_lacking : (m : Memory) (limit : ℕ) (q : Queue) (loaded : Loaded) (head : ℕ) (progress : Progress) (e : QueueError) → q.stopped ≡ false →
+pub on_lacking :
+    (m : Memory) (limit : ℕ) (q : Queue) (loaded : Loaded) (head : ℕ) (progress : Progress) (e : QueueError) → q.stopped ≡ false →
     HeadWaits m q loaded head progress → return_fault m q ≡ Some e →
     OffersBy m limit q loaded [] (Refuses e)
 on_lacking m limit q loaded head progress e runs waits fault = (

@@ -20,10 +20,12 @@ use Rattle.fs_queue.specs.NextAvail.{NextAvail, Idle, Head, Refused}
 use Rattle.fs_queue.specs.Chain.{Descriptor, Visit, WalkStep, after_walk_step, entry_address, first_visit}
 use Rattle.fs_queue.specs.Loads.{Load, Reads, Ends, asks_entry, is_whole, found_exactly, ahead_at, ahead_after}
 use Rattle.fs_queue.specs.OfferLoads.{waits_by}
-use Rattle.fs_queue.specs.RingingView.{Stage, AsksIndex, AsksEntry, Told, by_index, by_entry, stage_of, stage_at, BeginsAt, BeginsChain, IfRingEntry}
+use Rattle.fs_queue.specs.RingingView.{Stage, AsksIndex, AsksEntry, Told, by_index, by_entry, stage_of, stage_at, BeginsAt, BeginsChain}
+use Rattle.fs_queue.specs.RingingView.{IfRingEntry}
 use Rattle.fs_queue.specs.WalkingView.{at_position, found_of}
 use Rattle.fs_queue.proofs.LoadLemmas.{step_at, step_lost, reach_none}
-use Rattle.fs_regions.specs.Walks.{Loaded, nothing, standing_before, Brings, BeginsAtHead, BeginsIfChain, TellsBy, StandsAfterIndex, HeadWaits, Waits, IsLost, FindsBy}
+use Rattle.fs_regions.specs.Walks.{Loaded, nothing, standing_before, Brings, BeginsAtHead, BeginsIfChain, TellsBy, StandsAfterIndex}
+use Rattle.fs_regions.specs.Walks.{HeadWaits, Waits, IsLost, FindsBy}
 use Rattle.fs_regions.proofs.Finding.{brings_end, before}
 
 -- ---- an entry without a place
@@ -42,26 +44,31 @@ unfolding found_exactly
 by_step size v true is = rw is refl
 by_step size v false is = rw is refl
 
-lost_found : (size : ℕ) (v : Visit) → v.index < v.table.entries → found_exactly size (lost_at v ∷ []) (Reads v) ≡ Some (found_of (lost_walked v.table.indirect) [])
+lost_found : (size : ℕ) (v : Visit) → v.index < v.table.entries →
+    found_exactly size (lost_at v ∷ []) (Reads v) ≡ Some (found_of (lost_walked v.table.indirect) [])
 unfolding found_exactly
 lost_found size v inside =
     rw (eq-eqb (entry_address v) (entry_address v) refl) (
     ap (λ (w : WalkStep). option_map (after_walk_step w) (found_exactly size [] (ahead_after size v w))) (step_lost size v inside)
     ∙ by_step size v v.table.indirect refl)
 
-pub loses : (m : Memory) (q : Queue) (loaded : Loaded) (head : ℕ) (ds : List Descriptor) (v : Visit) (w : walked.WalkEnd) → v.index < v.table.entries → reach m Read (entry_address v) 16 ≡ false →
-    w ≡ lost_walked v.table.indirect → Brings q.size loaded.entries (ahead_at q.size (first_visit q head)) ds (Reads v) → FindsBy m q loaded head (found_of w ds)
+pub loses : (m : Memory) (q : Queue) (loaded : Loaded) (head : ℕ) (ds : List Descriptor) (v : Visit) (w : walked.WalkEnd) →
+    v.index < v.table.entries → reach m Read (entry_address v) 16 ≡ false →
+    w ≡ lost_walked v.table.indirect → Brings q.size loaded.entries (ahead_at q.size (first_visit q head)) ds (Reads v) →
+    FindsBy m q loaded head (found_of w ds)
 loses m q loaded head ds v w inside away is brings = (
   lost_at v ∷ [],
   All-cons (IsLost m) (lost_at v) [] (refl, away) (All-nil (IsLost m)),
-  brings (lost_at v ∷ []) ∙ ap (option_map (standing_before ds)) (lost_found q.size v inside ∙ ap (λ (x : walked.WalkEnd). Some (found_of x [])) (sym is)) ∙ ap Some (before w ds),
+  brings (lost_at v ∷ []) ∙ ap (option_map (standing_before ds))
+      (lost_found q.size v inside ∙ ap (λ (x : walked.WalkEnd). Some (found_of x [])) (sym is)) ∙ ap Some (before w ds),
 )
 
 -- a walk that has ended
 pub ends : (m : Memory) (q : Queue) (loaded : Loaded) (head : ℕ) (ds : List Descriptor) (w : walked.WalkEnd) →
     Brings q.size loaded.entries (ahead_at q.size (first_visit q head)) ds (Ends (found_of w [])) →
     FindsBy m q loaded head (found_of w ds)
-ends m q loaded head ds w brings = ([], All-nil (IsLost m), brings_end q.size loaded.entries (ahead_at q.size (first_visit q head)) ds w brings)
+ends m q loaded head ds w brings =
+    ([], All-nil (IsLost m), brings_end q.size loaded.entries (ahead_at q.size (first_visit q head)) ds w brings)
 
 -- ---- the ring
 
@@ -70,7 +77,8 @@ pub index_lost : (q : Queue) → by_index q None ≡ Refused AvailIndexUnreachab
 index_lost q = rw (reach_none (avail_index_at q) 1) refl
 
 -- where the index asks for the entry, it was loaded
-pub index_came : (q : Queue) (index : Option (List ℕ)) → is_whole 2 index ≡ true → asks_entry (by_index q index) ≡ true → (bs : List ℕ) × (index ≡ Some bs) × (length bs ≡ 2)
+pub index_came : (q : Queue) (index : Option (List ℕ)) → is_whole 2 index ≡ true → asks_entry (by_index q index) ≡ true →
+    (bs : List ℕ) × (index ≡ Some bs) × (length bs ≡ 2)
 index_came q None whole asks = absurd (not_asked (sym (ap asks_entry (index_lost q)) ∙ asks))
   where
     not_asked : false ≡ true → ⊥
@@ -94,7 +102,8 @@ asks false next e = absurd (cc)
 pub entry_asked : (next : NextAvail) → AsksEntry ≡ stage_at next → asks_entry next ≡ true
 entry_asked next e = asks (asks_entry next) next e
 
-told_or_asks : (b : Bool) (next : NextAvail) (s : Stage) → (s ≡ AsksEntry → ⊥) → s ≡ (if b then AsksEntry else Told next) → (s ≡ Told next) × (b ≡ false)
+told_or_asks : (b : Bool) (next : NextAvail) (s : Stage) → (s ≡ AsksEntry → ⊥) → s ≡ (if b then AsksEntry else Told next) →
+    (s ≡ Told next) × (b ≡ false)
 told_or_asks true next s not_entry e = absurd (not_entry e)
 told_or_asks false next s not_entry e = (e, refl)
 
@@ -105,10 +114,12 @@ not_entry_of (says.Chain head progress) other e = cc
 not_entry_of says.Idle other e = cc
 not_entry_of (says.Refused r) other e = cc
 
-by_alone : (q : Queue) (index : Option (List ℕ)) → is_whole 2 index ≡ true → asks_entry (by_index q index) ≡ false → waits_by q index None ≡ Some (by_index q index)
+by_alone : (q : Queue) (index : Option (List ℕ)) → is_whole 2 index ≡ true → asks_entry (by_index q index) ≡ false →
+    waits_by q index None ≡ Some (by_index q index)
 by_alone q index whole alone = rw (whole, alone) refl
 
-by_both : (q : Queue) (index entry : Option (List ℕ)) → is_whole 2 index ≡ true → asks_entry (by_index q index) ≡ true → is_whole 2 entry ≡ true →
+by_both :
+    (q : Queue) (index entry : Option (List ℕ)) → is_whole 2 index ≡ true → asks_entry (by_index q index) ≡ true → is_whole 2 entry ≡ true →
     waits_by q index entry ≡ Some (by_entry q index entry)
 by_both q index entry whole asks_it whole_entry = rw (whole, asks_it, whole_entry) refl
 
@@ -116,7 +127,8 @@ no_more : {A : Type 0} (b : Bool) → b ≡ false → b ≡ true → A
 no_more b is is_not = absurd (cc)
 
 -- the index told what waits
-pub tells_alone : (m : Memory) (q : Queue) (index : Option (List ℕ)) (w : code.Walk) → StandsAfterIndex m q index w → ((x : RingEntryWalk) → w ≡ says.RingEntry x → ⊥) →
+pub tells_alone : (m : Memory) (q : Queue) (index : Option (List ℕ)) (w : code.Walk) → StandsAfterIndex m q index w →
+    ((x : RingEntryWalk) → w ≡ says.RingEntry x → ⊥) →
     TellsBy m q (record nothing { index = index }) w
 tells_alone m q index w stands other =
     let told = told_or_asks (asks_entry (by_index q index)) (by_index q index) (stage_of w) (not_entry_of w other) stands.stage in
@@ -130,8 +142,10 @@ tells_alone m q index w stands other =
     }
 
 -- so did both loads, of which the entry was made or has no place
-pub tells_both : (m : Memory) (q : Queue) (index entry : Option (List ℕ)) (w : code.Walk) → is_whole 2 index ≡ true → asks_entry (by_index q index) ≡ true → is_whole 2 entry ≡ true →
-    (index ≡ None → reach m Read (avail_index_at q) 2 ≡ false) → (entry ≡ None → reach m Read (ring_entry_at q) 2 ≡ false) → BeginsIfChain q w → stage_of w ≡ Told (by_entry q index entry) →
+pub tells_both : (m : Memory) (q : Queue) (index entry : Option (List ℕ)) (w : code.Walk) → is_whole 2 index ≡ true →
+    asks_entry (by_index q index) ≡ true → is_whole 2 entry ≡ true →
+    (index ≡ None → reach m Read (avail_index_at q) 2 ≡ false) → (entry ≡ None → reach m Read (ring_entry_at q) 2 ≡ false) →
+    BeginsIfChain q w → stage_of w ≡ Told (by_entry q index entry) →
     TellsBy m q (record { index = index; entry = entry; entries = [] }) w
 tells_both m q index entry w whole asks_it whole_entry no_index no_entry begins told = record {
   next = by_entry q index entry;
@@ -144,18 +158,21 @@ tells_both m q index entry w whole asks_it whole_entry no_index no_entry begins 
 
 -- ---- of a queue's numbers alone
 
-pub begins_of : (l : QueueLayout) (position : ℕ) (q : Queue) (w : code.Walk) → at_position l position ≡ q → BeginsChain l w → BeginsIfChain q w
+pub begins_of :
+    (l : QueueLayout) (position : ℕ) (q : Queue) (w : code.Walk) → at_position l position ≡ q → BeginsChain l w → BeginsIfChain q w
 begins_of l position q (says.Index x) is begins = tt
 begins_of l position q (says.RingEntry x) is begins = tt
 begins_of l position q (says.Chain head progress) is begins = subst (λ (x : Queue). BeginsAtHead x head progress) is begins
 begins_of l position q says.Idle is begins = tt
 begins_of l position q (says.Refused e) is begins = tt
 
-pub index_begins : (l : QueueLayout) (position : ℕ) (x : IndexWalk) → BeginsAt l position (says.Index x) → at_position x.layout x.position ≡ at_position l position
+pub index_begins : (l : QueueLayout) (position : ℕ) (x : IndexWalk) → BeginsAt l position (says.Index x) →
+    at_position x.layout x.position ≡ at_position l position
 index_begins l position x begins = rw (begins.0, begins.1) refl
 
 -- a head waits, and nothing of its chain was loaded
-pub head_waits : (m : Memory) (q : Queue) (loaded : Loaded) (head : ℕ) (progress : Progress) → TellsBy m q loaded (says.Chain head progress) → HeadWaits m q loaded head progress
+pub head_waits : (m : Memory) (q : Queue) (loaded : Loaded) (head : ℕ) (progress : Progress) →
+    TellsBy m q loaded (says.Chain head progress) → HeadWaits m q loaded head progress
 head_waits m q loaded head progress tells = record {
   by_loads = tells.by_loads ∙ ap Some (sym (untold (Head head) tells.next tells.tells));
   no_entries = tells.no_entries;
@@ -164,18 +181,24 @@ head_waits m q loaded head progress tells = record {
 }
 
 -- what both loads tell, by what the code answers
-pub entry_told : (p q : Queue) (index entry : Option (List ℕ)) (bs : List ℕ) (w : code.Walk) → p ≡ q → index ≡ Some bs → length bs ≡ 2 → asks_entry (by_index q index) ≡ true →
-    ((i : List ℕ) → length i ≡ 2 → asks_entry (by_index p (Some i)) ≡ true → stage_of w ≡ Told (by_entry p (Some i) entry)) → stage_of w ≡ Told (by_entry q index entry)
+pub entry_told : (p q : Queue) (index entry : Option (List ℕ)) (bs : List ℕ) (w : code.Walk) → p ≡ q → index ≡ Some bs → length bs ≡ 2 →
+    asks_entry (by_index q index) ≡ true →
+    ((i : List ℕ) → length i ≡ 2 → asks_entry (by_index p (Some i)) ≡ true → stage_of w ≡ Told (by_entry p (Some i) entry)) →
+    stage_of w ≡ Told (by_entry q index entry)
 entry_told p q index entry bs w same is long asks_it tells =
     let here : (i : List ℕ) → length i ≡ 2 → asks_entry (by_index q (Some i)) ≡ true → stage_of w ≡ Told (by_entry q (Some i) entry) =
-    subst (λ (x : Queue). (i : List ℕ) → length i ≡ 2 → asks_entry (by_index x (Some i)) ≡ true → stage_of w ≡ Told (by_entry x (Some i) entry)) same tells in
-    here bs long (ap (λ (o : Option (List ℕ)). asks_entry (by_index q o)) (sym is) ∙ asks_it) ∙ ap (λ (o : Option (List ℕ)). Told (by_entry q o entry)) (sym is)
+    subst (λ (x : Queue). (i : List ℕ) → length i ≡ 2 → asks_entry (by_index x (Some i)) ≡ true →
+    stage_of w ≡ Told (by_entry x (Some i) entry)) same tells in
+    here bs long (ap (λ (o : Option (List ℕ)). asks_entry (by_index q o)) (sym is) ∙ asks_it)
+    ∙ ap (λ (o : Option (List ℕ)). Told (by_entry q o entry)) (sym is)
 
 -- a chain goes on to wait, whatever entries were loaded
-pub waits_on : (m : Memory) (q : Queue) (loaded : Loaded) (entries : List Load) (head : ℕ) → Waits m q loaded head → Waits m q (record loaded { entries = entries }) head
+pub waits_on : (m : Memory) (q : Queue) (loaded : Loaded) (entries : List Load) (head : ℕ) → Waits m q loaded head →
+    Waits m q (record loaded { entries = entries }) head
 waits_on m q loaded entries head waits = record { by_loads = waits.by_loads; asked = waits.asked; returns = waits.returns }
 
-ring_same : (l : QueueLayout) (position : ℕ) (q : Queue) (w : code.Walk) → at_position l position ≡ q → IfRingEntry w (λ x. (x.layout ≡ l) × (x.position ≡ position)) →
+ring_same : (l : QueueLayout) (position : ℕ) (q : Queue) (w : code.Walk) → at_position l position ≡ q →
+    IfRingEntry w (λ x. (x.layout ≡ l) × (x.position ≡ position)) →
     IfRingEntry w (λ x. at_position x.layout x.position ≡ q)
 ring_same l position q (says.Index x) is same = tt
 ring_same l position q (says.RingEntry x) is same = rw (same.0, same.1) is
@@ -184,7 +207,8 @@ ring_same l position q says.Idle is same = tt
 ring_same l position q (says.Refused e) is same = tt
 
 -- what comes of the index, by what the code answers
-pub after_index : (m : Memory) (q : Queue) (l : QueueLayout) (position : ℕ) (index : Option (List ℕ)) (w : code.Walk) → at_position l position ≡ q → is_whole 2 index ≡ true →
+pub after_index : (m : Memory) (q : Queue) (l : QueueLayout) (position : ℕ) (index : Option (List ℕ)) (w : code.Walk) →
+    at_position l position ≡ q → is_whole 2 index ≡ true →
     (index ≡ None → reach m Read (avail_index_at q) 2 ≡ false) → stage_of w ≡ stage_at (by_index (at_position l position) index) →
     IfRingEntry w (λ x. (x.layout ≡ l) × (x.position ≡ position)) → BeginsChain l w →
     StandsAfterIndex m q index w

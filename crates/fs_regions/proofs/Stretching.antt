@@ -35,34 +35,43 @@ use Rattle.fs_regions.proofs.Steps.{waits_on}
 -- ---- a window's bytes can be read
 
 -- the first of some addresses that have places
-front_has : (l : Mapped) (a n len : ℕ) (w : Window) → n ≤ len → located (location (places_in l) Read) (addresses a len) ≡ Some (places_of w) → list_all (λ x. is_some (location (places_in l) Read x)) (addresses a n) ≡ true
+front_has : (l : Mapped) (a n len : ℕ) (w : Window) → n ≤ len → located (location (places_in l) Read) (addresses a len)
+    ≡ Some (places_of w) → list_all (λ x. is_some (location (places_in l) Read x)) (addresses a n) ≡ true
 front_has l a n len w within found =
     let split : n + (len - n) ≡ len = omega (arith, within) in
     let all : list_all (λ x. is_some (location (places_in l) Read x)) (addresses a (n + (len - n))) ≡ true =
-    ap (λ k. list_all (λ x. is_some (location (places_in l) Read x)) (addresses a k)) split ∙ all_located (addresses a len) (location (places_in l) Read) ∙ ap is_some found in
-    (and_parts (list_all (λ x. is_some (location (places_in l) Read x)) (addresses a n)) (list_all (λ x. is_some (location (places_in l) Read x)) (addresses (a + n) (len - n)))
-    (list_all-append (addresses a n) (addresses (a + n) (len - n)) (location (places_in l) Read) ∙ ap (list_all (λ x. is_some (location (places_in l) Read x))) (sym (addresses-append n (len - n) a)) ∙ all)).0
+    ap (λ k. list_all (λ x. is_some (location (places_in l) Read x)) (addresses a k)) split
+    ∙ all_located (addresses a len) (location (places_in l) Read) ∙ ap is_some found in
+    (and_parts (list_all (λ x. is_some (location (places_in l) Read x)) (addresses a n))
+    (list_all (λ x. is_some (location (places_in l) Read x)) (addresses (a + n) (len - n)))
+    (list_all-append (addresses a n) (addresses (a + n) (len - n)) (location (places_in l) Read)
+    ∙ ap (list_all (λ x. is_some (location (places_in l) Read x))) (sym (addresses-append n (len - n) a)) ∙ all)).0
 
-pub window_reaches : (l : Mapped) (a n most : ℕ) (w : Window) → a + n < 2 ^ 64 → n ≤ w.len → IsWindowAt (location (places_in l) Read) a most w → reach (places_in l) Read a n ≡ true
+pub window_reaches : (l : Mapped) (a n most : ℕ) (w : Window) → a + n < 2 ^ 64 → n ≤ w.len →
+    IsWindowAt (location (places_in l) Read) a most w → reach (places_in l) Read a n ≡ true
 window_reaches l a n most w fits within window = reach-each (places_in l) Read a n fits ∙ front_has l a n w.len w within window.3
 
 one_or_within : (len n k : ℕ) → n ≡ max (len / 16) 1 → len / 16 ≡ k → (n ≡ 1) ⊎ (16 * n ≤ len)
 one_or_within len n zero is none = inl (omega (arith, is, none))
 one_or_within len n (suc k) is some = inr (omega (arith, is, some))
 
-whole_there : (l : Mapped) (a n most : ℕ) (w : Window) → a + 16 * n < 2 ^ 64 → (n ≡ 1) ⊎ (16 * n ≤ w.len) → IsWindowAt (location (places_in l) Read) a most w → reach (places_in l) Read a 16 ≡ true →
+whole_there : (l : Mapped) (a n most : ℕ) (w : Window) → a + 16 * n < 2 ^ 64 → (n ≡ 1) ⊎ (16 * n ≤ w.len) →
+    IsWindowAt (location (places_in l) Read) a most w → reach (places_in l) Read a 16 ≡ true →
     reach (places_in l) Read a (16 * n) ≡ true
 whole_there l a n most w fits (inl one) window there = rw one there
 whole_there l a n most w fits (inr within) window there = window_reaches l a (16 * n) most w fits within window
 
 -- as many entries as a window has whole, or one
-pub entries_there : (l : Mapped) (walk : ChainWalk) (a most n : ℕ) (w : Window) → a ≡ entry_address (visit_of walk) → n ≡ max (w.len / 16) 1 → 0 < most → walk.index + most ≤ walk.table.entries →
-    IsWindowAt (location (places_in l) Read) a (16 * most) w → reach (places_in l) Read (entry_address (visit_of walk)) 16 ≡ true → reach (places_in l) Read (entry_address (visit_of walk)) (16 * n) ≡ true
+pub entries_there : (l : Mapped) (walk : ChainWalk) (a most n : ℕ) (w : Window) → a ≡ entry_address (visit_of walk) →
+    n ≡ max (w.len / 16) 1 → 0 < most → walk.index + most ≤ walk.table.entries →
+    IsWindowAt (location (places_in l) Read) a (16 * most) w → reach (places_in l) Read (entry_address (visit_of walk)) 16 ≡ true →
+    reach (places_in l) Read (entry_address (visit_of walk)) (16 * n) ≡ true
 entries_there l walk a most n w at is some inside window =
     let ends = walk.ends in
     let less = window.1 in
     let fits : entry_address (visit_of walk) + 16 * n < 2 ^ 64 = omega (arith, is, ends, inside, some, less) in
-    whole_there l (entry_address (visit_of walk)) n (16 * most) w fits (one_or_within w.len n (w.len / 16) is refl) (subst (λ x. IsWindowAt (location (places_in l) Read) x (16 * most) w) at window)
+    whole_there l (entry_address (visit_of walk)) n (16 * most) w fits (one_or_within w.len n (w.len / 16) is refl)
+    (subst (λ x. IsWindowAt (location (places_in l) Read) x (16 * most) w) at window)
 
 -- the load of an entry that stands somewhere in a stretch
 abbrev pub read_at : ChainWalk → (bs : List ℕ) → (offset : ℕ) → Load
@@ -75,21 +84,27 @@ entry_len bs offset inside =
     let left = length-drop offset bs in
     length-take-le 16 (drop offset bs) (omega (arith, inside, left))
 
-pub room_left : (old new : SmallVec Descriptor) (d : Descriptor) (more : ℕ) → new.items ≡ old.items ++ d ∷ [] → new.capacity ≡ old.capacity → HasRoomFor old (1 + more) → HasRoomFor new more
+pub room_left : (old new : SmallVec Descriptor) (d : Descriptor) (more : ℕ) → new.items ≡ old.items ++ d ∷ [] →
+    new.capacity ≡ old.capacity → HasRoomFor old (1 + more) → HasRoomFor new more
 room_left old new d more items capacity had =
     let len = ap length items ∙ length-append old.items (d ∷ []) in
     omega (arith, had, capacity, len)
 
 -- what joins the chain by an entry that stands in a stretch
-pub entry_read : (walk : ChainWalk) (bs : List ℕ) (offset : ℕ) (entry : List ℕ) (joins : Option Descriptor) (after : code.Progress) (old new : List Descriptor) →
-    offset + 16 ≤ length bs → entry ≡ take 16 (drop offset bs) → joins ≡ joining (step_by walk.size (visit_of walk) (load_of walk (Some entry))) →
-    ahead_of after ≡ ahead_after walk.size (visit_of walk) (step_by walk.size (visit_of walk) (load_of walk (Some entry))) → new ≡ with_joining old joins →
-    (ls : List Load) (start : Ahead) → Brings walk.size ls start old (Reads (visit_of walk)) → Brings walk.size (ls ++ read_at walk bs offset ∷ []) start new (ahead_of after)
+pub entry_read : (walk : ChainWalk) (bs : List ℕ) (offset : ℕ) (entry : List ℕ) (joins : Option Descriptor) (after : code.Progress)
+    (old new : List Descriptor) →
+    offset + 16 ≤ length bs → entry ≡ take 16 (drop offset bs) →
+    joins ≡ joining (step_by walk.size (visit_of walk) (load_of walk (Some entry))) →
+    ahead_of after ≡ ahead_after walk.size (visit_of walk) (step_by walk.size (visit_of walk) (load_of walk (Some entry))) →
+    new ≡ with_joining old joins →
+    (ls : List Load) (start : Ahead) → Brings walk.size ls start old (Reads (visit_of walk)) →
+    Brings walk.size (ls ++ read_at walk bs offset ∷ []) start new (ahead_of after)
 entry_read walk bs offset entry joins after old new inside is joins_is after_is joined ls start so_far =
     let load : Load = load_of walk (Some entry) in
     let long : length entry ≡ 16 = ap length is ∙ entry_len bs offset inside in
     let brings : Brings walk.size (ls ++ load ∷ []) start (with_joining old joins) (ahead_of after) =
-    brings_on walk.size ls start old (visit_of walk) load joins (ahead_of after) refl (eq-eqb (length entry) 16 long) joins_is after_is so_far in
+    brings_on walk.size ls start old (visit_of walk) load joins (ahead_of after) refl (eq-eqb (length entry) 16 long) joins_is
+    after_is so_far in
     let P : List ℕ → Type 0 = λ e. Brings walk.size (ls ++ load_of walk (Some e) ∷ []) start new (ahead_of after) in
     subst P is (subst (λ (ds : List Descriptor). Brings walk.size (ls ++ load ∷ []) start ds (ahead_of after)) (sym joined) brings)
 
@@ -106,7 +121,8 @@ lost : (l : Mapped) (a : ℕ) → location (places_in l) Read a ≡ None → rea
 unfolding addresses
 lost l a none there =
     let parts = and_parts (nat_lt (a + 16) (2 ^ 64)) (list_all (λ x. is_some (location (places_in l) Read x)) (addresses a 16)) there in
-    let first : is_some (location (places_in l) Read a) ≡ true = (and_parts (is_some (location (places_in l) Read a)) (list_all (λ x. is_some (location (places_in l) Read x)) (addresses (a + 1) 15)) parts.1).0 in
+    let first : is_some (location (places_in l) Read a) ≡ true = (and_parts (is_some (location (places_in l) Read a))
+    (list_all (λ x. is_some (location (places_in l) Read x)) (addresses (a + 1) 15)) parts.1).0 in
     not_some (sym (ap is_some none) ∙ first)
   where
     not_some : false ≡ true → ⊥
@@ -114,9 +130,11 @@ lost l a none there =
 
 -- as many as a window has whole
 pub most_whole : (n most left len k : ℕ) → k ≡ max (len / 16) 1 → len ≡ min (16 * most) left → n ≤ most → (1 < n → 16 * n ≤ left) → n ≤ k
-most_whole n most left len k is long few within = fits n k (omega (arith, is)) (λ one. let short = within one in omega (arith, is, long, few, short))
+most_whole n most left len k is long few within =
+    fits n k (omega (arith, is)) (λ one. let short = within one in omega (arith, is, long, few, short))
 
-pub none_whole : {A : Type 0} (l : Mapped) (walk : ChainWalk) (a : ℕ) → a ≡ entry_address (visit_of walk) → location (places_in l) Read a ≡ None → reach (places_in l) Read (entry_address (visit_of walk)) 16 ≡ true → A
+pub none_whole : {A : Type 0} (l : Mapped) (walk : ChainWalk) (a : ℕ) → a ≡ entry_address (visit_of walk) →
+    location (places_in l) Read a ≡ None → reach (places_in l) Read (entry_address (visit_of walk)) 16 ≡ true → A
 none_whole l walk a at none there = absurd (lost l (entry_address (visit_of walk)) (ap (location (places_in l) Read) (sym at) ∙ none) there)
 
 -- ---- entries that were read out
@@ -127,29 +145,36 @@ pub record Reading (walk : ChainWalk) (bs : List ℕ) (old now : List Descriptor
   pub some : (l : Load) × (rest : List Load) × (reads ≡ l ∷ rest) × (l.address ≡ entry_address (visit_of walk))
   pub each : All (IsReadOut (entry_address (visit_of walk)) bs) reads
   pub count : 16 * (length reads + left) ≡ length bs
-  pub brings : (ls : List Load) (start : Ahead) → Brings walk.size ls start old (Reads (visit_of walk)) → Brings walk.size (ls ++ reads) start now (ahead_of after)
+  pub brings : (ls : List Load) (start : Ahead) → Brings walk.size ls start old (Reads (visit_of walk)) →
+      Brings walk.size (ls ++ reads) start now (ahead_of after)
   pub size : IfWants after (λ w. w.size ≡ walk.size)
 
 -- the first entry
-pub reading_begins : (walk : ChainWalk) (bs : List ℕ) (old now : List Descriptor) (entries left : ℕ) (after : code.Progress) → length bs ≡ 16 * entries → 1 + left ≡ entries →
-    ((ls : List Load) (start : Ahead) → Brings walk.size ls start old (Reads (visit_of walk)) → Brings walk.size (ls ++ read_at walk bs 0 ∷ []) start now (ahead_of after)) →
+pub reading_begins : (walk : ChainWalk) (bs : List ℕ) (old now : List Descriptor) (entries left : ℕ) (after : code.Progress) →
+    length bs ≡ 16 * entries → 1 + left ≡ entries →
+    ((ls : List Load) (start : Ahead) → Brings walk.size ls start old (Reads (visit_of walk)) →
+    Brings walk.size (ls ++ read_at walk bs 0 ∷ []) start now (ahead_of after)) →
     IfWants after (λ w. w.size ≡ walk.size) → Reading walk bs old now left after
 reading_begins walk bs old now entries left after long one brings size = record {
   reads = read_at walk bs 0 ∷ [];
   some = (read_at walk bs 0, [], refl, refl);
-  each = All-cons (IsReadOut (entry_address (visit_of walk)) bs) (read_at walk bs 0) [] (0, omega arith, omega (arith, long, one), refl) (All-nil (IsReadOut (entry_address (visit_of walk)) bs));
+  each = All-cons (IsReadOut (entry_address (visit_of walk)) bs) (read_at walk bs 0) [] (0, omega arith, omega (arith, long, one), refl)
+      (All-nil (IsReadOut (entry_address (visit_of walk)) bs));
   count = ap (λ k. 16 * k) one ∙ sym long;
   brings = brings;
   size = size;
 }
 
-some_more : (a : ℕ) (ls : List Load) (m : Load) → (l : Load) × (rest : List Load) × (ls ≡ l ∷ rest) × (l.address ≡ a) → (l : Load) × (rest : List Load) × (ls ++ m ∷ [] ≡ l ∷ rest) × (l.address ≡ a)
+some_more : (a : ℕ) (ls : List Load) (m : Load) → (l : Load) × (rest : List Load) × (ls ≡ l ∷ rest) × (l.address ≡ a) →
+    (l : Load) × (rest : List Load) × (ls ++ m ∷ [] ≡ l ∷ rest) × (l.address ≡ a)
 some_more a ls m some = (some.0, some.1 ++ m ∷ [], ap (λ (x : List Load). x ++ m ∷ []) some.2, some.3)
 
 -- one entry more
-pub reading_on : (walk next : ChainWalk) (bs : List ℕ) (old now new : List Descriptor) (left fewer offset : ℕ) (after : code.Progress) → entry_address (visit_of next) ≡ entry_address (visit_of walk) + offset →
+pub reading_on : (walk next : ChainWalk) (bs : List ℕ) (old now new : List Descriptor) (left fewer offset : ℕ) (after : code.Progress) →
+    entry_address (visit_of next) ≡ entry_address (visit_of walk) + offset →
     offset + 16 ≤ length bs → left ≡ fewer + 1 → Reading walk bs old now left (says.Wants next) →
-    ((ls : List Load) (start : Ahead) → Brings next.size ls start now (Reads (visit_of next)) → Brings next.size (ls ++ read_at next bs offset ∷ []) start new (ahead_of after)) →
+    ((ls : List Load) (start : Ahead) → Brings next.size ls start now (Reads (visit_of next)) →
+    Brings next.size (ls ++ read_at next bs offset ∷ []) start new (ahead_of after)) →
     IfWants after (λ w. w.size ≡ next.size) → Reading walk bs old new fewer after
 reading_on walk next bs old now new left fewer offset after stands inside one so_far brings size =
     let l = read_at next bs offset in record {
@@ -160,9 +185,11 @@ reading_on walk next bs old now new left fewer offset after stands inside one so
           let more = length-append so_far.reads (l ∷ []) in let count = so_far.count in
           omega (arith, more, count, one);
       brings = λ ls start from.
-          let P : ℕ → Type 0 = λ n. Brings n (ls ++ so_far.reads) start now (Reads (visit_of next)) → Brings n ((ls ++ so_far.reads) ++ l ∷ []) start new (ahead_of after) in
+          let P : ℕ → Type 0 = λ n. Brings n (ls ++ so_far.reads) start now (Reads (visit_of next)) →
+          Brings n ((ls ++ so_far.reads) ++ l ∷ []) start new (ahead_of after) in
           let there = subst P so_far.size (brings (ls ++ so_far.reads) start) in
-          subst (λ (x : List Load). Brings walk.size x start new (ahead_of after)) (append_assoc ls so_far.reads (l ∷ [])) (there (so_far.brings ls start from));
+          subst (λ (x : List Load). Brings walk.size x start new (ahead_of after)) (append_assoc ls so_far.reads (l ∷ []))
+          (there (so_far.brings ls start from));
       size = same_size after size so_far.size;
     }
   where
@@ -170,7 +197,8 @@ reading_on walk next bs old now new left fewer offset after stands inside one so
     same_size (says.Wants w) a b = a ∙ b
     same_size (says.Ends walked) a b = tt
 
-read_out : (walk : ChainWalk) (bs : List ℕ) (old now : List Descriptor) (left : ℕ) (after : code.Progress) (r : Reading walk bs old now left after) → ReadOutOf (entry_address (visit_of walk)) bs r.reads
+read_out : (walk : ChainWalk) (bs : List ℕ) (old now : List Descriptor) (left : ℕ) (after : code.Progress)
+    (r : Reading walk bs old now left after) → ReadOutOf (entry_address (visit_of walk)) bs r.reads
 read_out walk bs old now left after r = record {
   first = r.some;
   each = r.each;
@@ -178,7 +206,8 @@ read_out walk bs old now left after r = record {
 }
 
 -- a walk that has ended
-pub reading_ends : (walk : ChainWalk) (bs : List ℕ) (old now : List Descriptor) (left : ℕ) (walked : walked.WalkEnd) → Reading walk bs old now left (says.Ends walked) → ReadsStretch walk bs old now (says.Ends walked)
+pub reading_ends : (walk : ChainWalk) (bs : List ℕ) (old now : List Descriptor) (left : ℕ) (walked : walked.WalkEnd) →
+    Reading walk bs old now left (says.Ends walked) → ReadsStretch walk bs old now (says.Ends walked)
 reading_ends walk bs old now left walked r = record {
   reads = r.reads;
   read_out = read_out walk bs old now left (says.Ends walked) r;
@@ -187,26 +216,31 @@ reading_ends walk bs old now left walked r = record {
   uses_up = tt;
 }
 
-used : (from n address len left count : ℕ) → 16 * (count + left) ≡ len → (is_in from n address ≡ false) ⊎ (left ≡ 0) → (is_in from n address ≡ false) ⊎ (16 * count ≡ len)
+used : (from n address len left count : ℕ) → 16 * (count + left) ≡ len → (is_in from n address ≡ false) ⊎ (left ≡ 0) →
+    (is_in from n address ≡ false) ⊎ (16 * count ≡ len)
 used from n address len left count total (inl away) = inl away
 used from n address len left count total (inr none) = inr (omega (arith, total, none))
 
 -- one that wants another entry
-pub reading_stops : (walk next : ChainWalk) (bs : List ℕ) (old now : List Descriptor) (left : ℕ) → (is_in (entry_address (visit_of walk)) (length bs) (entry_address (visit_of next)) ≡ false) ⊎ (left ≡ 0) →
+pub reading_stops : (walk next : ChainWalk) (bs : List ℕ) (old now : List Descriptor) (left : ℕ) →
+    (is_in (entry_address (visit_of walk)) (length bs) (entry_address (visit_of next)) ≡ false) ⊎ (left ≡ 0) →
     Reading walk bs old now left (says.Wants next) → ReadsStretch walk bs old now (says.Wants next)
 reading_stops walk next bs old now left stops r = record {
   reads = r.reads;
   read_out = read_out walk bs old now left (says.Wants next) r;
   brings = r.brings;
   size = r.size;
-  uses_up = used (entry_address (visit_of walk)) (length bs) (entry_address (visit_of next)) (length bs) left (length r.reads) r.count stops;
+  uses_up = used (entry_address (visit_of walk)) (length bs) (entry_address (visit_of next)) (length bs) left (length r.reads)
+      r.count stops;
 }
 
 -- ---- what the walk comes to by a stretch
 
-uses_up : (walk : ChainWalk) (bs : List ℕ) (old new : List Descriptor) (after : code.Progress) (r : ReadsStretch walk bs old new after) (came : comes.CourseStep) → AsksFor after came →
+uses_up : (walk : ChainWalk) (bs : List ℕ) (old new : List Descriptor) (after : code.Progress) (r : ReadsStretch walk bs old new after)
+    (came : comes.CourseStep) → AsksFor after came →
     UsesUp (entry_address (visit_of walk)) bs r.reads came
-uses_up walk bs old new (says.Wants w) r (step.Load next) asks = subst (λ a. (is_in (entry_address (visit_of walk)) (length bs) a ≡ false) ⊎ (16 * length r.reads ≡ length bs)) (sym asks) r.uses_up
+uses_up walk bs old new (says.Wants w) r (step.Load next) asks =
+    subst (λ a. (is_in (entry_address (visit_of walk)) (length bs) a ≡ false) ⊎ (16 * length r.reads ≡ length bs)) (sym asks) r.uses_up
 uses_up walk bs old new (says.Ends walked) r (step.Load next) asks = absurd asks
 uses_up walk bs old new after r step.Idle asks = tt
 uses_up walk bs old new after r (step.Refused e) asks = tt
@@ -217,21 +251,28 @@ same_size (says.Wants w) a b h e = h ∙ e
 same_size (says.Ends walked) a b h e = tt
 
 -- by where the walk stood, and by what it comes to where its last entry leads
-pub comes_by : (m : Memory) (limit : ℕ) (q : Queue) (loaded : Loaded) (stretch : EntriesWalk) (bs : List ℕ) (old new : List Descriptor) (after : code.Progress) (came : comes.CourseStep) →
+pub comes_by : (m : Memory) (limit : ℕ) (q : Queue) (loaded : Loaded) (stretch : EntriesWalk) (bs : List ℕ) (old new : List Descriptor)
+    (after : code.Progress) (came : comes.CourseStep) →
     ReadsStretch stretch.walk bs old new after → AsksFor after came →
-    ((l : Loaded) → Waits m q l stretch.head → IfWants after (λ w. w.size ≡ q.size) → Brings q.size l.entries (ahead_at q.size (first_visit q stretch.head)) new (ahead_of after) → IsCourseStep m limit q l new came) →
+    ((l : Loaded) → Waits m q l stretch.head → IfWants after (λ w. w.size ≡ q.size) →
+    Brings q.size l.entries (ahead_at q.size (first_visit q stretch.head)) new (ahead_of after) → IsCourseStep m limit q l new came) →
     IsWalkAt m q loaded old (at.Entries stretch) → ComesBy m limit q loaded (at.Entries stretch) bs new came
 comes_by m limit q loaded stretch bs old new after came r asks comes stands =
     let start = ahead_at q.size (first_visit q stretch.head) in
-    let P : ℕ → Type 0 = λ n. Brings n loaded.entries start old (Reads (visit_of stretch.walk)) → Brings n (loaded.entries ++ r.reads) start new (ahead_of after) in
-    let brings : Brings q.size (loaded.entries ++ r.reads) start new (ahead_of after) = subst P stands.1 (r.brings loaded.entries start) stands.2 in record {
+    let P : ℕ → Type 0 = λ n. Brings n loaded.entries start old (Reads (visit_of stretch.walk)) →
+    Brings n (loaded.entries ++ r.reads) start new (ahead_of after) in
+    let brings : Brings q.size (loaded.entries ++ r.reads) start new (ahead_of after) =
+    subst P stands.1 (r.brings loaded.entries start) stands.2 in
+    record {
       after = record loaded { entries = loaded.entries ++ r.reads };
       adds = record { reads = r.reads; read_out = r.read_out; uses_up = uses_up stretch.walk bs old new after r came asks; added = refl };
-      comes = comes (record loaded { entries = loaded.entries ++ r.reads }) (waits_on m q loaded (loaded.entries ++ r.reads) stretch.head stands.0) (same_size after stretch.walk.size q.size r.size stands.1) brings;
+      comes = comes (record loaded { entries = loaded.entries ++ r.reads }) (waits_on m q loaded (loaded.entries ++ r.reads) stretch.head
+          stands.0) (same_size after stretch.walk.size q.size r.size stands.1) brings;
     }
 
 -- a walk that has ended asks for nothing
-pub asks_none : (w : ChainWalk) (walked : walked.WalkEnd) (came : comes.CourseStep) → AsksFor (says.Ends walked) came → AsksFor (says.Wants w) came
+pub asks_none :
+    (w : ChainWalk) (walked : walked.WalkEnd) (came : comes.CourseStep) → AsksFor (says.Ends walked) came → AsksFor (says.Wants w) came
 asks_none w walked (step.Load next) asks = absurd asks
 asks_none w walked step.Idle asks = tt
 asks_none w walked (step.Refused e) asks = tt

@@ -20,11 +20,13 @@ outside iova n d k apart less =
 taken_out : (iova n : ℕ) (table : Table) (d : Descriptor) → IsUntouched iova n d → StaysFor table (unmapped iova n table) d
 taken_out iova n table d apart = λ k less. let test = outside iova n d k apart less in rw test refl
 
-mapped_anew : (iova n target : ℕ) (perm : Permissions) (table : Table) (d : Descriptor) → IsUntouched iova n d → StaysFor table (mapped iova target n perm table) d
+mapped_anew : (iova n target : ℕ) (perm : Permissions) (table : Table) (d : Descriptor) → IsUntouched iova n d →
+    StaysFor table (mapped iova target n perm table) d
 mapped_anew iova n target perm table d apart = λ k less. let test = outside iova n d k apart less in rw test refl
 
 pub others_stay : OthersStay
-others_stay iova n target perm table [] all = (All-nil (StaysFor table (unmapped iova n table)), All-nil (StaysFor table (mapped iova target n perm table)))
+others_stay iova n target perm table [] all =
+    (All-nil (StaysFor table (unmapped iova n table)), All-nil (StaysFor table (mapped iova target n perm table)))
 others_stay iova n target perm table (d ∷ ds) all =
     let first = All-head (IsUntouched iova n) d ds all in
     let rest = others_stay iova n target perm table ds (All-tail (IsUntouched iova n) d ds all) in (

@@ -16,15 +16,22 @@ pub record HasLoaded (m : Memory) (q : Queue) (loaded : Loaded) (request : List 
   pub index_is : (bs : List ℕ) → loaded.index ≡ Some bs → IsLoadOf m 2 (index_load q loaded.index)
   pub entry_is : (bs : List ℕ) → loaded.entry ≡ Some bs → IsLoadOf m 2 (entry_load q loaded.entry)
   pub entries_are : AreEntriesOf m loaded.entries
-  pub request_is : (head : ℕ) → next_avail m q ≡ Head head → 0 < length request → request ≡ request_in m (chain m q head)
+  pub request_is :
+      (head : ℕ) → next_avail m q ≡ Head head → 0 < length request → request ≡ request_in m (chain m q head)
 
 -- what is offered by the loads in some regions is offered in each memory of these regions that has them
 abbrev pub OffersAreTheMemorys : Type 0
 OffersAreTheMemorys =
-    (h : Host) (regions : Mapped) (limit : ℕ) (q : Queue) (loaded : Loaded) (request : List ℕ) (o : Offer) → q.stopped ≡ false →
-    OffersBy (places_in regions) limit q loaded request o → HasLoaded (memory_over h regions) q loaded request → o ≡ offer (memory_over h regions) limit q
+    (h : Host) (regions : Mapped) (limit : ℕ) (q : Queue) (loaded : Loaded) (request : List ℕ) (o : Offer) →
+    q.stopped ≡ false →
+    OffersBy (places_in regions) limit q loaded request o →
+    HasLoaded (memory_over h regions) q loaded request →
+    o ≡ offer (memory_over h regions) limit q
 
 -- a memory that has the bytes of a stretch has each entry that is read out of them
 abbrev pub ReadOutIsTheMemorys : Type 0
 ReadOutIsTheMemorys =
-    (m : Memory) (from : ℕ) (bs : List ℕ) (ls : List Load) → IsLoadOf m (length bs) (record { address = from; came = Some bs }) → ReadOutOf from bs ls → AreEntriesOf m ls
+    (m : Memory) (from : ℕ) (bs : List ℕ) (ls : List Load) →
+    IsLoadOf m (length bs) (record { address = from; came = Some bs }) →
+    ReadOutOf from bs ls →
+    AreEntriesOf m ls

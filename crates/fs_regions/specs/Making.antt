@@ -4,9 +4,11 @@ use Rattle.vm_memory.specs.Layout.{Region}
 use Rattle.vm_memory.specs.Collecting.{RegionsWereRefused, fault_of}
 use Rattle.vm_memory.specs.declared.error.GuestRegionCollectionError.TheVariants as collection
 use Rattle.fs_regions.specs.declared.regions.RegionsError.{RegionsError}
-use Rattle.fs_regions.specs.declared.regions.RegionsError.TheVariants.{NoRegion, Unsorted, Overlap, OutOfMemory}
+use Rattle.fs_regions.specs.declared.regions.RegionsError.TheVariants.{NoRegion, Unsorted, Overlap}
+use Rattle.fs_regions.specs.declared.regions.RegionsError.TheVariants.{OutOfMemory}
 
--- some regions are a memory, or the first thing that is wrong with them; if nothing is, the allocator may refuse
+-- some regions are a memory, or the first thing that is wrong with them; if nothing is, the allocator may
+-- refuse
 abbrev pub Makes : List Region → Result (List Region) RegionsError → Type 0
 Makes regions (Ok memory) = (fault_of regions ≡ None) × (memory ≡ regions)
 Makes regions (Err NoRegion) = fault_of regions ≡ Some collection.NoMemoryRegion

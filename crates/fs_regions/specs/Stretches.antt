@@ -10,13 +10,19 @@ use Rattle.fs_regions.specs.declared.step.CourseStep as comes
 use Rattle.fs_regions.specs.declared.step.CourseStep.TheVariants as step
 use Rattle.fs_regions.specs.Walks.{asked_by, is_in, Brings, ReadOutOf}
 
--- a walk goes through a stretch: some entries are read out of it, with these descriptors then, and it wants another only if that doesn't stand there or as many were read out
-pub record ReadsStretch (walk : ChainWalk) (bs : List ℕ) (old new : List Descriptor) (after : code.Progress) : Type 0 where
+-- a walk goes through a stretch: some entries are read out of it, with these descriptors then, and it wants
+-- another only if that doesn't stand there or as many were read out
+pub record ReadsStretch (walk : ChainWalk) (bs : List ℕ) (old new : List Descriptor) (after : code.Progress) :
+    Type 0 where
   pub reads : List Load
   pub read_out : ReadOutOf (entry_address (visit_of walk)) bs reads
-  pub brings : (ls : List Load) (start : Ahead) → Brings walk.size ls start old (Reads (visit_of walk)) → Brings walk.size (ls ++ reads) start new (ahead_of after)
+  pub brings : (ls : List Load) (start : Ahead) →
+      Brings walk.size ls start old (Reads (visit_of walk)) →
+      Brings walk.size (ls ++ reads) start new (ahead_of after)
   pub size : IfWants after (λ w. w.size ≡ walk.size)
-  pub uses_up : IfWants after (λ w. (is_in (entry_address (visit_of walk)) (length bs) (entry_address (visit_of w)) ≡ false) ⊎ (16 * length reads ≡ length bs))
+  pub uses_up : IfWants after
+      (λ w. (is_in (entry_address (visit_of walk)) (length bs) (entry_address (visit_of w)) ≡ false)
+      ⊎ (16 * length reads ≡ length bs))
 
 -- a load is asked for only of a walk that wants an entry, and from that entry on
 abbrev pub AsksFor : code.Progress → comes.CourseStep → Type 0

@@ -16,8 +16,11 @@ IsUntouched iova n d = Touches iova n d → ⊥
 abbrev pub StaysFor : (old new : Table) → Descriptor → Type 0
 StaysFor old new d = (k : ℕ) → k < d.len → new (d.addr + k) ≡ old (d.addr + k)
 
--- removing or changing the mappings of some addresses leaves those of descriptors apart from them as they were
+-- removing or changing the mappings of some addresses leaves those of descriptors apart from them as they
+-- were
 abbrev pub OthersStay : Type 0
 OthersStay =
-    (iova n target : ℕ) (perm : Permissions) (table : Table) (ds : List Descriptor) → All (IsUntouched iova n) ds →
-    All (StaysFor table (unmapped iova n table)) ds × All (StaysFor table (mapped iova target n perm table)) ds
+    (iova n target : ℕ) (perm : Permissions) (table : Table) (ds : List Descriptor) →
+    All (IsUntouched iova n) ds →
+    All (StaysFor table (unmapped iova n table)) ds
+    × All (StaysFor table (mapped iova target n perm table)) ds

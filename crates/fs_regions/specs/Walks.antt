@@ -1,5 +1,7 @@
--- What a walk over regions comes to by the loads so far (VIRTIO 1.2, 2.7.5, 2.7.6 and 2.7.13 from the device's side).
-use Rattle.std.specs.Prelude.{◌≡◌, ◌⊎◌, if◌then◌else◌, ℕ, ◌+◌, ◌*◌, ◌<◌, ◌≤◌, ◌&&◌, Bool, true, false, nat_le, List, [], ◌∷◌, ◌++◌, All, length, take, drop, Option, Some, None, option_map}
+-- What a walk over regions comes to by the loads so far (VIRTIO 1.2, 2.7.5, 2.7.6 and 2.7.13 from the
+-- device's side).
+use Rattle.std.specs.Prelude.{◌≡◌, ◌⊎◌, if◌then◌else◌, ℕ, ◌+◌, ◌*◌, ◌<◌, ◌≤◌, ◌&&◌, Bool, true, false, nat_le}
+use Rattle.std.specs.Prelude.{List, [], ◌∷◌, ◌++◌, All, length, take, drop, Option, Some, None, option_map}
 use Rattle.vm_iotlb.specs.declared.permissions.Permissions.TheVariants.{Read}
 use Rattle.vm_memory.specs.Memory.{Memory, reach}
 use Rattle.fs_queue.specs.declared.fault.ChainFault.{ChainFault}
@@ -8,10 +10,13 @@ use Rattle.fs_queue.specs.declared.walk.Walk as code
 use Rattle.fs_queue.specs.declared.walk.Walk.TheVariants as waits
 use Rattle.fs_queue.specs.Queue.{Queue, avail_index_at, ring_entry_at}
 use Rattle.fs_queue.specs.NextAvail.{NextAvail, Head}
-use Rattle.fs_queue.specs.Chain.{Descriptor, DescriptorTable, Visit, with_front, entry_address, Found, IsChain, first_visit}
-use Rattle.fs_queue.specs.Loads.{Load, Ahead, Reads, found_exactly, chain_exactly, asks_entry, ahead_at, is_whole}
+use Rattle.fs_queue.specs.Chain.{Descriptor, DescriptorTable, Visit, with_front, entry_address, Found}
+use Rattle.fs_queue.specs.Chain.{IsChain, first_visit}
+use Rattle.fs_queue.specs.Loads.{Load, Ahead, Reads, found_exactly, chain_exactly, asks_entry, ahead_at}
+use Rattle.fs_queue.specs.Loads.{is_whole}
 use Rattle.fs_queue.specs.OfferLoads.{waits_by, offer_by}
-use Rattle.fs_queue.specs.Taking.{readable, writable, total_len, IsRequest, CannotFetch, Offer, Idle, Refuses, Offers, addresses_of, return_fault}
+use Rattle.fs_queue.specs.Taking.{readable, writable, total_len, IsRequest, CannotFetch, Offer, Idle, Refuses}
+use Rattle.fs_queue.specs.Taking.{Offers, addresses_of, return_fault}
 use Rattle.fs_queue.specs.RingingView.{Told, by_index, stage_of, stage_at, IfRingEntry}
 use Rattle.fs_queue.specs.SteppingView.{ahead_of, visit_of, IfWants}
 use Rattle.fs_queue.specs.WalkingView.{at_position}
@@ -22,7 +27,8 @@ use Rattle.fs_regions.specs.declared.course.Course.{Course}
 use Rattle.fs_regions.specs.declared.step.CourseStep as comes
 use Rattle.fs_regions.specs.declared.step.CourseStep.TheVariants as step
 
--- the loads of a walk so far: the available index, the available ring's entry, and the tables' entries; None where an address has no place, or nothing was loaded yet
+-- the loads of a walk so far: the available index, the available ring's entry, and the tables' entries; None
+-- where an address has no place, or nothing was loaded yet
 pub record Loaded : Type 0 where
   pub index : Option (List ℕ)
   pub entry : Option (List ℕ)
@@ -37,19 +43,26 @@ abbrev pub standing_before : List Descriptor → Found → Found
 standing_before [] f = f
 standing_before (d ∷ ds) f = with_front d (standing_before ds f)
 
--- some loads bring a walk from one place to another, and these descriptors join the chain by them: whatever is loaded then
+-- some loads bring a walk from one place to another, and these descriptors join the chain by them: whatever
+-- is loaded then
 abbrev pub Brings : (size : ℕ) → List Load → (from : Ahead) → List Descriptor → (to : Ahead) → Type 0
-Brings size ls from ds to = (more : List Load) → found_exactly size (ls ++ more) from ≡ option_map (standing_before ds) (found_exactly size more to)
+Brings size ls from ds to =
+    (more : List Load) →
+    found_exactly size (ls ++ more) from ≡ option_map (standing_before ds) (found_exactly size more to)
 
--- what is loaded of the ring: the index, unless it has no place, and the entry where the index asks for it, unless that has none
+-- what is loaded of the ring: the index, unless it has no place, and the entry where the index asks for it,
+-- unless that has none
 abbrev pub RingIsAsked : Memory → Queue → Loaded → Type 0
 RingIsAsked m q loaded =
     (loaded.index ≡ None → reach m Read (avail_index_at q) 2 ≡ false)
-    × (loaded.entry ≡ None → asks_entry (by_index q loaded.index) ≡ true → reach m Read (ring_entry_at q) 2 ≡ false)
+    × (loaded.entry ≡ None →
+    asks_entry (by_index q loaded.index) ≡ true →
+    reach m Read (ring_entry_at q) 2 ≡ false)
 
 -- the walk through a chain begins at its head
 abbrev pub BeginsAtHead : Queue → (head : ℕ) → Progress → Type 0
-BeginsAtHead q head progress = (ahead_of progress ≡ ahead_at q.size (first_visit q head)) × IfWants progress (λ w. w.size ≡ q.size)
+BeginsAtHead q head progress =
+    (ahead_of progress ≡ ahead_at q.size (first_visit q head)) × IfWants progress (λ w. w.size ≡ q.size)
 
 -- so it does where a chain waits
 abbrev pub BeginsIfChain : Queue → code.Walk → Type 0
@@ -66,7 +79,8 @@ pub record TellsBy (m : Memory) (q : Queue) (loaded : Loaded) (walk : code.Walk)
   pub begins : BeginsIfChain q walk
 
 -- the index was loaded, or has no place, and a walk came of it
-pub record StandsAfterIndex (m : Memory) (q : Queue) (index : Option (List ℕ)) (walk : code.Walk) : Type 0 where
+pub record StandsAfterIndex (m : Memory) (q : Queue) (index : Option (List ℕ)) (walk : code.Walk) :
+    Type 0 where
   pub stage : stage_of walk ≡ stage_at (by_index q index)
   pub at : IfRingEntry walk (λ w. at_position w.layout w.position ≡ q)
   pub whole : is_whole 2 index ≡ true
@@ -74,7 +88,8 @@ pub record StandsAfterIndex (m : Memory) (q : Queue) (index : Option (List ℕ))
   pub begins : BeginsIfChain q walk
 
 -- the chain of this head waits, and its walk begins
-pub record HeadWaits (m : Memory) (q : Queue) (loaded : Loaded) (head : ℕ) (progress : Progress) : Type 0 where
+pub record HeadWaits (m : Memory) (q : Queue) (loaded : Loaded) (head : ℕ) (progress : Progress) :
+    Type 0 where
   pub by_loads : waits_by q loaded.index loaded.entry ≡ Some (Head head)
   pub no_entries : loaded.entries ≡ []
   pub asked : RingIsAsked m q loaded
@@ -112,28 +127,40 @@ asked_len _ = 2
 abbrev pub IsWalkAt : Memory → Queue → Loaded → List Descriptor → QueueWalk → Type 0
 IsWalkAt m q loaded ds (at.Index w) = (at_position w.layout w.position ≡ q) × (loaded ≡ nothing) × (ds ≡ [])
 IsWalkAt m q loaded ds (at.RingEntry w) =
-    (at_position w.layout w.position ≡ q) × (option_map length loaded.index ≡ Some 2) × (asks_entry (by_index q loaded.index) ≡ true) × (loaded.entry ≡ None)
-    × (loaded.entries ≡ []) × (ds ≡ [])
+    (at_position w.layout w.position ≡ q)
+    × (option_map length loaded.index ≡ Some 2)
+    × (asks_entry (by_index q loaded.index) ≡ true)
+    × (loaded.entry ≡ None)
+    × (loaded.entries ≡ [])
+    × (ds ≡ [])
 IsWalkAt m q loaded ds (at.Entries w) =
-    Waits m q loaded w.head × (w.walk.size ≡ q.size) × Brings q.size loaded.entries (ahead_at q.size (first_visit q w.head)) ds (Reads (visit_of w.walk))
+    Waits m q loaded w.head
+    × (w.walk.size ≡ q.size)
+    × Brings q.size loaded.entries (ahead_at q.size (first_visit q w.head)) ds (Reads (visit_of w.walk))
 
 -- what is asked for has a place
 abbrev pub IsThere : Memory → QueueWalk → Type 0
 IsThere m w = reach m Read (asked_by w) (asked_len w) ≡ true
 
--- how many entries a load of a table has at most: 4096 bytes of one that a descriptor names; of the queue's own 64 bytes, since a driver lays a chain there mostly one descriptor behind another
+-- how many entries a load of a table has at most: 4096 bytes of one that a descriptor names; of the queue's
+-- own 64 bytes, since a driver lays a chain there mostly one descriptor behind another
 abbrev pub most_of : DescriptorTable → ℕ
 most_of t = if t.indirect then 256 else 4
 
--- so many entries from one on may be asked for at once: none past their table's end, and no more than a load has; and more than one only in one region and one mapping, and no more than descriptors may still
--- join the chain
+-- so many entries from one on may be asked for at once: none past their table's end, and no more than a load
+-- has; and more than one only in one region and one mapping, and no more than descriptors may still join the
+-- chain
 abbrev pub MayBeAsked : Memory → Queue → List Descriptor → Visit → (n : ℕ) → Type 0
-MayBeAsked m q ds v n = (n ≤ most_of v.table) × (v.index + n ≤ v.table.entries) × (1 < n → (16 * n ≤ left_in m (entry_address v)) × (length ds + n ≤ q.size))
+MayBeAsked m q ds v n =
+    (n ≤ most_of v.table)
+    × (v.index + n ≤ v.table.entries)
+    × (1 < n → (16 * n ≤ left_in m (entry_address v)) × (length ds + n ≤ q.size))
 
 -- a stretch has the most that may be
 abbrev pub IsLongestStretch : Memory → Queue → List Descriptor → QueueWalk → Type 0
 IsLongestStretch m q ds (at.Entries w) =
-    MayBeAsked m q ds (visit_of w.walk) w.entries × ((n : ℕ) → MayBeAsked m q ds (visit_of w.walk) n → n ≤ w.entries)
+    MayBeAsked m q ds (visit_of w.walk) w.entries
+    × ((n : ℕ) → MayBeAsked m q ds (visit_of w.walk) n → n ≤ w.entries)
 IsLongestStretch m q ds _ = Unit {0}
 
 -- whether an entry at an address stands whole in n bytes from another on
@@ -142,7 +169,11 @@ is_in from n address = nat_le from address && nat_le (address + 16) (from + n)
 
 -- a load of an entry that was read out of a stretch: it stands there, and came with just its bytes
 abbrev pub IsReadOut : (from : ℕ) → List ℕ → Load → Type 0
-IsReadOut from bs l = (offset : ℕ) × (l.address ≡ from + offset) × (offset + 16 ≤ length bs) × (l.came ≡ Some (take 16 (drop offset bs)))
+IsReadOut from bs l =
+    (offset : ℕ)
+    × (l.address ≡ from + offset)
+    × (offset + 16 ≤ length bs)
+    × (l.came ≡ Some (take 16 (drop offset bs)))
 
 -- so was each of some: the first one at its beginning, and in all no more than it has entries
 pub record ReadOutOf (from : ℕ) (bs : List ℕ) (ls : List Load) : Type 0 where
@@ -150,7 +181,8 @@ pub record ReadOutOf (from : ℕ) (bs : List ℕ) (ls : List Load) : Type 0 wher
   pub each : All (IsReadOut from bs) ls
   pub few : 16 * length ls ≤ length bs
 
--- an entry is asked for again only if it doesn't stand in the stretch, or once as many were read out as the stretch has
+-- an entry is asked for again only if it doesn't stand in the stretch, or once as many were read out as the
+-- stretch has
 abbrev pub UsesUp : (from : ℕ) → List ℕ → List Load → comes.CourseStep → Type 0
 UsesUp from bs ls (step.Load w) = (is_in from (length bs) (asked_by w) ≡ false) ⊎ (16 * length ls ≡ length bs)
 UsesUp from bs ls _ = Unit {0}
@@ -172,31 +204,44 @@ AddsBytes (at.Entries w) bs came old new = AddsEntries (entry_address (visit_of 
 abbrev pub IsLost : Memory → Load → Type 0
 IsLost m l = (l.came ≡ None) × (reach m Read l.address 16 ≡ false)
 
--- the walk from a head finds this by the entries so far, and, where the last one that was asked for has no place, by its loss
+-- the walk from a head finds this by the entries so far, and, where the last one that was asked for has no
+-- place, by its loss
 abbrev pub FindsBy : Memory → Queue → Loaded → (head : ℕ) → Found → Type 0
-FindsBy m q loaded head found = (lost : List Load) × All (IsLost m) lost × (chain_exactly (loaded.entries ++ lost) q head ≡ Some found)
+FindsBy m q loaded head found =
+    (lost : List Load) × All (IsLost m) lost × (chain_exactly (loaded.entries ++ lost) q head ≡ Some found)
 
--- this is offered by the loads so far, and, where the last entry that was asked for has no place, by its loss; with this request
+-- this is offered by the loads so far, and, where the last entry that was asked for has no place, by its
+-- loss; with this request
 abbrev pub OffersBy : Memory → (limit : ℕ) → Queue → Loaded → (request : List ℕ) → Offer → Type 0
 OffersBy m limit q loaded request o =
-    RingIsAsked m q loaded × (lost : List Load) × All (IsLost m) lost × (offer_by m limit q loaded.index loaded.entry (loaded.entries ++ lost) request ≡ Some o)
+    RingIsAsked m q loaded
+    × (lost : List Load)
+    × All (IsLost m) lost
+    × (offer_by m limit q loaded.index loaded.entry (loaded.entries ++ lost) request ≡ Some o)
 
--- what is fetched of a chain with these descriptors: if it has no fault, the walk finds just them, and whatever comes of their readable bytes is the request
-abbrev pub FetchesBy : Memory → (limit : ℕ) → Queue → Loaded → List Descriptor → (head : ℕ) → Option ChainFault → Type 0
-FetchesBy m limit q loaded ds head (Some fault) = OffersBy m limit q loaded [] (Offers head (CannotFetch fault))
+-- what is fetched of a chain with these descriptors: if it has no fault, the walk finds just them, and
+-- whatever comes of their readable bytes is the request
+abbrev pub FetchesBy :
+    Memory → (limit : ℕ) → Queue → Loaded → List Descriptor → (head : ℕ) → Option ChainFault → Type 0
+FetchesBy m limit q loaded ds head (Some fault) =
+    OffersBy m limit q loaded [] (Offers head (CannotFetch fault))
 FetchesBy m limit q loaded ds head None =
     FindsBy m q loaded head (IsChain ds)
-    × ((request : List ℕ) → length request ≡ total_len (readable ds) → OffersBy m limit q loaded request (Offers head (IsRequest request (addresses_of (writable ds)))))
+    × ((request : List ℕ) →
+    length request ≡ total_len (readable ds) →
+    OffersBy m limit q loaded request (Offers head (IsRequest request (addresses_of (writable ds)))))
 
 -- what a walk comes to by the loads so far
 abbrev pub IsCourseStep : Memory → (limit : ℕ) → Queue → Loaded → List Descriptor → comes.CourseStep → Type 0
-IsCourseStep m limit q loaded ds (step.Load w) = IsWalkAt m q loaded ds w × IsThere m w × IsLongestStretch m q ds w
+IsCourseStep m limit q loaded ds (step.Load w) =
+    IsWalkAt m q loaded ds w × IsThere m w × IsLongestStretch m q ds w
 IsCourseStep m limit q loaded ds step.Idle = OffersBy m limit q loaded [] Idle
 IsCourseStep m limit q loaded ds (step.Refused e) = OffersBy m limit q loaded [] (Refuses e)
 IsCourseStep m limit q loaded ds (step.Chain head fault) = FetchesBy m limit q loaded ds head fault
 
 -- what a walk comes to by the bytes that it asked for, after the loads so far
-pub record ComesBy (m : Memory) (limit : ℕ) (q : Queue) (loaded : Loaded) (walk : QueueWalk) (bs : List ℕ) (ds : List Descriptor) (came : comes.CourseStep) : Type 0 where
+pub record ComesBy (m : Memory) (limit : ℕ) (q : Queue) (loaded : Loaded) (walk : QueueWalk) (bs : List ℕ)
+    (ds : List Descriptor) (came : comes.CourseStep) : Type 0 where
   pub after : Loaded
   pub adds : AddsBytes walk bs came loaded after
   pub comes : IsCourseStep m limit q after ds came

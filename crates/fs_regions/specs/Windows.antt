@@ -1,5 +1,6 @@
 -- Where the bytes of a chain's request and room stand.
-use Rattle.std.specs.Prelude.{◌≡◌, ℕ, ◌<◌, ◌≤◌, ◌+◌, ◌-◌, ◌%◌, ◌^◌, min, Bool, List, ◌∷◌, ◌++◌, take, drop, Some}
+use Rattle.std.specs.Prelude.{◌≡◌, ℕ, ◌<◌, ◌≤◌, ◌+◌, ◌-◌, ◌%◌, ◌^◌, min, Bool, List, ◌∷◌, ◌++◌, take, drop}
+use Rattle.std.specs.Prelude.{Some}
 use Rattle.vm_memory_core.specs.Window.{Window, places_of}
 use Rattle.vm_memory.specs.Memory.{addresses, located, location}
 use Rattle.fs_queue.specs.Chain.{Descriptor}
@@ -8,17 +9,32 @@ use Rattle.fs_regions.specs.Places.{Mapped, left_in, places_in}
 
 -- the descriptor in which one byte of some stands, and how many of its bytes come before that one
 abbrev pub StandsIn : List Descriptor → (from : ℕ) → (d : Descriptor) → (skip : ℕ) → Type 0
-StandsIn ds from d skip = (before behind : List Descriptor) × (ds ≡ before ++ d ∷ behind) × (from ≡ total_len before + skip) × (skip < d.len)
+StandsIn ds from d skip =
+    (before behind : List Descriptor)
+    × (ds ≡ before ++ d ∷ behind)
+    × (from ≡ total_len before + skip)
+    × (skip < d.len)
 
--- a window, not empty, that has the places of the bytes of one direction from one on, as far as their descriptor, their region and what is mapped as one go
+-- a window, not empty, that has the places of the bytes of one direction from one on, as far as their
+-- descriptor, their region and what is mapped as one go
 abbrev pub IsWindowFrom : Mapped → (write_only : Bool) → List Descriptor → (from : ℕ) → Window → Type 0
 IsWindowFrom regions write_only ds from w =
-    (0 < w.len) × (from + w.len ≤ total_len (of_direction write_only ds))
-    × (located (location (places_in regions) (access_of write_only)) (take w.len (drop from (addresses_of (of_direction write_only ds)))) ≡ Some (places_of w))
-    × (d : Descriptor) × (skip : ℕ) × StandsIn (of_direction write_only ds) from d skip × (w.len ≡ min (d.len - skip) (left_in (places_in regions) (d.addr + skip)))
+    (0 < w.len)
+    × (from + w.len ≤ total_len (of_direction write_only ds))
+    × (located (location (places_in regions) (access_of write_only))
+    (take w.len (drop from (addresses_of (of_direction write_only ds)))) ≡ Some (places_of w))
+    × (d : Descriptor) × (skip : ℕ)
+    × StandsIn (of_direction write_only ds) from d skip
+    × (w.len ≡ min (d.len - skip) (left_in (places_in regions) (d.addr + skip)))
 
--- so many addresses, not none, that the bytes of one direction have from one on, as far as their descriptor goes; the first is told modulo 2^64
+-- so many addresses, not none, that the bytes of one direction have from one on, as far as their descriptor
+-- goes; the first is told modulo 2^64
 abbrev pub IsRangeFrom : (write_only : Bool) → List Descriptor → (from guest len : ℕ) → Type 0
 IsRangeFrom write_only ds from guest len =
-    (0 < len) × (a : ℕ) × (guest ≡ a % 2 ^ 64) × (take len (drop from (addresses_of (of_direction write_only ds))) ≡ addresses a len)
-    × (d : Descriptor) × (skip : ℕ) × StandsIn (of_direction write_only ds) from d skip × (len ≡ d.len - skip)
+    (0 < len)
+    × (a : ℕ)
+    × (guest ≡ a % 2 ^ 64)
+    × (take len (drop from (addresses_of (of_direction write_only ds))) ≡ addresses a len)
+    × (d : Descriptor) × (skip : ℕ)
+    × StandsIn (of_direction write_only ds) from d skip
+    × (len ≡ d.len - skip)

@@ -20,8 +20,8 @@ fn access_of(write_only: bool) -> Permissions
     }
 }
 
-/// The longest window that has the bytes of one direction of a chain from one on, in one descriptor, one region and what is mapped as one. None past their end, or where
-/// the first of them has no place.
+/// The longest window that has the bytes of one direction of a chain from one on, in one descriptor, one
+/// region and what is mapped as one. None past their end, or where the first of them has no place.
 pub fn window_from(
     regions: &GuestMap,
     descriptors: &[Descriptor],
@@ -29,7 +29,9 @@ pub fn window_from(
     from: u64,
 ) -> Option<VolatileSlice>
     ensures some { IfSome result (IsWindowFrom regions.now write_only descriptors.now from) }
-    ensures none { result ≡ None → all_reach (places_in regions.now) (access_of write_only) (of_direction write_only descriptors.now) ≡ true
+    ensures none { result ≡ None
+        → all_reach (places_in regions.now) (access_of write_only) (of_direction write_only descriptors.now)
+        ≡ true
         → total_len (of_direction write_only descriptors.now) ≤ from }
 {
     let mut skip = from;
@@ -52,8 +54,8 @@ pub fn window_from(
     None
 }
 
-/// The guest's addresses of the bytes of one direction of a chain from one on, as far as their descriptor goes: the first one, modulo 2^64, and how many.
-/// None past their end.
+/// The guest's addresses of the bytes of one direction of a chain from one on, as far as their descriptor
+/// goes: the first one, modulo 2^64, and how many. None past their end.
 pub fn range_from(descriptors: &[Descriptor], write_only: bool, from: u64) -> Option<(u64, u64)>
     ensures some { IfSome result (λ r. IsRangeFrom write_only descriptors.now from r.0 r.1) }
     ensures none { result ≡ None → total_len (of_direction write_only descriptors.now) ≤ from }

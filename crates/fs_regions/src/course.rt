@@ -10,7 +10,9 @@ ghost use Rattle.fs_queue.specs.SteppingView.{ahead_of, visit_of, IfWants};
 ghost use Rattle.fs_queue.specs.WalkingView.{found_of};
 ghost use Rattle.fs_regions.specs.Places.{places_in};
 ghost use Rattle.fs_regions.specs.Stretches.{AsksFor};
-ghost use Rattle.fs_regions.specs.Walks.{Loaded, nothing, asked_len, asked_entries, queue_of, IsCourseOf, TellsBy, StandsAfterIndex, HeadWaits, IsWalkAt, ComesBy, IsCourseStep, Waits, Brings, FindsBy};
+ghost use Rattle.fs_regions.specs.Walks.{Loaded, nothing, asked_len, asked_entries, queue_of, IsCourseOf};
+ghost use Rattle.fs_regions.specs.Walks.{TellsBy, StandsAfterIndex, HeadWaits, IsWalkAt, ComesBy};
+ghost use Rattle.fs_regions.specs.Walks.{IsCourseStep, Waits, Brings, FindsBy};
 
 use crate::entries::{ENTRY_LEN, EntriesWalk};
 use crate::map::GuestMap;
@@ -23,7 +25,8 @@ use fs_queue::{
 };
 use vm_memory_core::Permissions;
 
-/// Where a walk goes: through what waits at a position of a queue. A request or a room of more than `limit` bytes makes a chain faulty.
+/// Where a walk goes: through what waits at a position of a queue. A request or a room of more than `limit`
+/// bytes makes a chain faulty.
 #[derive(Clone, Copy, Debug)]
 pub struct Course {
     /// Where the queue's parts are.
@@ -68,7 +71,8 @@ impl Course {
     #[inline(always)]
     pub fn begin(&self, regions: &GuestMap, descriptors: &mut Descriptors) -> CourseStep
         ensures empty { descriptors.new.items ≡ [] }
-        ensures comes { IsCourseStep (places_in regions.now) self.now.limit (queue_of self.now) nothing descriptors.new.items result }
+        ensures comes { IsCourseStep (places_in regions.now) self.now.limit (queue_of self.now) nothing
+            descriptors.new.items result }
     {
         descriptors.clear();
         match Walk::begin(self.layout, self.position) {
@@ -83,8 +87,9 @@ impl Course {
         }
     }
 
-    /// Takes the bytes of the load that a walk asked for, and answers the walk's next state. The descriptors that joined the chain so far stand in the list. It has
-    /// room for as many as entries of a table are asked for. The walk goes through those entries that the bytes have, and asks for no other meanwhile.
+    /// Takes the bytes of the load that a walk asked for, and answers the walk's next state. The descriptors
+    /// that joined the chain so far stand in the list. It has room for as many as entries of a table are
+    /// asked for. The walk goes through those entries that the bytes have, and asks for no other meanwhile.
     #[inline(always)]
     pub fn give(
         &self,
@@ -95,8 +100,10 @@ impl Course {
     ) -> CourseStep
         requires bytes { length bytes.now ≡ asked_len walk }
         requires room { HasRoomFor descriptors.old (asked_entries walk) }
-        ensures { (loaded : Loaded) → IsWalkAt (places_in regions.now) (queue_of self.now) loaded descriptors.old.items walk
-            → ComesBy (places_in regions.now) self.now.limit (queue_of self.now) loaded walk bytes.now descriptors.new.items result }
+        ensures { (loaded : Loaded)
+            → IsWalkAt (places_in regions.now) (queue_of self.now) loaded descriptors.old.items walk
+            → ComesBy (places_in regions.now) self.now.limit (queue_of self.now) loaded walk bytes.now
+            descriptors.new.items result }
     {
         match walk {
             QueueWalk::Index(walk) => {
@@ -120,8 +127,11 @@ impl Course {
     ) -> CourseStep
         requires bytes { length bytes.now ≡ 16 * stretch.entries }
         requires room { HasRoomFor descriptors.old stretch.entries }
-        ensures { (loaded : Loaded) → IsWalkAt (places_in regions.now) (queue_of self.now) loaded descriptors.old.items (QueueWalk.Entries stretch)
-            → ComesBy (places_in regions.now) self.now.limit (queue_of self.now) loaded (QueueWalk.Entries stretch) bytes.now descriptors.new.items result }
+        ensures { (loaded : Loaded)
+            → IsWalkAt (places_in regions.now) (queue_of self.now) loaded descriptors.old.items
+            (QueueWalk.Entries stretch)
+            → ComesBy (places_in regions.now) self.now.limit (queue_of self.now) loaded
+            (QueueWalk.Entries stretch) bytes.now descriptors.new.items result }
     {
         let (head, entries) = (stretch.head, stretch.entries);
         let progress = read_stretch(stretch.walk, entries, bytes, descriptors);
@@ -131,8 +141,11 @@ impl Course {
     // What a walk comes to once the available index was loaded, or has no place.
     #[inline(always)]
     fn at_index(&self, regions: &GuestMap, walk: Walk, descriptors: &[Descriptor]) -> CourseStep
-        ensures { (index : Option (List ℕ)) → StandsAfterIndex (places_in regions.now) (queue_of self.now) index walk → descriptors.now ≡ []
-            → IsCourseStep (places_in regions.now) self.now.limit (queue_of self.now) (record nothing { index = index }) descriptors.now result }
+        ensures { (index : Option (List ℕ))
+            → StandsAfterIndex (places_in regions.now) (queue_of self.now) index walk
+            → descriptors.now ≡ []
+            → IsCourseStep (places_in regions.now) self.now.limit (queue_of self.now)
+            (record nothing { index = index }) descriptors.now result }
     {
         match walk {
             Walk::RingEntry(walk) => {
@@ -149,8 +162,11 @@ impl Course {
     // What a walk comes to where the ring told what waits.
     #[inline(always)]
     fn told(&self, regions: &GuestMap, walk: Walk, descriptors: &[Descriptor]) -> CourseStep
-        ensures { (loaded : Loaded) → TellsBy (places_in regions.now) (queue_of self.now) loaded walk → descriptors.now ≡ []
-            → IsCourseStep (places_in regions.now) self.now.limit (queue_of self.now) loaded descriptors.now result }
+        ensures { (loaded : Loaded)
+            → TellsBy (places_in regions.now) (queue_of self.now) loaded walk
+            → descriptors.now ≡ []
+            → IsCourseStep (places_in regions.now) self.now.limit (queue_of self.now) loaded
+            descriptors.now result }
     {
         match walk {
             Walk::Refused(error) => CourseStep::Refused(error),
@@ -169,8 +185,11 @@ impl Course {
         progress: Progress,
         descriptors: &[Descriptor],
     ) -> CourseStep
-        ensures { (loaded : Loaded) → HeadWaits (places_in regions.now) (queue_of self.now) loaded head progress → descriptors.now ≡ []
-            → IsCourseStep (places_in regions.now) self.now.limit (queue_of self.now) loaded descriptors.now result }
+        ensures { (loaded : Loaded)
+            → HeadWaits (places_in regions.now) (queue_of self.now) loaded head progress
+            → descriptors.now ≡ []
+            → IsCourseStep (places_in regions.now) self.now.limit (queue_of self.now) loaded
+            descriptors.now result }
     {
         match return_fault(regions, self.layout, self.position) {
             Some(error) => CourseStep::Refused(error),
@@ -187,9 +206,13 @@ impl Course {
         progress: Progress,
         descriptors: &[Descriptor],
     ) -> CourseStep
-        ensures comes { (loaded : Loaded) → Waits (places_in regions.now) (queue_of self.now) loaded head → IfWants progress (λ w. w.size ≡ self.now.layout.size)
-            → Brings self.now.layout.size loaded.entries (ahead_at self.now.layout.size (first_visit (queue_of self.now) head)) descriptors.now (ahead_of progress)
-            → IsCourseStep (places_in regions.now) self.now.limit (queue_of self.now) loaded descriptors.now result }
+        ensures comes { (loaded : Loaded)
+            → Waits (places_in regions.now) (queue_of self.now) loaded head
+            → IfWants progress (λ w. w.size ≡ self.now.layout.size)
+            → Brings self.now.layout.size loaded.entries (ahead_at self.now.layout.size
+            (first_visit (queue_of self.now) head)) descriptors.now (ahead_of progress)
+            → IsCourseStep (places_in regions.now) self.now.limit (queue_of self.now) loaded
+            descriptors.now result }
         ensures asks { AsksFor progress result }
     {
         match progress {
@@ -205,7 +228,8 @@ impl Course {
         usize::from(self.layout.size()).saturating_sub(descriptors.len())
     }
 
-    // A walk that asks for an entry of a table: it asks for a stretch from there on, unless the entry has no place.
+    // A walk that asks for an entry of a table: it asks for a stretch from there on, unless the entry has no
+    // place.
     #[inline(always)]
     fn at_entry(
         &self,
@@ -214,9 +238,13 @@ impl Course {
         walk: ChainWalk,
         descriptors: &[Descriptor],
     ) -> CourseStep
-        ensures comes { (loaded : Loaded) → Waits (places_in regions.now) (queue_of self.now) loaded head → walk.size ≡ self.now.layout.size
-            → Brings self.now.layout.size loaded.entries (ahead_at self.now.layout.size (first_visit (queue_of self.now) head)) descriptors.now (Reads (visit_of walk))
-            → IsCourseStep (places_in regions.now) self.now.limit (queue_of self.now) loaded descriptors.now result }
+        ensures comes { (loaded : Loaded)
+            → Waits (places_in regions.now) (queue_of self.now) loaded head
+            → walk.size ≡ self.now.layout.size
+            → Brings self.now.layout.size loaded.entries (ahead_at self.now.layout.size
+            (first_visit (queue_of self.now) head)) descriptors.now (Reads (visit_of walk))
+            → IsCourseStep (places_in regions.now) self.now.limit (queue_of self.now) loaded
+            descriptors.now result }
         ensures asks { AsksFor (Progress.Wants walk) result }
     {
         if regions.reaches(walk.address(), ENTRY_LEN, Permissions::Read) {
@@ -244,9 +272,12 @@ impl Course {
         walked: WalkEnd,
         descriptors: &[Descriptor],
     ) -> CourseStep
-        ensures comes { (loaded : Loaded) → Waits (places_in regions.now) (queue_of self.now) loaded head
-            → FindsBy (places_in regions.now) (queue_of self.now) loaded head (found_of walked descriptors.now)
-            → IsCourseStep (places_in regions.now) self.now.limit (queue_of self.now) loaded descriptors.now result }
+        ensures comes { (loaded : Loaded)
+            → Waits (places_in regions.now) (queue_of self.now) loaded head
+            → FindsBy (places_in regions.now) (queue_of self.now) loaded head
+            (found_of walked descriptors.now)
+            → IsCourseStep (places_in regions.now) self.now.limit (queue_of self.now) loaded
+            descriptors.now result }
         ensures asks { AsksFor (Progress.Ends walked) result }
     {
         match walked {

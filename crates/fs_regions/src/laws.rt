@@ -3,7 +3,8 @@
 ghost use Rattle.fs_regions.specs.Laws.{OffersAreTheMemorys, ReadOutIsTheMemorys};
 ghost use Rattle.fs_regions.specs.Using.{OthersStay};
 
-/// Whatever a walk over regions comes to, it is what the queue offers in each memory of these regions that has its loads.
+/// Whatever a walk over regions comes to, it is what the queue offers in each memory of these regions that
+/// has its loads.
 pub fn law_offers()
     ensures { OffersAreTheMemorys }
 {}
@@ -13,7 +14,8 @@ pub fn law_read_out()
     ensures { ReadOutIsTheMemorys }
 {}
 
-/// Removing or changing the mappings of addresses that a chain doesn't use (`uses`) leaves the chain's own as they were.
+/// Removing or changing the mappings of addresses that a chain doesn't use (`uses`) leaves the chain's own as
+/// they were.
 pub fn law_others_stay()
     ensures { OthersStay }
 {}

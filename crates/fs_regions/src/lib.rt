@@ -1,4 +1,5 @@
-//! A guest's memory as regions that stand elsewhere: what a queue offers, by loads that another makes in them.
+//! A guest's memory as regions that stand elsewhere: what a queue offers, by loads that another makes in
+//! them.
 #![tactic(auto)]
 
 mod chain;

@@ -1,6 +1,7 @@
 //! A guest's memory: its regions, and an IOMMU's table, if there is one.
 
-ghost use Rattle.std.specs.Prelude.{◌≡◌, ◌+◌, ◌<◌, ◌^◌, ℕ, List, [], ◌∷◌, IfSome, None, Some, MatchOption, is_some, min};
+ghost use Rattle.std.specs.Prelude.{◌≡◌, ◌+◌, ◌<◌, ◌^◌, ℕ, List, [], ◌∷◌, IfSome, None, Some, MatchOption};
+ghost use Rattle.std.specs.Prelude.{is_some, min};
 ghost use Rattle.std.specs.List.{list_all};
 ghost use Rattle.vm_iotlb.specs.AddressRuns.{missing};
 ghost use Rattle.vm_iotlb.specs.Ranges.{table_kept};
@@ -19,8 +20,8 @@ use std::alloc::Global;
 use std::marker::Model;
 use vm_memory_core::{GuestAddress, Iotlb, IovaRange, Permissions, VolatileSlice};
 
-/// A guest's memory: its regions, and an IOMMU's table, if there is one. The table translates the addresses that a
-/// device uses to addresses of the regions. Without a table a device uses the regions' own.
+/// A guest's memory: its regions, and an IOMMU's table, if there is one. The table translates the addresses
+/// that a device uses to addresses of the regions. Without a table a device uses the regions' own.
 #[derive(Drop)]
 pub struct GuestMap {
     regions: GuestRegions,
@@ -44,7 +45,8 @@ fn reaches_by(
     access: Permissions,
 ) -> bool
     requires { addr + len < 2 ^ 64 }
-    ensures { result ≡ list_all (λ a. is_some (translated regions.now (table_kept table.now) 0 access a)) (addresses addr len) }
+    ensures { result ≡ list_all (λ a. is_some (translated regions.now (table_kept table.now) 0 access a))
+        (addresses addr len) }
 {
     let end = addr + len as u64;
     let mut next = addr;
@@ -60,8 +62,9 @@ fn reaches_by(
     true
 }
 
-// Whether a table maps each of `len` addresses from one on into a region, for an access, and their end is an address. Apart
-// from `reaches`, so that a memory without a table has no more than a test there.
+// Whether a table maps each of `len` addresses from one on into a region, for an access, and their end is an
+// address. Apart from `reaches`, so that a memory without a table has no more than a test there.
+#[cold]
 #[inline(never)]
 fn reaches_behind(
     regions: &GuestRegions,
@@ -70,13 +73,15 @@ fn reaches_behind(
     len: usize,
     access: Permissions,
 ) -> bool
-    ensures { result ≡ reach (places_in (record { layout = regions.now; table = Some table.now })) access addr len }
+    ensures { result ≡ reach (places_in (record { layout = regions.now; table = Some table.now }))
+        access addr len }
 {
     len as u64 <= u64::MAX - addr && reaches_by(regions, table, addr, len, access)
 }
 
-// The longest window of at most `most` bytes from an address on, through a table, for an access. None if the table
-// doesn't map the address into a region for that access.
+// The longest window of at most `most` bytes from an address on, through a table, for an access. None if the
+// table doesn't map the address into a region for that access.
+#[cold]
 #[inline(never)]
 fn window_by(
     regions: &GuestRegions,
@@ -87,8 +92,10 @@ fn window_by(
 ) -> Option<VolatileSlice>
     requires { 0 < most }
     ensures none { result ≡ None → translated regions.now (table_kept table.now) 0 access addr ≡ None }
-    ensures some { IfSome result (IsWindowAt (translated regions.now (table_kept table.now) 0 access) addr most) }
-    ensures longest { IfSome result (λ w. w.len ≡ min most (translated_left regions.now (table_kept table.now) addr)) }
+    ensures some { IfSome result
+        (IsWindowAt (translated regions.now (table_kept table.now) 0 access) addr most) }
+    ensures longest { IfSome result
+        (λ w. w.len ≡ min most (translated_left regions.now (table_kept table.now) addr)) }
 {
     let Some(piece) = table.piece_at(GuestAddress(addr), most, access) else {
         return None;
@@ -141,8 +148,8 @@ impl GuestMap {
         }
     }
 
-    /// The longest window of at most `most` bytes from an address on, for an access. Its block is the number of its
-    /// region. None if the address isn't mapped for that access.
+    /// The longest window of at most `most` bytes from an address on, for an access. Its block is the number
+    /// of its region. None if the address isn't mapped for that access.
     #[inline(always)]
     pub fn window_at(&self, addr: u64, most: usize, access: Permissions) -> Option<VolatileSlice>
         requires { 0 < most }
@@ -156,12 +163,14 @@ impl GuestMap {
         }
     }
 
-    /// The first of `len` addresses that the table doesn't map, with the unmapped ones right after it. None if the
-    /// table maps each of them, with any permission, or if there is no table.
+    /// The first of `len` addresses that the table doesn't map, with the unmapped ones right after it. None
+    /// if the table maps each of them, with any permission, or if there is no table.
     pub fn first_miss(&self, addr: u64, len: usize) -> Option<IovaRange>
         requires { addr + len < 2 ^ 64 }
         ensures none { self.now.table ≡ None → result ≡ None }
-        ensures first { (ranges : List IotlbRange) → self.now.table ≡ Some ranges → MatchOption result (missing (table_kept ranges) addr len ≡ [])
+        ensures first { (ranges : List IotlbRange)
+            → self.now.table ≡ Some ranges
+            → MatchOption result (missing (table_kept ranges) addr len ≡ [])
             (λ r. (rest : List IovaRange) × (missing (table_kept ranges) addr len ≡ r ∷ rest)) }
     {
         match &self.table {

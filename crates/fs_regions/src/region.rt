@@ -32,8 +32,8 @@ impl Model for MemoryRegion {
 }
 
 impl MemoryRegion {
-    /// The region of `size` bytes from an address on, with this number. None if it is empty, ends past the last address, or one of
-    /// the two is no multiple of 4096.
+    /// The region of `size` bytes from an address on, with this number. None if it is empty, ends past the
+    /// last address, or one of the two is no multiple of 4096.
     pub fn new(start: u64, size: u64, number: usize) -> Option<MemoryRegion>
         ensures { result ≡ region_if start size number }
     {

@@ -54,7 +54,8 @@ impl GuestRegions {
         }
     }
 
-    /// Memory of some regions, which ascend and have no address in common: else `NoRegion`, `Unsorted` or `Overlap`, or `OutOfMemory`.
+    /// Memory of some regions, which ascend and have no address in common: else `NoRegion`, `Unsorted` or
+    /// `Overlap`, or `OutOfMemory`.
     pub fn of_regions(
         alloc: Global,
         regions: Vec<MemoryRegion>,
@@ -72,13 +73,14 @@ impl GuestRegions {
 
     /// Whether each of `len` addresses from one on has a place, and their end is an address.
     pub fn reaches(&self, addr: u64, len: usize) -> bool
-        ensures { (access : Permissions) → result ≡ reach (places_in (untranslated self.now)) access addr len }
+        ensures { (access : Permissions)
+            → result ≡ reach (places_in (untranslated self.now)) access addr len }
     {
         len as u64 <= u64::MAX - addr && self.regions.has_range(GuestAddress(addr), len)
     }
 
-    /// The longest window of at most `most` bytes from an address on: the number of its region as its block, and where it stands there. None if the
-    /// address has no place.
+    /// The longest window of at most `most` bytes from an address on: the number of its region as its block,
+    /// and where it stands there. None if the address has no place.
     #[inline(always)]
     pub fn window_at(&self, addr: u64, most: usize) -> Option<VolatileSlice>
         requires { 0 < most }

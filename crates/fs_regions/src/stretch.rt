@@ -1,6 +1,7 @@
 //! A stretch of a table: how long a load of it is, and how a walk goes through its bytes.
 
-ghost use Rattle.std.specs.Prelude.{◌≡◌, ◌⊎◌, ℕ, ◌+◌, ◌*◌, ◌<◌, ◌≤◌, [], ◌∷◌, ◌++◌, List, Some, None, true, false, length, take, drop, IfSome};
+ghost use Rattle.std.specs.Prelude.{◌≡◌, ◌⊎◌, ℕ, ◌+◌, ◌*◌, ◌<◌, ◌≤◌, [], ◌∷◌, ◌++◌, List, Some, None, true};
+ghost use Rattle.std.specs.Prelude.{false, length, take, drop, IfSome};
 ghost use Rattle.smallvec.specs.SmallVec.{HasRoomFor};
 ghost use Rattle.vm_iotlb.specs.declared.permissions.Permissions.TheVariants.{Read};
 ghost use Rattle.vm_memory.specs.Memory.{reach};
@@ -29,15 +30,19 @@ fn most_of(table: DescriptorTable) -> u16
     }
 }
 
-// How many entries a walk asks for at most: those up to the end of its table, no more than a load of it has, and no more than the chain may still take
-// descriptors; but the one that it is at in any case.
+// How many entries a walk asks for at most: those up to the end of its table, no more than a load of it has,
+// and no more than the chain may still take descriptors; but the one that it is at in any case.
 fn most_entries(walk: &ChainWalk, may_join: usize) -> u16
     ensures some { 0 < result }
     ensures few { result ≤ most_of walk.now.table }
     ensures low { result ≤ 256 }
     ensures inside { walk.now.index + result ≤ walk.now.table.entries }
     ensures joins { 1 < result → result ≤ may_join }
-    ensures most { (n : ℕ) → n ≤ most_of walk.now.table → walk.now.index + n ≤ walk.now.table.entries → (1 < n → n ≤ may_join) → n ≤ result }
+    ensures most { (n : ℕ)
+        → n ≤ most_of walk.now.table
+        → walk.now.index + n ≤ walk.now.table.entries
+        → (1 < n → n ≤ may_join)
+        → n ≤ result }
 {
     let (table, index) = walk.entry();
     let left = (table.entries - u32::from(index)) as usize;
@@ -45,16 +50,23 @@ fn most_entries(walk: &ChainWalk, may_join: usize) -> u16
     most.max(1) as u16
 }
 
-// How many of some entries that follow one another in a table stand in the region of the first one and are mapped as one with it; 1 if this one goes over its end.
+// How many of some entries that follow one another in a table stand in the region of the first one and are
+// mapped as one with it; 1 if this one goes over its end.
 fn entries_in_region(regions: &GuestMap, walk: &ChainWalk, most: u16) -> u16
     requires some { 0 < most }
     requires inside { walk.now.index + most ≤ walk.now.table.entries }
     ensures some { 0 < result }
     ensures few { result ≤ most }
-    ensures region { 1 < result → 16 * result ≤ left_in (places_in regions.now) (entry_address (visit_of walk.now)) }
+    ensures region { 1 < result
+        → 16 * result ≤ left_in (places_in regions.now) (entry_address (visit_of walk.now)) }
     ensures most { reach (places_in regions.now) Read (entry_address (visit_of walk.now)) 16 ≡ true
-        → (n : ℕ) → n ≤ most → (1 < n → 16 * n ≤ left_in (places_in regions.now) (entry_address (visit_of walk.now))) → n ≤ result }
-    ensures there { let m = places_in regions.now in let a = entry_address (visit_of walk.now) in reach m Read a 16 ≡ true → reach m Read a (16 * result) ≡ true }
+        → (n : ℕ)
+        → n ≤ most
+        → (1 < n → 16 * n ≤ left_in (places_in regions.now) (entry_address (visit_of walk.now)))
+        → n ≤ result }
+    ensures there { let m = places_in regions.now in
+        let a = entry_address (visit_of walk.now) in
+        reach m Read a 16 ≡ true → reach m Read a (16 * result) ≡ true }
 {
     if most == 1 {
         return 1;
@@ -69,17 +81,27 @@ fn entries_in_region(regions: &GuestMap, walk: &ChainWalk, most: u16) -> u16
     }
 }
 
-/// How many entries a walk asks for at once: at least the one that it is at. More stand in one region, mapped as one, and are no more than a load of their table has, than
-/// the table has from there on, and than descriptors may still join the chain: as many as these bounds let it have.
+/// How many entries a walk asks for at once: at least the one that it is at. More stand in one region, mapped
+/// as one, and are no more than a load of their table has, than the table has from there on, and than
+/// descriptors may still join the chain: as many as these bounds let it have.
 pub(crate) fn stretch_len(regions: &GuestMap, walk: &ChainWalk, may_join: usize) -> u16
     ensures some { 0 < result }
     ensures few { result ≤ most_of walk.now.table }
     ensures low { result ≤ 256 }
     ensures inside { walk.now.index + result ≤ walk.now.table.entries }
-    ensures stretch { 1 < result → (16 * result ≤ left_in (places_in regions.now) (entry_address (visit_of walk.now))) × (result ≤ may_join) }
-    ensures most { reach (places_in regions.now) Read (entry_address (visit_of walk.now)) 16 ≡ true → (n : ℕ) → n ≤ most_of walk.now.table → walk.now.index + n ≤ walk.now.table.entries
-        → (1 < n → (16 * n ≤ left_in (places_in regions.now) (entry_address (visit_of walk.now))) × (n ≤ may_join)) → n ≤ result }
-    ensures there { let m = places_in regions.now in let a = entry_address (visit_of walk.now) in reach m Read a 16 ≡ true → reach m Read a (16 * result) ≡ true }
+    ensures stretch { 1 < result
+        → (16 * result ≤ left_in (places_in regions.now) (entry_address (visit_of walk.now)))
+        × (result ≤ may_join) }
+    ensures most { reach (places_in regions.now) Read (entry_address (visit_of walk.now)) 16 ≡ true
+        → (n : ℕ)
+        → n ≤ most_of walk.now.table
+        → walk.now.index + n ≤ walk.now.table.entries
+        → (1 < n
+        → (16 * n ≤ left_in (places_in regions.now) (entry_address (visit_of walk.now))) × (n ≤ may_join))
+        → n ≤ result }
+    ensures there { let m = places_in regions.now in
+        let a = entry_address (visit_of walk.now) in
+        reach m Read a 16 ≡ true → reach m Read a (16 * result) ≡ true }
 {
     entries_in_region(regions, walk, most_entries(walk, may_join))
 }
@@ -94,9 +116,12 @@ fn entry_of(bytes: &[u8], offset: usize) -> [u8; 16]
     entry
 }
 
-// Where the entry that a walk asks for stands in a stretch of so many bytes, if it is to be read out there: `left` more are.
+// Where the entry that a walk asks for stands in a stretch of so many bytes, if it is to be read out there:
+// `left` more are.
 fn offset_in(walk: &ChainWalk, from: u64, len: usize, left: u16) -> Option<usize>
-    ensures some { IfSome result (λ offset. (entry_address (visit_of walk.now) ≡ from + offset) × (offset + 16 ≤ len) × (0 < left)) }
+    ensures some { IfSome result (λ offset. (entry_address (visit_of walk.now) ≡ from + offset)
+        × (offset + 16 ≤ len)
+        × (0 < left)) }
     ensures none { result ≡ None → (is_in from len (entry_address (visit_of walk.now)) ≡ false) ⊎ (left ≡ 0) }
 {
     let address = walk.address();
@@ -106,7 +131,8 @@ fn offset_in(walk: &ChainWalk, from: u64, len: usize, left: u16) -> Option<usize
     Some((address - from) as usize)
 }
 
-// Reads the entry that a walk asks for out of a stretch: a descriptor that joins the chain by it comes into the list.
+// Reads the entry that a walk asks for out of a stretch: a descriptor that joins the chain by it comes into
+// the list.
 #[inline(always)]
 fn read_entry(
     walk: ChainWalk,
@@ -116,8 +142,10 @@ fn read_entry(
 ) -> Progress
     requires inside { offset + 16 ≤ length bytes.now }
     requires room { HasRoomFor descriptors.old 1 }
-    ensures brings { (ls : List Load) (start : Ahead) → Brings walk.size ls start descriptors.old.items (Reads (visit_of walk))
-        → Brings walk.size (ls ++ load_of walk (Some (take 16 (drop offset bytes.now))) ∷ []) start descriptors.new.items (ahead_of result) }
+    ensures brings { (ls : List Load) (start : Ahead)
+        → Brings walk.size ls start descriptors.old.items (Reads (visit_of walk))
+        → Brings walk.size (ls ++ load_of walk (Some (take 16 (drop offset bytes.now))) ∷ []) start
+        descriptors.new.items (ahead_of result) }
     ensures size { IfWants result (λ w. w.size ≡ walk.size) }
     ensures room { (more : ℕ) → HasRoomFor descriptors.old (1 + more) → HasRoomFor descriptors.new more }
 {
@@ -129,7 +157,8 @@ fn read_entry(
     given.then
 }
 
-/// Takes a walk through the bytes of a stretch, entry by entry, as long as the next one stands there, and no more than the stretch has.
+/// Takes a walk through the bytes of a stretch, entry by entry, as long as the next one stands there, and no
+/// more than the stretch has.
 #[inline(always)]
 pub(crate) fn read_stretch(
     walk: ChainWalk,

@@ -17,8 +17,9 @@ fn touches(descriptor: &Descriptor, iova: u64, len: u64) -> bool
     }
 }
 
-/// Whether a chain with these descriptors uses one of `len` addresses from one on. If it uses none, a VMM may change or
-/// remove their mappings while the chain is in flight: the chain's own addresses stay as they were (`law_others_stay`).
+/// Whether a chain with these descriptors uses one of `len` addresses from one on. If it uses none, a VMM may
+/// change or remove their mappings while the chain is in flight: the chain's own addresses stay as they were
+/// (`law_others_stay`).
 pub fn uses(descriptors: &[Descriptor], iova: u64, len: u64) -> bool
     ensures used { result ≡ true → All (IsUntouched iova len) descriptors.now → ⊥ }
     ensures unused { result ≡ false → All (IsUntouched iova len) descriptors.now }

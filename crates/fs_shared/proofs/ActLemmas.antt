@@ -22,28 +22,34 @@ use Rattle.fs_shared.specs.Replay.{WritesPages}
 -- ---- a guest's write
 
 -- where it reaches it is done
-decided : {F : Type 0} (b : Bool) (answer : Answer) (s after : State F) (done other : Effect F) → b ≡ true → (answer, after) ≡ (if◌then◌else◌ {A = Effect F} b done other) → (answer, after) ≡ done
+decided : {F : Type 0} (b : Bool) (answer : Answer) (s after : State F) (done other : Effect F) → b ≡ true →
+    (answer, after) ≡ (if◌then◌else◌ {A = Effect F} b done other) → (answer, after) ≡ done
 decided true answer s after done other reaches is = is
 decided false answer s after done other reaches is = absurd (cc)
 
-write_done : {F : Type 0} (s after : State F) (a : ℕ) (bytes : List ℕ) (answer : Answer) → reach (physical s.memory) Write a (length bytes) ≡ true → Affects s (GuestWrite a bytes) answer after →
+write_done : {F : Type 0} (s after : State F) (a : ℕ) (bytes : List ℕ) (answer : Answer) →
+    reach (physical s.memory) Write a (length bytes) ≡ true → Affects s (GuestWrite a bytes) answer after →
     Affects s (GuestWrite a bytes) Done after
 unfolding effect
 write_done {F} s after a bytes answer reaches is =
-    let done = decided (reach (physical s.memory) Write a (length bytes)) answer s after (Done, record s { memory = guest_written s.memory a bytes }) (no why.NoPlace s) reaches is in
+    let done = decided (reach (physical s.memory) Write a (length bytes)) answer s after
+    (Done, record s { memory = guest_written s.memory a bytes }) (no why.NoPlace s) reaches is in
     rw reaches (ap (λ (e : Effect F). (Done, e.1)) done)
 
-pub write_performed : {F : Type 0} (may : May F) (s after : State F) (a : ℕ) (bytes : List ℕ) (answer : Answer) → reach (physical s.memory) Write a (length bytes) ≡ true →
+pub write_performed : {F : Type 0} (may : May F) (s after : State F) (a : ℕ) (bytes : List ℕ) (answer : Answer) →
+    reach (physical s.memory) Write a (length bytes) ≡ true →
     Performs may s (GuestWrite a bytes) [] answer after → Affects s (GuestWrite a bytes) Done after
 write_performed may s after a bytes (IsRefused why.OutOfMemory) reaches is = absurd (cc)
 write_performed may s after a bytes (IsRefused why.NoPlace) reaches is = write_done s after a bytes (IsRefused why.NoPlace) reaches is
 write_performed may s after a bytes (IsRefused why.EmptyBlock) reaches is = write_done s after a bytes (IsRefused why.EmptyBlock) reaches is
-write_performed may s after a bytes (IsRefused why.UnknownBlock) reaches is = write_done s after a bytes (IsRefused why.UnknownBlock) reaches is
+write_performed may s after a bytes (IsRefused why.UnknownBlock) reaches is =
+    write_done s after a bytes (IsRefused why.UnknownBlock) reaches is
 write_performed may s after a bytes (IsRefused why.BadRegion) reaches is = write_done s after a bytes (IsRefused why.BadRegion) reaches is
 write_performed may s after a bytes (IsRefused why.Overlap) reaches is = write_done s after a bytes (IsRefused why.Overlap) reaches is
 write_performed may s after a bytes (IsRefused why.NoRegion) reaches is = write_done s after a bytes (IsRefused why.NoRegion) reaches is
 write_performed may s after a bytes (IsRefused why.BadMapping) reaches is = write_done s after a bytes (IsRefused why.BadMapping) reaches is
-write_performed may s after a bytes (IsRefused why.NoSuchQueue) reaches is = write_done s after a bytes (IsRefused why.NoSuchQueue) reaches is
+write_performed may s after a bytes (IsRefused why.NoSuchQueue) reaches is =
+    write_done s after a bytes (IsRefused why.NoSuchQueue) reaches is
 write_performed may s after a bytes Done reaches is = write_done s after a bytes Done reaches is
 write_performed may s after a bytes (Bytes bs) reaches is = write_done s after a bytes (Bytes bs) reaches is
 write_performed may s after a bytes (NewBlockIs n) reaches is = write_done s after a bytes (NewBlockIs n) reaches is
@@ -52,20 +58,24 @@ write_performed may s after a bytes (Copied h) reaches is = write_done s after a
 write_performed may s after a bytes (Pages ps) reaches is = write_done s after a bytes (Pages ps) reaches is
 
 -- where it doesn't it is refused
-pub write_refused : {F : Type 0} (s : State F) (a : ℕ) (bytes : List ℕ) → reach (physical s.memory) Write a (length bytes) ≡ false → Affects s (GuestWrite a bytes) (IsRefused why.NoPlace) s
+pub write_refused : {F : Type 0} (s : State F) (a : ℕ) (bytes : List ℕ) → reach (physical s.memory) Write a (length bytes) ≡ false →
+    Affects s (GuestWrite a bytes) (IsRefused why.NoPlace) s
 unfolding effect
 write_refused s a bytes misses = rw misses refl
 
 -- the machine makes it if it reaches
-pub write_would : {F : Type 0} (s : State F) (a : ℕ) (bytes : List ℕ) → reach (physical s.memory) Write a (length bytes) ≡ true → WouldDo s (GuestWrite a bytes)
+pub write_would : {F : Type 0} (s : State F) (a : ℕ) (bytes : List ℕ) → reach (physical s.memory) Write a (length bytes) ≡ true →
+    WouldDo s (GuestWrite a bytes)
 unfolding effect
 write_would s a bytes reaches = (record s { memory = guest_written s.memory a bytes }, rw reaches refl)
 
 -- what is kept of it is an event
-pub write_keeps : {F : Type 0} (may : May F) (s after : State F) (a : ℕ) (bytes pages : List ℕ) (kept : Kept) → Affects s (GuestWrite a bytes) Done after →
+pub write_keeps : {F : Type 0} (may : May F) (s after : State F) (a : ℕ) (bytes pages : List ℕ) (kept : Kept) →
+    Affects s (GuestWrite a bytes) Done after →
     WritesPages (physical s.memory) (addresses a (length bytes)) pages →
     (command_of kept.entry.command ≡ GuestWrite a bytes) × (came_of kept.entry.outcome ≡ replay.Done) × (kept.entry.pages.items ≡ pages) →
-    (command_of kept.receipt.command ≡ GuestWrite a bytes) × (came_of kept.receipt.outcome ≡ replay.Done) × (kept.receipt.pages.items ≡ pages) → KeepsEvent may s (GuestWrite a bytes) kept after
+    (command_of kept.receipt.command ≡ GuestWrite a bytes) × (came_of kept.receipt.outcome ≡ replay.Done)
+    × (kept.receipt.pages.items ≡ pages) → KeepsEvent may s (GuestWrite a bytes) kept after
 write_keeps may s after a bytes pages kept done are entry receipt = record {
   plays = (entry.1, done, rw entry.2 are);
   entry = entry.0;
@@ -77,27 +87,34 @@ write_keeps may s after a bytes pages kept done are entry receipt = record {
 -- ---- another layout
 
 -- the machine takes it if the host has all its blocks
-pub layout_would : {F : Type 0} (s : State F) (layout : List Region) → list_all (is_known s.memory.host) layout ≡ true → list_all fits layout ≡ true → some_overlap layout ≡ false → WouldDo s (SetLayout layout)
+pub layout_would : {F : Type 0} (s : State F) (layout : List Region) → list_all (is_known s.memory.host) layout ≡ true →
+    list_all fits layout ≡ true → some_overlap layout ≡ false → WouldDo s (SetLayout layout)
 unfolding effect
 layout_would s layout known fit apart = (with_layout s layout, rw (known, fit, apart) refl)
 
-pub layout_held : {F : Type 0} (s : State F) (layout : List Region) → AreHeld (lengths s.memory.host) layout → IsLayout layout → WouldDo s (SetLayout layout)
-layout_held s layout held sound = layout_would s layout (all_known s.memory.host layout held) (all_fit layout sound) (all_apart layout sound)
+pub layout_held : {F : Type 0} (s : State F) (layout : List Region) → AreHeld (lengths s.memory.host) layout → IsLayout layout →
+    WouldDo s (SetLayout layout)
+layout_held s layout held sound =
+    layout_would s layout (all_known s.memory.host layout held) (all_fit layout sound) (all_apart layout sound)
 
 -- else it is refused
-pub layout_refused : {F : Type 0} (s : State F) (layout : List Region) → (AreHeld (lengths s.memory.host) layout → ⊥) → Affects s (SetLayout layout) (IsRefused why.UnknownBlock) s
+pub layout_refused : {F : Type 0} (s : State F) (layout : List Region) → (AreHeld (lengths s.memory.host) layout → ⊥) →
+    Affects s (SetLayout layout) (IsRefused why.UnknownBlock) s
 unfolding effect
 layout_refused s layout none = rw (not_known s.memory.host layout none) refl
 
 -- what the machine would do it does
-does_so : {F : Type 0} (decided : Effect F) (answer : Answer) (next after : State F) → (Done, next) ≡ decided → (answer, after) ≡ decided → (Done, after) ≡ decided
+does_so : {F : Type 0} (decided : Effect F) (answer : Answer) (next after : State F) → (Done, next) ≡ decided → (answer, after) ≡ decided →
+    (Done, after) ≡ decided
 does_so {F} decided answer next after would is = ap {B = Effect F} (λ (e : Effect F). (Done, e.1)) (is ∙ sym would) ∙ would
 
-layout_does : {F : Type 0} (s after : State F) (layout : List Region) (answer : Answer) → WouldDo s (SetLayout layout) → Affects s (SetLayout layout) answer after → Affects s (SetLayout layout) Done after
+layout_does : {F : Type 0} (s after : State F) (layout : List Region) (answer : Answer) → WouldDo s (SetLayout layout) →
+    Affects s (SetLayout layout) answer after → Affects s (SetLayout layout) Done after
 unfolding effect
 layout_does s after layout answer would is = does_so (set_layout s layout) answer would.0 after would.1 is
 
-pub layout_performed : {F : Type 0} (may : May F) (s after : State F) (layout : List Region) (answer : Answer) → WouldDo s (SetLayout layout) → Performs may s (SetLayout layout) [] answer after →
+pub layout_performed : {F : Type 0} (may : May F) (s after : State F) (layout : List Region) (answer : Answer) →
+    WouldDo s (SetLayout layout) → Performs may s (SetLayout layout) [] answer after →
     Affects s (SetLayout layout) Done after
 layout_performed may s after layout (IsRefused why.OutOfMemory) would is = absurd (cc)
 layout_performed may s after layout (IsRefused why.NoPlace) would is = layout_does s after layout (IsRefused why.NoPlace) would is
@@ -116,9 +133,11 @@ layout_performed may s after layout (Copied h) would is = layout_does s after la
 layout_performed may s after layout (Pages ps) would is = layout_does s after layout (Pages ps) would is
 
 -- what is kept of it is an event
-pub layout_keeps : {F : Type 0} (may : May F) (s after : State F) (layout : List Region) (kept : Kept) → Affects s (SetLayout layout) Done after →
+pub layout_keeps :
+    {F : Type 0} (may : May F) (s after : State F) (layout : List Region) (kept : Kept) → Affects s (SetLayout layout) Done after →
     (command_of kept.entry.command ≡ SetLayout layout) × (came_of kept.entry.outcome ≡ replay.Done) × (kept.entry.pages.items ≡ []) →
-    (command_of kept.receipt.command ≡ SetLayout layout) × (came_of kept.receipt.outcome ≡ replay.Done) × (kept.receipt.pages.items ≡ []) → KeepsEvent may s (SetLayout layout) kept after
+    (command_of kept.receipt.command ≡ SetLayout layout) × (came_of kept.receipt.outcome ≡ replay.Done) × (kept.receipt.pages.items ≡ []) →
+    KeepsEvent may s (SetLayout layout) kept after
 layout_keeps may s after layout kept done entry receipt = record {
   plays = (entry.1, done, entry.2);
   entry = entry.0;

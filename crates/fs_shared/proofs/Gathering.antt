@@ -1,5 +1,6 @@
 -- what a share marked is set in the words that were gathered last, or the harvest took it before
-use Rattle.std.proofs.Common.{◌≡◌, ◌⊎◌, ℕ, ◌+◌, ◌*◌, ◌<◌, ◌≤◌, ◌/◌, ◌%◌, Bool, true, false, cond, List, length, set, refl, ap, ◌∙◌, subst, inl, inr, arith}
+use Rattle.std.proofs.Common.{◌≡◌, ◌⊎◌, ℕ, ◌+◌, ◌*◌, ◌<◌, ◌≤◌, ◌/◌, ◌%◌, Bool, true, false, cond, List, length, set, refl, ap, ◌∙◌, subst}
+use Rattle.std.proofs.Common.{inl, inr, arith}
 use Rattle.std.proofs.lemmas.Bool.{cases_lt}
 use Rattle.std.proofs.lemmas.Nat.Bits.{bit_at-lt, bit_at-zero}
 use Rattle.std.proofs.Math.ListN.{get_or-eq_default}
@@ -35,8 +36,10 @@ pub accounts_for : (h : Harvest) (share : Pass) (words : List ℕ) (page : ℕ) 
 accounts_for h share words page within settles marked none =
     let mine = tally_of h.pass.counts.pages page in
     let theirs = tally_of share.counts.pages page in
-    let both = subst (λ (t : Tally). Settles t (page_bit words page)) (at_each (λ p t. both_of t (tally_of share.counts.pages p)) h.pass.counts.pages page within) settles in
-    let is_marked : cond mine.marked true theirs.marked ≡ true = ap (λ (b : Bool). cond mine.marked true b) marked ∙ either_marked mine.marked in
+    let both = subst (λ (t : Tally). Settles t (page_bit words page))
+    (at_each (λ p t. both_of t (tally_of share.counts.pages p)) h.pass.counts.pages page within) settles in
+    let is_marked : cond mine.marked true theirs.marked ≡ true =
+    ap (λ (b : Bool). cond mine.marked true b) marked ∙ either_marked mine.marked in
     set_or_taken mine.off theirs.off (page_bit words page) (mine.on + theirs.on) (both.1.0 is_marked) both.0 none (bit_below words page)
 
 -- a page past the words is clear

@@ -14,7 +14,8 @@ abbrev pub Told : List Tally → Receipt → Type 0
 Told pages r = (page : ℕ) → page < length pages → Contains r.pages.items page → (tally_of pages page).marked ≡ true
 
 pub calls_mark : CallsMark
-calls_mark r old new m = All-cons (Told new) r [] (λ page within here. let k = m.count in (m.marked page (omega arith) here).0) (All-nil (Told new))
+calls_mark r old new m =
+    All-cons (Told new) r [] (λ page within here. let k = m.count in (m.marked page (omega arith) here).0) (All-nil (Told new))
 
 pub calls_keep : CallsKeepMarks
 calls_keep receipts pages old new m has =
@@ -23,20 +24,24 @@ calls_keep receipts pages old new m has =
 pub joins_keep : JoinsKeepMarks
 joins_keep receipts others ts us same mine theirs =
     All-append (Told (joined_with us ts)) receipts others
-    (All-weaker (Told ts) (Told (joined_with us ts)) (λ r told page within here. first page (short page within) (told page (short page within) here)) receipts mine)
-    (All-weaker (Told us) (Told (joined_with us ts)) (λ r told page within here. let s = short page within in second page s (told page (omega arith) here)) others theirs)
+    (All-weaker (Told ts) (Told (joined_with us ts))
+    (λ r told page within here. first page (short page within) (told page (short page within) here)) receipts mine)
+    (All-weaker (Told us) (Told (joined_with us ts))
+    (λ r told page within here. let s = short page within in second page s (told page (omega arith) here)) others theirs)
   where
     short : (page : ℕ) → page < length (joined_with us ts) → page < length ts
     short page within = let k = length-each_tally (λ p t. both_of t (tally_of us p)) 0 ts in omega arith
 
-    both : (page : ℕ) → page < length ts → (tally_of (joined_with us ts) page).marked ≡ cond (tally_of ts page).marked true (tally_of us page).marked
+    both : (page : ℕ) → page < length ts →
+        (tally_of (joined_with us ts) page).marked ≡ cond (tally_of ts page).marked true (tally_of us page).marked
     both page within = ap (λ (t : Tally). t.marked) (at_each (λ p t. both_of t (tally_of us p)) ts page within)
 
     first : (page : ℕ) → page < length ts → (tally_of ts page).marked ≡ true → (tally_of (joined_with us ts) page).marked ≡ true
     first page within marked = both page within ∙ ap (λ (b : Bool). cond b true (tally_of us page).marked) marked
 
     second : (page : ℕ) → page < length ts → (tally_of us page).marked ≡ true → (tally_of (joined_with us ts) page).marked ≡ true
-    second page within marked = both page within ∙ ap (λ (b : Bool). cond (tally_of ts page).marked true b) marked ∙ either_marked (tally_of ts page).marked
+    second page within marked =
+        both page within ∙ ap (λ (b : Bool). cond (tally_of ts page).marked true b) marked ∙ either_marked (tally_of ts page).marked
 
 pub meets_keep : MeetsKeepMarks
 meets_keep receipts ts us has =

@@ -18,7 +18,8 @@ IsReadAnswer (Bytes read) = Unit {0}
 IsReadAnswer (IsRefused e) = Unit {0}
 IsReadAnswer answer = ⊥
 
-either : {F : Type 0} (reaches : Bool) (answer : Answer) (s after : State F) (read : List ℕ) → (answer, after) ≡ (if◌then◌else◌ {A = Effect F} reaches (Bytes read, s) (no why.NoPlace s)) → IsReadAnswer answer
+either : {F : Type 0} (reaches : Bool) (answer : Answer) (s after : State F) (read : List ℕ) →
+    (answer, after) ≡ (if◌then◌else◌ {A = Effect F} reaches (Bytes read, s) (no why.NoPlace s)) → IsReadAnswer answer
 either {F} true answer s after read is = subst (λ (e : Effect F). IsReadAnswer e.0) (sym is) tt
 either {F} false answer s after read is = subst (λ (e : Effect F). IsReadAnswer e.0) (sym is) tt
 
@@ -27,7 +28,8 @@ unfolding effect
 affects s after a n answer is = either (reach (physical s.memory) Read a n) answer s after (bytes (physical s.memory) a n) is
 
 -- nothing else
-pub read_told : {F : Type 0} (may : May F) (s after : State F) (a n : ℕ) (answer : told.Answer) → ((read : Vec ℕ Global) → answer ≡ told.TheVariants.Bytes read → ⊥) →
+pub read_told : {F : Type 0} (may : May F) (s after : State F) (a n : ℕ) (answer : told.Answer) →
+    ((read : Vec ℕ Global) → answer ≡ told.TheVariants.Bytes read → ⊥) →
     ((e : Refusal) → answer ≡ told.TheVariants.Refused e → ⊥) →
     Performs may s (GuestRead a n) [] (answer_of answer) after → ⊥
 read_told may s after a n (told.TheVariants.Bytes read) unread unrefused is = unread read refl

@@ -12,7 +12,8 @@ use Rattle.fs_shared.specs.Laws.{CallsKeepSince, CallsMarkSince, EarlierAsksNoth
 
 -- what one receipt tells is marked since
 abbrev pub ToldSince : (word first : ℕ) → (taken pages : List Tally) → Receipt → Type 0
-ToldSince word first taken pages r = first ≤ r.number → (page : ℕ) → page / 64 ≡ word → page < length pages → Contains r.pages.items page → IsMarkedSince taken pages page
+ToldSince word first taken pages r =
+    first ≤ r.number → (page : ℕ) → page / 64 ≡ word → page < length pages → Contains r.pages.items page → IsMarkedSince taken pages page
 
 pub calls_mark_since : CallsMarkSince
 calls_mark_since word first taken r old new seen m =
@@ -24,22 +25,28 @@ pub calls_keep_since : CallsKeepSince
 calls_keep_since word first taken receipts pages old new m = (
   λ seen. seen_stays word taken pages old new m seen,
   λ has. All-weaker (ToldSince word first taken old) (ToldSince word first taken new)
-      (λ r told late page here within has_it. let k = m.count in since_stays taken pages old new m page (told late page here (omega arith) has_it))
+      (λ r told late page here within has_it. let k = m.count in
+      since_stays taken pages old new m page (told late page here (omega arith) has_it))
       receipts has,
 )
 
 pub earlier_asks_nothing : EarlierAsksNothing
 earlier_asks_nothing word first taken pages r early =
-    All-cons (ToldSince word first taken pages) r [] (λ late page here within told. absurd (omega arith)) (All-nil (ToldSince word first taken pages))
+    All-cons (ToldSince word first taken pages) r [] (λ late page here within told. absurd (omega arith))
+    (All-nil (ToldSince word first taken pages))
 
 pub joins_keep_since : JoinsKeepSince
 joins_keep_since word first taken receipts others ts us same mine theirs =
     All-append (ToldSince word first taken (joined_with us ts)) receipts others
     (All-weaker (ToldSince word first taken ts) (ToldSince word first taken (joined_with us ts))
-    (λ r told late page here within has_it. let s = short page within in let m = told late page here s has_it in since_by_joining taken us ts page s (omega arith))
+    (λ r told late page here within has_it. let s = short page within in
+    let m = told late page here s has_it in
+    since_by_joining taken us ts page s (omega arith))
     receipts mine)
     (All-weaker (ToldSince word first taken us) (ToldSince word first taken (joined_with us ts))
-    (λ r told late page here within has_it. let s = short page within in let m = told late page here (omega arith) has_it in since_by_joining taken us ts page s (omega arith))
+    (λ r told late page here within has_it. let s = short page within in
+    let m = told late page here (omega arith) has_it in
+    since_by_joining taken us ts page s (omega arith))
     others theirs)
   where
     short : (page : ℕ) → page < length (joined_with us ts) → page < length ts

@@ -15,7 +15,8 @@ power_up d = let one : suc d ≡ 1 + d = omega arith in ap (λ (k : ℕ). 2 ^ k)
 pub joins_give_back : JoinsGiveBack
 joins_give_back v a b p q =
     halves_are a.parts b.parts v.parts (2 ^ v.depth) (2 ^ a.depth) (2 ^ b.depth)
-    (ap (λ (k : ℕ). a.parts * k) (sym (power_up v.depth)) ∙ p) (ap (λ (k : ℕ). b.parts * k) (sym (power_up v.depth)) ∙ q) ∙ ap (λ (k : ℕ). v.parts * k) (sym (pow-add 2 a.depth b.depth))
+    (ap (λ (k : ℕ). a.parts * k) (sym (power_up v.depth)) ∙ p) (ap (λ (k : ℕ). b.parts * k) (sym (power_up v.depth)) ∙ q)
+    ∙ ap (λ (k : ℕ). v.parts * k) (sym (pow-add 2 a.depth b.depth))
 
 whole_is : (a b y z : ℕ) → a * 2 ≡ y → b * 2 ≡ z → a * z + b * y ≡ y * z
 whole_is a b y z p q =

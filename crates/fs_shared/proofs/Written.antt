@@ -1,5 +1,6 @@
 -- which bytes stores change
-use Rattle.std.proofs.Common.{arith, ⊎_elim, ◌+◌, inl, inr, ◌≡◌, ◌⊎◌, ◌/◌, ℕ, zero, suc, Bool, List, [], ◌∷◌, length, map, Option, Some, None, refl, ap, ◌∙◌, subst}
+use Rattle.std.proofs.Common.{arith, ⊎_elim, ◌+◌, inl, inr, ◌≡◌, ◌⊎◌, ◌/◌, ℕ, zero, suc, Bool, List, [], ◌∷◌, length, map, Option, Some}
+use Rattle.std.proofs.Common.{None, refl, ap, ◌∙◌, subst}
 use Rattle.std.specs.Prelude.{slice_get, slice_set, option_and_then}
 use Rattle.std.specs.List.{Contains, cons_option, filter_map}
 use Rattle.std.proofs.lemmas.Bool.{cases_eq}
@@ -29,7 +30,8 @@ set_length [] i x = refl
 set_length (z ∷ xs) zero x = refl
 set_length (z ∷ xs) (suc i) x = ap suc (set_length xs i x)
 
-marks_keep : (l : List Block) (i j offset : ℕ) (f : List Bool → List Bool) → byte_of offset (slice_get (changed_at l i (λ (b : Block). record b { marks = f b.marks })) j) ≡ byte_of offset (slice_get l j)
+marks_keep : (l : List Block) (i j offset : ℕ) (f : List Bool → List Bool) →
+    byte_of offset (slice_get (changed_at l i (λ (b : Block). record b { marks = f b.marks })) j) ≡ byte_of offset (slice_get l j)
 marks_keep [] i j offset f = refl
 marks_keep (b ∷ l) zero zero offset f = refl
 marks_keep (b ∷ l) zero (suc j) offset f = refl
@@ -37,7 +39,8 @@ marks_keep (b ∷ l) (suc i) zero offset f = refl
 marks_keep (b ∷ l) (suc i) (suc j) offset f = marks_keep l i j offset f
 
 one_keeps : (l : List Block) (i j at offset x : ℕ) → (i ≡ j → at ≡ offset → ⊥) →
-    byte_of offset (slice_get (changed_at l i (λ (b : Block). record b { bytes = slice_set b.bytes at x })) j) ≡ byte_of offset (slice_get l j)
+    byte_of offset (slice_get (changed_at l i (λ (b : Block). record b { bytes = slice_set b.bytes at x })) j)
+    ≡ byte_of offset (slice_get l j)
 one_keeps [] i j at offset x other = refl
 one_keeps (b ∷ l) zero zero at offset x other = set_other b.bytes at offset x (other refl)
 one_keeps (b ∷ l) zero (suc j) at offset x other = refl
@@ -52,14 +55,16 @@ put_keeps : (h : Host) (q p : Place) (x : ℕ) → (q.block ≡ p.block → q.of
 put_keeps h q p x other = mark_keeps q.io q (with_byte h q x) p ∙ one_keeps h.blocks q.block p.block q.offset p.offset x other
 
 same_page : (ls : List ℕ) (q p : Place) → q.block ≡ p.block → q.offset ≡ p.offset → page_of ls q ≡ page_of ls p
-same_page ls q p block offset = ap (λ (k : ℕ). first_page ls k + q.offset / 4096) block ∙ ap (λ (k : ℕ). first_page ls p.block + k / 4096) offset
+same_page ls q p block offset =
+    ap (λ (k : ℕ). first_page ls k + q.offset / 4096) block ∙ ap (λ (k : ℕ). first_page ls p.block + k / 4096) offset
 
 -- a byte that is put changes no other place
 put_or : (ls : List ℕ) (h : Host) (q p : Place) (x : ℕ) → (byte_at (put_byte h q x) p ≡ byte_at h p) ⊎ (page_of ls q ≡ page_of ls p)
 put_or ls h q p x =
     ⊎_elim
     (λ (block : q.block ≡ p.block).
-    ⊎_elim (λ (offset : q.offset ≡ p.offset). inr (same_page ls q p block offset)) (λ (apart : q.offset ≡ p.offset → ⊥). inl (put_keeps h q p x (λ b o. apart o))) (cases_eq q.offset p.offset))
+    ⊎_elim (λ (offset : q.offset ≡ p.offset). inr (same_page ls q p block offset))
+    (λ (apart : q.offset ≡ p.offset → ⊥). inl (put_keeps h q p x (λ b o. apart o))) (cases_eq q.offset p.offset))
     (λ (apart : q.block ≡ p.block → ⊥). inl (put_keeps h q p x (λ b o. apart b)))
     (cases_eq q.block p.block)
 
@@ -69,7 +74,8 @@ put_or ls h q p x =
 abbrev pub KeptOr : List ℕ → Place → Memory → List Place → Host → Type 0
 KeptOr ls p m written after = (byte_at after p ≡ byte_at m.host p) ⊎ Contains (map (page_of ls) written) (page_of ls p)
 
-put_then : (ls : List ℕ) (p q : Place) (m : Memory) (byte : ℕ) (later : List Place) (after : Host) → KeptOr ls p (stored_at m byte (Some q)) later after → KeptOr ls p m (q ∷ later) after
+put_then : (ls : List ℕ) (p q : Place) (m : Memory) (byte : ℕ) (later : List Place) (after : Host) →
+    KeptOr ls p (stored_at m byte (Some q)) later after → KeptOr ls p m (q ∷ later) after
 put_then ls p q m byte later after (inr page) = inr (Contains-append_right (page_of ls q ∷ []) (map (page_of ls) later) (page_of ls p) page)
 put_then ls p q m byte later after (inl kept) =
     ⊎_elim
@@ -77,7 +83,8 @@ put_then ls p q m byte later after (inl kept) =
     (λ (page : page_of ls q ≡ page_of ls p). inr (0, omega arith, page))
     (put_or ls m.host q p byte)
 
-one_then : (ls : List ℕ) (p : Place) (m : Memory) (byte : ℕ) (o : Option Place) (later : List Place) (after : Host) → KeptOr ls p (stored_at m byte o) later after → KeptOr ls p m (cons_option o later) after
+one_then : (ls : List ℕ) (p : Place) (m : Memory) (byte : ℕ) (o : Option Place) (later : List Place) (after : Host) →
+    KeptOr ls p (stored_at m byte o) later after → KeptOr ls p m (cons_option o later) after
 one_then ls p m byte None later after rest = rest
 one_then ls p m byte (Some q) later after rest = put_then ls p q m byte later after rest
 
@@ -103,12 +110,15 @@ stores_or ls p m [] = inl refl
 stores_or ls p m (w ∷ ws) =
     let later : List ℕ = map (λ (w : ℕ × ℕ). w.0) ws in
     let there = location m Write w.0 in
-    subst (λ (f : ℕ → Option Place). KeptOr ls p m (cons_option there (filter_map f later)) (stored_all (stored m w) ws).host) (location_stays m w.1 there)
-    (one_then ls p m w.1 there (filter_map (location (stored m w) Write) later) (stored_all (stored m w) ws).host (stores_or ls p (stored m w) ws))
+    subst (λ (f : ℕ → Option Place). KeptOr ls p m (cons_option there (filter_map f later)) (stored_all (stored m w) ws).host)
+    (location_stays m w.1 there)
+    (one_then ls p m w.1 there (filter_map (location (stored m w) Write) later) (stored_all (stored m w) ws).host
+    (stores_or ls p (stored m w) ws))
 
 -- ---- the lengths of blocks stay
 
-changed_length : (l : List Block) (i : ℕ) (g : Block → Block) → ((b : Block) → length (g b).bytes ≡ length b.bytes) → map (λ (b : Block). length b.bytes) (changed_at l i g) ≡ map (λ (b : Block). length b.bytes) l
+changed_length : (l : List Block) (i : ℕ) (g : Block → Block) → ((b : Block) → length (g b).bytes ≡ length b.bytes) →
+    map (λ (b : Block). length b.bytes) (changed_at l i g) ≡ map (λ (b : Block). length b.bytes) l
 changed_length [] i g same = refl
 changed_length (b ∷ l) zero g same = ap (λ (n : ℕ). n ∷ map (λ (b : Block). length b.bytes) l) (same b)
 changed_length (b ∷ l) (suc i) g same = ap (λ (ns : List ℕ). length b.bytes ∷ ns) (changed_length l i g same)
@@ -119,7 +129,8 @@ marked_lengths (Some a) p h = refl
 
 stored_lengths : (m : Memory) (x : ℕ) (o : Option Place) → lengths (stored_at m x o).host ≡ lengths m.host
 stored_lengths m x None = refl
-stored_lengths m x (Some p) = marked_lengths p.io p (with_byte m.host p x) ∙ changed_length m.host.blocks p.block _ (λ b. set_length b.bytes p.offset x)
+stored_lengths m x (Some p) =
+    marked_lengths p.io p (with_byte m.host p x) ∙ changed_length m.host.blocks p.block _ (λ b. set_length b.bytes p.offset x)
 
 pub stores_lengths : (m : Memory) (ws : List (ℕ × ℕ)) → lengths (stored_all m ws).host ≡ lengths m.host
 unfolding stored_all

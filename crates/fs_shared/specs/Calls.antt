@@ -17,39 +17,54 @@ use Rattle.fs_shared.specs.Replay.{Plays}
 use Rattle.fs_shared.specs.Held.{HasWaiting, Held, WouldDo, came_of}
 
 -- one entry more, which is what the call did, and the receipt of it
-pub record Journals {F : Type 0} (may : May F) (before : Held F) (command : Command) (r : Receipt) (after : Held F) : Type 0 where
+pub record Journals {F : Type 0} (may : May F) (before : Held F) (command : Command) (r : Receipt)
+    (after : Held F) : Type 0 where
   pub plays : Plays may before.machine command (came_of r.outcome) r.pages.items after.machine
   pub journal : after.journal ≡
-      before.journal ++ record { command = command; outcome = came_of r.outcome; options = after.machine.options; pages = r.pages.items } ∷ []
+      before.journal ++ record {
+        command = command;
+        outcome = came_of r.outcome;
+        options = after.machine.options;
+        pages = r.pages.items;
+      } ∷ []
   pub start : after.start ≡ before.start
   pub number : r.number ≡ length before.journal
   pub receipt : command_of r.command ≡ command
 
 -- a step of queue i that changes nothing, and ends so
 abbrev pub CallChangesNothing : {F : Type 0} → May F → Held F → ℕ → step.StepEnd → Held F → Type 0
-CallChangesNothing may before i outcome after = Step may before.machine i [] outcome before.machine × (after ≡ before)
+CallChangesNothing may before i outcome after =
+    Step may before.machine i [] outcome before.machine × (after ≡ before)
 
 -- a kick for one chain: nothing waits, the queue is stopped or it is missing only if the step says so;
 -- a failed allocation changes nothing, and comes only if something waits
 abbrev pub KicksBy : {F : Type 0} → May F → Held F → ℕ → Result (kicked.Kicked) DeviceError → Held F → Type 0
 KicksBy may before i (Ok (kicked.TheVariants.Done r)) after = Journals may before (Kick i 1) r after
 KicksBy may before i (Ok kicked.TheVariants.Idle) after = CallChangesNothing may before i step.Idle after
-KicksBy may before i (Err device.NoSuchQueue) after = CallChangesNothing may before i (step.Refused device.NoSuchQueue) after
-KicksBy may before i (Err (device.Queue stop.Stopped)) after = CallChangesNothing may before i (step.Refused (device.Queue stop.Stopped)) after
-KicksBy may before i (Err (device.Queue stop.OutOfMemory)) after = HasWaiting before.machine i × (after ≡ before)
+KicksBy may before i (Err device.NoSuchQueue) after =
+    CallChangesNothing may before i (step.Refused device.NoSuchQueue) after
+KicksBy may before i (Err (device.Queue stop.Stopped)) after =
+    CallChangesNothing may before i (step.Refused (device.Queue stop.Stopped)) after
+KicksBy may before i (Err (device.Queue stop.OutOfMemory)) after =
+    HasWaiting before.machine i × (after ≡ before)
 KicksBy may before i (Err (device.Queue _)) after = ⊥
 
--- a guest's write or another layout: refused only if the machine refuses it so; a failed allocation changes nothing, and comes only where the
--- machine would make the change
-abbrev pub JournalsOrRefuses : {F : Type 0} → May F → Held F → Command → Result Receipt Refusal → Held F → Type 0
+-- a guest's write or another layout: refused only if the machine refuses it so; a failed allocation changes
+-- nothing, and comes only where the machine would make the change
+abbrev pub JournalsOrRefuses :
+    {F : Type 0} → May F → Held F → Command → Result Receipt Refusal → Held F → Type 0
 JournalsOrRefuses may before command (Ok r) after = Journals may before command r after
-JournalsOrRefuses may before command (Err why.OutOfMemory) after = WouldDo before.machine command × (after ≡ before)
-JournalsOrRefuses may before command (Err e) after = Affects before.machine command (IsRefused e) before.machine × (after ≡ before)
+JournalsOrRefuses may before command (Err why.OutOfMemory) after =
+    WouldDo before.machine command × (after ≡ before)
+JournalsOrRefuses may before command (Err e) after =
+    Affects before.machine command (IsRefused e) before.machine × (after ≡ before)
 
 -- a guest's read: what the machine answers to it, and nothing changes
 abbrev pub ReadsBy : {F : Type 0} → May F → Held F → (addr len : ℕ) → Result (Vec ℕ Global) Refusal → Type 0
-ReadsBy may held addr len (Ok bytes) = Performs may held.machine (GuestRead addr len) [] (Bytes bytes.items) held.machine
-ReadsBy may held addr len (Err e) = Performs may held.machine (GuestRead addr len) [] (IsRefused e) held.machine
+ReadsBy may held addr len (Ok bytes) =
+    Performs may held.machine (GuestRead addr len) [] (Bytes bytes.items) held.machine
+ReadsBy may held addr len (Err e) =
+    Performs may held.machine (GuestRead addr len) [] (IsRefused e) held.machine
 
 -- whether a kick was journaled
 abbrev pub did_kick : Result (kicked.Kicked) DeviceError → Bool

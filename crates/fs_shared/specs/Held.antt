@@ -15,9 +15,11 @@ use Rattle.fs_shared.specs.Replay.{Outcome, Done, Served, Stopped, ReplayEntry}
 abbrev pub HasOpenQueue : {F : Type 0} → State F → ℕ → Type 0
 HasOpenQueue s i = IsSomeAnd (slice_get s.queues i) (λ q. q.stopped ≡ false)
 
--- there is a queue of this number that isn't stopped, and something waits at its position: a chain, or what stops it
+-- there is a queue of this number that isn't stopped, and something waits at its position: a chain, or what
+-- stops it
 abbrev pub HasWaiting : {F : Type 0} → State F → ℕ → Type 0
-HasWaiting s i = IsSomeAnd (slice_get s.queues i) (λ q. (q.stopped ≡ false) × (is_idle (offer s.memory s.limit q) ≡ false))
+HasWaiting s i =
+    IsSomeAnd (slice_get s.queues i) (λ q. (q.stopped ≡ false) × (is_idle (offer s.memory s.limit q) ≡ false))
 
 -- the machine makes this change if it is asked for
 abbrev pub WouldDo : {F : Type 0} → State F → Command → Type 0
@@ -31,13 +33,20 @@ came_of (told.TheVariants.Stopped e) = Stopped e
 
 -- an entry of the journal
 abbrev pub entry_of : JournalEntry → ReplayEntry
-entry_of e = record { command = command_of e.command; outcome = came_of e.outcome; options = e.options.0; pages = e.pages.items }
+entry_of e =
+    record {
+      command = command_of e.command;
+      outcome = came_of e.outcome;
+      options = e.options.0;
+      pages = e.pages.items;
+    }
 
 -- the journal
 abbrev pub journal_of : List JournalEntry → List ReplayEntry
 journal_of entries = map entry_of entries
 
--- what no call on a shared device changes: the numbers of the table and of the set of I/O pages, whether the table is used, the limit and the page size
+-- what no call on a shared device changes: the numbers of the table and of the set of I/O pages, whether the
+-- table is used, the limit and the page size
 pub record Fixed : Type 0 where
   pub table : ℕ
   pub io_pages : ℕ
@@ -47,12 +56,25 @@ pub record Fixed : Type 0 where
 
 -- those of a state
 abbrev pub fixed_of : {F : Type 0} → State F → Fixed
-fixed_of s = record { table = s.memory.table; io_pages = s.memory.io_pages; translates = s.memory.translates; limit = s.limit; page_size = s.page_size }
+fixed_of s =
+    record {
+      table = s.memory.table;
+      io_pages = s.memory.io_pages;
+      translates = s.memory.translates;
+      limit = s.limit;
+      page_size = s.page_size;
+    }
 
 -- the state in which the journal began
 abbrev pub start_of : Start → Fixed → State (Unit {0})
 start_of start fixed = record {
-  memory = record { host = start.host; layout = start.layout; table = fixed.table; io_pages = fixed.io_pages; translates = fixed.translates };
+  memory = record {
+    host = start.host;
+    layout = start.layout;
+    table = fixed.table;
+    io_pages = fixed.io_pages;
+    translates = fixed.translates;
+  };
   queues = start.queues.items;
   options = start.options.0;
   files = tt;

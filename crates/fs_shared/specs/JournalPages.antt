@@ -10,7 +10,8 @@ use Rattle.fs_shared.specs.Replay.{ReplayEntry, Replays}
 abbrev pub joined_pages : List ReplayEntry → List ℕ
 joined_pages entries = flat_map (λ e. e.pages) entries
 
--- the blocks of two hosts have the same lengths, and the page of each place where a byte differs is among these
+-- the blocks of two hosts have the same lengths, and the page of each place where a byte differs is among
+-- these
 pub record DiffersWithin (pages : List ℕ) (before after : Host) : Type 0 where
   pub block_lengths : lengths after ≡ lengths before
   pub bytes : (p : Place) → byte_at after p ≢ byte_at before p → Contains pages (page_of (lengths before) p)
@@ -24,5 +25,8 @@ JournalsTellPages =
 -- the first entries lead to a state from which the others lead on
 abbrev pub JournalsSplit : Type 0
 JournalsSplit =
-    (start after : State (Unit {0})) (first : ℕ) (journal : List ReplayEntry) → Replays start journal after →
-    (since : State (Unit {0})) × Replays start (take first journal) since × Replays since (drop first journal) after
+    (start after : State (Unit {0})) (first : ℕ) (journal : List ReplayEntry) →
+    Replays start journal after →
+    (since : State (Unit {0}))
+    × Replays start (take first journal) since
+    × Replays since (drop first journal) after

@@ -1,5 +1,6 @@
 -- What a machine did, as it is kept for a journal and for a receipt.
-use Rattle.std.specs.Prelude.{◌≡◌, ◌≤◌, ◌+◌, ℕ, List, [], length, Option, Some, None, Result, Ok, Err, vec_capacity}
+use Rattle.std.specs.Prelude.{◌≡◌, ◌≤◌, ◌+◌, ℕ, List, [], length, Option, Some, None, Result, Ok, Err}
+use Rattle.std.specs.Prelude.{vec_capacity}
 use Rattle.fs_queue.specs.declared.fault.QueueError.TheVariants as stop
 use Rattle.fs_queue.specs.Windows.{Taken, room_places}
 use Rattle.virtiofsd_fuse.specs.Serving.{May}
@@ -16,7 +17,8 @@ use Rattle.fs_shared.specs.Replay.{Plays}
 use Rattle.fs_shared.specs.ReturnRuns.{AreReturnRuns}
 
 -- an event of a machine, and the same for the receipt
-pub record KeepsEvent {F : Type 0} (may : May F) (before : State F) (command : Command) (kept : Kept) (after : State F) : Type 0 where
+pub record KeepsEvent {F : Type 0} (may : May F) (before : State F) (command : Command) (kept : Kept)
+    (after : State F) : Type 0 where
   pub plays : Plays may before command (came_of kept.entry.outcome) kept.entry.pages.items after
   pub entry : command_of kept.entry.command ≡ command
   pub receipt : command_of kept.receipt.command ≡ command
@@ -28,15 +30,19 @@ abbrev pub StepChangesNothing : {F : Type 0} → May F → State F → ℕ → s
 StepChangesNothing may before i outcome after = Step may before i [] outcome before × (after ≡ before)
 
 -- a kick of a machine for one chain, by cases on the answer, as on a shared device
-abbrev pub KickKeeps : {F : Type 0} → May F → State F → ℕ → Result (Option Kept) DeviceError → State F → Type 0
+abbrev pub KickKeeps :
+    {F : Type 0} → May F → State F → ℕ → Result (Option Kept) DeviceError → State F → Type 0
 KickKeeps may before i (Ok (Some kept)) after = KeepsEvent may before (Kick i 1) kept after
 KickKeeps may before i (Ok None) after = StepChangesNothing may before i step.Idle after
-KickKeeps may before i (Err device.NoSuchQueue) after = StepChangesNothing may before i (step.Refused device.NoSuchQueue) after
-KickKeeps may before i (Err (device.Queue stop.Stopped)) after = StepChangesNothing may before i (step.Refused (device.Queue stop.Stopped)) after
+KickKeeps may before i (Err device.NoSuchQueue) after =
+    StepChangesNothing may before i (step.Refused device.NoSuchQueue) after
+KickKeeps may before i (Err (device.Queue stop.Stopped)) after =
+    StepChangesNothing may before i (step.Refused (device.Queue stop.Stopped)) after
 KickKeeps may before i (Err (device.Queue stop.OutOfMemory)) after = HasWaiting before i × (after ≡ before)
 KickKeeps may before i (Err (device.Queue _)) after = ⊥
 
--- room for a copy of what is exchanged and for the pages of its return, where a chain with this request was taken from blocks of these lengths
+-- room for a copy of what is exchanged and for the pages of its return, where a chain with this request was
+-- taken from blocks of these lengths
 pub record IsRoomFor (block_lengths : List ℕ) (t : Taken) (bytes : List ℕ) (room : ReplyRoom) : Type 0 where
   pub request : room.request.items ≡ bytes
   pub reply : room.reply.items ≡ []

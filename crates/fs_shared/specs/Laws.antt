@@ -1,8 +1,10 @@
--- What a file system may do is forgotten, each call keeps a journal that replays, what a share marked stays marked, and passes are joined to the whole.
+-- What a file system may do is forgotten, each call keeps a journal that replays, what a share marked stays
+-- marked, and passes are joined to the whole.
 use Rattle.std.specs.Prelude.{◌≡◌, ◌≢◌, ℕ, ◌*◌, ◌^◌, ◌<◌, ◌++◌, ◌∷◌, [], List, Result, length}
 use Rattle.vm_atomic_bitmaps.specs.declared.counts.PageCounts.{PageCounts}
 use Rattle.vm_atomic_bitmaps.specs.declared.counts.Tally.{Tally}
-use Rattle.vm_atomic_bitmaps.specs.Counts.{both_passes, cleared_by, first_pass, in_word, joined_with, kept_half, met_with, new_half, IsWhole}
+use Rattle.vm_atomic_bitmaps.specs.Counts.{both_passes, cleared_by, first_pass, in_word, joined_with}
+use Rattle.vm_atomic_bitmaps.specs.Counts.{kept_half, met_with, new_half, IsWhole}
 use Rattle.fs_shared.specs.Portion.{HasSeen, MarksPages}
 use Rattle.virtiofsd_fuse.specs.Serving.{May}
 use Rattle.plain_machine.specs.Step.{State, Calls, StepEnd, Step}
@@ -20,12 +22,15 @@ use Rattle.fs_shared.specs.Replay as replay
 -- a step is one of what is left, with the same calls and outcome, if a file system may do anything
 abbrev pub StepsForget : {F : Type 0} → May F → Type 0
 StepsForget {F} may =
-    (s after : State F) (i : ℕ) (calls : Calls) (outcome : StepEnd) → Step may s i calls outcome after → Step Anything (forget s) i calls outcome (forget after)
+    (s after : State F) (i : ℕ) (calls : Calls) (outcome : StepEnd) →
+    Step may s i calls outcome after →
+    Step Anything (forget s) i calls outcome (forget after)
 
 -- so is an event, with the same pages
 abbrev pub EventsForget : {F : Type 0} → May F → Type 0
 EventsForget {F} may =
-    (s after : State F) (command : Command) (outcome : replay.Outcome) (pages : List ℕ) → Plays may s command outcome pages after →
+    (s after : State F) (command : Command) (outcome : replay.Outcome) (pages : List ℕ) →
+    Plays may s command outcome pages after →
     Plays Anything (forget s) command outcome pages (forget after)
 
 -- from its start the journal replays to what the machine holds
@@ -35,12 +40,17 @@ HoldsReplay h = Replays h.start h.journal (forget h.machine)
 -- it does after a kick that is told so, if it did before
 abbrev pub KicksReplay : {F : Type 0} → May F → Type 0
 KicksReplay {F} may =
-    (before after : Held F) (i : ℕ) (result : Result Kicked DeviceError) → HoldsReplay before → KicksBy may before i result after → HoldsReplay after
+    (before after : Held F) (i : ℕ) (result : Result Kicked DeviceError) →
+    HoldsReplay before →
+    KicksBy may before i result after →
+    HoldsReplay after
 
 -- and after a write or another layout
 abbrev pub ActsReplay : {F : Type 0} → May F → Type 0
 ActsReplay {F} may =
-    (before after : Held F) (command : Command) (result : Result Receipt Refusal) → HoldsReplay before → JournalsOrRefuses may before command result after →
+    (before after : Held F) (command : Command) (result : Result Receipt Refusal) →
+    HoldsReplay before →
+    JournalsOrRefuses may before command result after →
     HoldsReplay after
 
 -- a call has marked what its receipt tells
@@ -49,39 +59,58 @@ CallsMark = (r : Receipt) (old new : List Tally) → MarksPages r.pages.items ol
 
 -- a call keeps what was marked
 abbrev pub CallsKeepMarks : Type 0
-CallsKeepMarks = (receipts : List Receipt) (pages : List ℕ) (old new : List Tally) → MarksPages pages old new → HasMarked old receipts → HasMarked new receipts
+CallsKeepMarks =
+    (receipts : List Receipt) (pages : List ℕ) (old new : List Tally) →
+    MarksPages pages old new →
+    HasMarked old receipts →
+    HasMarked new receipts
 
 -- two shares in one have marked what either has
 abbrev pub JoinsKeepMarks : Type 0
 JoinsKeepMarks =
-    (receipts others : List Receipt) (ts us : List Tally) → length us ≡ length ts → HasMarked ts receipts → HasMarked us others →
+    (receipts others : List Receipt) (ts us : List Tally) →
+    length us ≡ length ts →
+    HasMarked ts receipts →
+    HasMarked us others →
     HasMarked (joined_with us ts) (receipts ++ others)
 
 -- a share that takes over what was seen keeps what it marked
 abbrev pub MeetsKeepMarks : Type 0
-MeetsKeepMarks = (receipts : List Receipt) (ts us : List Tally) → HasMarked ts receipts → HasMarked (met_with us ts) receipts
+MeetsKeepMarks =
+    (receipts : List Receipt) (ts us : List Tally) →
+    HasMarked ts receipts →
+    HasMarked (met_with us ts) receipts
 
 -- what a call marks of a word, once its share has seen what a harvest took of it, is marked since
 abbrev pub CallsMarkSince : Type 0
 CallsMarkSince =
-    (word first : ℕ) (taken : List Tally) (r : Receipt) (old new : List Tally) → HasSeen word taken old → MarksPages r.pages.items old new →
+    (word first : ℕ) (taken : List Tally) (r : Receipt) (old new : List Tally) →
+    HasSeen word taken old →
+    MarksPages r.pages.items old new →
     HasMarkedSince word first taken new (r ∷ [])
 
 -- a call keeps what its share has seen, and what was marked since
 abbrev pub CallsKeepSince : Type 0
 CallsKeepSince =
-    (word first : ℕ) (taken : List Tally) (receipts : List Receipt) (pages : List ℕ) (old new : List Tally) → MarksPages pages old new →
-    (HasSeen word taken old → HasSeen word taken new) × (HasMarkedSince word first taken old receipts → HasMarkedSince word first taken new receipts)
+    (word first : ℕ) (taken : List Tally) (receipts : List Receipt) (pages : List ℕ) (old new : List Tally) →
+    MarksPages pages old new →
+    (HasSeen word taken old → HasSeen word taken new)
+    × (HasMarkedSince word first taken old receipts → HasMarkedSince word first taken new receipts)
 
 -- a receipt of an earlier entry asks nothing
 abbrev pub EarlierAsksNothing : Type 0
-EarlierAsksNothing = (word first : ℕ) (taken pages : List Tally) (r : Receipt) → r.number < first → HasMarkedSince word first taken pages (r ∷ [])
+EarlierAsksNothing =
+    (word first : ℕ) (taken pages : List Tally) (r : Receipt) →
+    r.number < first →
+    HasMarkedSince word first taken pages (r ∷ [])
 
 -- two shares in one have marked since what either has
 abbrev pub JoinsKeepSince : Type 0
 JoinsKeepSince =
-    (word first : ℕ) (taken : List Tally) (receipts others : List Receipt) (ts us : List Tally) → length us ≡ length ts →
-    HasMarkedSince word first taken ts receipts → HasMarkedSince word first taken us others →
+    (word first : ℕ) (taken : List Tally) (receipts others : List Receipt) (ts us : List Tally) →
+    length us ≡ length ts →
+    HasMarkedSince word first taken ts receipts →
+    HasMarkedSince word first taken us others →
     HasMarkedSince word first taken (joined_with us ts) (receipts ++ others)
 
 -- a share that takes over what was seen keeps what it marked since
@@ -93,8 +122,10 @@ MeetsKeepSince =
 -- a gather of another word leaves what was marked of this one since
 abbrev pub GathersKeepSince : Type 0
 GathersKeepSince =
-    (word other found first : ℕ) (taken pages : List Tally) (receipts : List Receipt) → word ≢ other →
-    HasMarkedSince word first taken pages receipts → HasMarkedSince word first (cleared_by (in_word other) found taken) pages receipts
+    (word other found first : ℕ) (taken pages : List Tally) (receipts : List Receipt) →
+    word ≢ other →
+    HasMarkedSince word first taken pages receipts →
+    HasMarkedSince word first (cleared_by (in_word other) found taken) pages receipts
 
 -- two passes have the same part of all
 abbrev pub HaveSamePart : PageCounts → PageCounts → Type 0
@@ -102,8 +133,16 @@ HaveSamePart v w = w.parts * 2 ^ v.depth ≡ v.parts * 2 ^ w.depth
 
 -- the halves of a share's pass, whatever they have counted since, have its part once they are one again
 abbrev pub JoinsGiveBack : Type 0
-JoinsGiveBack = (v a b : PageCounts) → HaveSamePart (kept_half v) a → HaveSamePart (new_half v) b → HaveSamePart v (both_passes a b)
+JoinsGiveBack =
+    (v a b : PageCounts) →
+    HaveSamePart (kept_half v) a →
+    HaveSamePart (new_half v) b →
+    HaveSamePart v (both_passes a b)
 
 -- a harvest and a share with the parts that a new device's have are the whole
 abbrev pub HalvesAreWhole : Type 0
-HalvesAreWhole = (len : ℕ) (h v : PageCounts) → HaveSamePart (new_half (first_pass len)) h → HaveSamePart (kept_half (first_pass len)) v → IsWhole (both_passes h v)
+HalvesAreWhole =
+    (len : ℕ) (h v : PageCounts) →
+    HaveSamePart (new_half (first_pass len)) h →
+    HaveSamePart (kept_half (first_pass len)) v →
+    IsWhole (both_passes h v)

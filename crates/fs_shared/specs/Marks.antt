@@ -1,5 +1,6 @@
 -- What the calls on a shared device mark in its bitmap of pages, and what a harvest takes of it.
-use Rattle.std.specs.Prelude.{◌≡◌, ◌≢◌, ◌⊎◌, ℕ, ◌/◌, ◌<◌, ◌≤◌, true, List, [], drop, length, All, Result, Ok, Err}
+use Rattle.std.specs.Prelude.{◌≡◌, ◌≢◌, ◌⊎◌, ℕ, ◌/◌, ◌<◌, ◌≤◌, true, List, [], drop, length, All, Result, Ok}
+use Rattle.std.specs.Prelude.{Err}
 use Rattle.std.specs.List.{Contains}
 use Rattle.vm_bitmaps.specs.Words.{page_bit}
 use Rattle.vm_atomic_bitmaps.specs.declared.counts.Tally.{Tally}
@@ -48,38 +49,66 @@ told_pages (Err e) = []
 
 -- the pass has marked each page of the receipts that its bitmap has
 abbrev pub HasMarked : List Tally → List Receipt → Type 0
-HasMarked pages receipts = All (λ r. (page : ℕ) → page < length pages → Contains r.pages.items page → (tally_of pages page).marked ≡ true) receipts
+HasMarked pages receipts =
+    All (λ r. (page : ℕ) →
+    page < length pages →
+    Contains r.pages.items page →
+    (tally_of pages page).marked ≡ true) receipts
 
 -- the page is set in the words, or the harvest took it before
 abbrev pub IsSetOrTaken : (words : List ℕ) → Harvest → (page : ℕ) → Type 0
 IsSetOrTaken words h page = (page_bit words page ≡ 1) ⊎ (0 < (tally_of h.pass.counts.pages page).off)
 
--- where the share marked what all receipts of the journal tell, and share and harvest have every part of the passes, each page of the
--- bitmap in which the hosts differ is set in the words, or the harvest took it before
-abbrev pub AccountsFor : Pass → Harvest → List JournalEntry → (before after : Host) → (words : List ℕ) → Type 0
+-- where the share marked what all receipts of the journal tell, and share and harvest have every part of the
+-- passes, each page of the bitmap in which the hosts differ is set in the words, or the harvest took it
+-- before
+abbrev pub AccountsFor :
+    Pass → Harvest → List JournalEntry → (before after : Host) → (words : List ℕ) → Type 0
 AccountsFor share h journal before after words =
     IsWhole (both_passes h.pass.counts share.counts) →
-    (receipts : List Receipt) → AreAllReceipts journal receipts → HasMarked share.counts.pages receipts →
-    (p : Place) → byte_at after p ≢ byte_at before p → page_of (lengths before) p < h.bitmap.len → IsSetOrTaken words h (page_of (lengths before) p)
+    (receipts : List Receipt) →
+    AreAllReceipts journal receipts →
+    HasMarked share.counts.pages receipts →
+    (p : Place) →
+    byte_at after p ≢ byte_at before p →
+    page_of (lengths before) p < h.bitmap.len →
+    IsSetOrTaken words h (page_of (lengths before) p)
 
--- each page of a word, that the bitmap has, of the receipts with numbers from `first` on was marked since another pass took it last
+-- each page of a word, that the bitmap has, of the receipts with numbers from `first` on was marked since
+-- another pass took it last
 abbrev pub HasMarkedSince : (word first : ℕ) → (taken pages : List Tally) → List Receipt → Type 0
 HasMarkedSince word first taken pages receipts =
-    All (λ r. first ≤ r.number → (page : ℕ) → page / 64 ≡ word → page < length pages → Contains r.pages.items page → IsMarkedSince taken pages page) receipts
+    All (λ r. first ≤ r.number →
+    (page : ℕ) →
+    page / 64 ≡ word →
+    page < length pages →
+    Contains r.pages.items page →
+    IsMarkedSince taken pages page) receipts
 
--- where share and harvest have every part of the passes, each page of the bitmap that the share marked since the harvest took it is set in the words
+-- where share and harvest have every part of the passes, each page of the bitmap that the share marked since
+-- the harvest took it is set in the words
 abbrev pub LeavesMarked : Pass → Harvest → (words : List ℕ) → Type 0
 LeavesMarked share h words =
-    IsWhole (both_passes h.pass.counts share.counts) → (page : ℕ) → page < h.bitmap.len → IsMarkedSince h.pass.counts.pages share.counts.pages page →
+    IsWhole (both_passes h.pass.counts share.counts) →
+    (page : ℕ) →
+    page < h.bitmap.len →
+    IsMarkedSince h.pass.counts.pages share.counts.pages page →
     page_bit words page ≡ 1
 
--- there, where the share marked since the harvest took a word last what all receipts of the journal from `first` on tell of it, each page of that
--- word is set in which the machine differs from the state from which the entries from `first` on replay
+-- there, where the share marked since the harvest took a word last what all receipts of the journal from
+-- `first` on tell of it, each page of that word is set in which the machine differs from the state from which
+-- the entries from `first` on replay
 abbrev pub AccountsSince : Pass → Harvest → List JournalEntry → State (Unit {0}) → (words : List ℕ) → Type 0
 AccountsSince share h journal after words =
     IsWhole (both_passes h.pass.counts share.counts) →
-    (receipts : List Receipt) → AreAllReceipts journal receipts →
-    (word first : ℕ) → HasMarkedSince word first h.pass.counts.pages share.counts.pages receipts →
-    (since : State (Unit {0})) → Replays since (drop first (journal_of journal)) after →
-    (p : Place) → byte_at after.memory.host p ≢ byte_at since.memory.host p → page_of (lengths since.memory.host) p < h.bitmap.len →
-    page_of (lengths since.memory.host) p / 64 ≡ word → page_bit words (page_of (lengths since.memory.host) p) ≡ 1
+    (receipts : List Receipt) →
+    AreAllReceipts journal receipts →
+    (word first : ℕ) →
+    HasMarkedSince word first h.pass.counts.pages share.counts.pages receipts →
+    (since : State (Unit {0})) →
+    Replays since (drop first (journal_of journal)) after →
+    (p : Place) →
+    byte_at after.memory.host p ≢ byte_at since.memory.host p →
+    page_of (lengths since.memory.host) p < h.bitmap.len →
+    page_of (lengths since.memory.host) p / 64 ≡ word →
+    page_bit words (page_of (lengths since.memory.host) p) ≡ 1

@@ -4,7 +4,8 @@ use Rattle.std.specs.List.{Contains}
 use Rattle.std.specs.List.Sorted.{IsStrictlyIncreasing}
 use Rattle.vm_memory_core.specs.Host.{Place, page_count}
 
--- pages have 4096 bytes and are numbered block by block: the number of a block's first page, by the lengths of the blocks
+-- pages have 4096 bytes and are numbered block by block: the number of a block's first page, by the lengths
+-- of the blocks
 unfoldable pub first_page : (block_lengths : List ℕ) → (block : ℕ) → ℕ
 first_page [] block = 0
 first_page (n ∷ ns) zero = 0

@@ -16,7 +16,8 @@ use Rattle.plain_machine.specs.MarkedPages.{returned_addresses}
 use Rattle.plain_machine.specs.UsedLength.{IsOffered}
 use Rattle.fs_shared.specs.Pages.{ArePagesOf}
 
--- what came of an event: it was done, a chain was exchanged, with whether the driver was told, or a refusal stopped the queue
+-- what came of an event: it was done, a chain was exchanged, with whether the driver was told, or a refusal
+-- stopped the queue
 pub data Outcome : Type 0 where
   Done : Outcome
   Served : Exchange → (notice : Bool) → Outcome
@@ -35,7 +36,15 @@ Anything = λ before call answer after. Unit {0}
 
 -- the state without its file system
 abbrev pub forget : {F : Type 0} → State F → State (Unit {0})
-forget s = record { memory = s.memory; queues = s.queues; options = s.options; files = tt; limit = s.limit; page_size = s.page_size }
+forget s =
+    record {
+      memory = s.memory;
+      queues = s.queues;
+      options = s.options;
+      files = tt;
+      limit = s.limit;
+      page_size = s.page_size;
+    }
 
 -- the places that are written where each of some addresses is written
 abbrev pub written_places : Memory → List ℕ → List Place
@@ -47,7 +56,9 @@ WritesPages m written pages = ArePagesOf (lengths m.host) (written_places m writ
 
 -- an exchange writes its reply over the room, the used element and the used index
 abbrev pub ExchangesPages : {F : Type 0} → State F → ℕ → Exchange → List ℕ → Type 0
-ExchangesPages s i x pages = (o : IsOffered s i x) × WritesPages s.memory (returned_addresses o.queue x.head (room_of o.fetched) x.reply) pages
+ExchangesPages s i x pages =
+    (o : IsOffered s i x)
+    × WritesPages s.memory (returned_addresses o.queue x.head (room_of o.fetched) x.reply) pages
 
 -- the refusals that are journaled are those that stop a queue: the others change nothing
 abbrev pub is_journaled : DeviceError → Bool
@@ -57,18 +68,27 @@ is_journaled (device.Queue e) = stops_queue e
 -- one step on a queue, with this outcome and these pages
 abbrev pub ReplaysKick : {F : Type 0} → May F → State F → ℕ → Outcome → List ℕ → State F → Type 0
 ReplaysKick may s i Done pages after = ⊥
-ReplaysKick may s i (Served x notice) pages after = (calls : Calls) × Step may s i calls (step.Exchanged x notice) after × ExchangesPages s i x pages
-ReplaysKick may s i (Stopped e) pages after = IsTrue (is_journaled e) × Step may s i [] (step.Refused e) after × (pages ≡ [])
+ReplaysKick may s i (Served x notice) pages after =
+    (calls : Calls) × Step may s i calls (step.Exchanged x notice) after × ExchangesPages s i x pages
+ReplaysKick may s i (Stopped e) pages after =
+    IsTrue (is_journaled e) × Step may s i [] (step.Refused e) after × (pages ≡ [])
 
 -- one event: a guest's write, another layout, or a kick for one chain
 abbrev pub Plays : {F : Type 0} → May F → State F → Command → Outcome → List ℕ → State F → Type 0
 Plays may s (GuestWrite a bytes) outcome pages after =
-    (outcome ≡ Done) × Affects s (GuestWrite a bytes) run.Done after × WritesPages (physical s.memory) (addresses a (length bytes)) pages
-Plays may s (SetLayout layout) outcome pages after = (outcome ≡ Done) × Affects s (SetLayout layout) run.Done after × (pages ≡ [])
+    (outcome ≡ Done)
+    × Affects s (GuestWrite a bytes) run.Done after
+    × WritesPages (physical s.memory) (addresses a (length bytes)) pages
+Plays may s (SetLayout layout) outcome pages after =
+    (outcome ≡ Done) × Affects s (SetLayout layout) run.Done after × (pages ≡ [])
 Plays may s (Kick i most) outcome pages after = (most ≡ 1) × ReplaysKick may s i outcome pages after
 Plays may s command outcome pages after = ⊥
 
 -- a journal replays from one state to another
 unfoldable pub Replays : State (Unit {0}) → List ReplayEntry → State (Unit {0}) → Type 0
 Replays s [] after = after ≡ s
-Replays s (e ∷ es) after = (mid : State (Unit {0})) × Plays Anything s e.command e.outcome e.pages mid × (e.options ≡ mid.options) × Replays mid es after
+Replays s (e ∷ es) after =
+    (mid : State (Unit {0}))
+    × Plays Anything s e.command e.outcome e.pages mid
+    × (e.options ≡ mid.options)
+    × Replays mid es after

@@ -18,9 +18,13 @@ pub record AreReturnRuns (block_lengths : List ℕ) (t : Taken) (runs : ReturnRu
   pub room : AreRuns (map (page_of block_lengths) (chain_places t.chain)) runs.room.items
   pub used : AreRuns (map (page_of block_lengths) (places t.return_windows.used.items)) runs.used.items
 
--- the pages that a return writes, with a reply of this length, where a chain was taken whose runs these are; used element and index have 10 bytes
+-- the pages that a return writes, with a reply of this length, where a chain was taken whose runs these are;
+-- used element and index have 10 bytes
 abbrev pub AreReturnPages : ReturnRuns → (reply_len : ℕ) → (pages : List ℕ) → Type 0
 AreReturnPages runs reply_len pages =
     (m : Memory) (q : Queue) (fetched : RequestAndRoom) (t : Taken) (head : ℕ) (reply : List ℕ) →
-    AreReturnRuns (lengths m.host) t runs → IsTaken m q fetched t →
-    length (places t.return_windows.used.items) ≡ 10 → length reply ≡ reply_len → WritesPages m (returned_addresses q head (room_of fetched) reply) pages
+    AreReturnRuns (lengths m.host) t runs →
+    IsTaken m q fetched t →
+    length (places t.return_windows.used.items) ≡ 10 →
+    length reply ≡ reply_len →
+    WritesPages m (returned_addresses q head (room_of fetched) reply) pages

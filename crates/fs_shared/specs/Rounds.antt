@@ -1,5 +1,6 @@
 -- What a round of a device leaves of the pages that it wrote.
-use Rattle.std.specs.Prelude.{◌≡◌, ◌≢◌, ◌⊎◌, ℕ, ◌+◌, ◌<◌, ◌≤◌, List, [], ◌∷◌, ◌++◌, All, length, Option, Some, None, drop}
+use Rattle.std.specs.Prelude.{◌≡◌, ◌≢◌, ◌⊎◌, ℕ, ◌+◌, ◌<◌, ◌≤◌, List, [], ◌∷◌, ◌++◌, All, length, Option, Some}
+use Rattle.std.specs.Prelude.{None, drop}
 use Rattle.vm_bitmaps.specs.Words.{page_bit}
 use Rattle.vm_atomic_bitmaps.specs.declared.counts.Tally.{Tally}
 use Rattle.fs_shared.specs.Portion.{HasSeen}
@@ -12,7 +13,8 @@ use Rattle.fs_shared.specs.Held.{journal_of}
 use Rattle.fs_shared.specs.Marks.{HasMarkedSince}
 use Rattle.fs_shared.specs.Replay.{Replays}
 
--- each page, of the first len ones, in which the hosts differ is set in the words that were gathered or in those that were left
+-- each page, of the first len ones, in which the hosts differ is set in the words that were gathered or in
+-- those that were left
 abbrev pub TellsPages : (len : ℕ) → (gathered left : List ℕ) → (before after : Host) → Type 0
 TellsPages len gathered left before after =
     (p : Place) → byte_at after p ≢ byte_at before p → page_of (lengths before) p < len →
@@ -23,17 +25,24 @@ abbrev pub following : Option ℕ → ℕ
 following None = 0
 following (Some last) = last + 1
 
--- each page, of the first len ones, in which the machine differs from the state after the entries up to `last` is set in the words that were left
-abbrev pub LeavesSince : (len : ℕ) → (last : Option ℕ) → List JournalEntry → (left : List ℕ) → State (Unit {0}) → Type 0
+-- each page, of the first len ones, in which the machine differs from the state after the entries up to
+-- `last` is set in the words that were left
+abbrev pub LeavesSince :
+    (len : ℕ) → (last : Option ℕ) → List JournalEntry → (left : List ℕ) → State (Unit {0}) → Type 0
 LeavesSince len last journal left after =
-    (since : State (Unit {0})) → Replays since (drop (following last) (journal_of journal)) after →
-    (p : Place) → byte_at after.memory.host p ≢ byte_at since.memory.host p → page_of (lengths since.memory.host) p < len →
+    (since : State (Unit {0})) →
+    Replays since (drop (following last) (journal_of journal)) after →
+    (p : Place) →
+    byte_at after.memory.host p ≢ byte_at since.memory.host p →
+    page_of (lengths since.memory.host) p < len →
     page_bit left (page_of (lengths since.memory.host) p) ≡ 1
 
 -- calls of a share that has seen what another pass took keep that, and what they tell is marked since
 abbrev pub KeepsSince : (old new : List Tally) → (before after : List Receipt) → Type 0
 KeepsSince old new before after =
-    (word first : ℕ) (taken : List Tally) → HasSeen word taken old → HasMarkedSince word first taken old before →
+    (word first : ℕ) (taken : List Tally) →
+    HasSeen word taken old →
+    HasMarkedSince word first taken old before →
     HasSeen word taken new × HasMarkedSince word first taken new after
 
 -- ---- where the gather stands among the receipts
@@ -44,7 +53,10 @@ GoesOnWith before after = (more : List Receipt) × (after ≡ before ++ more)
 
 -- the number of one of some receipts
 abbrev pub IsNumberOf : ℕ → List Receipt → Type 0
-IsNumberOf n receipts = (front : List Receipt) × (r : Receipt) × (back : List Receipt) × (receipts ≡ front ++ r ∷ back) × (r.number ≡ n)
+IsNumberOf n receipts =
+    (front : List Receipt) × (r : Receipt) × (back : List Receipt)
+    × (receipts ≡ front ++ r ∷ back)
+    × (r.number ≡ n)
 
 -- the greatest number of some receipts, if there is one
 abbrev pub IsGreatest : Option ℕ → List Receipt → Type 0
@@ -53,4 +65,5 @@ IsGreatest (Some n) receipts = IsNumberOf n receipts × All (λ r. r.number ≤ 
 
 -- the greatest number of the first receipts, at most so many
 abbrev pub IsGreatestOfFirst : (most : ℕ) → Option ℕ → List Receipt → Type 0
-IsGreatestOfFirst most last receipts = (first : List Receipt) × (length first ≤ most) × IsGreatest last first × GoesOnWith first receipts
+IsGreatestOfFirst most last receipts =
+    (first : List Receipt) × (length first ≤ most) × IsGreatest last first × GoesOnWith first receipts

@@ -13,11 +13,15 @@ use Rattle.fs_shared.specs.Calls.{JournalsOrRefuses, KicksBy, ReadsBy}
 
 -- a kick was answered so between two states, the latter of which has a journal that replays
 abbrev pub KicksSome : {F : Type 0} → May F → ℕ → Result (kicked.Kicked) DeviceError → Type 0
-KicksSome {F} may i result = (before : Held F) × (after : Held F) × KicksBy may before i result after × HoldsReplay after
+KicksSome {F} may i result =
+    (before : Held F) × (after : Held F) × KicksBy may before i result after × HoldsReplay after
 
 -- so was a write or another layout
 abbrev pub ActsSome : {F : Type 0} → May F → Command → Result Receipt Refusal → Type 0
-ActsSome {F} may command result = (before : Held F) × (after : Held F) × JournalsOrRefuses may before command result after × HoldsReplay after
+ActsSome {F} may command result =
+    (before : Held F) × (after : Held F)
+    × JournalsOrRefuses may before command result after
+    × HoldsReplay after
 
 -- a read was answered so by a state that has a journal that replays
 abbrev pub ReadsGuest : {F : Type 0} → May F → (addr len : ℕ) → Result (Vec ℕ Global) Refusal → Type 0

@@ -1,4 +1,5 @@
-//! A guest's write and another layout, of which what is told is kept twice. It has room before anything changes.
+//! A guest's write and another layout, of which what is told is kept twice. It has room before anything
+//! changes.
 
 ghost use Rattle.std.specs.Prelude.{◌≡◌, [], true, IfOk, OnErr, length};
 ghost use Rattle.vm_iotlb.specs.declared.permissions.Permissions.TheVariants.{Write};
@@ -28,7 +29,8 @@ fn write_pages<H: HostBlocks>(
     len: usize,
 ) -> Result<Vec<usize>, AllocError>
     requires { reach (memory_of (H.host host.now) layout.now) Write addr len ≡ true }
-    ensures { IfOk result (λ pages. WritesPages (memory_of (H.host host.now) layout.now) (addresses addr len) pages.items) }
+    ensures { IfOk result
+        (λ pages. WritesPages (memory_of (H.host host.now) layout.now) (addresses addr len) pages.items) }
 {
     let mut windows = Windows::new(alloc);
     layout.push_windows(
@@ -68,9 +70,11 @@ fn write_event(
 
 // What is told of a guest's write of these pages.
 fn kept_write(alloc: Global, addr: u64, bytes: &[u8], pages: Vec<usize>) -> Result<Kept, AllocError>
-    ensures entry { IfOk result (λ kept. (command_of kept.entry.command ≡ GuestWrite addr bytes.now) × (came_of kept.entry.outcome ≡ Done)
+    ensures entry { IfOk result (λ kept. (command_of kept.entry.command ≡ GuestWrite addr bytes.now)
+        × (came_of kept.entry.outcome ≡ Done)
         × (kept.entry.pages.items ≡ pages.items)) }
-    ensures receipt { IfOk result (λ kept. (command_of kept.receipt.command ≡ GuestWrite addr bytes.now) × (came_of kept.receipt.outcome ≡ Done)
+    ensures receipt { IfOk result (λ kept. (command_of kept.receipt.command ≡ GuestWrite addr bytes.now)
+        × (came_of kept.receipt.outcome ≡ Done)
         × (kept.receipt.pages.items ≡ pages.items)) }
 {
     let copy = Vec::from_slice(alloc, &pages)?;
@@ -80,8 +84,8 @@ fn kept_write(alloc: Global, addr: u64, bytes: &[u8], pages: Vec<usize>) -> Resu
     })
 }
 
-/// The guest writes bytes that it reaches, from a physical address on, and what is told of it is kept; AllocError if an
-/// allocation fails, and then nothing changes.
+/// The guest writes bytes that it reaches, from a physical address on, and what is told of it is kept;
+/// AllocError if an allocation fails, and then nothing changes.
 pub(crate) fn write_kept<F: FileSystem, I: Iommu + Drop>(
     alloc: Global,
     machine: &mut Machine<F, I>,
@@ -89,7 +93,8 @@ pub(crate) fn write_kept<F: FileSystem, I: Iommu + Drop>(
     bytes: &[u8],
 ) -> Result<Kept, AllocError>
     requires reaches { reach (physical (machine_of machine.old).memory) Write addr (length bytes.now) ≡ true }
-    ensures keeps { IfOk result (λ kept. KeepsEvent F.may (machine_of machine.old) (GuestWrite addr bytes.now) kept (machine_of machine.new)) }
+    ensures keeps { IfOk result (λ kept. KeepsEvent F.may (machine_of machine.old) (GuestWrite addr bytes.now)
+        kept (machine_of machine.new)) }
     ensures lacks { OnErr result (machine_of machine.new ≡ machine_of machine.old) }
 {
     let layout = machine.mem.get_backend();
@@ -113,15 +118,16 @@ fn layout_event(alloc: Global, layout: GuestMemoryMmap) -> Event
     }
 }
 
-/// Other regions, whose blocks the host has, take the place of all that are there, and what is told of it is kept;
-/// AllocError if an allocation fails, and then nothing changes.
+/// Other regions, whose blocks the host has, take the place of all that are there, and what is told of it is
+/// kept; AllocError if an allocation fails, and then nothing changes.
 pub(crate) fn layout_kept<F: FileSystem, I: Iommu + Drop>(
     alloc: Global,
     machine: &mut Machine<F, I>,
     layout: GuestMemoryMmap,
 ) -> Result<Kept, AllocError>
     requires { WouldDo (machine_of machine.old) (SetLayout layout) }
-    ensures keeps { IfOk result (λ kept. KeepsEvent F.may (machine_of machine.old) (SetLayout layout) kept (machine_of machine.new)) }
+    ensures keeps { IfOk result
+        (λ kept. KeepsEvent F.may (machine_of machine.old) (SetLayout layout) kept (machine_of machine.new)) }
     ensures lacks { OnErr result (machine_of machine.new ≡ machine_of machine.old) }
 {
     let first = layout.try_clone()?;

@@ -65,8 +65,8 @@ fn ascend(receipts: &[Receipt]) -> bool
     true
 }
 
-// Whether each number below a count is that of one receipt. It passes receipts that ascend once, and others once for each
-// number.
+// Whether each number below a count is that of one receipt. It passes receipts that ascend once, and others
+// once for each number.
 fn each_once(count: usize, receipts: &[Receipt]) -> bool
     ensures { IsTrue result ↔ ((number : ℕ) → number < count → times number receipts.now ≡ 1) }
 {
@@ -81,14 +81,15 @@ fn each_once(count: usize, receipts: &[Receipt]) -> bool
     true
 }
 
-/// Whether some receipts say all that a journal says: their numbers are 0 up to the journal's length, each once, and each
-/// has the command, the outcome and the pages of the entry of its number. Layouts are compared by the base, the length
-/// and the block of each region. It takes no memory. It passes receipts that stand in the order of their numbers once, and others once for each
-/// entry.
+/// Whether some receipts say all that a journal says: their numbers are 0 up to the journal's length, each
+/// once, and each has the command, the outcome and the pages of the entry of its number. Layouts are compared
+/// by the base, the length and the block of each region. It takes no memory. It passes receipts that stand in
+/// the order of their numbers once, and others once for each entry.
 ///
-/// The clauses of a `SharedDevice` can't name what lay under its lock: this finds, at run time, a receipt without an entry, an
-/// entry without a receipt, and a receipt that tells what another call did. It doesn't find a kick that is idle though a chain
-/// waits, nor bytes of a read that were made up: neither is journaled (`SharedState` promises both of what it holds).
+/// The clauses of a `SharedDevice` can't name what lay under its lock: this finds, at run time, a receipt
+/// without an entry, an entry without a receipt, and a receipt that tells what another call did. It doesn't
+/// find a kick that is idle though a chain waits, nor bytes of a read that were made up: neither is journaled
+/// (`SharedState` promises both of what it holds).
 pub fn audit(journal: &[JournalEntry], receipts: &[Receipt]) -> bool
     ensures { IsTrue result ↔ AreAllReceipts journal.now receipts.now }
 {

@@ -1,4 +1,5 @@
-//! The calls on what lies under the lock. Each is one event, and is journaled with its receipt or changes nothing.
+//! The calls on what lies under the lock. Each is one event, and is journaled with its receipt or changes
+//! nothing.
 
 ghost use Rattle.std.specs.Prelude.{◌≡◌, IfErr, List, OnOk, Err, false, vec_len};
 ghost use Rattle.fs_shared.specs.Portion.{counted};
@@ -31,7 +32,8 @@ fn takes_chains<F: FileSystem, I: Iommu + Drop>(
     queue: usize,
 ) -> Result<(), DeviceError>
     ensures open { OnOk result (HasOpenQueue (machine_of machine.now) queue) }
-    ensures closed { IfErr result (λ e. KickKeeps F.may (machine_of machine.now) queue (Err e) (machine_of machine.now)) }
+    ensures closed { IfErr result
+        (λ e. KickKeeps F.may (machine_of machine.now) queue (Err e) (machine_of machine.now)) }
 {
     match machine.device.queue(queue) {
         Some(queue) => {
@@ -44,7 +46,8 @@ fn takes_chains<F: FileSystem, I: Iommu + Drop>(
     }
 }
 
-// What a kick of a queue that takes chains answers if its entry has no room: `Idle` if nothing waits, else `OutOfMemory`.
+// What a kick of a queue that takes chains answers if its entry has no room: `Idle` if nothing waits, else
+// `OutOfMemory`.
 fn kick_without_room<F: FileSystem, I: Iommu + Drop>(
     alloc: Global,
     machine: &Machine<F, I>,
@@ -52,7 +55,8 @@ fn kick_without_room<F: FileSystem, I: Iommu + Drop>(
 ) -> Result<Kicked, DeviceError>
     requires { HasOpenQueue (machine_of machine.now) queue }
     ensures kick { (start : State (Unit {0})) (journal : List ReplayEntry) →
-        KicksBy F.may (record { machine = machine_of machine.now; start = start; journal = journal }) queue result
+        KicksBy F.may (record { machine = machine_of machine.now; start = start; journal = journal })
+        queue result
         (record { machine = machine_of machine.now; start = start; journal = journal }) }
     ensures none { did_kick result ≡ false }
 {
@@ -66,7 +70,8 @@ fn kick_without_room<F: FileSystem, I: Iommu + Drop>(
     Err(DeviceError::Queue(QueueError::OutOfMemory))
 }
 
-// Serves the next chain of a queue of a machine, and journals what came of it. The entry has room before a chain is taken.
+// Serves the next chain of a queue of a machine, and journals what came of it. The entry has room before a
+// chain is taken.
 fn kick_into<L: Ledger, F: FileSystem, I: Iommu + Drop>(
     alloc: Global,
     machine: &mut Machine<F, I>,
@@ -77,7 +82,9 @@ fn kick_into<L: Ledger, F: FileSystem, I: Iommu + Drop>(
     taken: &mut Taken,
 ) -> Result<Kicked, DeviceError>
     ensures kick { (start : State (Unit {0})) →
-        KicksBy F.may (record { machine = machine_of machine.old; start = start; journal = journal_of journal.old.items }) queue result
+        KicksBy F.may
+        (record { machine = machine_of machine.old; start = start; journal = journal_of journal.old.items })
+        queue result
         (record { machine = machine_of machine.new; start = start; journal = journal_of journal.new.items }) }
     ensures total { calls.old.total ≡ vec_len journal.old → calls.new.total ≡ vec_len journal.new }
     ensures share { share.new ≡ counted share.old (did_kick result) }
@@ -110,7 +117,9 @@ fn write_into<L: Ledger, F: FileSystem, I: Iommu + Drop>(
     bytes: &[u8],
 ) -> Result<Receipt, Refusal>
     ensures write { (start : State (Unit {0})) →
-        JournalsOrRefuses F.may (record { machine = machine_of machine.old; start = start; journal = journal_of journal.old.items }) (GuestWrite addr bytes.now) result
+        JournalsOrRefuses F.may
+        (record { machine = machine_of machine.old; start = start; journal = journal_of journal.old.items })
+        (GuestWrite addr bytes.now) result
         (record { machine = machine_of machine.new; start = start; journal = journal_of journal.new.items }) }
     ensures total { calls.old.total ≡ vec_len journal.old → calls.new.total ≡ vec_len journal.new }
     ensures share { share.new ≡ counted share.old (did result) }
@@ -141,7 +150,9 @@ fn layout_into<L: Ledger, F: FileSystem, I: Iommu + Drop>(
     layout: GuestMemoryMmap,
 ) -> Result<Receipt, Refusal>
     ensures layout { (start : State (Unit {0})) →
-        JournalsOrRefuses F.may (record { machine = machine_of machine.old; start = start; journal = journal_of journal.old.items }) (SetLayout layout) result
+        JournalsOrRefuses F.may
+        (record { machine = machine_of machine.old; start = start; journal = journal_of journal.old.items })
+        (SetLayout layout) result
         (record { machine = machine_of machine.new; start = start; journal = journal_of journal.new.items }) }
     ensures total { calls.old.total ≡ vec_len journal.old → calls.new.total ≡ vec_len journal.new }
     ensures share { share.new ≡ counted share.old (did result) }
@@ -162,9 +173,9 @@ fn layout_into<L: Ledger, F: FileSystem, I: Iommu + Drop>(
 }
 
 impl<L: Ledger, F: FileSystem, I: Iommu + Drop> SharedState<L, F, I> {
-    /// Serves the next chain of a queue, by its number from 0 (VIRTIO 1.2, 2.7.13 and 2.7.8). What is done is journaled, and
-    /// nothing is done before its entry and its receipt have room. A refusal that stops the queue is journaled too; `Idle`,
-    /// `NoSuchQueue`, `Stopped` and `OutOfMemory` change nothing.
+    /// Serves the next chain of a queue, by its number from 0 (VIRTIO 1.2, 2.7.13 and 2.7.8). What is done is
+    /// journaled, and nothing is done before its entry and its receipt have room. A refusal that stops the
+    /// queue is journaled too; `Idle`, `NoSuchQueue`, `Stopped` and `OutOfMemory` change nothing.
     pub fn kick(
         &mut self,
         alloc: Global,
@@ -186,8 +197,8 @@ impl<L: Ledger, F: FileSystem, I: Iommu + Drop> SharedState<L, F, I> {
         )
     }
 
-    /// The guest writes bytes from a physical address on, and that is journaled; refused `NoPlace` if it doesn't reach all
-    /// of them, or `OutOfMemory`, and then nothing changes.
+    /// The guest writes bytes from a physical address on, and that is journaled; refused `NoPlace` if it
+    /// doesn't reach all of them, or `OutOfMemory`, and then nothing changes.
     pub fn guest_write(
         &mut self,
         alloc: Global,
@@ -210,8 +221,9 @@ impl<L: Ledger, F: FileSystem, I: Iommu + Drop> SharedState<L, F, I> {
         )
     }
 
-    /// Other regions take the place of all that are there, and that is journaled; refused `UnknownBlock` if one of them lies
-    /// over a block that the host doesn't have so, or `OutOfMemory`, and then nothing changes.
+    /// Other regions take the place of all that are there, and that is journaled; refused `UnknownBlock` if
+    /// one of them lies over a block that the host doesn't have so, or `OutOfMemory`, and then nothing
+    /// changes.
     pub fn set_layout(
         &mut self,
         alloc: Global,
@@ -232,8 +244,8 @@ impl<L: Ledger, F: FileSystem, I: Iommu + Drop> SharedState<L, F, I> {
         )
     }
 
-    /// The guest reads `len` bytes from a physical address on; refused `NoPlace` if it doesn't reach all of them, or
-    /// `OutOfMemory`. Nothing changes, and nothing is journaled.
+    /// The guest reads `len` bytes from a physical address on; refused `NoPlace` if it doesn't reach all of
+    /// them, or `OutOfMemory`. Nothing changes, and nothing is journaled.
     pub fn guest_read(&mut self, alloc: Global, addr: u64, len: usize) -> Result<Vec<u8>, Refusal>
         ensures same { self.new ≡ self.old }
         ensures read { ReadsBy F.may self.old addr len result }

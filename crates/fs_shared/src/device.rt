@@ -1,12 +1,14 @@
 //! The machine behind one lock, for threads that share it.
 
-ghost use Rattle.std.specs.Prelude.{◌≡◌, ℕ, ◌+◌, ◌/◌, ◌<◌, ◌≤◌, IfErr, IfNone, IfOk, IfSome, IsOk, OnErr, length, true};
+ghost use Rattle.std.specs.Prelude.{◌≡◌, ℕ, ◌+◌, ◌/◌, ◌<◌, ◌≤◌, IfErr, IfNone, IfOk, IfSome, IsOk, OnErr};
+ghost use Rattle.std.specs.Prelude.{length, true};
 ghost use Rattle.std.specs.Int.{div_ceil};
 ghost use Rattle.vm_bitmaps.specs.Words.{page_bit};
 ghost use Rattle.vm_atomic_bitmaps.specs.Counts.{both_passes, met_with};
 ghost use Rattle.vm_atomic_bitmaps.specs.Passes.{counting};
 ghost use Rattle.vm_atomic_bitmaps.specs.Steps.{SettlesAll};
-ghost use Rattle.fs_shared.specs.Portion.{HasSeen, IsShareOf, MarksPages, counted, joined, kept_pass, new_pass};
+ghost use Rattle.fs_shared.specs.Portion.{HasSeen, IsShareOf, MarksPages, counted, joined, kept_pass};
+ghost use Rattle.fs_shared.specs.Portion.{new_pass};
 ghost use Rattle.fs_device.specs.CommandView.{command_of};
 ghost use Rattle.fs_device.specs.MachineView.{machine_of};
 ghost use Rattle.plain_machine.specs.Run.{GuestWrite, Kick, SetLayout};
@@ -31,9 +33,10 @@ use std::sync::{Arc, Mutex, Wait};
 use vm_atomic_bitmaps::AtomicBitmap;
 use vm_memory::{GuestMemoryMmap, Iommu};
 
-/// A machine that threads share, by shares of a ledger `L` (`std::sync::ledger`). Each call is one event, and is done whole
-/// under one lock: threads that call at once take turns, in no promised order. A call waits until it has the lock. What it
-/// wrote is marked, without the lock and before it returns, in a bitmap of the host's pages, which contracts see.
+/// A machine that threads share, by shares of a ledger `L` (`std::sync::ledger`). Each call is one event, and
+/// is done whole under one lock: threads that call at once take turns, in no promised order. A call waits
+/// until it has the lock. What it wrote is marked, without the lock and before it returns, in a bitmap of the
+/// host's pages, which contracts see.
 #[derive(Drop)]
 pub struct SharedDevice<L: Ledger, F, I: Iommu + Drop> {
     state: Mutex<SharedState<L, F, I>>,
@@ -49,14 +52,15 @@ impl<L: Ledger, F, I: Iommu + Drop> Model for SharedDevice<L, F, I> {
     ghost view = { λ d. arc_value d.bitmap };
 }
 
-ghost use Rattle.fs_shared.specs.Marks.{AccountsFor, AccountsSince, HasPagesOf, IsHarvestOf, LeavesMarked, first_of, kicked_pages, told_pages};
+ghost use Rattle.fs_shared.specs.Marks.{AccountsFor, AccountsSince, HasPagesOf, IsHarvestOf, LeavesMarked};
+ghost use Rattle.fs_shared.specs.Marks.{first_of, kicked_pages, told_pages};
 ghost use Rattle.fs_shared.specs.declared.share_error.ShareError.TheVariants.{OutOfMemory};
 
 impl<L: Ledger, F: FileSystem, I: Iommu + Drop> SharedDevice<L, F, I> {
-    /// A device over a machine, with an empty journal, a share with every part of a new ledger, and a harvest that begins clear;
-    /// `parts` says how many the ledger has, at least one. The host is copied, and the journal grows without bound: whoever goes
-    /// on for long takes the device apart and makes it anew. Refused only `OutOfMemory`, if an allocation fails, and then blank
-    /// and machine come back.
+    /// A device over a machine, with an empty journal, a share with every part of a new ledger, and a harvest
+    /// that begins clear; `parts` says how many the ledger has, at least one. The host is copied, and the
+    /// journal grows without bound: whoever goes on for long takes the device apart and makes it anew.
+    /// Refused only `OutOfMemory`, if an allocation fails, and then blank and machine come back.
     pub fn new(
         alloc: Global,
         blank: Blank,
@@ -68,9 +72,11 @@ impl<L: Ledger, F: FileSystem, I: Iommu + Drop> SharedDevice<L, F, I> {
         requires parts { blank.parts ≡ parts }
         requires some { 0 < parts }
         ensures pages { IfOk result (λ made. HasPagesOf machine.host made.0) }
-        ensures whole { IfOk result (λ made. made.1 ≡ record { parts = L.parts; count = 0; pass = kept_pass (first_of made.0) }) }
+        ensures whole { IfOk result
+            (λ made. made.1 ≡ record { parts = L.parts; count = 0; pass = kept_pass (first_of made.0) }) }
         ensures own { IfOk result (λ made. IsShareOf made.0 made.1) }
-        ensures harvest { IfOk result (λ made. made.2 ≡ record { bitmap = made.0; pass = new_pass (first_of made.0) }) }
+        ensures harvest { IfOk result
+            (λ made. made.2 ≡ record { bitmap = made.0; pass = new_pass (first_of made.0) }) }
         ensures refused { IfErr result (λ back. back.0 ≡ OutOfMemory) }
         ensures blank { IfErr result (λ back. back.1 ≡ blank) }
         ensures machine { IfErr result (λ back. back.2 ≡ machine) }
@@ -87,10 +93,12 @@ impl<L: Ledger, F: FileSystem, I: Iommu + Drop> SharedDevice<L, F, I> {
         Ok((SharedDevice { state, bitmap }, share, harvest))
     }
 
-    /// Half of a share's parts, rounded down, with count 0 and half of its pass; None, changing nothing, if it has one part.
+    /// Half of a share's parts, rounded down, with count 0 and half of its pass; None, changing nothing, if
+    /// it has one part.
     pub fn split_share(&self, share: &mut Share<L>) -> Option<Share<L>>
         requires { IsShareOf self.now share.old }
-        ensures half { IfSome result (λ s. s ≡ record { parts = share.old.parts / 2; count = 0; pass = new_pass share.old.pass }) }
+        ensures half { IfSome result
+            (λ s. s ≡ record { parts = share.old.parts / 2; count = 0; pass = new_pass share.old.pass }) }
         ensures rest { IfSome result (λ s. share.new.parts + s.parts ≡ share.old.parts) }
         ensures count { share.new.count ≡ share.old.count }
         ensures pass { IfSome result (λ s. share.new.pass ≡ kept_pass share.old.pass) }
@@ -112,13 +120,16 @@ impl<L: Ledger, F: FileSystem, I: Iommu + Drop> SharedDevice<L, F, I> {
         share.join(&self.bitmap, other);
     }
 
-    /// A share takes over what a harvest has seen (`AtomicBitmap::meet_pass`), and so all that it took. It always can, and
-    /// waits for nobody. What the share's calls tell from then on is left by that gather (`laws::law_marks_since`).
+    /// A share takes over what a harvest has seen (`AtomicBitmap::meet_pass`), and so all that it took. It
+    /// always can, and waits for nobody. What the share's calls tell from then on is left by that gather
+    /// (`laws::law_marks_since`).
     pub fn meet(&self, share: &mut Share<L>, harvest: &mut PageHarvest) -> bool
         requires share { IsShareOf self.now share.old }
         requires harvest { IsHarvestOf self.now harvest.old }
         ensures met { result ≡ true }
-        ensures share { share.new ≡ record share.old { pass = counting share.old.pass (met_with harvest.old.pass.counts.pages share.old.pass.counts.pages) } }
+        ensures share { share.new ≡ record share.old {
+          pass = counting share.old.pass (met_with harvest.old.pass.counts.pages share.old.pass.counts.pages);
+        } }
         ensures harvest { harvest.new ≡ harvest.old }
         ensures seen { (word : ℕ) → HasSeen word harvest.old.pass.counts.pages share.new.pass.counts.pages }
         ensures own { IsShareOf self.now share.new }
@@ -126,8 +137,8 @@ impl<L: Ledger, F: FileSystem, I: Iommu + Drop> SharedDevice<L, F, I> {
         share.meet(&self.bitmap, &mut harvest.pass)
     }
 
-    /// Serves the next chain of a queue, by its number from 0 (`SharedState::kick`). What is done is journaled, counted by
-    /// the share, and its pages are marked by the share's pass.
+    /// Serves the next chain of a queue, by its number from 0 (`SharedState::kick`). What is done is
+    /// journaled, counted by the share, and its pages are marked by the share's pass.
     pub fn kick<R: Wait>(
         &self,
         rt: &R,
@@ -137,8 +148,11 @@ impl<L: Ledger, F: FileSystem, I: Iommu + Drop> SharedDevice<L, F, I> {
     ) -> Result<Kicked, DeviceError>
         requires { IsShareOf self.now share.old }
         ensures does { KicksSome F.may queue result }
-        ensures share { share.new ≡ record (counted share.old (did_kick result)) { pass = counting share.old.pass share.new.pass.counts.pages } }
-        ensures pages { MarksPages (kicked_pages result) share.old.pass.counts.pages share.new.pass.counts.pages }
+        ensures share { share.new ≡ record (counted share.old (did_kick result)) {
+          pass = counting share.old.pass share.new.pass.counts.pages;
+        } }
+        ensures pages { MarksPages (kicked_pages result) share.old.pass.counts.pages
+            share.new.pass.counts.pages }
         ensures own { IsShareOf self.now share.new }
         ensures command { IfOk result (IfDone (λ r. command_of r.command ≡ Kick queue 1)) }
     {
@@ -149,8 +163,8 @@ impl<L: Ledger, F: FileSystem, I: Iommu + Drop> SharedDevice<L, F, I> {
         kicked
     }
 
-    /// The guest writes bytes from a physical address on (`SharedState::guest_write`). What is done is journaled, counted by the
-    /// share, and its pages are marked by the share's pass.
+    /// The guest writes bytes from a physical address on (`SharedState::guest_write`). What is done is
+    /// journaled, counted by the share, and its pages are marked by the share's pass.
     pub fn guest_write<R: Wait>(
         &self,
         rt: &R,
@@ -161,8 +175,11 @@ impl<L: Ledger, F: FileSystem, I: Iommu + Drop> SharedDevice<L, F, I> {
     ) -> Result<Receipt, Refusal>
         requires { IsShareOf self.now share.old }
         ensures does { ActsSome F.may (GuestWrite addr bytes.now) result }
-        ensures share { share.new ≡ record (counted share.old (did result)) { pass = counting share.old.pass share.new.pass.counts.pages } }
-        ensures pages { MarksPages (told_pages result) share.old.pass.counts.pages share.new.pass.counts.pages }
+        ensures share { share.new ≡ record (counted share.old (did result)) {
+          pass = counting share.old.pass share.new.pass.counts.pages;
+        } }
+        ensures pages { MarksPages (told_pages result) share.old.pass.counts.pages
+            share.new.pass.counts.pages }
         ensures own { IsShareOf self.now share.new }
         ensures command { IfOk result (λ r. command_of r.command ≡ GuestWrite addr bytes.now) }
     {
@@ -173,8 +190,8 @@ impl<L: Ledger, F: FileSystem, I: Iommu + Drop> SharedDevice<L, F, I> {
         written
     }
 
-    /// Other regions take the place of all that are there (`SharedState::set_layout`). What is done is journaled, counted
-    /// by the share, and its pages, none, are marked by the share's pass.
+    /// Other regions take the place of all that are there (`SharedState::set_layout`). What is done is
+    /// journaled, counted by the share, and its pages, none, are marked by the share's pass.
     pub fn set_layout<R: Wait>(
         &self,
         rt: &R,
@@ -184,8 +201,11 @@ impl<L: Ledger, F: FileSystem, I: Iommu + Drop> SharedDevice<L, F, I> {
     ) -> Result<Receipt, Refusal>
         requires { IsShareOf self.now share.old }
         ensures does { ActsSome F.may (SetLayout layout) result }
-        ensures share { share.new ≡ record (counted share.old (did result)) { pass = counting share.old.pass share.new.pass.counts.pages } }
-        ensures pages { MarksPages (told_pages result) share.old.pass.counts.pages share.new.pass.counts.pages }
+        ensures share { share.new ≡ record (counted share.old (did result)) {
+          pass = counting share.old.pass share.new.pass.counts.pages;
+        } }
+        ensures pages { MarksPages (told_pages result) share.old.pass.counts.pages
+            share.new.pass.counts.pages }
         ensures own { IsShareOf self.now share.new }
         ensures command { IfOk result (λ r. command_of r.command ≡ SetLayout layout) }
     {
@@ -196,7 +216,8 @@ impl<L: Ledger, F: FileSystem, I: Iommu + Drop> SharedDevice<L, F, I> {
         laid
     }
 
-    /// The guest reads `len` bytes from a physical address on (`SharedState::guest_read`). Nothing is journaled.
+    /// The guest reads `len` bytes from a physical address on (`SharedState::guest_read`). Nothing is
+    /// journaled.
     pub fn guest_read<R: Wait>(
         &self,
         rt: &R,
@@ -209,18 +230,21 @@ impl<L: Ledger, F: FileSystem, I: Iommu + Drop> SharedDevice<L, F, I> {
         self.state.lock(rt).guest_read(alloc, addr, len)
     }
 
-    /// The machine, its start and its journal, where a share's count is the journal's length: so it is where the share has
-    /// every part. From the start the journal replays to the machine, and the page of each byte that differs between the two
-    /// hosts is among the entries' pages. Else device and share come back; `SharedState::is_counted` tells the two cases apart.
+    /// The machine, its start and its journal, where a share's count is the journal's length: so it is where
+    /// the share has every part. From the start the journal replays to the machine, and the page of each byte
+    /// that differs between the two hosts is among the entries' pages. Else device and share come back;
+    /// `SharedState::is_counted` tells the two cases apart.
     pub fn into_parts(
         self,
         share: Share<L>,
     ) -> Result<Parts<F, I>, (SharedDevice<L, F, I>, Share<L>)>
         ensures whole { share.parts ≡ L.parts → IsOk result }
         ensures count { IfOk result (λ p. share.count ≡ length p.journal.items) }
-        ensures replays { IfOk result (λ p. Replays (start_of p.start (fixed_of (machine_of p.machine))) (journal_of p.journal.items)
+        ensures replays { IfOk result
+            (λ p. Replays (start_of p.start (fixed_of (machine_of p.machine))) (journal_of p.journal.items)
             (forget (machine_of p.machine))) }
-        ensures pages { IfOk result (λ p. DiffersWithin (joined_pages (journal_of p.journal.items)) p.start.host p.machine.host) }
+        ensures pages { IfOk result
+            (λ p. DiffersWithin (joined_pages (journal_of p.journal.items)) p.start.host p.machine.host) }
         ensures device { IfErr result (λ back. back.0 ≡ self) }
         ensures back { IfErr result (λ back. back.1 ≡ share) }
     {
@@ -235,11 +259,12 @@ impl<L: Ledger, F: FileSystem, I: Iommu + Drop> SharedDevice<L, F, I> {
         }
     }
 
-    /// The same, and all pages that are still marked, in words of 64 pages each: page p is bit p mod 64 of word p / 64. What
-    /// follows holds once each share that was split off is joined back. A page is set in the words exactly if it was marked
-    /// more often than gathered. If `audit` takes the receipts of all calls, whose pages the share has marked, each page of the
-    /// bitmap in which the hosts differ is set, or the harvest gathered it; and each page that was written after the last gather of
-    /// its word is set, if the share met the harvest in between (`laws::law_marks_since`). If the device doesn't come apart, then
+    /// The same, and all pages that are still marked, in words of 64 pages each: page p is bit p mod 64 of
+    /// word p / 64. What follows holds once each share that was split off is joined back. A page is set in
+    /// the words exactly if it was marked more often than gathered. If `audit` takes the receipts of all
+    /// calls, whose pages the share has marked, each page of the bitmap in which the hosts differ is set, or
+    /// the harvest gathered it; and each page that was written after the last gather of its word is set, if
+    /// the share met the harvest in between (`laws::law_marks_since`). If the device doesn't come apart, then
     /// device, share and harvest come back, and the words are as they were.
     pub fn into_parts_and_pages(
         self,
@@ -252,14 +277,19 @@ impl<L: Ledger, F: FileSystem, I: Iommu + Drop> SharedDevice<L, F, I> {
         requires room { length words.old ≡ div_ceil self.len 64 }
         ensures whole { share.parts ≡ L.parts → IsOk result }
         ensures count { IfOk result (λ p. share.count ≡ length p.journal.items) }
-        ensures replays { IfOk result (λ p. Replays (start_of p.start (fixed_of (machine_of p.machine))) (journal_of p.journal.items)
+        ensures replays { IfOk result
+            (λ p. Replays (start_of p.start (fixed_of (machine_of p.machine))) (journal_of p.journal.items)
             (forget (machine_of p.machine))) }
-        ensures pages { IfOk result (λ p. DiffersWithin (joined_pages (journal_of p.journal.items)) p.start.host p.machine.host) }
-        ensures settles { IfOk result (λ p. SettlesAll (both_passes harvest.pass.counts share.pass.counts) words.new) }
+        ensures pages { IfOk result
+            (λ p. DiffersWithin (joined_pages (journal_of p.journal.items)) p.start.host p.machine.host) }
+        ensures settles { IfOk result
+            (λ p. SettlesAll (both_passes harvest.pass.counts share.pass.counts) words.new) }
         ensures past { IfOk result (λ p. (page : ℕ) → self.len ≤ page → page_bit words.new page ≡ 0) }
-        ensures gathered { IfOk result (λ p. AccountsFor share.pass harvest p.journal.items p.start.host p.machine.host words.new) }
+        ensures gathered { IfOk result
+            (λ p. AccountsFor share.pass harvest p.journal.items p.start.host p.machine.host words.new) }
         ensures left { IfOk result (λ p. LeavesMarked share.pass harvest words.new) }
-        ensures since { IfOk result (λ p. AccountsSince share.pass harvest p.journal.items (forget (machine_of p.machine)) words.new) }
+        ensures since { IfOk result (λ p. AccountsSince share.pass harvest p.journal.items
+            (forget (machine_of p.machine)) words.new) }
         ensures room { length words.new ≡ length words.old }
         ensures back { IfErr result (λ back. (back.0 ≡ self) × (back.1 ≡ share) × (back.2 ≡ harvest)) }
         ensures same { OnErr result (words.new ≡ words.old) }

@@ -6,8 +6,8 @@ use fuse_wire::FsOptions;
 use vm_memory::{GuestMemoryMmap, Iommu};
 use vm_memory_core::{HostMemory, PageBitmap};
 
-/// What came of a call: it was done, a chain was exchanged, with whether the driver is to be told (VIRTIO 1.2, 2.7.7), or
-/// a refusal stopped the queue.
+/// What came of a call: it was done, a chain was exchanged, with whether the driver is to be told (VIRTIO
+/// 1.2, 2.7.7), or a refusal stopped the queue.
 #[derive(Debug, Drop)]
 pub enum Outcome {
     Done,
@@ -15,8 +15,8 @@ pub enum Outcome {
     Stopped(DeviceError),
 }
 
-/// One event: the call's command, of a kick with `most` 1, what came of it, the options after it, and the pages of blocks
-/// that it wrote, ascending. Pages have 4096 bytes and are numbered block by block.
+/// One event: the call's command, of a kick with `most` 1, what came of it, the options after it, and the
+/// pages of blocks that it wrote, ascending. Pages have 4096 bytes and are numbered block by block.
 #[derive(Drop)]
 pub struct JournalEntry {
     pub command: Command,
@@ -42,7 +42,8 @@ pub enum Kicked {
     Done(Receipt),
 }
 
-/// What the machine held as the journal began: a copy of the host with its marks, the layout, the queues and the options.
+/// What the machine held as the journal began: a copy of the host with its marks, the layout, the queues and
+/// the options.
 #[derive(Drop)]
 pub struct Start {
     pub host: HostMemory<PageBitmap>,

@@ -19,8 +19,8 @@ use vm_atomic_bitmaps::{AtomicBitmap, BitmapPass};
 use vm_bitmaps::PAGE_SIZE;
 use vm_memory_core::{HostMemory, PageBitmap};
 
-/// Gathers the pages that the calls on a shared device wrote, of 4096 bytes and numbered block by block. It has a pass of
-/// the device's bitmap, and never waits for the device's lock.
+/// Gathers the pages that the calls on a shared device wrote, of 4096 bytes and numbered block by block. It
+/// has a pass of the device's bitmap, and never waits for the device's lock.
 #[derive(Drop)]
 pub struct PageHarvest {
     bitmap: Arc<AtomicBitmap, Global>,
@@ -58,7 +58,8 @@ fn host_pages(
     AtomicBitmap::new(alloc, byte_size, NonZeroUsize::new(PAGE_SIZE).unwrap())
 }
 
-/// A clear bitmap of a host's pages, the pass of the first share, and the harvest, each with half of all passes.
+/// A clear bitmap of a host's pages, the pass of the first share, and the harvest, each with half of all
+/// passes.
 pub(crate) fn clear_pages(
     alloc: Global,
     host: &HostMemory<PageBitmap>,
@@ -66,7 +67,8 @@ pub(crate) fn clear_pages(
     ensures pages { IfOk result (λ r. HasPagesOf host.now (arc_value r.0)) }
     ensures share { IfOk result (λ r. r.1 ≡ kept_pass (first_of (arc_value r.0))) }
     ensures own { IfOk result (λ r. IsPassOf (arc_value r.0) r.1) }
-    ensures harvest { IfOk result (λ r. r.2 ≡ record { bitmap = arc_value r.0; pass = new_pass (first_of (arc_value r.0)) }) }
+    ensures harvest { IfOk result
+        (λ r. r.2 ≡ record { bitmap = arc_value r.0; pass = new_pass (first_of (arc_value r.0)) }) }
 {
     let (bitmap, mut first) = host_pages(alloc, host)?;
     let pass = bitmap.split_pass(&mut first).unwrap();
@@ -86,11 +88,13 @@ impl PageHarvest {
         self.bitmap.words()
     }
 
-    /// Takes the marks of a word, in one step, while others mark (`AtomicBitmap::gather`): the word is 0 afterwards. Bit b is
-    /// page 64 * word + b.
+    /// Takes the marks of a word, in one step, while others mark (`AtomicBitmap::gather`): the word is 0
+    /// afterwards. Bit b is page 64 * word + b.
     pub fn gather(&mut self, word: usize) -> u64
         requires { word < div_ceil self.old.bitmap.len 64 }
-        ensures harvest { self.new ≡ record self.old { pass = counting self.old.pass (cleared_by (in_word word) result self.old.pass.counts.pages) } }
+        ensures harvest { self.new ≡ record self.old {
+          pass = counting self.old.pass (cleared_by (in_word word) result self.old.pass.counts.pages);
+        } }
         ensures word { SettlesWord self.old.pass.counts word result }
         ensures past { NoneBeyond self.old.bitmap.len word result }
         ensures rule { StandsAt self.old.bitmap.len word result self.old.pass.counts }
@@ -103,7 +107,9 @@ impl PageHarvest {
         requires own { IsPassOf self.old.bitmap pass }
         requires none { (p : ℕ) → (tally_of pass.counts.pages p).off ≡ 0 }
         ensures own { IsPassOf self.new.bitmap self.new.pass }
-        ensures harvest { self.new ≡ record self.old { pass = record { name = self.old.pass.name; counts = both_passes self.old.pass.counts pass.counts } } }
+        ensures harvest { self.new ≡ record self.old {
+          pass = record { name = self.old.pass.name; counts = both_passes self.old.pass.counts pass.counts };
+        } }
     {
         self.bitmap.join_pass(&mut self.pass, pass);
     }
@@ -112,9 +118,11 @@ impl PageHarvest {
     pub(crate) fn gather_all(&mut self, words: &mut [u64])
         requires { length words.old ≡ div_ceil self.old.bitmap.len 64 }
         ensures count { length words.new ≡ length words.old }
-        ensures harvest { self.new ≡ record self.old { pass = counting self.old.pass self.new.pass.counts.pages } }
+        ensures harvest { self.new
+            ≡ record self.old { pass = counting self.old.pass self.new.pass.counts.pages } }
         ensures taken { (p : ℕ) → p < self.old.bitmap.len →
-            (tally_of self.new.pass.counts.pages p).off ≡ (tally_of self.old.pass.counts.pages p).off + page_bit words.new p }
+            (tally_of self.new.pass.counts.pages p).off
+            ≡ (tally_of self.old.pass.counts.pages p).off + page_bit words.new p }
         ensures whole { SettlesAll self.old.pass.counts words.new }
         ensures past { (p : ℕ) → self.old.bitmap.len ≤ p → page_bit words.new p ≡ 0 }
     {

@@ -1,6 +1,8 @@
-//! A kick for one chain, of which what is told is kept twice. All of it has room before the file system is asked.
+//! A kick for one chain, of which what is told is kept twice. All of it has room before the file system is
+//! asked.
 
-ghost use Rattle.std.specs.Prelude.{◌≡◌, ◌≤◌, ◌<◌, ◌+◌, [], false, IsTrue, IfOk, IfErr, OnErr, length, vec_len, vec_capacity};
+ghost use Rattle.std.specs.Prelude.{◌≡◌, ◌≤◌, ◌<◌, ◌+◌, [], false, IsTrue, IfOk, IfErr, OnErr, length};
+ghost use Rattle.std.specs.Prelude.{vec_len, vec_capacity};
 ghost use Rattle.vm_memory_core.specs.Host.{lengths};
 ghost use Rattle.fs_queue.specs.Windows.{TakenLiesIn, room_places};
 ghost use Rattle.plain_machine.specs.Run.{Kick};
@@ -75,12 +77,14 @@ fn kept_exchange(queue: usize, exchange: Exchange, notice: bool, room: ReplyRoom
     requires pages { room.pages.items ≡ [] }
     requires pages_fit { length room.runs.room.items + length room.runs.used.items ≤ vec_capacity room.pages }
     requires copy { room.pages_copy.items ≡ [] }
-    requires copy_fits { length room.runs.room.items + length room.runs.used.items ≤ vec_capacity room.pages_copy }
+    requires copy_fits { length room.runs.room.items + length room.runs.used.items
+        ≤ vec_capacity room.pages_copy }
     ensures entry { command_of result.entry.command ≡ Kick queue 1 }
     ensures entry_outcome { came_of result.entry.outcome ≡ Served (exchange_of exchange) notice }
     ensures pages { AreReturnPages room.runs (length exchange.reply.items) result.entry.pages.items }
     ensures receipt { command_of result.receipt.command ≡ Kick queue 1 }
-    ensures receipt_outcome { came_of result.receipt.outcome ≡ Served (record (exchange_of exchange) { request = room.request.items }) notice }
+    ensures receipt_outcome { came_of result.receipt.outcome
+        ≡ Served (record (exchange_of exchange) { request = room.request.items }) notice }
     ensures receipt_pages { result.receipt.pages.items ≡ result.entry.pages.items }
 {
     let ReplyRoom {
@@ -113,8 +117,8 @@ fn kept_exchange(queue: usize, exchange: Exchange, notice: bool, room: ReplyRoom
     }
 }
 
-// Answers a chain that was taken from a queue, gives it back, and keeps what is told of it. AllocError, which changes
-// nothing, comes before the file system is asked.
+// Answers a chain that was taken from a queue, gives it back, and keeps what is told of it. AllocError, which
+// changes nothing, comes before the file system is asked.
 #[inline(always)]
 fn exchange_kept<F: FileSystem, I: Iommu + Drop>(
     alloc: Global,
@@ -125,7 +129,8 @@ fn exchange_kept<F: FileSystem, I: Iommu + Drop>(
     requires taken { let s = machine_of machine.old in HasTaken s.memory s.limit s.queues queue taken.old }
     requires lies { TakenLiesIn (lengths machine.old.host) taken.old }
     requires there { queue < length machine.old.device.queues }
-    ensures keeps { IfOk result (λ kept. KeepsEvent F.may (machine_of machine.old) (Kick queue 1) kept (machine_of machine.new)) }
+    ensures keeps { IfOk result
+        (λ kept. KeepsEvent F.may (machine_of machine.old) (Kick queue 1) kept (machine_of machine.new)) }
     ensures lacks { OnErr result (machine_of machine.new ≡ machine_of machine.old) }
 {
     let request = FetchedRequest::of(alloc, &machine.host, taken)?;
@@ -165,9 +170,11 @@ fn stopped(alloc: Global, queue: usize, error: DeviceError) -> Event
 // A refusal, if it is to be journaled; else it is answered.
 fn kept_refusal(alloc: Global, queue: usize, error: DeviceError) -> Result<Kept, DeviceError>
     ensures stops { IfOk result (λ kept. IsTrue (is_journaled error)) }
-    ensures entry { IfOk result (λ kept. (command_of kept.entry.command ≡ Kick queue 1) × (came_of kept.entry.outcome ≡ Stopped error)
+    ensures entry { IfOk result (λ kept. (command_of kept.entry.command ≡ Kick queue 1)
+        × (came_of kept.entry.outcome ≡ Stopped error)
         × (kept.entry.pages.items ≡ [])) }
-    ensures receipt { IfOk result (λ kept. (command_of kept.receipt.command ≡ Kick queue 1) × (came_of kept.receipt.outcome ≡ Stopped error)
+    ensures receipt { IfOk result (λ kept. (command_of kept.receipt.command ≡ Kick queue 1)
+        × (came_of kept.receipt.outcome ≡ Stopped error)
         × (kept.receipt.pages.items ≡ [])) }
     ensures err { IfErr result (λ e. (e ≡ error) × (is_journaled error ≡ false)) }
 {
@@ -181,8 +188,9 @@ fn kept_refusal(alloc: Global, queue: usize, error: DeviceError) -> Result<Kept,
     }
 }
 
-/// Serves the next chain of a queue, by a place that is kept from kick to kick, and keeps what is told of it. None where
-/// nothing waits. A refusal that stops the queue is kept too, the others are answered; want of memory changes nothing.
+/// Serves the next chain of a queue, by a place that is kept from kick to kick, and keeps what is told of it.
+/// None where nothing waits. A refusal that stops the queue is kept too, the others are answered; want of
+/// memory changes nothing.
 #[inline(always)]
 pub(crate) fn kick_kept<F: FileSystem, I: Iommu + Drop>(
     alloc: Global,

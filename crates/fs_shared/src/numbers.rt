@@ -15,8 +15,8 @@ fn page_count(len: usize) -> usize
     len / PAGE_SIZE + usize::from(len % PAGE_SIZE != 0)
 }
 
-/// The number of a block's first page, and of the block past the last the number of all pages. AllocError if it doesn't
-/// fit 64 bits, since no memory has so many bytes, or if the host has fewer blocks.
+/// The number of a block's first page, and of the block past the last the number of all pages. AllocError if
+/// it doesn't fit 64 bits, since no memory has so many bytes, or if the host has fewer blocks.
 pub fn first_page<H: HostBlocks>(host: &H, block: usize) -> Result<usize, AllocError>
     ensures { IfOk result (λ first. first ≡ first_page (lengths (H.host host.now)) block) }
 {

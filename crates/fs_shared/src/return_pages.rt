@@ -14,8 +14,8 @@ use vm_memory_core::HostBlocks;
 // How many bytes a return writes besides the reply: a used element and the used index.
 const USED_LEN: usize = 10;
 
-/// Runs of the bytes that a return of a chain may write, each in one page: those of the room for the reply, and those of
-/// the used element and the used index.
+/// Runs of the bytes that a return of a chain may write, each in one page: those of the room for the reply,
+/// and those of the used element and the used index.
 #[derive(Debug, Drop)]
 pub(crate) struct ReturnRuns {
     pub room: PageRuns,
@@ -23,8 +23,8 @@ pub(crate) struct ReturnRuns {
 }
 
 impl ReturnRuns {
-    /// The most pages that a return may write: as many as there are runs. AllocError if their number doesn't fit 64 bits,
-    /// since no memory has so many.
+    /// The most pages that a return may write: as many as there are runs. AllocError if their number doesn't
+    /// fit 64 bits, since no memory has so many.
     pub(crate) fn most_pages(&self) -> Result<usize, AllocError>
         ensures { IfOk result (λ most. most ≡ length self.now.room.items + length self.now.used.items) }
     {
@@ -39,7 +39,8 @@ ghost use Rattle.fs_shared.specs.ReturnRuns.{AreReturnPages, AreReturnRuns};
 
 // The runs of the room of a chain; a faulty one has none.
 fn room_runs<H: HostBlocks>(alloc: Global, host: &H, taken: &Taken) -> Result<PageRuns, AllocError>
-    ensures { IfOk result (λ runs. AreRuns (map (page_of (lengths (H.host host.now))) (chain_places taken.now.chain)) runs.items) }
+    ensures { IfOk result (λ runs.
+        AreRuns (map (page_of (lengths (H.host host.now))) (chain_places taken.now.chain)) runs.items) }
 {
     match taken.chain() {
         Ok(chain) => page_runs(alloc, host, &chain.writable),
@@ -62,8 +63,8 @@ pub(crate) fn return_runs<H: HostBlocks>(
     })
 }
 
-/// The pages that a return with a reply of so many bytes writes, in a list that is empty and has room for all runs. There
-/// are no more pages than runs.
+/// The pages that a return with a reply of so many bytes writes, in a list that is empty and has room for all
+/// runs. There are no more pages than runs.
 pub(crate) fn return_pages(pages: &mut Vec<usize>, runs: &ReturnRuns, reply_len: usize)
     requires empty { pages.old.items ≡ [] }
     requires fits { length runs.now.room.items + length runs.now.used.items ≤ vec_capacity pages.old }

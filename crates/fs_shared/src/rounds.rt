@@ -1,6 +1,8 @@
-//! A round of a device: it is made over a machine, serves a queue before and after a gather, and is taken apart again.
+//! A round of a device: it is made over a machine, serves a queue before and after a gather, and is taken
+//! apart again.
 
-ghost use Rattle.std.specs.Prelude.{◌≡◌, ◌⊎◌, ◌+◌, ◌<◌, ◌≤◌, ◌*◌, ◌↔◌, [], Some, IfErr, IfNone, IfOk, IfSome, IsTrue, length, vec_capacity, vec_len};
+ghost use Rattle.std.specs.Prelude.{◌≡◌, ◌⊎◌, ◌+◌, ◌<◌, ◌≤◌, ◌*◌, ◌↔◌, [], Some, IfErr, IfNone, IfOk, IfSome};
+ghost use Rattle.std.specs.Prelude.{IsTrue, length, vec_capacity, vec_len};
 ghost use Rattle.std.specs.Int.{div_ceil};
 ghost use Rattle.vm_atomic_bitmaps.specs.Passes.{counting};
 ghost use Rattle.vm_memory_core.specs.Host.{lengths};
@@ -11,7 +13,8 @@ ghost use Rattle.fs_shared.specs.Audit.{AreAllReceipts};
 ghost use Rattle.fs_shared.specs.Held.{fixed_of, journal_of, start_of};
 ghost use Rattle.fs_shared.specs.Marks.{HasMarked, first_of};
 ghost use Rattle.fs_shared.specs.Replay.{Replays, forget};
-ghost use Rattle.fs_shared.specs.Rounds.{GoesOnWith, IsGreatest, IsGreatestOfFirst, KeepsSince, LeavesSince, TellsPages};
+ghost use Rattle.fs_shared.specs.Rounds.{GoesOnWith, IsGreatest, IsGreatestOfFirst, KeepsSince, LeavesSince};
+ghost use Rattle.fs_shared.specs.Rounds.{TellsPages};
 ghost use Rattle.fs_shared.specs.declared.share_error.ShareError.TheVariants.{OutOfMemory};
 
 use crate::auditing::audit;
@@ -29,14 +32,16 @@ use std::sync::ledger::{Blank, Ledger};
 use vm_memory::Iommu;
 use vm_memory_core::{HostMemory, PageBitmap};
 
-/// What a round leaves: the machine with its start and its journal, the receipts of its kicks, and the pages that these marked.
+/// What a round leaves: the machine with its start and its journal, the receipts of its kicks, and the pages
+/// that these marked.
 #[derive(Drop)]
 pub struct Round<F, I: Iommu + Drop> {
     pub parts: Parts<F, I>,
     pub receipts: Vec<Receipt>,
     /// Whether the receipts say all that the journal says (`audit`).
     pub is_audited: bool,
-    /// The greatest number of the receipts that were there as the harvest gathered: that of the last entry before.
+    /// The greatest number of the receipts that were there as the harvest gathered: that of the last entry
+    /// before.
     pub last_before: Option<usize>,
     /// The pages that the harvest gathered between the kicks: page p is bit p mod 64 of word p / 64.
     pub gathered: Vec<u64>,
@@ -60,8 +65,10 @@ fn round_room(
 ) -> Result<RoundRoom, AllocError>
     ensures receipts { IfOk result (λ room. room.receipts.items ≡ []) }
     ensures fits { IfOk result (λ room. vec_len room.receipts + (most + most) ≤ vec_capacity room.receipts) }
-    ensures gathered { IfOk result (λ room. vec_len room.gathered ≡ div_ceil (first_page (lengths host.now) (length (lengths host.now))) 64) }
-    ensures left { IfOk result (λ room. vec_len room.left ≡ div_ceil (first_page (lengths host.now) (length (lengths host.now))) 64) }
+    ensures gathered { IfOk result (λ room. vec_len room.gathered
+        ≡ div_ceil (first_page (lengths host.now) (length (lengths host.now))) 64) }
+    ensures left { IfOk result (λ room. vec_len room.left
+        ≡ div_ceil (first_page (lengths host.now) (length (lengths host.now))) 64) }
 {
     let words = first_page(host, host.block_count())?.div_ceil(64);
     let receipts = Vec::with_capacity(alloc, usize::from(most) + usize::from(most))?;
@@ -86,7 +93,8 @@ fn kick_once<L: Ledger, F: FileSystem, I: Iommu + Drop, R: Wait>(
     requires room { vec_len receipts.old < vec_capacity receipts.old }
     ensures own { IsShareOf device.now share.new }
     ensures marked { HasMarked share.new.pass.counts.pages receipts.new.items }
-    ensures since { KeepsSince share.old.pass.counts.pages share.new.pass.counts.pages receipts.old.items receipts.new.items }
+    ensures since { KeepsSince share.old.pass.counts.pages share.new.pass.counts.pages receipts.old.items
+        receipts.new.items }
     ensures more { GoesOnWith receipts.old.items receipts.new.items }
     ensures parts { share.new.parts ≡ share.old.parts }
     ensures pass { share.new.pass ≡ counting share.old.pass share.new.pass.counts.pages }
@@ -118,7 +126,8 @@ fn kick_often<L: Ledger, F: FileSystem, I: Iommu + Drop, R: Wait>(
     requires room { vec_len receipts.old + most ≤ vec_capacity receipts.old }
     ensures own { IsShareOf device.now share.new }
     ensures marked { HasMarked share.new.pass.counts.pages receipts.new.items }
-    ensures since { KeepsSince share.old.pass.counts.pages share.new.pass.counts.pages receipts.old.items receipts.new.items }
+    ensures since { KeepsSince share.old.pass.counts.pages share.new.pass.counts.pages receipts.old.items
+        receipts.new.items }
     ensures more { GoesOnWith receipts.old.items receipts.new.items }
     ensures parts { share.new.parts ≡ share.old.parts }
     ensures pass { share.new.pass ≡ counting share.old.pass share.new.pass.counts.pages }
@@ -135,7 +144,8 @@ fn kick_often<L: Ledger, F: FileSystem, I: Iommu + Drop, R: Wait>(
 // The greater of two numbers, of which the first may be none.
 fn greater(one: Option<usize>, other: usize) -> Option<usize>
     ensures first { IfNone one (result ≡ Some other) }
-    ensures more { IfSome one (λ number. ((other ≤ number) × (result ≡ one)) ⊎ ((number < other) × (result ≡ Some other))) }
+    ensures more { IfSome one (λ number. ((other ≤ number) × (result ≡ one))
+        ⊎ ((number < other) × (result ≡ Some other))) }
 {
     match one {
         Some(number) if other <= number => one,
@@ -154,7 +164,8 @@ fn greatest_number(receipts: &[Receipt]) -> Option<usize>
     greatest
 }
 
-// Serves a queue of a new device before and after a gather, which the share is told of, and takes the device apart.
+// Serves a queue of a new device before and after a gather, which the share is told of, and takes the device
+// apart.
 fn go_round<L: Ledger, F: FileSystem + Drop, I: Iommu + Drop, R: Wait>(
     rt: &R,
     alloc: Global,
@@ -170,13 +181,17 @@ fn go_round<L: Ledger, F: FileSystem + Drop, I: Iommu + Drop, R: Wait>(
     requires fits { vec_len room.receipts + (most + most) ≤ vec_capacity room.receipts }
     requires gathered { vec_len room.gathered ≡ div_ceil made.0.len 64 }
     requires left { vec_len room.left ≡ div_ceil made.0.len 64 }
-    ensures audit { IsTrue result.is_audited ↔ AreAllReceipts result.parts.journal.items result.receipts.items }
-    ensures replays { Replays (start_of result.parts.start (fixed_of (machine_of result.parts.machine))) (journal_of result.parts.journal.items)
+    ensures audit { IsTrue result.is_audited ↔ AreAllReceipts result.parts.journal.items
+        result.receipts.items }
+    ensures replays { Replays (start_of result.parts.start (fixed_of (machine_of result.parts.machine)))
+        (journal_of result.parts.journal.items)
         (forget (machine_of result.parts.machine)) }
     ensures pages { IsTrue result.is_audited →
-        TellsPages made.0.len result.gathered.items result.left.items result.parts.start.host result.parts.machine.host }
+        TellsPages made.0.len result.gathered.items result.left.items result.parts.start.host
+        result.parts.machine.host }
     ensures since { IsTrue result.is_audited →
-        LeavesSince made.0.len result.last_before result.parts.journal.items result.left.items (forget (machine_of result.parts.machine)) }
+        LeavesSince made.0.len result.last_before result.parts.journal.items result.left.items
+        (forget (machine_of result.parts.machine)) }
     ensures last { IsGreatestOfFirst most result.last_before result.receipts.items }
 {
     let (device, mut share, mut harvest) = made;
@@ -205,11 +220,13 @@ fn go_round<L: Ledger, F: FileSystem + Drop, I: Iommu + Drop, R: Wait>(
     }
 }
 
-/// A round of a machine by one thread: a device is made over it (`SharedDevice::new`), a queue is kicked until nothing waits, a kick
-/// is refused or `most` chains were served, the harvest gathers, the share meets it, the queue is kicked so once more, and the device
-/// is taken apart. If the receipts pass the audit, each page, below the number of pages of the host, in which the machine's host
-/// differs from the start's was gathered or is left; and each in which it differs from what it was after the entry `last_before` is
-/// left. Refused only `OutOfMemory`, if an allocation fails before anything was served, and then blank and machine come back.
+/// A round of a machine by one thread: a device is made over it (`SharedDevice::new`), a queue is kicked
+/// until nothing waits, a kick is refused or `most` chains were served, the harvest gathers, the share meets
+/// it, the queue is kicked so once more, and the device is taken apart. If the receipts pass the audit, each
+/// page, below the number of pages of the host, in which the machine's host differs from the start's was
+/// gathered or is left; and each in which it differs from what it was after the entry `last_before` is left.
+/// Refused only `OutOfMemory`, if an allocation fails before anything was served, and then blank and machine
+/// come back.
 pub fn serve_round<L: Ledger, F: FileSystem + Drop, I: Iommu + Drop, R: Wait>(
     rt: &R,
     alloc: Global,
@@ -223,13 +240,18 @@ pub fn serve_round<L: Ledger, F: FileSystem + Drop, I: Iommu + Drop, R: Wait>(
     requires ledger { blank.parts ≡ L.parts }
     requires parts { blank.parts ≡ parts }
     requires some { 0 < parts }
-    ensures audit { IfOk result (λ round. IsTrue round.is_audited ↔ AreAllReceipts round.parts.journal.items round.receipts.items) }
-    ensures replays { IfOk result (λ round. Replays (start_of round.parts.start (fixed_of (machine_of round.parts.machine)))
+    ensures audit { IfOk result
+        (λ round. IsTrue round.is_audited ↔ AreAllReceipts round.parts.journal.items round.receipts.items) }
+    ensures replays { IfOk result
+        (λ round. Replays (start_of round.parts.start (fixed_of (machine_of round.parts.machine)))
         (journal_of round.parts.journal.items) (forget (machine_of round.parts.machine))) }
-    ensures pages { IfOk result (λ round. IsTrue round.is_audited → TellsPages (first_page (lengths machine.host) (length (lengths machine.host)))
+    ensures pages { IfOk result (λ round. IsTrue round.is_audited
+        → TellsPages (first_page (lengths machine.host) (length (lengths machine.host)))
         round.gathered.items round.left.items round.parts.start.host round.parts.machine.host) }
-    ensures since { IfOk result (λ round. IsTrue round.is_audited → LeavesSince (first_page (lengths machine.host) (length (lengths machine.host)))
-        round.last_before round.parts.journal.items round.left.items (forget (machine_of round.parts.machine))) }
+    ensures since { IfOk result (λ round. IsTrue round.is_audited
+        → LeavesSince (first_page (lengths machine.host) (length (lengths machine.host)))
+        round.last_before round.parts.journal.items round.left.items
+        (forget (machine_of round.parts.machine))) }
     ensures last { IfOk result (λ round. IsGreatestOfFirst most round.last_before round.receipts.items) }
     ensures refused { IfErr result (λ back. back.0 ≡ OutOfMemory) }
     ensures blank { IfErr result (λ back. back.1 ≡ blank) }

@@ -37,7 +37,8 @@ fn push_runs<H: HostBlocks>(
 ) -> Result<(), AllocError>
     requires { from + window.len < 2 ^ 64 }
     ensures { (before : List ℕ) → length before ≡ from → AreRuns before runs.old.items →
-        OnOk result (AreRuns (before ++ map (page_of (lengths (H.host host.now))) (places_of window)) runs.new.items) }
+        OnOk result (AreRuns (before ++ map (page_of (lengths (H.host host.now))) (places_of window))
+        runs.new.items) }
 {
     let first = first_page(host, window.block())?;
     let mut done = 0;
@@ -63,7 +64,8 @@ pub fn page_runs<H: HostBlocks>(
     windows: &[VolatileSlice],
 ) -> Result<PageRuns, AllocError>
     requires { length (places windows.now) < 2 ^ 64 }
-    ensures { IfOk result (λ runs. AreRuns (map (page_of (lengths (H.host host.now))) (places windows.now)) runs.items) }
+    ensures { IfOk result
+        (λ runs. AreRuns (map (page_of (lengths (H.host host.now))) (places windows.now)) runs.items) }
 {
     let mut runs = PageRuns::new(alloc);
     let mut from = 0;
@@ -98,8 +100,8 @@ fn sort_pages(pages: &mut Vec<usize>)
     pages.dedup();
 }
 
-/// The pages of the first bytes of two lists of runs, in a list that is empty and has room for all runs. There are no more
-/// pages than runs.
+/// The pages of the first bytes of two lists of runs, in a list that is empty and has room for all runs.
+/// There are no more pages than runs.
 pub fn written_pages(
     pages: &mut Vec<usize>,
     first: &[PageRun],
@@ -110,8 +112,11 @@ pub fn written_pages(
     requires empty { pages.old.items ≡ [] }
     requires fits { length first.now + length last.now ≤ vec_capacity pages.old }
     ensures len { vec_len pages.new ≤ length first.now + length last.now }
-    ensures pages { (block_lengths : List ℕ) (firsts lasts : List Place) → AreRuns (map (page_of block_lengths) firsts) first.now →
-        AreRuns (map (page_of block_lengths) lasts) last.now →
+    ensures pages { (block_lengths : List ℕ) (firsts lasts : List Place)
+        → AreRuns (map (page_of block_lengths) firsts) first.now
+        →
+        AreRuns (map (page_of block_lengths) lasts) last.now
+        →
         ArePagesOf block_lengths (take first_count firsts ++ take last_count lasts) pages.new.items }
 {
     push_begun(pages, first, first_count);

@@ -3,7 +3,8 @@
 ghost use Rattle.std.specs.Prelude.{◌≡◌, ◌↔◌, IsTrue};
 ghost use Rattle.fs_device.specs.CommandView.{command_of};
 ghost use Rattle.plain_machine.specs.Run.{GuestRead, GuestWrite, Harvest, Image, InsertRegion, Kick, Map};
-ghost use Rattle.plain_machine.specs.Run.{NewBlock, RemoveRegion, ResetQueue, SetIommu, SetLayout, Unmap, UnmapAll};
+ghost use Rattle.plain_machine.specs.Run.{NewBlock, RemoveRegion, ResetQueue, SetIommu, SetLayout, Unmap};
+ghost use Rattle.plain_machine.specs.Run.{UnmapAll};
 
 use crate::same_layout::same_layout;
 use fs_device::Command;
@@ -146,7 +147,10 @@ fn is_kick(command: &Command, queue: usize, most: u16) -> bool
 
 // Whether two queues' layouts have the same size and addresses.
 fn same_queue_layout(one: QueueLayout, other: QueueLayout) -> bool
-    ensures { IsTrue result ↔ ((other.size ≡ one.size) × (other.desc ≡ one.desc) × (other.avail ≡ one.avail) × (other.used ≡ one.used)) }
+    ensures { IsTrue result ↔ ((other.size ≡ one.size)
+        × (other.desc ≡ one.desc)
+        × (other.avail ≡ one.avail)
+        × (other.used ≡ one.used)) }
 {
     other.size() == one.size()
         && other.desc() == one.desc()
@@ -156,7 +160,8 @@ fn same_queue_layout(one: QueueLayout, other: QueueLayout) -> bool
 
 // Whether a command is a reset of a queue to a layout.
 fn is_reset(command: &Command, queue: usize, layout: QueueLayout) -> bool
-    ensures { IsTrue result ↔ (command_of command.now ≡ ResetQueue queue layout.size layout.desc layout.avail layout.used) }
+    ensures { IsTrue result ↔
+        (command_of command.now ≡ ResetQueue queue layout.size layout.desc layout.avail layout.used) }
 {
     match command {
         Command::ResetQueue {

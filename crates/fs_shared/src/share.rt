@@ -9,8 +9,8 @@ use std::sync::ledger;
 use std::sync::ledger::{Book, Ledger};
 use vm_atomic_bitmaps::{AtomicBitmap, BitmapPass};
 
-/// Some of the parts of a device, at least one, how many calls were journaled by them (`std::sync::ledger`), and a pass of
-/// the device's bitmap, by which the pages that those calls wrote were marked.
+/// Some of the parts of a device, at least one, how many calls were journaled by them (`std::sync::ledger`),
+/// and a pass of the device's bitmap, by which the pages that those calls wrote were marked.
 #[derive(Drop)]
 pub struct Share<L: Ledger> {
     parts: u64,
@@ -28,13 +28,18 @@ impl<L: Ledger> Model for Share<L> {
 
     ghost view = { λ s. record { parts = s.token.parts; count = s.token.amount; pass = s.pass } };
 
-    ghost invariant = { λ s. (s.token.parts ≡ s.parts) × (s.count ≡ s.token.amount % (2 ^ 64)) × (0 < s.parts) × (L.parts < 2 ^ 64) };
+    ghost invariant = { λ s. (s.token.parts ≡ s.parts)
+        × (s.count ≡ s.token.amount % (2 ^ 64))
+        × (0 < s.parts)
+        × (L.parts < 2 ^ 64) };
 }
 
-ghost use Rattle.fs_shared.specs.Portion.{HasSeen, HasSeenItsOwn, IsShareOf, MarksPages, Portion, counted, joined, kept_pass, new_pass};
+ghost use Rattle.fs_shared.specs.Portion.{HasSeen, HasSeenItsOwn, IsShareOf, MarksPages, Portion, counted};
+ghost use Rattle.fs_shared.specs.Portion.{joined, kept_pass, new_pass};
 
 impl<L: Ledger> Share<L> {
-    /// A share of so many parts of a ledger, by which nothing was counted, with a pass of the device's bitmap.
+    /// A share of so many parts of a ledger, by which nothing was counted, with a pass of the device's
+    /// bitmap.
     pub fn new(parts: u64, token: ledger::Share<L>, pass: BitmapPass) -> Share<L>
         requires parts { token.parts ≡ parts }
         requires none { token.amount ≡ 0 }
@@ -71,10 +76,12 @@ impl<L: Ledger> Share<L> {
         self.count == total
     }
 
-    /// Half of its parts, rounded down, with count 0 and half of its pass; None, changing nothing, if it has one part.
+    /// Half of its parts, rounded down, with count 0 and half of its pass; None, changing nothing, if it has
+    /// one part.
     pub fn split(&mut self, bitmap: &AtomicBitmap) -> Option<Share<L>>
         requires { IsShareOf bitmap.now self.old }
-        ensures half { IfSome result (λ s. s ≡ record { parts = self.old.parts / 2; count = 0; pass = new_pass self.old.pass }) }
+        ensures half { IfSome result
+            (λ s. s ≡ record { parts = self.old.parts / 2; count = 0; pass = new_pass self.old.pass }) }
         ensures rest { IfSome result (λ s. self.new.parts + s.parts ≡ self.old.parts) }
         ensures count { self.new.count ≡ self.old.count }
         ensures pass { IfSome result (λ s. self.new.pass ≡ kept_pass self.old.pass) }
@@ -112,11 +119,12 @@ impl<L: Ledger> Share<L> {
         bitmap.join_pass(&mut self.pass, pass);
     }
 
-    /// Marks pages in the device's bitmap, one after another, each in one step (`AtomicBitmap::set_bit`). Those past the end
-    /// are ignored.
+    /// Marks pages in the device's bitmap, one after another, each in one step (`AtomicBitmap::set_bit`).
+    /// Those past the end are ignored.
     pub fn mark(&mut self, bitmap: &AtomicBitmap, pages: &[usize])
         requires { IsShareOf bitmap.now self.old }
-        ensures share { self.new ≡ record self.old { pass = counting self.old.pass self.new.pass.counts.pages } }
+        ensures share { self.new
+            ≡ record self.old { pass = counting self.old.pass self.new.pass.counts.pages } }
         ensures pages { MarksPages pages.now self.old.pass.counts.pages self.new.pass.counts.pages }
         ensures own { IsShareOf bitmap.now self.new }
     {
@@ -125,15 +133,19 @@ impl<L: Ledger> Share<L> {
         }
     }
 
-    /// Takes over what another pass of the device's bitmap has seen (`AtomicBitmap::meet_pass`). It always can. What is marked
-    /// from then on is marked since the other took the page.
+    /// Takes over what another pass of the device's bitmap has seen (`AtomicBitmap::meet_pass`). It always
+    /// can. What is marked from then on is marked since the other took the page.
     pub fn meet(&mut self, bitmap: &AtomicBitmap, other: &mut BitmapPass) -> bool
         requires own { IsShareOf bitmap.now self.old }
         requires other { IsPassOf bitmap.now other.old }
         ensures met { result ≡ true }
-        ensures share { self.new ≡ record self.old { pass = counting self.old.pass (met_with other.old.counts.pages self.old.pass.counts.pages) } }
+        ensures share { self.new ≡ record self.old {
+          pass = counting self.old.pass (met_with other.old.counts.pages self.old.pass.counts.pages);
+        } }
         ensures other { other.new ≡ other.old }
-        ensures seen { HasSeenItsOwn other.old.counts.pages → (word : ℕ) → HasSeen word other.old.counts.pages self.new.pass.counts.pages }
+        ensures seen { HasSeenItsOwn other.old.counts.pages
+            → (word : ℕ)
+            → HasSeen word other.old.counts.pages self.new.pass.counts.pages }
         ensures own { IsShareOf bitmap.now self.new }
     {
         bitmap.meet_pass(&mut self.pass, other)

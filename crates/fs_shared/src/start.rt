@@ -31,7 +31,8 @@ pub(crate) fn started<F: FileSystem, I: Iommu + Drop>(
     alloc: Global,
     machine: &Machine<F, I>,
 ) -> Result<Start, AllocError>
-    ensures { IfOk result (λ start. start_of start (fixed_of (machine_of machine.now)) ≡ forget (machine_of machine.now)) }
+    ensures { IfOk result
+        (λ start. start_of start (fixed_of (machine_of machine.now)) ≡ forget (machine_of machine.now)) }
 {
     Ok(Start {
         host: machine.host.try_clone()?,

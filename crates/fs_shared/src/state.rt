@@ -17,8 +17,8 @@ use std::marker::Model;
 use std::sync::ledger::{Book, Ledger};
 use vm_memory::Iommu;
 
-/// The machine, where it started, and the journal. From the start the journal replays to what the machine holds, and the
-/// shares count its entries.
+/// The machine, where it started, and the journal. From the start the journal replays to what the machine
+/// holds, and the shares count its entries.
 #[derive(Drop)]
 pub struct SharedState<L: Ledger, F, I: Iommu + Drop> {
     pub(crate) machine: Machine<F, I>,
@@ -43,7 +43,8 @@ impl<L: Ledger, F, I: Iommu + Drop> Model for SharedState<L, F, I> {
       journal = journal_of s.journal.items;
     } };
 
-    ghost invariant = { λ s. Replays (start_of s.start (fixed_of (machine_of s.machine))) (journal_of s.journal.items) (forget (machine_of s.machine))
+    ghost invariant = { λ s. Replays (start_of s.start (fixed_of (machine_of s.machine)))
+        (journal_of s.journal.items) (forget (machine_of s.machine))
         × (s.calls.total ≡ vec_len s.journal) };
 }
 
@@ -77,7 +78,8 @@ impl<L: Ledger, F: FileSystem, I: Iommu + Drop> SharedState<L, F, I> {
     ) -> SharedState<L, F, I>
         requires start { start_of start (fixed_of (machine_of machine)) ≡ forget (machine_of machine) }
         requires none { calls.total ≡ 0 }
-        ensures { result ≡ record { machine = machine_of machine; start = forget (machine_of machine); journal = [] } }
+        ensures { result
+            ≡ record { machine = machine_of machine; start = forget (machine_of machine); journal = [] } }
     {
         SharedState {
             machine,
@@ -88,8 +90,8 @@ impl<L: Ledger, F: FileSystem, I: Iommu + Drop> SharedState<L, F, I> {
         }
     }
 
-    /// Whether a share's count is the journal's length: exactly then the device comes apart (`SharedDevice::into_parts`). So it
-    /// is where the share has every part.
+    /// Whether a share's count is the journal's length: exactly then the device comes apart
+    /// (`SharedDevice::into_parts`). So it is where the share has every part.
     pub fn is_counted(&mut self, share: &mut Share<L>) -> bool
         ensures state { self.new ≡ self.old }
         ensures share { share.new ≡ share.old }
@@ -103,7 +105,8 @@ impl<L: Ledger, F: FileSystem, I: Iommu + Drop> SharedState<L, F, I> {
 
     // What it is made of. The journal replays from the start to the machine.
     pub(crate) fn open(self) -> Parts<F, I>
-        ensures replays { Replays (start_of result.start (fixed_of (machine_of result.machine))) (journal_of result.journal.items)
+        ensures replays { Replays (start_of result.start (fixed_of (machine_of result.machine)))
+            (journal_of result.journal.items)
             (forget (machine_of result.machine)) }
         ensures machine { machine_of result.machine ≡ self.machine }
         ensures start { start_of result.start (fixed_of (machine_of result.machine)) ≡ self.start }

@@ -6,7 +6,8 @@ use Rattle.bitflags.specs.Sets.{Row}
 abbrev pub setattr_valid : List Row
 setattr_valid =
     (codes "MODE", 2 ^ 0) ∷ (codes "UID", 2 ^ 1) ∷ (codes "GID", 2 ^ 2) ∷ (codes "SIZE", 2 ^ 3) ∷
-    (codes "ATIME", 2 ^ 4) ∷ (codes "MTIME", 2 ^ 5) ∷ (codes "ATIME_NOW", 2 ^ 7) ∷ (codes "MTIME_NOW", 2 ^ 8) ∷
+    (codes "ATIME", 2 ^ 4) ∷ (codes "MTIME", 2 ^ 5) ∷ (codes "ATIME_NOW", 2 ^ 7)
+    ∷ (codes "MTIME_NOW", 2 ^ 8) ∷
     (codes "CTIME", 2 ^ 10) ∷ (codes "KILL_SUIDGID", 2 ^ 11) ∷ []
 
 -- the flags of OpenOptions
@@ -45,11 +46,14 @@ fs_options =
     (codes "ATOMIC_O_TRUNC", 2 ^ 3) ∷ (codes "EXPORT_SUPPORT", 2 ^ 4) ∷ (codes "BIG_WRITES", 2 ^ 5) ∷
     (codes "DONT_MASK", 2 ^ 6) ∷ (codes "SPLICE_WRITE", 2 ^ 7) ∷ (codes "SPLICE_MOVE", 2 ^ 8) ∷
     (codes "SPLICE_READ", 2 ^ 9) ∷ (codes "FLOCK_LOCKS", 2 ^ 10) ∷ (codes "HAS_IOCTL_DIR", 2 ^ 11) ∷
-    (codes "AUTO_INVAL_DATA", 2 ^ 12) ∷ (codes "DO_READDIRPLUS", 2 ^ 13) ∷ (codes "READDIRPLUS_AUTO", 2 ^ 14) ∷
+    (codes "AUTO_INVAL_DATA", 2 ^ 12) ∷ (codes "DO_READDIRPLUS", 2 ^ 13)
+    ∷ (codes "READDIRPLUS_AUTO", 2 ^ 14) ∷
     (codes "ASYNC_DIO", 2 ^ 15) ∷ (codes "WRITEBACK_CACHE", 2 ^ 16) ∷ (codes "ZERO_MESSAGE_OPEN", 2 ^ 17) ∷
     (codes "PARALLEL_DIROPS", 2 ^ 18) ∷ (codes "HANDLE_KILLPRIV", 2 ^ 19) ∷ (codes "POSIX_ACL", 2 ^ 20) ∷
     (codes "ABORT_ERROR", 2 ^ 21) ∷ (codes "MAX_PAGES", 2 ^ 22) ∷ (codes "CACHE_SYMLINKS", 2 ^ 23) ∷
-    (codes "ZERO_MESSAGE_OPENDIR", 2 ^ 24) ∷ (codes "EXPLICIT_INVAL_DATA", 2 ^ 25) ∷ (codes "SUBMOUNTS", 2 ^ 27) ∷
+    (codes "ZERO_MESSAGE_OPENDIR", 2 ^ 24) ∷ (codes "EXPLICIT_INVAL_DATA", 2 ^ 25)
+    ∷ (codes "SUBMOUNTS", 2 ^ 27) ∷
     (codes "HANDLE_KILLPRIV_V2", 2 ^ 28) ∷ (codes "SETXATTR_EXT", 2 ^ 29) ∷ (codes "INIT_EXT", 2 ^ 30) ∷
     (codes "INIT_RESERVED", 2 ^ 31) ∷ (codes "SECURITY_CTX", 2 ^ 32) ∷ (codes "HAS_INODE_DAX", 2 ^ 33) ∷
-    (codes "CREATE_SUPP_GROUP", 2 ^ 34) ∷ (codes "DIRECT_IO_ALLOW_MMAP", 2 ^ 36) ∷ (codes "ALLOW_IDMAP", 2 ^ 40) ∷ []
+    (codes "CREATE_SUPP_GROUP", 2 ^ 34) ∷ (codes "DIRECT_IO_ALLOW_MMAP", 2 ^ 36)
+    ∷ (codes "ALLOW_IDMAP", 2 ^ 40) ∷ []

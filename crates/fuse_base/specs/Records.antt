@@ -9,11 +9,14 @@ use Rattle.fuse_base.specs.declared.records.FileLock.{FileLock}
 abbrev pub attr : Attr → List Field
 attr r =
     q r.ino ∷ q r.size ∷ q r.blocks ∷ q r.atime ∷ q r.mtime ∷ q r.ctime ∷
-    d r.atimensec ∷ d r.mtimensec ∷ d r.ctimensec ∷ d r.mode ∷ d r.nlink ∷ d r.uid.0 ∷ d r.gid.0 ∷ d r.rdev ∷ d r.blksize ∷ d r.flags ∷ []
+    d r.atimensec ∷ d r.mtimensec ∷ d r.ctimensec ∷ d r.mode ∷ d r.nlink ∷ d r.uid.0 ∷ d r.gid.0 ∷ d r.rdev
+    ∷ d r.blksize ∷ d r.flags ∷ []
 
 -- struct fuse_kstatfs, 80 bytes
 abbrev pub kstatfs : Kstatfs → List Field
-kstatfs r = q r.blocks ∷ q r.bfree ∷ q r.bavail ∷ q r.files ∷ q r.ffree ∷ d r.bsize ∷ d r.namelen ∷ d r.frsize ∷ d r.padding ∷ ds 6 r.spare ∷ []
+kstatfs r =
+    q r.blocks ∷ q r.bfree ∷ q r.bavail ∷ q r.files ∷ q r.ffree ∷ d r.bsize ∷ d r.namelen ∷ d r.frsize
+    ∷ d r.padding ∷ ds 6 r.spare ∷ []
 
 -- struct fuse_file_lock, 24 bytes
 abbrev pub file_lock : FileLock → List Field

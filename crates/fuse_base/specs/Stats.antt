@@ -1,4 +1,5 @@
--- What the host tells, as the guest is told: signed numbers by their two's complement bits, wider ones by their low 32 bits.
+-- What the host tells, as the guest is told: signed numbers by their two's complement bits, wider ones by
+-- their low 32 bits.
 use Rattle.std.specs.Prelude.{ℕ, ℤ, ◌%◌, ◌^◌, Result, Ok, Err, ◌⊎◌, replicate}
 use Rattle.std.specs.Int.{w64, cast_unsigned}
 use Rattle.fuse_base.specs.declared.ids.GuestUid.{GuestUid}
@@ -63,5 +64,6 @@ abbrev pub BothMapped : (GuestUid → Type 0) → (GuestGid → Type 0) → (Gue
 BothMapped U G P = (u : GuestUid) × (g : GuestGid) × U u × G g × P u g
 
 -- an error of the user map, or, after its answer, one of the group map
-abbrev pub FirstError : {E : Type 0} → (Result GuestUid E → Type 0) → (Result GuestGid E → Type 0) → E → Type 0
+abbrev pub FirstError :
+    {E : Type 0} → (Result GuestUid E → Type 0) → (Result GuestGid E → Type 0) → E → Type 0
 FirstError U G e = U (Err e) ⊎ ((u : GuestUid) × U (Ok u) × G (Err e))

@@ -3,7 +3,8 @@
 ghost use Rattle.std.specs.Prelude.{⊤, ◌≡◌, List, map};
 ghost use Rattle.std.specs.Int.RustNames.{bit_and, bit_or};
 ghost use Rattle.bitflags.specs.Sets.{Row};
-ghost use Rattle.fuse_base.specs.Flags.{setattr_valid, open_options, ioctl_flags, setxattr_flags, notify_inval_entry_out_flags, setupmapping_flags, fs_options};
+ghost use Rattle.fuse_base.specs.Flags.{setattr_valid, open_options, ioctl_flags, setxattr_flags};
+ghost use Rattle.fuse_base.specs.Flags.{notify_inval_entry_out_flags, setupmapping_flags, fs_options};
 
 use bitflags::{Bits, Flag, Flags};
 use std::marker::PhantomData;

@@ -94,7 +94,8 @@ impl From<u32> for HostGid {
     }
 }
 
-/// An error number (errno(3); Linux include/uapi/asm-generic/errno.h), from 1 to 4095. Those that file systems answer have names.
+/// An error number (errno(3); Linux include/uapi/asm-generic/errno.h), from 1 to 4095. Those that file
+/// systems answer have names.
 #[derive(Clone, Copy, Debug, PartialEq, Eq, Error)]
 #[error("error number {number}")]
 pub struct Errno {

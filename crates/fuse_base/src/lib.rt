@@ -1,4 +1,5 @@
-//! What both directions of the FUSE protocol use: numbers of users, groups and errors, flags and shared records.
+//! What both directions of the FUSE protocol use: numbers of users, groups and errors, flags and shared
+//! records.
 #![tactic(auto)]
 
 pub mod constants;

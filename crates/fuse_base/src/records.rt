@@ -7,8 +7,8 @@ ghost use Rattle.fuse_base.specs.Records.{attr, kstatfs, file_lock};
 use crate::ids::{GuestGid, GuestUid};
 use vm_values::{ByteValued, get_fields, put_fields};
 
-/// `struct fuse_attr`: 88 bytes. `size` counts bytes, and `blocks` units of 512 bytes; a time is seconds since 1970 and
-/// nanoseconds.
+/// `struct fuse_attr`: 88 bytes. `size` counts bytes, and `blocks` units of 512 bytes; a time is seconds
+/// since 1970 and nanoseconds.
 #[derive(Clone, Copy, Debug, Default, PartialEq)]
 pub struct Attr {
     pub ino: u64,

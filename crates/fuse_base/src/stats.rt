@@ -1,13 +1,14 @@
 //! What the host tells of a file and of a file system, and its way into the records.
 
 ghost use Rattle.std.specs.Prelude.{◌≡◌, ◌%◌, ◌^◌, Ok, IfOk, IfErr};
-ghost use Rattle.fuse_base.specs.Stats.{pattern, attr_from, kstatfs_from, host_uid, host_gid, FirstError, BothMapped};
+ghost use Rattle.fuse_base.specs.Stats.{pattern, attr_from, kstatfs_from, host_uid, host_gid, FirstError};
+ghost use Rattle.fuse_base.specs.Stats.{BothMapped};
 
 use crate::ids::{Errno, GuestGid, GuestUid, HostGid, HostUid};
 use crate::records::{Attr, Kstatfs};
 
-/// What the host tells of a file (`struct stat` of sys/stat.h): `st_size` counts bytes, and `st_blocks` units of 512
-/// bytes; a time is seconds since 1970 and nanoseconds.
+/// What the host tells of a file (`struct stat` of sys/stat.h): `st_size` counts bytes, and `st_blocks` units
+/// of 512 bytes; a time is seconds since 1970 and nanoseconds.
 #[derive(Clone, Copy, Debug, Default, PartialEq)]
 pub struct Stat {
     pub st_ino: u64,
@@ -27,7 +28,8 @@ pub struct Stat {
     pub st_gid: u32,
 }
 
-/// What the host tells of a file system (`struct statvfs` of sys/statvfs.h): blocks count units of `f_frsize` bytes.
+/// What the host tells of a file system (`struct statvfs` of sys/statvfs.h): blocks count units of `f_frsize`
+/// bytes.
 #[derive(Clone, Copy, Debug, Default, PartialEq)]
 pub struct StatVfs {
     pub f_blocks: u64,
@@ -79,32 +81,36 @@ fn attr_of(st: Stat, flags: u32, uid: GuestUid, gid: GuestGid) -> Attr
 }
 
 impl Attr {
-    /// The attributes of a file (`struct fuse_attr`, of what `stat(2)` tells), with no flags. An errno of `uid_map`,
-    /// and then of `gid_map`, ends the call.
+    /// The attributes of a file (`struct fuse_attr`, of what `stat(2)` tells), with no flags. An errno of
+    /// `uid_map`, and then of `gid_map`, ends the call.
     pub fn try_from_stat<U, G>(st: Stat, uid_map: U, gid_map: G) -> Result<Attr, Errno>
     where
         U: FnOnce(HostUid) -> Result<GuestUid, Errno>,
         G: FnOnce(HostGid) -> Result<GuestGid, Errno>,
         requires uid { U.pre uid_map (host_uid st) }
         requires gid { G.pre gid_map (host_gid st) }
-        ensures ok { IfOk result (λ a. BothMapped (λ u. U.post uid_map (host_uid st) (Ok u)) (λ g. G.post gid_map (host_gid st) (Ok g))
+        ensures ok { IfOk result (λ a. BothMapped (λ u. U.post uid_map (host_uid st) (Ok u))
+            (λ g. G.post gid_map (host_gid st) (Ok g))
             (λ u g. a ≡ attr_from st 0 u g)) }
-        ensures err { IfErr result (λ e. FirstError (U.post uid_map (host_uid st)) (G.post gid_map (host_gid st)) e) }
+        ensures err { IfErr result
+            (λ e. FirstError (U.post uid_map (host_uid st)) (G.post gid_map (host_gid st)) e) }
     {
         Attr::try_with_flags(st, 0, uid_map, gid_map)
     }
 
-    /// The attributes of a file (`struct fuse_attr`, of what `stat(2)` tells), with these flags (`FUSE_ATTR_` in
-    /// linux/fuse.h). An errno of `uid_map`, and then of `gid_map`, ends the call.
+    /// The attributes of a file (`struct fuse_attr`, of what `stat(2)` tells), with these flags (`FUSE_ATTR_`
+    /// in linux/fuse.h). An errno of `uid_map`, and then of `gid_map`, ends the call.
     pub fn try_with_flags<U, G>(st: Stat, flags: u32, uid_map: U, gid_map: G) -> Result<Attr, Errno>
     where
         U: FnOnce(HostUid) -> Result<GuestUid, Errno>,
         G: FnOnce(HostGid) -> Result<GuestGid, Errno>,
         requires uid { U.pre uid_map (host_uid st) }
         requires gid { G.pre gid_map (host_gid st) }
-        ensures ok { IfOk result (λ a. BothMapped (λ u. U.post uid_map (host_uid st) (Ok u)) (λ g. G.post gid_map (host_gid st) (Ok g))
+        ensures ok { IfOk result (λ a. BothMapped (λ u. U.post uid_map (host_uid st) (Ok u))
+            (λ g. G.post gid_map (host_gid st) (Ok g))
             (λ u g. a ≡ attr_from st flags u g)) }
-        ensures err { IfErr result (λ e. FirstError (U.post uid_map (host_uid st)) (G.post gid_map (host_gid st)) e) }
+        ensures err { IfErr result
+            (λ e. FirstError (U.post uid_map (host_uid st)) (G.post gid_map (host_gid st)) e) }
     {
         let uid = uid_map(HostUid(st.st_uid))?;
         let gid = gid_map(HostGid(st.st_gid))?;

@@ -5,7 +5,8 @@ use Rattle.std.proofs.lemmas.Bool.{ltb-true, ltb-false}
 use Rattle.fuse_fs.specs.Calls as call
 use Rattle.fuse_files.specs.Directory.{EIO, bytes_in}
 
-put_by_test : (room : ℕ) (bytes : List ℕ) (b : Bool) → nat_lt room (length bytes) ≡ b → length bytes ≤ room → call.Bytes bytes ≡ (if b then call.Failed EIO else call.Bytes bytes)
+put_by_test : (room : ℕ) (bytes : List ℕ) (b : Bool) → nat_lt room (length bytes) ≡ b → length bytes ≤ room →
+    call.Bytes bytes ≡ (if b then call.Failed EIO else call.Bytes bytes)
 put_by_test room bytes true is low = let high = ltb-true room (length bytes) is in absurd (omega (arith, high, low))
 put_by_test room bytes false is low = refl
 
@@ -13,7 +14,8 @@ put_by_test room bytes false is low = refl
 pub goes_in : (room : ℕ) (bytes : List ℕ) → length bytes ≤ room → call.Bytes bytes ≡ bytes_in room bytes
 goes_in room bytes low = put_by_test room bytes (nat_lt room (length bytes)) refl low
 
-by_want : (room : ℕ) (bytes : List ℕ) (b : Bool) → nat_lt room (length bytes) ≡ b → room < length bytes → call.Failed EIO ≡ (if b then call.Failed EIO else call.Bytes bytes)
+by_want : (room : ℕ) (bytes : List ℕ) (b : Bool) → nat_lt room (length bytes) ≡ b → room < length bytes →
+    call.Failed EIO ≡ (if b then call.Failed EIO else call.Bytes bytes)
 by_want room bytes true is high = refl
 by_want room bytes false is high = let low = ltb-false room (length bytes) is in absurd (omega (arith, high, low))
 

@@ -1,12 +1,14 @@
 -- What the directory answers. The root is node 1, and the files are the nodes from 2 on, in the table's
 -- order.
-use Rattle.std.specs.Prelude.{◌≡◌, ◌≢◌, ◌⊎◌, ℕ, ◌+◌, ◌-◌, ◌<◌, Bool, false, ◌==◌, nat_lt, bit_and, ◌^◌, List, [], ◌∷◌, length, take, drop, Option, Some, None, if◌then◌else◌, slice_get}
+use Rattle.std.specs.Prelude.{◌≡◌, ◌≢◌, ◌⊎◌, ℕ, ◌+◌, ◌-◌, ◌<◌, Bool, false, ◌==◌, nat_lt, bit_and, ◌^◌, List}
+use Rattle.std.specs.Prelude.{[], ◌∷◌, length, take, drop, Option, Some, None, if◌then◌else◌, slice_get}
 use Rattle.std.specs.Int.{div_ceil}
 use Rattle.std.specs.Str.{bytes_eq}
 use Rattle.fuse_base.specs.declared.records.Attr.{Attr}
 use Rattle.fuse_fs.specs.declared.answers.Entry.{Entry}
 use Rattle.fuse_fs.specs.Times.{Duration}
-use Rattle.fuse_fs.specs.Calls.{FileCall, FileAnswer, Listed, Failed, Done, HasEntry, HasAttr, Opened, Bytes, Entries, Wants}
+use Rattle.fuse_fs.specs.Calls.{FileCall, FileAnswer, Listed, Failed, Done, HasEntry, HasAttr, Opened, Bytes}
+use Rattle.fuse_fs.specs.Calls.{Entries, Wants}
 use Rattle.fuse_fs.specs.Calls.{Init, Lookup, Getattr, Open, Opendir, Read, Readdir, Release}
 use Rattle.fuse_files.specs.declared.adapter.Files.{Files}
 use Rattle.fuse_files.specs.declared.access_kinds.ReadOnly.{ReadOnly}
@@ -71,12 +73,20 @@ root_attr = attr_of 1 0 0x416d
 
 -- what a look-up that found a file answers
 abbrev pub file_entry : (node : ℕ) → OwnedFile → Entry ℕ
-file_entry node f = record { inode = node; generation = 0; attr = file_attr node f; attr_timeout = second; entry_timeout = second }
+file_entry node f =
+    record {
+      inode = node;
+      generation = 0;
+      attr = file_attr node f;
+      attr_timeout = second;
+      entry_timeout = second;
+    }
 
 -- the first file with a name, if the first of the table has this node
 abbrev pub found_from : List OwnedFile → (name : List ℕ) → (first : ℕ) → FileAnswer
 found_from [] name first = Failed ENOENT
-found_from (f ∷ fs) name first = if bytes_eq f.name.items name then HasEntry (file_entry first f) else found_from fs name (first + 1)
+found_from (f ∷ fs) name first =
+    if bytes_eq f.name.items name then HasEntry (file_entry first f) else found_from fs name (first + 1)
 
 -- the attributes of a node that may be no file
 abbrev pub attr_at : (node : ℕ) → Option OwnedFile → FileAnswer
@@ -101,11 +111,12 @@ abbrev pub opened_at : Option OwnedFile → (flags : ℕ) → FileAnswer
 opened_at None flags = Failed ENOENT
 opened_at (Some f) flags = if reads_only flags then Opened None 0 else Failed EROFS
 
--- the entries of files of which the first has this node, each with where a listing goes on behind it; regular files (8
--- is DT_REG of dirent.h)
+-- the entries of files of which the first has this node, each with where a listing goes on behind it; regular
+-- files (8 is DT_REG of dirent.h)
 abbrev pub listing_from : (first : ℕ) → List OwnedFile → List Listed
 listing_from first [] = []
-listing_from first (f ∷ fs) = record { ino = first; offset = first - 1; kind = 8; name = f.name.items } ∷ listing_from (first + 1) fs
+listing_from first (f ∷ fs) =
+    record { ino = first; offset = first - 1; kind = 8; name = f.name.items } ∷ listing_from (first + 1) fs
 
 -- of the guest's options the directory asks for DO_READDIRPLUS (bit 13 in linux/fuse.h)
 abbrev pub wanted_options : (capable : ℕ) → ℕ
@@ -115,16 +126,20 @@ wanted_options capable = bit_and capable (2 ^ 13)
 abbrev pub directory_answer : List OwnedFile → FileCall → FileAnswer
 directory_answer fs (Init capable) = Wants (wanted_options capable)
 directory_answer fs (Lookup who parent name) = if parent == 1 then found_from fs name 2 else Failed ENOENT
-directory_answer fs (Getattr who node handle) = if node == 1 then HasAttr root_attr second else attr_at node (file_at fs node)
+directory_answer fs (Getattr who node handle) =
+    if node == 1 then HasAttr root_attr second else attr_at node (file_at fs node)
 directory_answer fs (Open who node kill flags) = opened_at (file_at fs node) flags
-directory_answer fs (Read who node handle room size offset owner flags) = bytes_at (file_at fs node) room size offset
+directory_answer fs (Read who node handle room size offset owner flags) =
+    bytes_at (file_at fs node) room size offset
 directory_answer fs (Release who node flags handle flush unlock owner) = Done
 directory_answer fs (Opendir who node flags) = if node == 1 then Opened None 0 else Failed ENOENT
 directory_answer fs call = default_answer call
 
--- a listing: the root's entries behind an offset, unless one is left and the table has as many sharers as can be
+-- a listing: the root's entries behind an offset, unless one is left and the table has as many sharers as can
+-- be
 abbrev pub ListsRoot : List OwnedFile → (node offset : ℕ) → FileAnswer → Type 0
-ListsRoot fs node offset (Failed e) = ((node ≡ 1) × (offset < length fs) × (e ≡ ENOMEM)) ⊎ ((node ≢ 1) × (e ≡ ENOENT))
+ListsRoot fs node offset (Failed e) =
+    ((node ≡ 1) × (offset < length fs) × (e ≡ ENOMEM)) ⊎ ((node ≢ 1) × (e ≡ ENOENT))
 ListsRoot fs node offset answer = (node ≡ 1) × (answer ≡ Entries (listing_from (offset + 2) (drop offset fs)))
 
 -- the answers of a call

@@ -1,4 +1,5 @@
--- A proof: what holds of files of few calls, whatever they answer. It stands here since `adapter.rt` cites it.
+-- A proof: what holds of files of few calls, whatever they answer. It stands here since `adapter.rt` cites
+-- it.
 use Rattle.std.proofs.Common.{◌≡◌, ℕ, List, [], ◌∷◌, Bool, true, false, ◌∙◌, ap, refl, sym, subst}
 use Rattle.fuse_fs.specs.declared.answers.Context.{Context}
 use Rattle.fuse_fs.specs.Answers.{ForgetsEach}
@@ -6,25 +7,38 @@ use Rattle.fuse_fs.specs.Calls.{FileCall, FileAnswer, Done, BatchForget}
 use Rattle.fuse_files.specs.Files.{ByOwn, MayAnswer, MayOwn, default_answer, is_own}
 
 -- a call that isn't its own may have its default
-pub by_default : {T : Type 0} (writes : Bool) (may : T → FileCall → FileAnswer → T → Type 0) (s : T) (c : FileCall) → is_own writes c ≡ false → MayAnswer writes may s c (default_answer c) s
+pub by_default : {T : Type 0} (writes : Bool) (may : T → FileCall → FileAnswer → T →
+    Type 0) (s : T) (c : FileCall) → is_own writes c ≡ false → MayAnswer writes may s c (default_answer c) s
 by_default writes may s c other =
-    subst (λ (own : Bool). ByOwn own (MayOwn may s c (default_answer c) s) ((default_answer c ≡ default_answer c) × (s ≡ s))) (sym other) (refl, refl)
+    subst (λ (own : Bool). ByOwn own (MayOwn may s c (default_answer c) s)
+    ((default_answer c ≡ default_answer c)
+    × (s ≡ s))) (sym other) (refl, refl)
 
 -- nodes that are forgotten one after another, of files within a state
-each_forgotten : {S T : Type 0} (may : T → FileCall → FileAnswer → T → Type 0) (part : S → T) (before : S) (who : Context) (counts : List (ℕ × ℕ)) (after : S) →
-    ForgetsEach (λ b call answer a. MayAnswer true may (part b) call answer (part a)) before who counts after → ForgetsEach may (part before) who counts (part after)
+each_forgotten : {S T : Type 0} (may : T → FileCall → FileAnswer → T → Type 0) (part : S →
+    T) (before : S) (who : Context) (counts : List (ℕ × ℕ)) (after : S) →
+    ForgetsEach (λ b call answer a. MayAnswer true may (part b) call answer (part a)) before who counts
+    after → ForgetsEach may (part before) who counts (part after)
 each_forgotten may part before who [] after same = ap part same
-each_forgotten may part before who (node ∷ counts) after (between, made, rest) = (part between, made, each_forgotten may part between who counts after rest)
+each_forgotten may part before who (node ∷ counts) after (between, made, rest) =
+    (part between, made, each_forgotten may part between who counts after rest)
 
 -- nodes that are forgotten change nothing of files that are only read
-none_forgotten : {S T : Type 0} (may : T → FileCall → FileAnswer → T → Type 0) (part : S → T) (before : S) (who : Context) (counts : List (ℕ × ℕ)) (after : S) →
-    ForgetsEach (λ b call answer a. MayAnswer false may (part b) call answer (part a)) before who counts after → part after ≡ part before
+none_forgotten : {S T : Type 0} (may : T → FileCall → FileAnswer → T → Type 0) (part : S →
+    T) (before : S) (who : Context) (counts : List (ℕ × ℕ)) (after : S) →
+    ForgetsEach (λ b call answer a. MayAnswer false may (part b) call answer (part a)) before who counts
+    after → part after ≡ part before
 none_forgotten may part before who [] after same = ap part same
-none_forgotten may part before who (node ∷ counts) after (between, made, rest) = none_forgotten may part between who counts after rest ∙ made.1
+none_forgotten may part before who (node ∷ counts) after (between, made, rest) =
+    none_forgotten may part between who counts after rest ∙ made.1
 
 -- a list of nodes may be forgotten node by node
-pub forgets_each : {S T : Type 0} (writes : Bool) (may : T → FileCall → FileAnswer → T → Type 0) (part : S → T) (before : S) (who : Context) (counts : List (ℕ × ℕ)) (after : S) →
-    ForgetsEach (λ b call answer a. MayAnswer writes may (part b) call answer (part a)) before who counts after →
+pub forgets_each : {S T : Type 0} (writes : Bool) (may : T → FileCall → FileAnswer → T → Type 0) (part : S →
+    T) (before : S) (who : Context) (counts : List (ℕ × ℕ)) (after : S) →
+    ForgetsEach (λ b call answer a. MayAnswer writes may (part b) call answer (part a)) before who
+    counts after →
     MayAnswer writes may (part before) (BatchForget who counts) Done (part after)
-forgets_each true may part before who counts after each = (refl, each_forgotten may part before who counts after each)
-forgets_each false may part before who counts after each = (refl, none_forgotten may part before who counts after each)
+forgets_each true may part before who counts after each =
+    (refl, each_forgotten may part before who counts after each)
+forgets_each false may part before who counts after each =
+    (refl, none_forgotten may part before who counts after each)

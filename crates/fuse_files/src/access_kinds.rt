@@ -45,7 +45,8 @@ impl<T: ReadableFileSystem> ChangesNothing for Files<T, ReadOnly> {
     ghost use Rattle.fuse_files.specs.Files.{is_own_group};
     ghost use Rattle.fuse_files.specs.FilesProof.{by_default};
 
-    ghost lacks_changing = { λ s c changing. by_default false T.may s.0 c (ap (is_own_group false) changing) };
+    ghost lacks_changing = { λ s c changing. by_default false T.may s.0 c
+        (ap (is_own_group false) changing) };
 }
 
 /// Files that are written, and told what a guest forgets.
@@ -96,7 +97,8 @@ impl<T: WritableFileSystem> ChangeCalls for Files<T, Writable> {
         handle: Option<u64>,
         valid: SetattrValid,
     ) -> Result<(Attr, Timeout), Errno>
-        ensures may { MayAnswer true T.may self.old.0 (call.Setattr ctx inode attr (option_map (λ n. n) handle) valid.0) (attr_answer result) self.new.0 }
+        ensures may { MayAnswer true T.may self.old.0 (call.Setattr ctx inode attr
+            (option_map (λ n. n) handle) valid.0) (attr_answer result) self.new.0 }
     {
         self.0.setattr(ctx, inode, attr, handle, valid)
     }

@@ -11,8 +11,8 @@ use fuse_fs::{
     Context, Entry, FewCalls, FileSystemBase, OpenCalls, Timeout, ZeroCopyReader, ZeroCopyWriter,
 };
 
-/// The file system of all calls that these files are, by their kind: `ReadOnly` or `Writable`. The calls that the
-/// kind has go to the files, and each other call has the answer of `defaults` and changes nothing.
+/// The file system of all calls that these files are, by their kind: `ReadOnly` or `Writable`. The calls that
+/// the kind has go to the files, and each other call has the answer of `defaults` and changes nothing.
 #[derive(Drop)]
 pub struct Files<T, K>(pub T, pub K);
 
@@ -78,7 +78,8 @@ impl<T: ReadableFileSystem, K: Kind<T>> FewCalls for Files<T, K> {
         inode: u64,
         handle: Option<u64>,
     ) -> Result<(Attr, Timeout), Errno>
-        ensures may { MayAnswer K.writes T.may self.old.0 (call.Getattr ctx inode (option_map (λ n. n) handle)) (attr_answer result) self.new.0 }
+        ensures may { MayAnswer K.writes T.may self.old.0
+            (call.Getattr ctx inode (option_map (λ n. n) handle)) (attr_answer result) self.new.0 }
     {
         self.0.getattr(ctx, inode, handle)
     }
@@ -143,7 +144,8 @@ impl<T: ReadableFileSystem, K: Kind<T>> FewCalls for Files<T, K> {
 
     ghost lacks_rare = { λ s c rare. by_default K.writes T.may s.0 c (ap (is_own_group K.writes) rare) };
 
-    ghost forgets_each = { λ s t who counts each. forgets_each K.writes T.may (λ fs. fs.0) s who counts t each };
+    ghost forgets_each = { λ s t who counts each. forgets_each K.writes T.may (λ fs. fs.0) s who
+        counts t each };
 }
 
 impl<T: ReadableFileSystem, K: Kind<T>> OpenCalls for Files<T, K> {

@@ -1,9 +1,11 @@
 //! A read-only directory, as a file system.
 
-ghost use Rattle.std.specs.Prelude.{◌≡◌, ◌<◌, ◌^◌, ◌+◌, ◌++◌, ℕ, List, length, take, drop, option_map, slice_get, Some, Ok, IfOk, OnErr};
+ghost use Rattle.std.specs.Prelude.{◌≡◌, ◌<◌, ◌^◌, ◌+◌, ◌++◌, ℕ, List, length, take, drop, option_map};
+ghost use Rattle.std.specs.Prelude.{slice_get, Some, Ok, IfOk, OnErr};
 ghost use Rattle.fuse_fs.specs.Answers.{data_answer, entry_answer, listed};
 ghost use Rattle.fuse_files.specs.OwnedTable.{listed_files};
-ghost use Rattle.fuse_files.specs.Directory.{EROFS, attr_of, bytes_in, file_entry, file_at, found_from, listing_from, MayAnswer};
+ghost use Rattle.fuse_files.specs.Directory.{EROFS, attr_of, bytes_in, file_entry, file_at, found_from};
+ghost use Rattle.fuse_files.specs.Directory.{listing_from, MayAnswer};
 
 use crate::owned_table::{OwnedFile, OwnedTable, TableEntries};
 use crate::readable::ReadableFileSystem;
@@ -19,7 +21,8 @@ const ROOT: u64 = 1;
 // The node of the first file.
 const FIRST: u64 = 2;
 
-// The bits of an open file's flags that say whether it is read or written, and those of reading only (fcntl.h).
+// The bits of an open file's flags that say whether it is read or written, and those of reading only
+// (fcntl.h).
 const O_ACCMODE: u32 = 3;
 
 const O_RDONLY: u32 = 0;
@@ -145,15 +148,19 @@ impl<'a> PositionedFile for ContentsReader<'a> {
     }
 }
 
-// Puts so many bytes of contents from an offset on into a writer, or fails if there is no room for all of them.
+// Puts so many bytes of contents from an offset on into a writer, or fails if there is no room for all of
+// them.
 fn put_bytes<W: ZeroCopyWriter>(
     w: &mut W,
     contents: &[u8],
     size: u32,
     offset: u64,
 ) -> Result<usize, Errno>
-    ensures { (bytes : List ℕ) × W.Puts w.old bytes w.new × (W.room w.old ≡ W.room w.new + length bytes)
-        × IfOk result (λ n. n ≡ length bytes) × (data_answer result bytes ≡ bytes_in (W.room w.old) (take size (drop offset contents.now)))
+    ensures { (bytes : List ℕ)
+        × W.Puts w.old bytes w.new
+        × (W.room w.old ≡ W.room w.new + length bytes)
+        × IfOk result (λ n. n ≡ length bytes)
+        × (data_answer result bytes ≡ bytes_in (W.room w.old) (take size (drop offset contents.now)))
         × OnErr result (length bytes ≡ 0) }
 {
     let wanted = rest(contents, offset).len().min(size as usize);

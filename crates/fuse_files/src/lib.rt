@@ -1,5 +1,6 @@
-//! A file system in the methods that it has: one that is read implements eight calls, one that is written nine more, and
-//! each has the defaults for the rest. One of them: a read-only directory that owns the names and contents of its files.
+//! A file system in the methods that it has: one that is read implements eight calls, one that is written
+//! nine more, and each has the defaults for the rest. One of them: a read-only directory that owns the names
+//! and contents of its files.
 #![tactic(auto)]
 
 mod access_kinds;

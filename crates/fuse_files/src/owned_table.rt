@@ -7,8 +7,9 @@ ghost use Rattle.std.specs.Arc.{arc_value};
 use std::alloc::{AllocError, Global};
 use std::sync::Arc;
 
-/// A file of the directory. Its name is to be one that a directory can have: not empty, without `/` and zero bytes, of
-/// at most 255 bytes, and no other file's. Nothing looks at that: a listing gives each name as it is.
+/// A file of the directory. Its name is to be one that a directory can have: not empty, without `/` and zero
+/// bytes, of at most 255 bytes, and no other file's. Nothing looks at that: a listing gives each name as it
+/// is.
 #[derive(Drop)]
 pub struct OwnedFile {
     pub name: Vec<u8>,
@@ -27,8 +28,8 @@ impl OwnedFile {
     }
 }
 
-/// The files of a directory that never changes. The root is node 1, and the files are the nodes from 2 on, in the order
-/// of the table. A listing shares them.
+/// The files of a directory that never changes. The root is node 1, and the files are the nodes from 2 on, in
+/// the order of the table. A listing shares them.
 #[derive(Drop)]
 pub struct OwnedTable {
     files: Arc<Vec<OwnedFile>>,
@@ -47,7 +48,8 @@ pub struct TableEntries {
 impl OwnedTable {
     ghost use Rattle.fuse_files.specs.OwnedTable.{files_of, listed_files};
 
-    /// The table of these files. Of two with one name only the first is found. AllocError if an allocation fails.
+    /// The table of these files. Of two with one name only the first is found. AllocError if an allocation
+    /// fails.
     pub fn new(alloc: Global, files: Vec<OwnedFile>) -> Result<OwnedTable, AllocError>
         requires { length files.items < 2 ^ 32 }
         ensures { IfOk result (λ t. files_of t ≡ files.items) }

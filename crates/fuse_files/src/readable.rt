@@ -1,18 +1,20 @@
 //! The trait of file systems that are read.
 
 ghost use Rattle.std.specs.Prelude.{◌≡◌, ℕ, ◌+◌, List, length, Bool, IfOk, IsTrue, OnErr};
-ghost use Rattle.fuse_fs.specs.Answers.{attr_answer, data_answer, done_answer, entry_answer, listed_answer, opened_answer, options_answer};
+ghost use Rattle.fuse_fs.specs.Answers.{attr_answer, data_answer, done_answer, entry_answer, listed_answer};
+ghost use Rattle.fuse_fs.specs.Answers.{opened_answer, options_answer};
 ghost use Rattle.fuse_fs.specs.Calls.{FileCall, FileAnswer};
 ghost use Rattle.fuse_fs.specs.Calls as call;
 
 use fuse_base::{Attr, Errno, FsOptions, OpenOptions};
 use fuse_fs::{Context, DirectoryIterator, Entry, Timeout, ZeroCopyWriter};
 
-/// A file system that can be read, by what it may answer. Its nodes and open files are numbers, and the root is node 1.
-/// Each call's answer stands in the relation `may`, which the implementer names. `Files`, of the kind `ReadOnly`, makes
-/// a `FileSystem` of it, in which all other calls have the answers of `defaults`; what a guest forgets isn't told, so
-/// that a node keeps its number as long as the guest may name it. If a call fails, it answers an errno (errno.h, 1 to
-/// 4095) of the implementer's choice, which `may` has to allow. Beside each call stands its request in linux/fuse.h.
+/// A file system that can be read, by what it may answer. Its nodes and open files are numbers, and the root
+/// is node 1. Each call's answer stands in the relation `may`, which the implementer names. `Files`, of the
+/// kind `ReadOnly`, makes a `FileSystem` of it, in which all other calls have the answers of `defaults`; what
+/// a guest forgets isn't told, so that a node keeps its number as long as the guest may name it. If a call
+/// fails, it answers an errno (errno.h, 1 to 4095) of the implementer's choice, which `may` has to allow.
+/// Beside each call stands its request in linux/fuse.h.
 pub trait ReadableFileSystem {
     type DirIter: DirectoryIterator;
 
@@ -26,13 +28,15 @@ pub trait ReadableFileSystem {
     // From a state, a call may have this answer and leave that state.
     ghost may: { Self → FileCall → FileAnswer → Self → Type 0 };
 
-    /// The start of a conversation: of the options that the guest has (FUSE_INIT), those that the file system asks for.
+    /// The start of a conversation: of the options that the guest has (FUSE_INIT), those that the file system
+    /// asks for.
     fn init(&mut self, capable: FsOptions) -> Result<FsOptions, Errno>
         ensures may { may self.old (call.Init capable.0) (options_answer result) self.new };
 
     /// What a name of a directory stands for (FUSE_LOOKUP).
     fn lookup(&mut self, ctx: Context, parent: u64, name: &[u8]) -> Result<Entry<u64>, Errno>
-        ensures may { may self.old (call.Lookup ctx parent name.now) (entry_answer (λ n. n) result) self.new };
+        ensures may { may self.old (call.Lookup ctx parent name.now)
+            (entry_answer (λ n. n) result) self.new };
 
     /// A node's attributes, and how long they stay good (FUSE_GETATTR).
     fn getattr(
@@ -51,7 +55,8 @@ pub trait ReadableFileSystem {
         kill_priv: bool,
         flags: u32,
     ) -> Result<(Option<u64>, OpenOptions), Errno>
-        ensures may { may self.old (call.Open ctx inode kill_priv flags) (opened_answer (λ n. n) result) self.new };
+        ensures may { may self.old (call.Open ctx inode kill_priv flags)
+            (opened_answer (λ n. n) result) self.new };
 
     /// Puts bytes of a file into a writer, and answers how many (FUSE_READ): an `Ok(n)` put in exactly n.
     fn read<W: ZeroCopyWriter>(
@@ -82,7 +87,8 @@ pub trait ReadableFileSystem {
         flock_release: bool,
         lock_owner: Option<u64>,
     ) -> Result<(), Errno>
-        ensures may { may self.old (call.Release ctx inode flags handle flush flock_release lock_owner) (done_answer result) self.new };
+        ensures may { may self.old (call.Release ctx inode flags handle flush flock_release lock_owner)
+            (done_answer result) self.new };
 
     /// Opens a directory (FUSE_OPENDIR). Without a handle its calls get 0.
     fn opendir(
@@ -93,8 +99,8 @@ pub trait ReadableFileSystem {
     ) -> Result<(Option<u64>, OpenOptions), Errno>
         ensures may { may self.old (call.Opendir ctx inode flags) (opened_answer (λ n. n) result) self.new };
 
-    /// The entries of a directory behind the one with this offset (0: all), for a reply of at most `size` bytes
-    /// (FUSE_READDIR and FUSE_READDIRPLUS).
+    /// The entries of a directory behind the one with this offset (0: all), for a reply of at most `size`
+    /// bytes (FUSE_READDIR and FUSE_READDIRPLUS).
     fn readdir(
         &mut self,
         ctx: Context,
@@ -103,5 +109,6 @@ pub trait ReadableFileSystem {
         size: u32,
         offset: u64,
     ) -> Result<Self::DirIter, Errno>
-        ensures may { may self.old (call.Readdir ctx inode handle size offset) (listed_answer Self.DirIter.rest result) self.new };
+        ensures may { may self.old (call.Readdir ctx inode handle size offset)
+            (listed_answer Self.DirIter.rest result) self.new };
 }

@@ -1,6 +1,7 @@
 //! The trait of file systems that are written.
 
-ghost use Rattle.fuse_fs.specs.Answers.{attr_answer, created_answer, done_answer, entry_answer, extra_of, stats_answer, written_answer};
+ghost use Rattle.fuse_fs.specs.Answers.{attr_answer, created_answer, done_answer, entry_answer, extra_of};
+ghost use Rattle.fuse_fs.specs.Answers.{stats_answer, written_answer};
 ghost use Rattle.fuse_fs.specs.Calls as call;
 
 use crate::readable::ReadableFileSystem;
@@ -8,13 +9,13 @@ use fuse_base::{Attr, Errno, OpenOptions, SetattrValid, StatVfs};
 use fuse_fs::{Context, Entry, Extensions, Timeout, ZeroCopyReader};
 use fuse_in::SetattrIn;
 
-/// A file system in which a guest makes, writes, moves and removes files and directories: the nine calls that change it,
-/// besides the eight by which it is read. `Files`, of the kind `Writable`, makes a `FileSystem` of it, in which all other
-/// calls have the answers of `defaults`. A node that `lookup` answers is held by the guest once more. READDIRPLUS is
-/// `readdir` and a `lookup` of each name.
+/// A file system in which a guest makes, writes, moves and removes files and directories: the nine calls that
+/// change it, besides the eight by which it is read. `Files`, of the kind `Writable`, makes a `FileSystem` of
+/// it, in which all other calls have the answers of `defaults`. A node that `lookup` answers is held by the
+/// guest once more. READDIRPLUS is `readdir` and a `lookup` of each name.
 pub trait WritableFileSystem: ReadableFileSystem {
-    /// The guest holds a node this many times less (FUSE_FORGET, each node of FUSE_BATCH_FORGET), or an entry is given
-    /// back whose reply has no room; it can't fail. Node 0 may come too.
+    /// The guest holds a node this many times less (FUSE_FORGET, each node of FUSE_BATCH_FORGET), or an entry
+    /// is given back whose reply has no room; it can't fail. Node 0 may come too.
     fn forget(&mut self, ctx: Context, inode: u64, count: u64)
         ensures may { Self.may self.old (call.Forget ctx inode count) call.Done self.new };
 
@@ -27,7 +28,8 @@ pub trait WritableFileSystem: ReadableFileSystem {
         handle: Option<u64>,
         valid: SetattrValid,
     ) -> Result<(Attr, Timeout), Errno>
-        ensures may { Self.may self.old (call.Setattr ctx inode attr handle valid.0) (attr_answer result) self.new };
+        ensures may { Self.may self.old (call.Setattr ctx inode attr handle valid.0)
+            (attr_answer result) self.new };
 
     /// Makes a directory (FUSE_MKDIR).
     fn mkdir(
@@ -39,7 +41,8 @@ pub trait WritableFileSystem: ReadableFileSystem {
         umask: u32,
         extensions: Extensions,
     ) -> Result<Entry<u64>, Errno>
-        ensures may { Self.may self.old (call.Mkdir ctx parent name.now mode umask (extra_of extensions)) (entry_answer (λ n. n) result) self.new };
+        ensures may { Self.may self.old (call.Mkdir ctx parent name.now mode umask (extra_of extensions))
+            (entry_answer (λ n. n) result) self.new };
 
     /// Takes away a name that is no directory's (FUSE_UNLINK).
     fn unlink(&mut self, ctx: Context, parent: u64, name: &[u8]) -> Result<(), Errno>
@@ -59,10 +62,12 @@ pub trait WritableFileSystem: ReadableFileSystem {
         newname: &[u8],
         flags: u32,
     ) -> Result<(), Errno>
-        ensures may { Self.may self.old (call.Rename ctx olddir oldname.now newdir newname.now flags) (done_answer result) self.new };
+        ensures may { Self.may self.old (call.Rename ctx olddir oldname.now newdir newname.now flags)
+            (done_answer result) self.new };
 
-    /// Makes a file if there is none, and opens it (FUSE_CREATE). If the reply has no room the entry is given back
-    /// by `forget`, but the handle isn't released: who hands out handles bounds how many a guest may leave open.
+    /// Makes a file if there is none, and opens it (FUSE_CREATE). If the reply has no room the entry is given
+    /// back by `forget`, but the handle isn't released: who hands out handles bounds how many a guest may
+    /// leave open.
     fn create(
         &mut self,
         ctx: Context,
@@ -74,10 +79,11 @@ pub trait WritableFileSystem: ReadableFileSystem {
         umask: u32,
         extensions: Extensions,
     ) -> Result<(Entry<u64>, Option<u64>, OpenOptions), Errno>
-        ensures may { Self.may self.old (call.Create ctx parent name.now mode kill_priv flags umask (extra_of extensions)) (created_answer (λ n. n) (λ n. n) result) self.new };
+        ensures may { Self.may self.old (call.Create ctx parent name.now mode kill_priv flags umask
+            (extra_of extensions)) (created_answer (λ n. n) (λ n. n) result) self.new };
 
-    /// Takes bytes of a file out of a reader, and answers how many are written (FUSE_WRITE). A delayed write comes from
-    /// the guest's cache.
+    /// Takes bytes of a file out of a reader, and answers how many are written (FUSE_WRITE). A delayed write
+    /// comes from the guest's cache.
     fn write<R: ZeroCopyReader>(
         &mut self,
         ctx: Context,

@@ -1,5 +1,6 @@
 -- Lengths of segments that are cut at a place.
-use Rattle.std.proofs.Common.{◌≡◌, ℕ, zero, suc, ◌+◌, ◌-◌, ◌<◌, ◌≤◌, min, List, [], ◌∷◌, ◌++◌, length, take, drop, slice_index, refl, sym, ◌∙◌, ap, arith, ⊎_elim, ◌==◌, sum, append-nil}
+use Rattle.std.proofs.Common.{◌≡◌, ℕ, zero, suc, ◌+◌, ◌-◌, ◌<◌, ◌≤◌, min, List, [], ◌∷◌, ◌++◌, length, take, drop, slice_index, refl, sym}
+use Rattle.std.proofs.Common.{◌∙◌, ap, arith, ⊎_elim, ◌==◌, sum, append-nil}
 use Rattle.std.specs.Prelude.{nat_le}
 use Rattle.std.proofs.lemmas.Bool.{cases_lt, cases_eq, eq-eqb, ne_eqb, le-leb, lt-leb, cond-true, cond-false}
 use Rattle.std.proofs.lemmas.List.Sums.{sum_by-cons}
@@ -47,7 +48,8 @@ past_zero [] = past_none 0
 past_zero (n ∷ ns) =
     ⊎_elim
     (λ (z : n ≡ 0). ap (past 0) (filled_none n ns z) ∙ past_zero ns ∙ sym (filled_none n ns z))
-    (λ (z : n ≡ 0 → ⊥). ap (past 0) (filled_some n ns z) ∙ past_part 0 n (filled ns) (omega (arith, z)) ∙ ap (λ i. i ∷ filled ns) (let e : n - 0 ≡ n = omega arith in e) ∙ sym (filled_some n ns z))
+    (λ (z : n ≡ 0 → ⊥). ap (past 0) (filled_some n ns z) ∙ past_part 0 n (filled ns) (omega (arith, z))
+    ∙ ap (λ i. i ∷ filled ns) (let e : n - 0 ≡ n = omega arith in e) ∙ sym (filled_some n ns z))
     (cases_eq n 0)
 
 pub past_zero_of : (ns : List ℕ) → filled ns ≡ ns → past 0 ns ≡ ns
@@ -61,8 +63,10 @@ past-past m n (x ∷ xs) =
     (λ (l : n < x).
     ap (past m) (past_part n x xs l)
     ∙ ⊎_elim
-    (λ (k : n + m < x). past_part m (x - n) xs (omega (arith, k)) ∙ ap (λ i. i ∷ xs) (let e : x - n - m ≡ x - (n + m) = omega arith in e) ∙ sym (past_part (n + m) x xs k))
-    (λ (k : x ≤ n + m). past_whole m (x - n) xs (omega (arith, k)) ∙ ap (λ i. past i xs) (let e : m - (x - n) ≡ n + m - x = omega (arith, l, k) in e) ∙ sym (past_whole (n + m) x xs k))
+    (λ (k : n + m < x). past_part m (x - n) xs (omega (arith, k)) ∙ ap (λ i. i ∷ xs) (let e : x - n - m ≡ x - (n + m) = omega arith in e)
+    ∙ sym (past_part (n + m) x xs k))
+    (λ (k : x ≤ n + m). past_whole m (x - n) xs (omega (arith, k))
+    ∙ ap (λ i. past i xs) (let e : m - (x - n) ≡ n + m - x = omega (arith, l, k) in e) ∙ sym (past_whole (n + m) x xs k))
     (cases_lt (n + m) x))
     (λ (l : x ≤ n).
     ap (past m) (past_whole n x xs l) ∙ past-past m (n - x) xs
@@ -83,7 +87,8 @@ sum-up_to place [] = ap sum (up_to_none place) ∙ (let e : sum [] ≡ min place
 sum-up_to place (n ∷ ns) =
     ⊎_elim
     (λ (z : place ≡ 0). let e : sum (up_to place (n ∷ ns)) ≡ 0 = rw z (ap sum (up_to_zero (n ∷ ns))) in omega (arith, e, z))
-    (λ (z : place ≡ 0 → ⊥). let e = ap sum (up_to_more place n ns z) ∙ sum-cons (min place n) (up_to (place - n) ns) in omega (arith, e, sum-up_to (place - n) ns, sum-cons n ns))
+    (λ (z : place ≡ 0 → ⊥). let e = ap sum (up_to_more place n ns z) ∙ sum-cons (min place n) (up_to (place - n) ns) in
+    omega (arith, e, sum-up_to (place - n) ns, sum-cons n ns))
     (cases_eq place 0)
 
 pub sum-filled : (ns : List ℕ) → sum (filled ns) ≡ sum ns
@@ -100,7 +105,8 @@ filled-filled [] = refl
 filled-filled (n ∷ ns) =
     ⊎_elim
     (λ (z : n ≡ 0). ap filled (filled_none n ns z) ∙ filled-filled ns ∙ sym (filled_none n ns z))
-    (λ (z : n ≡ 0 → ⊥). ap filled (filled_some n ns z) ∙ filled_some n (filled ns) z ∙ ap (λ s. n ∷ s) (filled-filled ns) ∙ sym (filled_some n ns z))
+    (λ (z : n ≡ 0 → ⊥). ap filled (filled_some n ns z) ∙ filled_some n (filled ns) z ∙ ap (λ s. n ∷ s) (filled-filled ns)
+    ∙ sym (filled_some n ns z))
     (cases_eq n 0)
 
 pub filled-append : (xs ys : List ℕ) → filled (xs ++ ys) ≡ filled xs ++ filled ys
@@ -108,7 +114,8 @@ filled-append [] ys = refl
 filled-append (x ∷ xs) ys =
     ⊎_elim
     (λ (z : x ≡ 0). filled_none x (xs ++ ys) z ∙ filled-append xs ys ∙ ap (λ s. s ++ filled ys) (sym (filled_none x xs z)))
-    (λ (z : x ≡ 0 → ⊥). filled_some x (xs ++ ys) z ∙ ap (λ s. x ∷ s) (filled-append xs ys) ∙ ap (λ s. s ++ filled ys) (sym (filled_some x xs z)))
+    (λ (z : x ≡ 0 → ⊥). filled_some x (xs ++ ys) z ∙ ap (λ s. x ∷ s) (filled-append xs ys)
+    ∙ ap (λ s. s ++ filled ys) (sym (filled_some x xs z)))
     (cases_eq x 0)
 
 -- the first segment, which is empty only if no other is left
@@ -123,12 +130,14 @@ first_of n ns none =
 pub past_first : (place n : ℕ) (ns : List ℕ) → place ≤ n → past place (filled (n ∷ ns)) ≡ filled ((n - place) ∷ ns)
 past_first place n ns le =
     ⊎_elim
-    (λ (z : n ≡ 0). ap (past place) (filled_none n ns z) ∙ ap (λ i. past i (filled ns)) (let e : place ≡ 0 = omega (arith, le, z) in e) ∙ past_zero ns ∙ sym (filled_none (n - place) ns (omega (arith, z))))
+    (λ (z : n ≡ 0). ap (past place) (filled_none n ns z) ∙ ap (λ i. past i (filled ns)) (let e : place ≡ 0 = omega (arith, le, z) in e)
+    ∙ past_zero ns ∙ sym (filled_none (n - place) ns (omega (arith, z))))
     (λ (z : n ≡ 0 → ⊥).
     ap (past place) (filled_some n ns z)
     ∙ ⊎_elim
     (λ (l : place < n). past_part place n (filled ns) l ∙ sym (filled_some (n - place) ns (λ e. omega (arith, e, l))))
-    (λ (l : n ≤ place). past_whole place n (filled ns) l ∙ ap (λ i. past i (filled ns)) (let e : place - n ≡ 0 = omega (arith, le) in e) ∙ past_zero ns ∙ sym (filled_none (n - place) ns (omega (arith, l))))
+    (λ (l : n ≤ place). past_whole place n (filled ns) l ∙ ap (λ i. past i (filled ns)) (let e : place - n ≡ 0 = omega (arith, le) in e)
+    ∙ past_zero ns ∙ sym (filled_none (n - place) ns (omega (arith, l))))
     (cases_lt place n))
     (cases_eq n 0)
 
@@ -150,10 +159,12 @@ up_to_first place n ns le =
     ∙ ap (λ s. place ∷ s) (up_to_zero (filled ns)) ∙ sym (filled_some place [] z))
     (cases_eq place 0)
 
-pub up_to_behind : (place n : ℕ) (ns : List ℕ) → n ≤ place → up_to place (filled (n ∷ ns)) ≡ filled (n ∷ []) ++ up_to (place - n) (filled ns)
+pub up_to_behind :
+    (place n : ℕ) (ns : List ℕ) → n ≤ place → up_to place (filled (n ∷ ns)) ≡ filled (n ∷ []) ++ up_to (place - n) (filled ns)
 up_to_behind place n ns le =
     ⊎_elim
-    (λ (z : n ≡ 0). ap (up_to place) (filled_none n ns z) ∙ ap (λ i. up_to i (filled ns)) (let e : place ≡ place - n = omega (arith, z) in e) ∙ ap (λ s. s ++ up_to (place - n) (filled ns)) (sym (filled_none n [] z)))
+    (λ (z : n ≡ 0). ap (up_to place) (filled_none n ns z) ∙ ap (λ i. up_to i (filled ns)) (let e : place ≡ place - n = omega (arith, z) in
+    e) ∙ ap (λ s. s ++ up_to (place - n) (filled ns)) (sym (filled_none n [] z)))
     (λ (z : n ≡ 0 → ⊥).
     ap (up_to place) (filled_some n ns z) ∙ up_to_more place n (filled ns) (λ e. z (omega (arith, e, le)))
     ∙ ap (λ i. i ∷ up_to (place - n) (filled ns)) (let e : min place n ≡ n = omega (arith, le) in e)
@@ -161,13 +172,16 @@ up_to_behind place n ns le =
     (cases_eq n 0)
 
 -- the segments that were taken off a queue, and one more of them
-pub up_to_goes : (part n k : ℕ) (ns : List ℕ) → 0 < part → k ≡ min part n → up_to part (filled (n ∷ ns)) ≡ filled (k ∷ []) ++ up_to (part - k) (filled ns)
+pub up_to_goes : (part n k : ℕ) (ns : List ℕ) → 0 < part → k ≡ min part n →
+    up_to part (filled (n ∷ ns)) ≡ filled (k ∷ []) ++ up_to (part - k) (filled ns)
 up_to_goes part n k ns some e =
     ⊎_elim
     (λ (l : part < n).
     up_to_first part n ns (omega (arith, l)) ∙ ap (λ i. filled (i ∷ [])) (let p : part ≡ k = omega (arith, e, l) in p)
-    ∙ sym (ap (λ s. filled (k ∷ []) ++ s) (ap (λ i. up_to i (filled ns)) (let p : part - k ≡ 0 = omega (arith, e, l) in p) ∙ up_to_zero (filled ns)) ∙ append-nil (filled (k ∷ []))))
-    (λ (l : n ≤ part). up_to_behind part n ns l ∙ ap (λ i. filled (i ∷ []) ++ up_to (part - i) (filled ns)) (let p : n ≡ k = omega (arith, e, l) in p))
+    ∙ sym (ap (λ s. filled (k ∷ []) ++ s) (ap (λ i. up_to i (filled ns)) (let p : part - k ≡ 0 = omega (arith, e, l) in p)
+    ∙ up_to_zero (filled ns)) ∙ append-nil (filled (k ∷ []))))
+    (λ (l : n ≤ part). up_to_behind part n ns l
+    ∙ ap (λ i. filled (i ∷ []) ++ up_to (part - i) (filled ns)) (let p : n ≡ k = omega (arith, e, l) in p))
     (cases_lt part n)
 
 pub past_goes : (part n k : ℕ) (ns : List ℕ) → k ≡ min part n → past (part - k) (filled ((n - k) ∷ ns)) ≡ past part (filled (n ∷ ns))
@@ -179,7 +193,8 @@ past_goes part n k ns e =
     ∙ ap (λ i. filled ((n - i) ∷ ns)) same ∙ sym (past_first part n ns (omega (arith, l))))
     (λ (l : n ≤ part).
     let same : k ≡ n = omega (arith, e, l) in
-    ap (past (part - k)) (filled_none (n - k) ns (omega (arith, same))) ∙ ap (λ i. past (part - i) (filled ns)) same ∙ sym (past_behind part n ns l))
+    ap (past (part - k)) (filled_none (n - k) ns (omega (arith, same))) ∙ ap (λ i. past (part - i) (filled ns)) same
+    ∙ sym (past_behind part n ns l))
     (cases_lt part n)
 
 -- what is behind a place that lies in a segment of the list
@@ -210,8 +225,10 @@ pub filled-past : (place : ℕ) (ns : List ℕ) → filled ns ≡ ns → filled 
 filled-past place [] all = ap filled (past_none place) ∙ sym (past_none place)
 filled-past place (n ∷ ns) all =
     ⊎_elim
-    (λ (l : place < n). ap filled (past_part place n ns l) ∙ filled_some (n - place) ns (λ e. omega (arith, e, l)) ∙ ap (λ s. (n - place) ∷ s) (tail_filled n ns all) ∙ sym (past_part place n ns l))
-    (λ (l : n ≤ place). ap filled (past_whole place n ns l) ∙ filled-past (place - n) ns (tail_filled n ns all) ∙ sym (past_whole place n ns l))
+    (λ (l : place < n). ap filled (past_part place n ns l) ∙ filled_some (n - place) ns (λ e. omega (arith, e, l))
+    ∙ ap (λ s. (n - place) ∷ s) (tail_filled n ns all) ∙ sym (past_part place n ns l))
+    (λ (l : n ≤ place). ap filled (past_whole place n ns l) ∙ filled-past (place - n) ns (tail_filled n ns all)
+    ∙ sym (past_whole place n ns l))
     (cases_lt place n)
 
 pub filled-up_to : (place : ℕ) (ns : List ℕ) → filled ns ≡ ns → filled (up_to place ns) ≡ up_to place ns
@@ -238,17 +255,21 @@ up_to_inside n used ns l =
     (cases_eq used 0)
 
 -- what is before a place that lies in a segment of the list
-pub up_to_at : (ns : List ℕ) (i used : ℕ) → filled ns ≡ ns → i ≤ length ns → (i < length ns → used < slice_index ns i) → (i ≡ length ns → used ≡ 0) → up_to (sum (take i ns) + used) ns ≡ take i ns ++ filled (used ∷ [])
+pub up_to_at : (ns : List ℕ) (i used : ℕ) → filled ns ≡ ns → i ≤ length ns → (i < length ns → used < slice_index ns i) →
+    (i ≡ length ns → used ≡ 0) → up_to (sum (take i ns) + used) ns ≡ take i ns ++ filled (used ∷ [])
 up_to_at [] zero used all le inside end = up_to_none (sum [] + used) ∙ sym (filled_none used [] (end refl))
-up_to_at (n ∷ ns) zero used all le inside end = ap (λ k. up_to k (n ∷ ns)) (let e : sum [] + used ≡ used = omega arith in e) ∙ up_to_inside n used ns (inside (omega arith))
+up_to_at (n ∷ ns) zero used all le inside end =
+    ap (λ k. up_to k (n ∷ ns)) (let e : sum [] + used ≡ used = omega arith in e) ∙ up_to_inside n used ns (inside (omega arith))
 up_to_at [] (suc i) used all le inside end = absurd (omega (arith, le))
 up_to_at (n ∷ ns) (suc i) used all le inside end =
     let some = head_filled n ns all in
     let whole : n ≤ sum (n ∷ take i ns) + used = omega (arith, sum-cons n (take i ns)) in
     up_to_more (sum (n ∷ take i ns) + used) n ns (λ e. some (omega (arith, e, whole)))
     ∙ ap (λ k. k ∷ up_to (sum (n ∷ take i ns) + used - n) ns) (let e : min (sum (n ∷ take i ns) + used) n ≡ n = omega (arith, whole) in e)
-    ∙ ap (λ k. n ∷ up_to k ns) (let e : sum (n ∷ take i ns) + used - n ≡ sum (take i ns) + used = omega (arith, sum-cons n (take i ns)) in e)
-    ∙ ap (λ s. n ∷ s) (up_to_at ns i used (tail_filled n ns all) (omega (arith, le)) (λ h. inside (omega (arith, h))) (λ e. end (omega (arith, e))))
+    ∙ ap (λ k. n ∷ up_to k ns) (let e : sum (n ∷ take i ns) + used - n ≡ sum (take i ns) + used =
+    omega (arith, sum-cons n (take i ns)) in e)
+    ∙ ap (λ s. n ∷ s) (up_to_at ns i used (tail_filled n ns all) (omega (arith, le)) (λ h. inside (omega (arith, h)))
+    (λ e. end (omega (arith, e))))
 
 -- the first segment before a place, and what is left of those before a place
 pub first-up_to : (place : ℕ) (ns : List ℕ) → first (up_to place ns) ≡ min place (first ns)

@@ -19,7 +19,9 @@ use Rattle.fuse_fs.specs.declared.answers.ListxattrReply.TheVariants as names
 use Rattle.fuse_fs.specs.declared.directory.DirEntry.{DirEntry}
 use Rattle.fuse_fs.specs.declared.extensions.Extensions.{Extensions}
 use Rattle.fuse_fs.specs.declared.extensions.SecContext.{SecContext}
-use Rattle.fuse_fs.specs.Calls.{FileCall, FileAnswer, Forget, Failed, Done, HasEntry, HasAttr, Opened, Created, Bytes, Count, Stats, Wrote, Offset, Entries, Wants, SecurityContext, Extra, Listed}
+use Rattle.fuse_fs.specs.Calls.{FileCall, FileAnswer, Forget, Failed, Done, HasEntry, HasAttr, Opened}
+use Rattle.fuse_fs.specs.Calls.{Created, Bytes, Count, Stats, Wrote, Offset, Entries, Wants, SecurityContext}
+use Rattle.fuse_fs.specs.Calls.{Extra, Listed}
 use Rattle.fuse_fs.specs.Times.{Duration}
 
 -- how an open file is treated, as a flag set
@@ -40,7 +42,11 @@ security_of label = record { name = label.name.items; label = label.secctx.items
 
 -- what comes with a request that makes a node
 abbrev pub extra_of : Extensions → Extra
-extra_of ext = record { security = option_map security_of ext.secctx; group = option_map (λ (g : GuestGid). g.0) ext.sup_gid }
+extra_of ext =
+    record {
+      security = option_map security_of ext.secctx;
+      group = option_map (λ (g : GuestGid). g.0) ext.sup_gid;
+    }
 
 -- an entry of a directory
 abbrev pub listed : DirEntry → Listed
@@ -48,21 +54,41 @@ listed e = record { ino = e.ino; offset = e.offset; kind = e.type_; name = e.nam
 
 -- what a file system tells of itself that counts nothing
 abbrev pub default_stats : StatVfs
-default_stats = record { f_blocks = 0; f_bfree = 0; f_bavail = 0; f_files = 0; f_ffree = 0; f_bsize = 512; f_namemax = 255; f_frsize = 0 }
+default_stats =
+    record {
+      f_blocks = 0;
+      f_bfree = 0;
+      f_bavail = 0;
+      f_files = 0;
+      f_ffree = 0;
+      f_bsize = 512;
+      f_namemax = 255;
+      f_frsize = 0;
+    }
 
 -- nodes with how often each is to be forgotten, by their numbers
 abbrev pub pair_numbers : {I : Type 0} → (I → ℕ) → List (I × ℕ) → List (ℕ × ℕ)
 pair_numbers number pairs = map (λ pair. (number pair.0, pair.1)) pairs
 
 -- each of these nodes is forgotten so often, one after another
-abbrev pub ForgetsEach : {F : Type 0} → (F → FileCall → FileAnswer → F → Type 0) → F → Context → List (ℕ × ℕ) → F → Type 0
+abbrev pub ForgetsEach :
+    {F : Type 0} → (F → FileCall → FileAnswer → F → Type 0) → F → Context → List (ℕ × ℕ) → F → Type 0
 ForgetsEach may before who [] after = after ≡ before
 ForgetsEach {F} may before who (pair ∷ pairs) after =
-    (between : F) × may before (Forget who pair.0 pair.1) Done between × ForgetsEach may between who pairs after
+    (between : F)
+    × may before (Forget who pair.0 pair.1) Done between
+    × ForgetsEach may between who pairs after
 
 -- an entry with its node's number
 abbrev pub numbered : {I : Type 0} → (I → ℕ) → Entry I → Entry ℕ
-numbered number e = record { inode = number e.inode; generation = e.generation; attr = e.attr; attr_timeout = e.attr_timeout; entry_timeout = e.entry_timeout }
+numbered number e =
+    record {
+      inode = number e.inode;
+      generation = e.generation;
+      attr = e.attr;
+      attr_timeout = e.attr_timeout;
+      entry_timeout = e.entry_timeout;
+    }
 
 -- struct fuse_entry_out
 abbrev pub entry_out_of : Entry ℕ → EntryOut
@@ -113,7 +139,8 @@ opened_answer number (Ok r) = Opened (option_map number r.0) r.1.0
 opened_answer number (Err e) = Failed e
 
 -- of `create`
-abbrev pub created_answer : {I H : Type 0} → (I → ℕ) → (H → ℕ) → Result (Entry I × Option H × OpenOptions) ℕ → FileAnswer
+abbrev pub created_answer :
+    {I H : Type 0} → (I → ℕ) → (H → ℕ) → Result (Entry I × Option H × OpenOptions) ℕ → FileAnswer
 created_answer node file (Ok r) = Created (numbered node r.0) (option_map file r.1) r.2.0
 created_answer node file (Err e) = Failed e
 

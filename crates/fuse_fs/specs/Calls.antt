@@ -1,5 +1,6 @@
 -- What a server asks of a file system, and what it may be answered.
-use Rattle.std.specs.Prelude.{◌≡◌, ℕ, Bool, true, false, not, ◌&&◌, IsTrue, nat_lt, nat_le, ◌^◌, List, [], ◌∷◌, length, Option, Some, None}
+use Rattle.std.specs.Prelude.{◌≡◌, ℕ, Bool, true, false, not, ◌&&◌, IsTrue, nat_lt, nat_le, ◌^◌, List, []}
+use Rattle.std.specs.Prelude.{◌∷◌, length, Option, Some, None}
 use Rattle.fuse_base.specs.declared.records.Attr.{Attr}
 use Rattle.fuse_base.specs.declared.stats.StatVfs.{StatVfs}
 use Rattle.fuse_in.specs.declared.nodes.SetattrIn.{SetattrIn}
@@ -32,36 +33,99 @@ pub record Listed : Type 0 where
 
 -- a call of a file system; room is how many bytes a read may put in
 pub data FileCall : Type 0 where
-  Init : (capable : ℕ) → FileCall
+  Init : (capable : ℕ) →
+      FileCall
   Destroy : FileCall
-  Lookup : Context → (node : ℕ) → (name : List ℕ) → FileCall
-  Forget : Context → (node count : ℕ) → FileCall
-  BatchForget : Context → (counts : List (ℕ × ℕ)) → FileCall
-  Getattr : Context → (node : ℕ) → (handle : Option ℕ) → FileCall
-  Setattr : Context → (node : ℕ) → SetattrIn → (handle : Option ℕ) → (valid : ℕ) → FileCall
-  Readlink : Context → (node : ℕ) → FileCall
-  Symlink : Context → (link : List ℕ) → (node : ℕ) → (name : List ℕ) → Extra → FileCall
-  Mknod : Context → (node : ℕ) → (name : List ℕ) → (mode rdev umask : ℕ) → Extra → FileCall
-  Mkdir : Context → (node : ℕ) → (name : List ℕ) → (mode umask : ℕ) → Extra → FileCall
-  Unlink : Context → (node : ℕ) → (name : List ℕ) → FileCall
-  Rmdir : Context → (node : ℕ) → (name : List ℕ) → FileCall
-  Rename : Context → (node : ℕ) → (old : List ℕ) → (new_dir : ℕ) → (new : List ℕ) → (flags : ℕ) → FileCall
-  Link : Context → (old_node node : ℕ) → (name : List ℕ) → FileCall
-  Open : Context → (node : ℕ) → (kill : Bool) → (flags : ℕ) → FileCall
-  Read : Context → (node handle room size offset : ℕ) → (owner : Option ℕ) → (flags : ℕ) → FileCall
-  Write : Context → (node handle : ℕ) → (bytes : List ℕ) → (size offset : ℕ) → (owner : Option ℕ) → (delayed kill : Bool) → (flags : ℕ) → FileCall
-  Statfs : Context → (node : ℕ) → FileCall
-  Release : Context → (node flags handle : ℕ) → (flush unlock : Bool) → (owner : Option ℕ) → FileCall
-  Fsync : Context → (node : ℕ) → (data_only : Bool) → (handle : ℕ) → FileCall
-  Fsyncdir : Context → (node : ℕ) → (data_only : Bool) → (handle : ℕ) → FileCall
-  Setxattr : Context → (node : ℕ) → (name value : List ℕ) → (flags extra : ℕ) → FileCall
-  Getxattr : Context → (node : ℕ) → (name : List ℕ) → (size : ℕ) → FileCall
-  Listxattr : Context → (node size : ℕ) → FileCall
-  Removexattr : Context → (node : ℕ) → (name : List ℕ) → FileCall
-  Flush : Context → (node handle owner : ℕ) → FileCall
-  Opendir : Context → (node flags : ℕ) → FileCall
-  Readdir : Context → (node handle size offset : ℕ) → FileCall
-  Releasedir : Context → (node flags handle : ℕ) → FileCall
+  Lookup : Context →
+      (node : ℕ) → (name : List ℕ) →
+      FileCall
+  Forget : Context →
+      (node count : ℕ) →
+      FileCall
+  BatchForget : Context →
+      (counts : List (ℕ × ℕ)) →
+      FileCall
+  Getattr : Context →
+      (node : ℕ) → (handle : Option ℕ) →
+      FileCall
+  Setattr : Context →
+      (node : ℕ) →
+      SetattrIn →
+      (handle : Option ℕ) → (valid : ℕ) →
+      FileCall
+  Readlink : Context →
+      (node : ℕ) →
+      FileCall
+  Symlink : Context →
+      (link : List ℕ) → (node : ℕ) → (name : List ℕ) →
+      Extra →
+      FileCall
+  Mknod : Context →
+      (node : ℕ) → (name : List ℕ) → (mode rdev umask : ℕ) →
+      Extra →
+      FileCall
+  Mkdir : Context →
+      (node : ℕ) → (name : List ℕ) → (mode umask : ℕ) →
+      Extra →
+      FileCall
+  Unlink : Context →
+      (node : ℕ) → (name : List ℕ) →
+      FileCall
+  Rmdir : Context →
+      (node : ℕ) → (name : List ℕ) →
+      FileCall
+  Rename : Context →
+      (node : ℕ) → (old : List ℕ) → (new_dir : ℕ) → (new : List ℕ) → (flags : ℕ) →
+      FileCall
+  Link : Context →
+      (old_node node : ℕ) → (name : List ℕ) →
+      FileCall
+  Open : Context →
+      (node : ℕ) → (kill : Bool) → (flags : ℕ) →
+      FileCall
+  Read : Context →
+      (node handle room size offset : ℕ) → (owner : Option ℕ) → (flags : ℕ) →
+      FileCall
+  Write : Context →
+      (node handle : ℕ) → (bytes : List ℕ) → (size offset : ℕ) → (owner : Option ℕ) → (delayed kill : Bool) →
+      (flags : ℕ) →
+      FileCall
+  Statfs : Context →
+      (node : ℕ) →
+      FileCall
+  Release : Context →
+      (node flags handle : ℕ) → (flush unlock : Bool) → (owner : Option ℕ) →
+      FileCall
+  Fsync : Context →
+      (node : ℕ) → (data_only : Bool) → (handle : ℕ) →
+      FileCall
+  Fsyncdir : Context →
+      (node : ℕ) → (data_only : Bool) → (handle : ℕ) →
+      FileCall
+  Setxattr : Context →
+      (node : ℕ) → (name value : List ℕ) → (flags extra : ℕ) →
+      FileCall
+  Getxattr : Context →
+      (node : ℕ) → (name : List ℕ) → (size : ℕ) →
+      FileCall
+  Listxattr : Context →
+      (node size : ℕ) →
+      FileCall
+  Removexattr : Context →
+      (node : ℕ) → (name : List ℕ) →
+      FileCall
+  Flush : Context →
+      (node handle owner : ℕ) →
+      FileCall
+  Opendir : Context →
+      (node flags : ℕ) →
+      FileCall
+  Readdir : Context →
+      (node handle size offset : ℕ) →
+      FileCall
+  Releasedir : Context →
+      (node flags handle : ℕ) →
+      FileCall
   Getlk : FileCall
   Setlk : FileCall
   Setlkw : FileCall
@@ -69,12 +133,26 @@ pub data FileCall : Type 0 where
   Ioctl : FileCall
   Poll : FileCall
   NotifyReply : FileCall
-  Access : Context → (node mask : ℕ) → FileCall
-  Create : Context → (node : ℕ) → (name : List ℕ) → (mode : ℕ) → (kill : Bool) → (flags umask : ℕ) → Extra → FileCall
-  Fallocate : Context → (node handle mode offset len : ℕ) → FileCall
-  Lseek : Context → (node handle offset whence : ℕ) → FileCall
-  CopyFileRange : Context → (node handle offset node_out handle_out offset_out len flags : ℕ) → FileCall
-  Syncfs : Context → (node : ℕ) → FileCall
+  Access : Context →
+      (node mask : ℕ) →
+      FileCall
+  Create :
+      Context →
+      (node : ℕ) → (name : List ℕ) → (mode : ℕ) → (kill : Bool) → (flags umask : ℕ) →
+      Extra →
+      FileCall
+  Fallocate : Context →
+      (node handle mode offset len : ℕ) →
+      FileCall
+  Lseek : Context →
+      (node handle offset whence : ℕ) →
+      FileCall
+  CopyFileRange : Context →
+      (node handle offset node_out handle_out offset_out len flags : ℕ) →
+      FileCall
+  Syncfs : Context →
+      (node : ℕ) →
+      FileCall
   TmpFile : FileCall
 
 -- an answer of a file system: an error number, or what the call asked for
@@ -146,7 +224,8 @@ abbrev pub is_handle : Option ℕ → Bool
 is_handle None = true
 is_handle (Some handle) = nat_lt handle (2 ^ 64)
 
--- whether a good answer is of a kind; numbers of nodes, open files, places and options have 64 bits, counts 32
+-- whether a good answer is of a kind; numbers of nodes, open files, places and options have 64 bits, counts
+-- 32
 abbrev pub is_of : AnswerForm → FileAnswer → Bool
 is_of IsDone Done = true
 is_of IsEntry (HasEntry e) = nat_lt e.inode (2 ^ 64)
@@ -170,6 +249,11 @@ suits (Read c n h room size o w f) (Bytes b) = nat_le (length b) room
 suits call answer = is_of (kind_of call) answer
 
 -- calls with their answers, along which the file system's state moves as its implementer's relation lets it
-abbrev pub FileRun : {F : Type 0} → (F → FileCall → FileAnswer → F → Type 0) → F → List (FileCall × FileAnswer) → F → Type 0
+abbrev pub FileRun :
+    {F : Type 0} → (F → FileCall → FileAnswer → F → Type 0) → F → List (FileCall × FileAnswer) → F → Type 0
 FileRun {F} may before [] after = after ≡ before
-FileRun {F} may before (step ∷ steps) after = (between : F) × IsTrue (suits step.0 step.1) × may before step.0 step.1 between × FileRun may between steps after
+FileRun {F} may before (step ∷ steps) after =
+    (between : F)
+    × IsTrue (suits step.0 step.1)
+    × may before step.0 step.1 between
+    × FileRun may between steps after

@@ -2,10 +2,11 @@
 use Rattle.std.specs.Prelude.{None}
 use Rattle.fuse_fs.specs.Answers.{default_stats}
 use Rattle.fuse_fs.specs.Calls.{FileCall, FileAnswer, Failed, Done, Opened, Stats}
-use Rattle.fuse_fs.specs.Calls.{Destroy, Init, Lookup, Getattr, Read, Readdir, Forget, BatchForget, Write, Open, Release, Opendir, Setattr, Mkdir, Unlink, Rmdir, Rename, Create, Statfs}
+use Rattle.fuse_fs.specs.Calls.{Destroy, Init, Lookup, Getattr, Read, Readdir, Forget, BatchForget, Write}
+use Rattle.fuse_fs.specs.Calls.{Open, Release, Opendir, Setattr, Mkdir, Unlink, Rmdir, Rename, Create, Statfs}
 
--- what each reads by, what lets nodes go, what writes, what opens files and lets them go, what changes names and attributes or
--- counts room, and the rest
+-- what each reads by, what lets nodes go, what writes, what opens files and lets them go, what changes names
+-- and attributes or counts room, and the rest
 pub data Group : Type 0 where
   Reading : Group
   Forgetting : Group
@@ -35,7 +36,8 @@ group_of (Create a b c d e f g h) = Changing
 group_of (Statfs a b) = Changing
 group_of _ = Rare
 
--- nothing is opened or counted, what can't fail is done, and all else is no call that it has (ENOSYS in errno.h)
+-- nothing is opened or counted, what can't fail is done, and all else is no call that it has (ENOSYS in
+-- errno.h)
 abbrev pub default_answer : FileCall → FileAnswer
 default_answer Destroy = Done
 default_answer (Forget who node count) = Done

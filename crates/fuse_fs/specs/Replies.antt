@@ -12,7 +12,8 @@ use Rattle.fuse_fs.specs.Times.{Duration}
 
 -- struct fuse_attr_out
 abbrev pub attr_out_of : Attr → Duration → AttrOut
-attr_out_of attr timeout = record { attr_valid = timeout.seconds; attr_valid_nsec = timeout.nanos; dummy = 0; attr = attr }
+attr_out_of attr timeout =
+    record { attr_valid = timeout.seconds; attr_valid_nsec = timeout.nanos; dummy = 0; attr = attr }
 
 -- an open file's number; 0 if it has none
 abbrev pub handle_or_0 : Option ℕ → ℕ

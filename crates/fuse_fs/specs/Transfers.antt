@@ -1,5 +1,6 @@
 -- What calls of a file move: each is lent one segment, at the place where the call before ended.
-use Rattle.std.specs.Prelude.{◌≡◌, ℕ, ◌+◌, ◌^◌, ◌<◌, ◌≤◌, ◌⊎◌, ◌==◌, min, sum, List, [], ◌∷◌, length, take, drop, Option, Result, Ok, Err, if◌then◌else◌}
+use Rattle.std.specs.Prelude.{◌≡◌, ℕ, ◌+◌, ◌^◌, ◌<◌, ◌≤◌, ◌⊎◌, ◌==◌, min, sum, List, [], ◌∷◌, length, take}
+use Rattle.std.specs.Prelude.{drop, Option, Result, Ok, Err, if◌then◌else◌}
 use Rattle.std.specs.List.{concat}
 use Rattle.fuse_fs.specs.Lengths.{first, past}
 
@@ -39,25 +40,31 @@ MayWrite F = F → List ℕ → ℕ → Option ℕ → Result ℕ ℕ → F → 
 abbrev pub ReadsOnce : {F : Type 0} → MayRead F → F → (most off : ℕ) → List ℕ → Result ℕ ℕ → F → Type 0
 ReadsOnce may f most off bytes answer g =
     (moved answer ≡ length bytes)
-    × (((most ≡ 0) × (answer ≡ Ok 0) × (g ≡ f)) ⊎ ((0 < most) × (length bytes ≤ most) × may f most off (read_answer answer bytes) g))
+    × (((most ≡ 0) × (answer ≡ Ok 0) × (g ≡ f))
+    ⊎ ((0 < most) × (length bytes ≤ most) × may f most off (read_answer answer bytes) g))
 
--- reads one after another, none of them empty, give these parts: each is asked for all of the first segment that still has room
+-- reads one after another, none of them empty, give these parts: each is asked for all of the first segment
+-- that still has room
 abbrev pub ReadsOn : {F : Type 0} → MayRead F → F → (rooms : List ℕ) → (off : ℕ) → List (List ℕ) → F → Type 0
 ReadsOn may f rooms off [] g = g ≡ f
 ReadsOn {F} may f rooms off (part ∷ parts) g =
     (mid : F) × (0 < length part) × (length part ≤ first rooms) × may f (first rooms) off (Ok part) mid
     × ReadsOn may mid (past (length part) rooms) (off + length part) parts g
 
--- how reads end: there is no room any more, or the last answer is 0 or an error; or the place is past the greatest, and no
--- call is made
-abbrev pub ReadsEnd : {F : Type 0} → MayRead F → F → (rooms : List ℕ) → (off total : ℕ) → Result ℕ ℕ → F → Type 0
+-- how reads end: there is no room any more, or the last answer is 0 or an error; or the place is past the
+-- greatest, and no call is made
+abbrev pub ReadsEnd :
+    {F : Type 0} → MayRead F → F → (rooms : List ℕ) → (off total : ℕ) → Result ℕ ℕ → F → Type 0
 ReadsEnd may f rooms off total (Ok n) g =
-    (n ≡ total) × (((first rooms ≡ 0) × (g ≡ f)) ⊎ ((0 < first rooms) × (off < 2 ^ 64) × may f (first rooms) off (Ok []) g))
+    (n ≡ total) × (((first rooms ≡ 0) × (g ≡ f))
+    ⊎ ((0 < first rooms) × (off < 2 ^ 64) × may f (first rooms) off (Ok []) g))
 ReadsEnd may f rooms off total (Err e) g =
-    (0 < first rooms) × (((e ≡ 5) × (2 ^ 64 ≤ off) × (g ≡ f)) ⊎ ((off < 2 ^ 64) × may f (first rooms) off (Err e) g))
+    (0 < first rooms)
+    × (((e ≡ 5) × (2 ^ 64 ≤ off) × (g ≡ f)) ⊎ ((off < 2 ^ 64) × may f (first rooms) off (Err e) g))
 
 -- from f, the room in these segments is to be filled from a place on, and these bytes came
-pub record ReadsSegments {F : Type 0} (may : MayRead F) (f : F) (rooms : List ℕ) (off : ℕ) (bytes : List ℕ) (answer : Result ℕ ℕ) (g : F) : Type 0 where
+pub record ReadsSegments {F : Type 0} (may : MayRead F) (f : F) (rooms : List ℕ) (off : ℕ) (bytes : List ℕ)
+    (answer : Result ℕ ℕ) (g : F) : Type 0 where
   pub parts : List (List ℕ)
   pub mid : F
   pub whole : concat parts ≡ bytes
@@ -65,20 +72,27 @@ pub record ReadsSegments {F : Type 0} (may : MayRead F) (f : F) (rooms : List �
   pub ends : ReadsEnd may mid (past (length bytes) rooms) (off + length bytes) (length bytes) answer g
 
 -- one write of the front of the first segment, cut to count; none if count is 0 or nothing is left
-abbrev pub WritesOnce : {F : Type 0} → MayWrite F → F → (left segments : List ℕ) → (count off : ℕ) → Option ℕ → Result ℕ ℕ → F → Type 0
+abbrev pub WritesOnce : {F : Type 0} → MayWrite F → F → (left segments : List ℕ) → (count off : ℕ) →
+    Option ℕ → Result ℕ ℕ → F → Type 0
 WritesOnce may f left segments count off flags answer g =
     ((min count (first segments) ≡ 0) × (answer ≡ Ok 0) × (g ≡ f))
-    ⊎ ((0 < min count (first segments)) × (moved answer ≤ min count (first segments)) × may f (take (min count (first segments)) left) off flags answer g)
+    ⊎ ((0 < min count (first segments))
+    × (moved answer ≤ min count (first segments))
+    × may f (take (min count (first segments)) left) off flags answer g)
 
--- writes one after another, none of them answering 0: each is lent the first segment of what those before left
-abbrev pub WritesOn : {F : Type 0} → MayWrite F → F → (bytes segments : List ℕ) → (off : ℕ) → Option ℕ → List ℕ → F → Type 0
+-- writes one after another, none of them answering 0: each is lent the first segment of what those before
+-- left
+abbrev pub WritesOn :
+    {F : Type 0} → MayWrite F → F → (bytes segments : List ℕ) → (off : ℕ) → Option ℕ → List ℕ → F → Type 0
 WritesOn may f bytes segments off flags [] g = g ≡ f
 WritesOn {F} may f bytes segments off flags (n ∷ ns) g =
     (mid : F) × (0 < n) × (n ≤ first segments) × may f (take (first segments) bytes) off flags (Ok n) mid
     × WritesOn may mid (drop n bytes) (past n segments) (off + n) flags ns g
 
--- how writes end: nothing is left, or the last answer is 0 or an error; or the place is past the greatest, and no call is made
-abbrev pub WritesEnd : {F : Type 0} → MayWrite F → F → (bytes segments : List ℕ) → (off : ℕ) → Option ℕ → (total : ℕ) → Result ℕ ℕ → F → Type 0
+-- how writes end: nothing is left, or the last answer is 0 or an error; or the place is past the greatest,
+-- and no call is made
+abbrev pub WritesEnd : {F : Type 0} → MayWrite F → F → (bytes segments : List ℕ) → (off : ℕ) → Option ℕ →
+    (total : ℕ) → Result ℕ ℕ → F → Type 0
 WritesEnd may f bytes segments off flags total (Ok n) g =
     (n ≡ total) × (((first segments ≡ 0) × (g ≡ f))
     ⊎ ((0 < first segments) × (off < 2 ^ 64) × may f (take (first segments) bytes) off flags (Ok 0) g))
@@ -87,7 +101,8 @@ WritesEnd may f bytes segments off flags total (Err e) g =
     ⊎ ((off < 2 ^ 64) × may f (take (first segments) bytes) off flags (Err e) g))
 
 -- from f, these bytes in these segments are to be written from a place on, and so many of them were
-pub record Spends {F : Type 0} (may : MayWrite F) (f : F) (bytes segments : List ℕ) (off : ℕ) (flags : Option ℕ) (total : ℕ) (answer : Result ℕ ℕ) (g : F) : Type 0 where
+pub record Spends {F : Type 0} (may : MayWrite F) (f : F) (bytes segments : List ℕ) (off : ℕ)
+    (flags : Option ℕ) (total : ℕ) (answer : Result ℕ ℕ) (g : F) : Type 0 where
   pub parts : List ℕ
   pub mid : F
   pub whole : sum parts ≡ total

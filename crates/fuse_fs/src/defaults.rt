@@ -1,8 +1,9 @@
-//! What a call of `FileSystem` or `SerializableFileSystem` does where a file system has nothing of its own to do, for a
-//! method to call. What a default doesn't take stays as it is: file system, writer, stream. ENOSYS is errno 38
-//! (errno.h).
+//! What a call of `FileSystem` or `SerializableFileSystem` does where a file system has nothing of its own to
+//! do, for a method to call. What a default doesn't take stays as it is: file system, writer, stream. ENOSYS
+//! is errno 38 (errno.h).
 
-ghost use Rattle.std.specs.Prelude.{◌≡◌, ℕ, ◌+◌, ◌≤◌, List, length, take, drop, Result, Ok, Err, IfOk, OnErr, None, Some, option_map};
+ghost use Rattle.std.specs.Prelude.{◌≡◌, ℕ, ◌+◌, ◌≤◌, List, length, take, drop, Result, Ok, Err, IfOk, OnErr};
+ghost use Rattle.std.specs.Prelude.{None, Some, option_map};
 ghost use Rattle.std.specs.Result.{result_err};
 ghost use Rattle.std.specs.IoError.{error_kind};
 ghost use Rattle.fuse_fs.specs.Answers.{ForgetsEach, pair_numbers, default_stats, no_flags};
@@ -33,8 +34,8 @@ pub fn forget<F: FileSystemBase>(_fs: &mut F)
     ensures { _fs.new ≡ _fs.old }
 {}
 
-/// Default of virtiofsd's `FileSystem::batch_forget`: each node is forgotten in order, by the file system's own
-/// `forget`.
+/// Default of virtiofsd's `FileSystem::batch_forget`: each node is forgotten in order, by the file system's
+/// own `forget`.
 pub fn batch_forget<F: FileSystemBase>(fs: &mut F, ctx: Context, requests: Vec<(F::Inode, u64)>)
     ensures { ForgetsEach F.may fs.old ctx (pair_numbers F.Inode.number requests.items) fs.new }
 {
@@ -141,17 +142,23 @@ pub fn read() -> Result<usize, Errno>
     Err(Errno::ENOSYS)
 }
 
-/// What a `FileSystem::read` may call that is to put nothing in if it fails (`FileSystem::reads_whole`), whatever its
-/// file does: an errno that comes after some bytes is no more than a short read, and their count is the answer.
+/// What a `FileSystem::read` may call that is to put nothing in if it fails (`FileSystem::reads_whole`),
+/// whatever its file does: an errno that comes after some bytes is no more than a short read, and their count
+/// is the answer.
 pub fn read_whole<F: PositionedFile, W: ZeroCopyWriter>(
     file: &mut F,
     w: &mut W,
     count: usize,
     off: u64,
 ) -> Result<usize, Errno>
-    ensures read { (bytes : List ℕ) × W.Puts w.old bytes w.new × (W.room w.old ≡ W.room w.new + length bytes)
-        × (W.rooms w.new ≡ past (length bytes) (W.rooms w.old)) × IfOk result (λ n. n ≡ length bytes) × OnErr result (length bytes ≡ 0)
-        × ((answer : Result ℕ ℕ) × (result ≡ whole_answer answer bytes)
+    ensures read { (bytes : List ℕ)
+        × W.Puts w.old bytes w.new
+        × (W.room w.old ≡ W.room w.new + length bytes)
+        × (W.rooms w.new ≡ past (length bytes) (W.rooms w.old))
+        × IfOk result (λ n. n ≡ length bytes)
+        × OnErr result (length bytes ≡ 0)
+        × ((answer : Result ℕ ℕ)
+        × (result ≡ whole_answer answer bytes)
         × ReadsSegments F.read_gives file.old (up_to count (W.rooms w.old)) off bytes answer file.new) }
 {
     let room = w.available_bytes();
@@ -171,8 +178,8 @@ pub fn write() -> Result<u32, Errno>
     Err(Errno::ENOSYS)
 }
 
-/// What a `FileSystem::write` may call whose answer is to be a short count, whatever its file does, if an errno comes after
-/// some bytes: theirs. The file is lent one window of the guest's after another.
+/// What a `FileSystem::write` may call whose answer is to be a short count, whatever its file does, if an
+/// errno comes after some bytes: theirs. The file is lent one window of the guest's after another.
 pub fn write_whole<F: PositionedFile, R: ZeroCopyReader>(
     file: &mut F,
     r: &mut R,
@@ -180,10 +187,17 @@ pub fn write_whole<F: PositionedFile, R: ZeroCopyReader>(
     off: u64,
     flags: Option<WritevFlags>,
 ) -> Result<usize, Errno>
-    ensures write { (n : ℕ) × (n ≤ length (R.left r.old)) × (R.left r.new ≡ drop n (R.left r.old)) × (R.segments r.new ≡ past n (R.segments r.old))
-        × (R.read r.new ≡ R.read r.old + n) × IfOk result (λ k. k ≡ n) × OnErr result (n ≡ 0)
-        × ((answer : Result ℕ ℕ) × (result ≡ short_answer answer n)
-        × Spends F.write_gives file.old (take count (R.left r.old)) (up_to count (R.segments r.old)) off (option_map (λ f. f.0) flags) n answer file.new) }
+    ensures write { (n : ℕ)
+        × (n ≤ length (R.left r.old))
+        × (R.left r.new ≡ drop n (R.left r.old))
+        × (R.segments r.new ≡ past n (R.segments r.old))
+        × (R.read r.new ≡ R.read r.old + n)
+        × IfOk result (λ k. k ≡ n)
+        × OnErr result (n ≡ 0)
+        × ((answer : Result ℕ ℕ)
+        × (result ≡ short_answer answer n)
+        × Spends F.write_gives file.old (take count (R.left r.old)) (up_to count (R.segments r.old)) off
+        (option_map (λ f. f.0) flags) n answer file.new) }
 {
     let left = r.available_bytes();
     match r.write_to_file_at(file, count, off, flags) {
@@ -223,8 +237,8 @@ pub fn release() -> Result<(), Errno>
     Err(Errno::ENOSYS)
 }
 
-/// Default of virtiofsd's `FileSystem::statfs`: nothing is counted; a name has at most 255 bytes, and a block has 512
-/// (`statvfs(3)`). It never fails.
+/// Default of virtiofsd's `FileSystem::statfs`: nothing is counted; a name has at most 255 bytes, and a block
+/// has 512 (`statvfs(3)`). It never fails.
 pub fn statfs() -> Result<StatVfs, Errno>
     ensures { result ≡ Ok default_stats }
 {
@@ -380,16 +394,16 @@ pub fn prepare_serialization<F>(_fs: &mut F)
     ensures { _fs.new ≡ _fs.old }
 {}
 
-/// Default of virtiofsd's `SerializableFileSystem::serialize`: not supported, `ErrorKind::Unsupported`. It writes
-/// nothing to the stream.
+/// Default of virtiofsd's `SerializableFileSystem::serialize`: not supported, `ErrorKind::Unsupported`. It
+/// writes nothing to the stream.
 pub fn serialize() -> io::Result<()>
     ensures { option_map error_kind (result_err result) ≡ Some ErrorKind.Unsupported }
 {
     Err(io::Error::from(ErrorKind::Unsupported))
 }
 
-/// Default of virtiofsd's `SerializableFileSystem::deserialize_and_apply`: not supported, `ErrorKind::Unsupported`. It
-/// reads nothing from the stream.
+/// Default of virtiofsd's `SerializableFileSystem::deserialize_and_apply`: not supported,
+/// `ErrorKind::Unsupported`. It reads nothing from the stream.
 pub fn deserialize_and_apply() -> io::Result<()>
     ensures { option_map error_kind (result_err result) ≡ Some ErrorKind.Unsupported }
 {

@@ -38,7 +38,8 @@ impl SecContext {
     }
 }
 
-/// What a client tells beside a request that makes a node, where both sides agreed on it (virtiofsd's `Extensions`).
+/// What a client tells beside a request that makes a node, where both sides agreed on it (virtiofsd's
+/// `Extensions`).
 #[derive(Debug, Default, Drop)]
 pub struct Extensions {
     /// The new node's label, if one is told (FUSE_SECURITY_CTX).

@@ -2,7 +2,8 @@
 
 ghost use Rattle.std.specs.Prelude.{◌≡◌, ℕ, ◌+◌, List, length, IfOk, OnErr, IsTrue, Bool, option_map};
 ghost use Rattle.fuse_fs.specs.Answers.{options_answer, entry_answer, data_answer, done_answer, attr_answer};
-ghost use Rattle.fuse_fs.specs.Answers.{opened_answer, created_answer, written_answer, stats_answer, listed_answer};
+ghost use Rattle.fuse_fs.specs.Answers.{opened_answer, created_answer, written_answer, stats_answer};
+ghost use Rattle.fuse_fs.specs.Answers.{listed_answer};
 ghost use Rattle.fuse_fs.specs.Answers.{extra_of, ForgetsEach};
 ghost use Rattle.fuse_fs.specs.Calls.{FileCall};
 ghost use Rattle.fuse_fs.specs.Calls as call;
@@ -18,8 +19,9 @@ use crate::zero_copy::{ZeroCopyReader, ZeroCopyWriter};
 use fuse_base::{Attr, Errno, FsOptions, OpenOptions, SetattrValid, StatVfs};
 use fuse_in::SetattrIn;
 
-/// The calls that a file system in fewer calls has itself, each as in `FileSystem`. With `OpenCalls` and `ChangeCalls`, or
-/// what says that they are lacking, it is a `FileSystem`, whose other calls have the answers of `defaults`.
+/// The calls that a file system in fewer calls has itself, each as in `FileSystem`. With `OpenCalls` and
+/// `ChangeCalls`, or what says that they are lacking, it is a `FileSystem`, whose other calls have the
+/// answers of `defaults`.
 pub trait FewCalls: FileSystemBase {
     type DirIter: DirectoryIterator;
 
@@ -30,18 +32,21 @@ pub trait FewCalls: FileSystemBase {
     fn reads_whole(&self) -> bool
         ensures { result ≡ reads_whole self.now };
 
-    /// The start of a conversation (FUSE_INIT): of the options that both sides have, those that the file system asks for.
+    /// The start of a conversation (FUSE_INIT): of the options that both sides have, those that the file
+    /// system asks for.
     fn init(&mut self, capable: FsOptions) -> Result<FsOptions, Errno>
         ensures may { Self.may self.old (call.Init capable.0) (options_answer result) self.new };
 
-    /// What a name of a directory stands for (FUSE_LOOKUP). A node that is answered is held by the guest once more.
+    /// What a name of a directory stands for (FUSE_LOOKUP). A node that is answered is held by the guest once
+    /// more.
     fn lookup(
         &mut self,
         ctx: Context,
         parent: Self::Inode,
         name: &[u8],
     ) -> Result<Entry<Self::Inode>, Errno>
-        ensures may { Self.may self.old (call.Lookup ctx (Self.Inode.number parent) name.now) (entry_answer Self.Inode.number result) self.new };
+        ensures may { Self.may self.old (call.Lookup ctx (Self.Inode.number parent) name.now)
+            (entry_answer Self.Inode.number result) self.new };
 
     /// A node's attributes, and how long they stay good (FUSE_GETATTR).
     fn getattr(
@@ -50,10 +55,12 @@ pub trait FewCalls: FileSystemBase {
         inode: Self::Inode,
         handle: Option<Self::Handle>,
     ) -> Result<(Attr, Timeout), Errno>
-        ensures may { Self.may self.old (call.Getattr ctx (Self.Inode.number inode) (option_map Self.Handle.number handle)) (attr_answer result) self.new };
+        ensures may { Self.may self.old (call.Getattr ctx (Self.Inode.number inode)
+            (option_map Self.Handle.number handle)) (attr_answer result) self.new };
 
-    /// Puts bytes of a file into a writer, and answers how many (FUSE_READ): an `Ok(n)` put in exactly n. Where a read
-    /// that fails puts nothing in, the writer may be the guest's memory itself (`defaults::read_whole`).
+    /// Puts bytes of a file into a writer, and answers how many (FUSE_READ): an `Ok(n)` put in exactly n.
+    /// Where a read that fails puts nothing in, the writer may be the guest's memory itself
+    /// (`defaults::read_whole`).
     fn read<W: ZeroCopyWriter>(
         &mut self,
         ctx: Context,
@@ -65,14 +72,17 @@ pub trait FewCalls: FileSystemBase {
         lock_owner: Option<u64>,
         flags: u32,
     ) -> Result<usize, Errno>
-        ensures { (bytes : List ℕ) × W.Puts w.old bytes w.new × (W.room w.old ≡ W.room w.new + length bytes)
+        ensures { (bytes : List ℕ)
+            × W.Puts w.old bytes w.new
+            × (W.room w.old ≡ W.room w.new + length bytes)
             × IfOk result (λ n. n ≡ length bytes)
-            × Self.may self.old (call.Read ctx (Self.Inode.number inode) (Self.Handle.number handle) (W.room w.old) size offset lock_owner flags)
+            × Self.may self.old (call.Read ctx (Self.Inode.number inode) (Self.Handle.number handle)
+            (W.room w.old) size offset lock_owner flags)
             (data_answer result bytes) self.new
             × (IsTrue (reads_whole self.old) → OnErr result (length bytes ≡ 0)) };
 
-    /// The entries of a directory behind the one with this offset (0: all), for a reply of at most `size` bytes
-    /// (FUSE_READDIR and FUSE_READDIRPLUS). This offset is an entry's own, and counts no bytes.
+    /// The entries of a directory behind the one with this offset (0: all), for a reply of at most `size`
+    /// bytes (FUSE_READDIR and FUSE_READDIRPLUS). This offset is an entry's own, and counts no bytes.
     fn readdir(
         &mut self,
         ctx: Context,
@@ -81,11 +91,12 @@ pub trait FewCalls: FileSystemBase {
         size: u32,
         offset: u64,
     ) -> Result<Self::DirIter, Errno>
-        ensures may { Self.may self.old (call.Readdir ctx (Self.Inode.number inode) (Self.Handle.number handle) size offset)
+        ensures may { Self.may self.old
+            (call.Readdir ctx (Self.Inode.number inode) (Self.Handle.number handle) size offset)
             (listed_answer Self.DirIter.rest result) self.new };
 
-    /// Takes bytes of a file out of a reader, and answers how many are written (FUSE_WRITE). A delayed write comes from
-    /// the guest's cache.
+    /// Takes bytes of a file out of a reader, and answers how many are written (FUSE_WRITE). A delayed write
+    /// comes from the guest's cache.
     fn write<R: ZeroCopyReader>(
         &mut self,
         ctx: Context,
@@ -99,14 +110,19 @@ pub trait FewCalls: FileSystemBase {
         kill_priv: bool,
         flags: u32,
     ) -> Result<u32, Errno>
-        ensures may { Self.may self.old (call.Write ctx (Self.Inode.number inode) (Self.Handle.number handle) (R.left r.old) size offset
+        ensures may { Self.may self.old
+            (call.Write ctx (Self.Inode.number inode) (Self.Handle.number handle) (R.left r.old) size offset
             lock_owner delayed_write kill_priv flags) (written_answer result) self.new };
 
     // Each call that belongs to no trait of these may have its default, which changes nothing.
-    ghost lacks_rare: { (s : Self) (c : FileCall) → group_of c ≡ group.Rare → Self.may s c (default_answer c) s };
+    ghost lacks_rare: { (s : Self) (c : FileCall)
+        → group_of c ≡ group.Rare
+        → Self.may s c (default_answer c) s };
 
     // A list of nodes may be forgotten node by node.
-    ghost forgets_each: { (s t : Self) (who : Context) (counts : List (ℕ × ℕ)) → ForgetsEach Self.may s who counts t →
+    ghost forgets_each: { (s t : Self) (who : Context) (counts : List (ℕ × ℕ))
+        → ForgetsEach Self.may s who counts t
+        →
         Self.may s (call.BatchForget who counts) call.Done t };
 }
 
@@ -119,7 +135,8 @@ pub trait OpenCalls: FileSystemBase {
         inode: Self::Inode,
         flags: u32,
     ) -> Result<(Option<Self::Handle>, OpenOptions), Errno>
-        ensures may { Self.may self.old (call.Opendir ctx (Self.Inode.number inode) flags) (opened_answer Self.Handle.number result) self.new };
+        ensures may { Self.may self.old (call.Opendir ctx (Self.Inode.number inode) flags)
+            (opened_answer Self.Handle.number result) self.new };
 
     /// The last descriptor of an open file was closed (FUSE_RELEASE).
     fn release(
@@ -132,7 +149,8 @@ pub trait OpenCalls: FileSystemBase {
         flock_release: bool,
         lock_owner: Option<u64>,
     ) -> Result<(), Errno>
-        ensures may { Self.may self.old (call.Release ctx (Self.Inode.number inode) flags (Self.Handle.number handle) flush flock_release lock_owner)
+        ensures may { Self.may self.old (call.Release ctx (Self.Inode.number inode) flags
+            (Self.Handle.number handle) flush flock_release lock_owner)
             (done_answer result) self.new };
 
     /// Opens a file (FUSE_OPEN; `open(2)` has the flags). Without a handle its calls get 0.
@@ -143,22 +161,28 @@ pub trait OpenCalls: FileSystemBase {
         kill_priv: bool,
         flags: u32,
     ) -> Result<(Option<Self::Handle>, OpenOptions), Errno>
-        ensures may { Self.may self.old (call.Open ctx (Self.Inode.number inode) kill_priv flags) (opened_answer Self.Handle.number result) self.new };
+        ensures may { Self.may self.old (call.Open ctx (Self.Inode.number inode) kill_priv flags)
+            (opened_answer Self.Handle.number result) self.new };
 }
 
 /// A file system that lacks `OpenCalls`, so that they have the answers of `defaults`.
 pub trait OpensNothing: FileSystemBase {
-    ghost lacks_opening: { (s : Self) (c : FileCall) → group_of c ≡ group.Opening → Self.may s c (default_answer c) s };
+    ghost lacks_opening: { (s : Self) (c : FileCall)
+        → group_of c ≡ group.Opening
+        → Self.may s c (default_answer c) s };
 }
 
-/// The calls that change names and attributes, and the count of what there is room for, each as in `FileSystem`.
+/// The calls that change names and attributes, and the count of what there is room for, each as in
+/// `FileSystem`.
 pub trait ChangeCalls: FileSystemBase {
     /// What the file system holds and has room for (FUSE_STATFS, `statvfs(3)`).
     fn statfs(&mut self, ctx: Context, inode: Self::Inode) -> Result<StatVfs, Errno>
-        ensures may { Self.may self.old (call.Statfs ctx (Self.Inode.number inode)) (stats_answer result) self.new };
+        ensures may { Self.may self.old (call.Statfs ctx (Self.Inode.number inode))
+            (stats_answer result) self.new };
 
-    /// Makes a file if there is none, and opens it (FUSE_CREATE). If the reply has no room the entry is given back
-    /// by `forget`, but the handle isn't released: who hands out handles bounds how many a guest may leave open.
+    /// Makes a file if there is none, and opens it (FUSE_CREATE). If the reply has no room the entry is given
+    /// back by `forget`, but the handle isn't released: who hands out handles bounds how many a guest may
+    /// leave open.
     fn create(
         &mut self,
         ctx: Context,
@@ -170,7 +194,8 @@ pub trait ChangeCalls: FileSystemBase {
         umask: u32,
         extensions: Extensions,
     ) -> Result<(Entry<Self::Inode>, Option<Self::Handle>, OpenOptions), Errno>
-        ensures may { Self.may self.old (call.Create ctx (Self.Inode.number parent) name.now mode kill_priv flags umask (extra_of extensions))
+        ensures may { Self.may self.old (call.Create ctx (Self.Inode.number parent) name.now mode kill_priv
+            flags umask (extra_of extensions))
             (created_answer Self.Inode.number Self.Handle.number result) self.new };
 
     /// Moves a name (FUSE_RENAME and FUSE_RENAME2; `renameat2(2)` has the flags).
@@ -183,16 +208,19 @@ pub trait ChangeCalls: FileSystemBase {
         newname: &[u8],
         flags: u32,
     ) -> Result<(), Errno>
-        ensures may { Self.may self.old (call.Rename ctx (Self.Inode.number olddir) oldname.now (Self.Inode.number newdir) newname.now flags)
+        ensures may { Self.may self.old (call.Rename ctx (Self.Inode.number olddir) oldname.now
+            (Self.Inode.number newdir) newname.now flags)
             (done_answer result) self.new };
 
     /// Takes away an empty directory (FUSE_RMDIR).
     fn rmdir(&mut self, ctx: Context, parent: Self::Inode, name: &[u8]) -> Result<(), Errno>
-        ensures may { Self.may self.old (call.Rmdir ctx (Self.Inode.number parent) name.now) (done_answer result) self.new };
+        ensures may { Self.may self.old (call.Rmdir ctx (Self.Inode.number parent) name.now)
+            (done_answer result) self.new };
 
     /// Takes away a name that is no directory's (FUSE_UNLINK).
     fn unlink(&mut self, ctx: Context, parent: Self::Inode, name: &[u8]) -> Result<(), Errno>
-        ensures may { Self.may self.old (call.Unlink ctx (Self.Inode.number parent) name.now) (done_answer result) self.new };
+        ensures may { Self.may self.old (call.Unlink ctx (Self.Inode.number parent) name.now)
+            (done_answer result) self.new };
 
     /// Makes a directory (FUSE_MKDIR).
     fn mkdir(
@@ -204,7 +232,8 @@ pub trait ChangeCalls: FileSystemBase {
         umask: u32,
         extensions: Extensions,
     ) -> Result<Entry<Self::Inode>, Errno>
-        ensures may { Self.may self.old (call.Mkdir ctx (Self.Inode.number parent) name.now mode umask (extra_of extensions))
+        ensures may { Self.may self.old
+            (call.Mkdir ctx (Self.Inode.number parent) name.now mode umask (extra_of extensions))
             (entry_answer Self.Inode.number result) self.new };
 
     /// Sets those attributes of a node that `valid` names, and answers all (FUSE_SETATTR).
@@ -216,11 +245,14 @@ pub trait ChangeCalls: FileSystemBase {
         handle: Option<Self::Handle>,
         valid: SetattrValid,
     ) -> Result<(Attr, Timeout), Errno>
-        ensures may { Self.may self.old (call.Setattr ctx (Self.Inode.number inode) attr (option_map Self.Handle.number handle) valid.0)
+        ensures may { Self.may self.old
+            (call.Setattr ctx (Self.Inode.number inode) attr (option_map Self.Handle.number handle) valid.0)
             (attr_answer result) self.new };
 }
 
 /// A file system that lacks `ChangeCalls`, so that they have the answers of `defaults`.
 pub trait ChangesNothing: FileSystemBase {
-    ghost lacks_changing: { (s : Self) (c : FileCall) → group_of c ≡ group.Changing → Self.may s c (default_answer c) s };
+    ghost lacks_changing: { (s : Self) (c : FileCall)
+        → group_of c ≡ group.Changing
+        → Self.may s c (default_answer c) s };
 }

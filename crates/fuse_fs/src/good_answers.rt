@@ -2,7 +2,8 @@
 
 ghost use Rattle.std.specs.Prelude.{◌≡◌, ℕ, Bool, true, false, refl, Result, Err};
 ghost use Rattle.fuse_fs.specs.Answers.{entry_answer, done_answer, attr_answer, opened_answer, stats_answer};
-ghost use Rattle.fuse_fs.specs.Answers.{written_answer, offset_answer, target_answer, value_answer, names_answer};
+ghost use Rattle.fuse_fs.specs.Answers.{written_answer, offset_answer, target_answer, value_answer};
+ghost use Rattle.fuse_fs.specs.Answers.{names_answer};
 ghost use Rattle.fuse_fs.specs.Answers.{created_answer};
 ghost use Rattle.fuse_fs.specs.Calls.{FileAnswer, Failed};
 

@@ -106,7 +106,8 @@ impl<T: ChangesNothing> ChangeCalls for T {
         _handle: Option<T::Handle>,
         _valid: SetattrValid,
     ) -> Result<(Attr, Timeout), Errno>
-        ensures may { T.may self.old (call.Setattr _ctx (T.Inode.number _inode) _attr (option_map T.Handle.number _handle) _valid.0)
+        ensures may { T.may self.old
+            (call.Setattr _ctx (T.Inode.number _inode) _attr (option_map T.Handle.number _handle) _valid.0)
             (attr_answer result) self.new }
     {
         defaults::setattr()
@@ -141,7 +142,8 @@ impl<T: FewCalls + OpenCalls + ChangeCalls> FileSystem for T {
         inode: T::Inode,
         handle: Option<T::Handle>,
     ) -> Result<(Attr, Timeout), Errno>
-        ensures may { T.may self.old (call.Getattr ctx (T.Inode.number inode) (option_map T.Handle.number handle)) (attr_answer result) self.new }
+        ensures may { T.may self.old (call.Getattr ctx (T.Inode.number inode)
+            (option_map T.Handle.number handle)) (attr_answer result) self.new }
     {
         FewCalls::getattr(self, ctx, inode, handle)
     }
@@ -300,7 +302,8 @@ impl<T: FewCalls + OpenCalls + ChangeCalls> FileSystem for T {
         handle: Option<T::Handle>,
         valid: SetattrValid,
     ) -> Result<(Attr, Timeout), Errno>
-        ensures may { T.may self.old (call.Setattr ctx (T.Inode.number inode) attr (option_map T.Handle.number handle) valid.0)
+        ensures may { T.may self.old
+            (call.Setattr ctx (T.Inode.number inode) attr (option_map T.Handle.number handle) valid.0)
             (attr_answer result) self.new }
     {
         ChangeCalls::setattr(self, ctx, inode, attr, handle, valid)
@@ -311,7 +314,8 @@ impl<T: FewCalls + OpenCalls + ChangeCalls> FileSystem for T {
     }
 
     fn batch_forget(&mut self, ctx: Context, requests: Vec<(T::Inode, u64)>)
-        ensures may { T.may self.old (call.BatchForget ctx (pair_numbers T.Inode.number requests.items)) call.Done self.new }
+        ensures may { T.may self.old (call.BatchForget ctx (pair_numbers T.Inode.number requests.items))
+            call.Done self.new }
     {
         defaults::batch_forget(self, ctx, requests);
     }

@@ -2,7 +2,8 @@
 
 ghost use Rattle.std.specs.Prelude.{◌≡◌, ◌<◌, ◌^◌, length, option_map};
 ghost use Rattle.fuse_fs.specs.Answers.{listed};
-ghost use Rattle.fuse_fs.specs.Replies.{attr_out_of, open_out_of, write_out_of, lseek_out_of, getxattr_out_of, dirent_of};
+ghost use Rattle.fuse_fs.specs.Replies.{attr_out_of, open_out_of, write_out_of, lseek_out_of};
+ghost use Rattle.fuse_fs.specs.Replies.{getxattr_out_of, dirent_of};
 
 use crate::answers::Timeout;
 use crate::directory::DirEntry;
@@ -65,7 +66,8 @@ pub fn getxattr_out(count: u32) -> GetxattrOut
     }
 }
 
-/// An entry of a directory, as `struct fuse_dirent` before its name, 24 bytes. The name's length in bytes has 32 bits.
+/// An entry of a directory, as `struct fuse_dirent` before its name, 24 bytes. The name's length in bytes has
+/// 32 bits.
 pub fn dirent(entry: &DirEntry<'_>) -> Dirent
     requires { length entry.now.name.now < 2 ^ 32 }
     ensures { result ≡ dirent_of (listed entry.now) }

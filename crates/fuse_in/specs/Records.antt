@@ -1,4 +1,5 @@
--- The records (linux/fuse.h): those that are read from requests by their shape, the others as the fields that spell them.
+-- The records (linux/fuse.h): those that are read from requests by their shape, the others as the fields that
+-- spell them.
 use Rattle.std.specs.Prelude.{List, [], ◌++◌, ◌∷◌}
 use Rattle.vm_values.specs.Fields.{Field, d, q}
 use Rattle.fuse_base.specs.Records.{file_lock}
@@ -55,14 +56,16 @@ in_header = record {
         total_extlen = total_extlen;
         padding = padding;
       };
-  says = λ r. r.len & r.opcode & r.unique & r.nodeid & r.uid.0 & r.gid.0 & r.pid & r.total_extlen & r.padding & end;
+  says = λ r. r.len & r.opcode & r.unique & r.nodeid & r.uid.0 & r.gid.0 & r.pid & r.total_extlen &
+      r.padding & end;
 }
 
 -- struct fuse_init_in, its first 16 bytes
 abbrev pub init_in_compat : RecordShape InitInCompat
 init_in_compat = record {
   parts = u32 ∷ u32 ∷ u32 ∷ u32 ∷ [];
-  make = λ major minor max_readahead flags. record { major = major; minor = minor; max_readahead = max_readahead; flags = flags };
+  make = λ major minor max_readahead flags.
+      record { major = major; minor = minor; max_readahead = max_readahead; flags = flags };
   says = λ r. r.major & r.minor & r.max_readahead & r.flags & end;
 }
 
@@ -110,7 +113,8 @@ getattr_in = record {
 abbrev pub setattr_in : RecordShape SetattrIn
 setattr_in = record {
   parts = u32 ∷ u32 ∷ u64 ∷ u64 ∷ u64 ∷ u64 ∷ u64 ∷ u64 ∷ u32 ∷ u32 ∷ u32 ∷ u32 ∷ u32 ∷ u32 ∷ u32 ∷ u32 ∷ [];
-  make = λ valid padding fh size lock_owner atime mtime ctime atimensec mtimensec ctimensec mode unused4 uid gid unused5.
+  make = λ valid padding fh size lock_owner atime mtime ctime atimensec mtimensec ctimensec mode unused4 uid
+      gid unused5.
       record {
         valid = valid;
         padding = padding;
@@ -130,7 +134,8 @@ setattr_in = record {
         unused5 = unused5;
       };
   says = λ r.
-      r.valid & r.padding & r.fh & r.size & r.lock_owner & r.atime & r.mtime & r.ctime & r.atimensec & r.mtimensec & r.ctimensec & r.mode & r.unused4 &
+      r.valid & r.padding & r.fh & r.size & r.lock_owner & r.atime & r.mtime & r.ctime & r.atimensec &
+      r.mtimensec & r.ctimensec & r.mode & r.unused4 &
       r.uid.0 & r.gid.0 & r.unused5 & end;
 }
 
@@ -186,7 +191,8 @@ access_in = record {
 abbrev pub setxattr_in : RecordShape SetxattrIn
 setxattr_in = record {
   parts = u32 ∷ u32 ∷ u32 ∷ u32 ∷ [];
-  make = λ size flags setxattr_flags padding. record { size = size; flags = flags; setxattr_flags = setxattr_flags; padding = padding };
+  make = λ size flags setxattr_flags padding.
+      record { size = size; flags = flags; setxattr_flags = setxattr_flags; padding = padding };
   says = λ r. r.size & r.flags & r.setxattr_flags & r.padding & end;
 }
 
@@ -218,7 +224,8 @@ open_in = record {
 abbrev pub create_in : RecordShape CreateIn
 create_in = record {
   parts = u32 ∷ u32 ∷ u32 ∷ u32 ∷ [];
-  make = λ flags mode umask open_flags. record { flags = flags; mode = mode; umask = umask; open_flags = open_flags };
+  make = λ flags mode umask open_flags.
+      record { flags = flags; mode = mode; umask = umask; open_flags = open_flags };
   says = λ r. r.flags & r.mode & r.umask & r.open_flags & end;
 }
 
@@ -226,7 +233,8 @@ create_in = record {
 abbrev pub release_in : RecordShape ReleaseIn
 release_in = record {
   parts = u64 ∷ u32 ∷ u32 ∷ u64 ∷ [];
-  make = λ fh flags release_flags lock_owner. record { fh = fh; flags = flags; release_flags = release_flags; lock_owner = lock_owner };
+  make = λ fh flags release_flags lock_owner.
+      record { fh = fh; flags = flags; release_flags = release_flags; lock_owner = lock_owner };
   says = λ r. r.fh & r.flags & r.release_flags & r.lock_owner & end;
 }
 
@@ -234,7 +242,8 @@ release_in = record {
 abbrev pub flush_in : RecordShape FlushIn
 flush_in = record {
   parts = u64 ∷ u32 ∷ u32 ∷ u64 ∷ [];
-  make = λ fh unused padding lock_owner. record { fh = fh; unused = unused; padding = padding; lock_owner = lock_owner };
+  make = λ fh unused padding lock_owner.
+      record { fh = fh; unused = unused; padding = padding; lock_owner = lock_owner };
   says = λ r. r.fh & r.unused & r.padding & r.lock_owner & end;
 }
 
@@ -243,7 +252,15 @@ abbrev pub read_in : RecordShape ReadIn
 read_in = record {
   parts = u64 ∷ u64 ∷ u32 ∷ u32 ∷ u64 ∷ u32 ∷ u32 ∷ [];
   make = λ fh offset size read_flags lock_owner flags padding.
-      record { fh = fh; offset = offset; size = size; read_flags = read_flags; lock_owner = lock_owner; flags = flags; padding = padding };
+      record {
+        fh = fh;
+        offset = offset;
+        size = size;
+        read_flags = read_flags;
+        lock_owner = lock_owner;
+        flags = flags;
+        padding = padding;
+      };
   says = λ r. r.fh & r.offset & r.size & r.read_flags & r.lock_owner & r.flags & r.padding & end;
 }
 
@@ -252,7 +269,15 @@ abbrev pub write_in : RecordShape WriteIn
 write_in = record {
   parts = u64 ∷ u64 ∷ u32 ∷ u32 ∷ u64 ∷ u32 ∷ u32 ∷ [];
   make = λ fh offset size write_flags lock_owner flags padding.
-      record { fh = fh; offset = offset; size = size; write_flags = write_flags; lock_owner = lock_owner; flags = flags; padding = padding };
+      record {
+        fh = fh;
+        offset = offset;
+        size = size;
+        write_flags = write_flags;
+        lock_owner = lock_owner;
+        flags = flags;
+        padding = padding;
+      };
   says = λ r. r.fh & r.offset & r.size & r.write_flags & r.lock_owner & r.flags & r.padding & end;
 }
 
@@ -268,7 +293,8 @@ fsync_in = record {
 abbrev pub fallocate_in : RecordShape FallocateIn
 fallocate_in = record {
   parts = u64 ∷ u64 ∷ u64 ∷ u32 ∷ u32 ∷ [];
-  make = λ fh offset length mode padding. record { fh = fh; offset = offset; length = length; mode = mode; padding = padding };
+  make = λ fh offset length mode padding.
+      record { fh = fh; offset = offset; length = length; mode = mode; padding = padding };
   says = λ r. r.fh & r.offset & r.length & r.mode & r.padding & end;
 }
 
@@ -285,7 +311,15 @@ abbrev pub copyfilerange_in : RecordShape CopyfilerangeIn
 copyfilerange_in = record {
   parts = u64 ∷ u64 ∷ u64 ∷ u64 ∷ u64 ∷ u64 ∷ u64 ∷ [];
   make = λ fh_in off_in nodeid_out fh_out off_out len flags.
-      record { fh_in = fh_in; off_in = off_in; nodeid_out = nodeid_out; fh_out = fh_out; off_out = off_out; len = len; flags = flags };
+      record {
+        fh_in = fh_in;
+        off_in = off_in;
+        nodeid_out = nodeid_out;
+        fh_out = fh_out;
+        off_out = off_out;
+        len = len;
+        flags = flags;
+      };
   says = λ r. r.fh_in & r.off_in & r.nodeid_out & r.fh_out & r.off_out & r.len & r.flags & end;
 }
 

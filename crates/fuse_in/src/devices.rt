@@ -2,7 +2,8 @@
 
 ghost use Rattle.std.specs.Prelude.{refl};
 ghost use Rattle.std.proofs.Common.{rules};
-ghost use Rattle.fuse_in.specs.Records.{bmap_in, ioctl_in, poll_in, notify_retrieve_in, setupmapping_in, removemapping_in};
+ghost use Rattle.fuse_in.specs.Records.{bmap_in, ioctl_in, poll_in, notify_retrieve_in, setupmapping_in};
+ghost use Rattle.fuse_in.specs.Records.{removemapping_in};
 
 use vm_values::{ByteValued, get_fields, put_fields};
 

@@ -3,7 +3,8 @@
 ghost use Rattle.std.specs.Prelude.{refl};
 ghost use Rattle.std.proofs.Common.{rules};
 ghost use Rattle.fuse_in.specs.Shapes.{fields_by};
-ghost use Rattle.fuse_in.specs.Records.{open_in, create_in, release_in, flush_in, read_in, write_in, fsync_in, fallocate_in, lseek_in, copyfilerange_in, lk_in};
+ghost use Rattle.fuse_in.specs.Records.{open_in, create_in, release_in, flush_in, read_in, write_in};
+ghost use Rattle.fuse_in.specs.Records.{fsync_in, fallocate_in, lseek_in, copyfilerange_in, lk_in};
 
 use crate::record::InRecord;
 use fuse_base::FileLock;

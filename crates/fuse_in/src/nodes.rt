@@ -3,7 +3,8 @@
 ghost use Rattle.std.specs.Prelude.{refl};
 ghost use Rattle.std.proofs.Common.{rules};
 ghost use Rattle.fuse_in.specs.Shapes.{fields_by};
-ghost use Rattle.fuse_in.specs.Records.{getattr_in, setattr_in, mknod_in, mkdir_in, rename_in, rename2_in, link_in, access_in};
+ghost use Rattle.fuse_in.specs.Records.{getattr_in, setattr_in, mknod_in, mkdir_in, rename_in, rename2_in};
+ghost use Rattle.fuse_in.specs.Records.{link_in, access_in};
 ghost use Rattle.fuse_in.specs.Records.{setxattr_in, setxattr_in_compat, getxattr_in};
 
 use crate::record::InRecord;

@@ -10,7 +10,8 @@ pub trait InRecord: ByteValued {
     // Its parts, how it is made of them, and what they say.
     ghost shape: { RecordShape Self };
 
-    // The parts spell the record's fields, a record is made of what its parts say, and the parts have its length.
+    // The parts spell the record's fields, a record is made of what its parts say, and the parts have its
+    // length.
     ghost of_shape: { ((x : Self) → fields_by shape x ≡ Self.fields x)
         × ((x : Self) → made_of shape.parts shape.make (shape.says x) ≡ x) × (size shape.parts ≡ Self.SIZE) };
 }

@@ -3,7 +3,8 @@
 ghost use Rattle.std.specs.Prelude.{refl};
 ghost use Rattle.std.proofs.Common.{rules};
 ghost use Rattle.fuse_in.specs.Shapes.{fields_by};
-ghost use Rattle.fuse_in.specs.Records.{in_header, init_in_compat, init_in_ext, interrupt_in, forget_in, batch_forget_in, syncfs_in};
+ghost use Rattle.fuse_in.specs.Records.{in_header, init_in_compat, init_in_ext, interrupt_in, forget_in};
+ghost use Rattle.fuse_in.specs.Records.{batch_forget_in, syncfs_in};
 
 use crate::record::InRecord;
 use fuse_base::{GuestGid, GuestUid};

@@ -16,8 +16,10 @@ first_there (suc at) (l ∷ ls) = first_there at ls
 pub entry_there : (at : ℕ) (entries : List OwnedEntry) (d : OwnedEntry) → at < length entries →
     Some (listed_of (get_or entries at d)) ≡ slice_get (drop at (map listed_of entries)) 0
 entry_there at entries d low =
-    ap (λ o. option_map listed_of o) (sym (slice_get-get_or entries at d low)) ∙ sym (slice_get-map listed_of entries at) ∙ sym (first_there at (map listed_of entries))
+    ap (λ o. option_map listed_of o) (sym (slice_get-get_or entries at d low)) ∙ sym (slice_get-map listed_of entries at)
+    ∙ sym (first_there at (map listed_of entries))
 
 -- behind it comes what is left
-pub listing_goes_on : (at : ℕ) (entries : List OwnedEntry) → drop (at + 1) (map listed_of entries) ≡ drop 1 (drop at (map listed_of entries))
+pub listing_goes_on :
+    (at : ℕ) (entries : List OwnedEntry) → drop (at + 1) (map listed_of entries) ≡ drop 1 (drop at (map listed_of entries))
 listing_goes_on at entries = sym (drop-drop 1 at (map listed_of entries))

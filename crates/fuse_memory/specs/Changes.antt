@@ -1,6 +1,7 @@
 -- What reads of files give, and what changes leave of them.
 use Rattle.std.specs.Prelude.{◌≡◌, ◌≢◌, ℕ, ◌+◌, ◌-◌, ◌/◌, ◌^◌, ◌<◌, ◌≤◌, ◌==◌, ◌&&◌, min, bit_and, bit_or}
-use Rattle.std.specs.Prelude.{List, [], ◌∷◌, ◌++◌, take, drop, remove, slice_set, Option, Some, None, option_map, option_and_then, if◌then◌else◌}
+use Rattle.std.specs.Prelude.{List, [], ◌∷◌, ◌++◌, take, drop, remove, slice_set, Option, Some, None}
+use Rattle.std.specs.Prelude.{option_map, option_and_then, if◌then◌else◌}
 use Rattle.fuse_fs.specs.Calls.{FileAnswer, Failed, Bytes}
 use Rattle.fuse_in.specs.declared.nodes.SetattrIn.{SetattrIn}
 use Rattle.fuse_memory.specs.Contents.{put, sized}
@@ -23,9 +24,11 @@ written offset bytes f = with_contents (put offset bytes f.contents) f
 abbrev pub opened : (flags : ℕ) → File → File
 opened flags f = if bit_and flags 512 == 0 then f else with_contents [] f
 
--- a mode after a SETATTR: with the flag FATTR_MODE (1 in linux/fuse.h) it has other permissions (0o7777), and the kind stays
+-- a mode after a SETATTR: with the flag FATTR_MODE (1 in linux/fuse.h) it has other permissions (0o7777), and
+-- the kind stays
 abbrev pub mode_set : (valid to mode : ℕ) → ℕ
-mode_set valid to mode = if bit_and valid 1 == 1 then bit_or (bit_and mode 0xf000) (bit_and to 0xfff) else mode
+mode_set valid to mode =
+    if bit_and valid 1 == 1 then bit_or (bit_and mode 0xf000) (bit_and to 0xfff) else mode
 
 -- contents after a SETATTR: with the flag FATTR_SIZE (8) they have another length
 abbrev pub size_set : (valid size : ℕ) → List ℕ → List ℕ
@@ -33,7 +36,8 @@ size_set valid size contents = if bit_and valid 8 == 8 then sized size contents 
 
 -- a file after a SETATTR
 abbrev pub attributes_set : (valid : ℕ) → SetattrIn → File → File
-attributes_set valid to f = record f { contents = size_set valid to.size f.contents; mode = mode_set valid to.mode f.mode }
+attributes_set valid to f =
+    record f { contents = size_set valid to.size f.contents; mode = mode_set valid to.mode f.mode }
 
 -- a file that the guest holds once more (as far as 64 bits count)
 abbrev pub held_more : File → File
@@ -57,11 +61,13 @@ unnamed f = kept (record f { links = 0 })
 
 -- each file after a change of one
 abbrev pub changed : FileTree → (node : ℕ) → (File → File) → (other : ℕ) → Option File
-changed before node change other = if other == node then option_map change (before.file other) else before.file other
+changed before node change other =
+    if other == node then option_map change (before.file other) else before.file other
 
 -- each file after a change of one, if that is there, which may go
 abbrev pub altered : FileTree → (node : ℕ) → (File → Option File) → (other : ℕ) → Option File
-altered before node change other = if other == node then option_and_then change (before.file other) else before.file other
+altered before node change other =
+    if other == node then option_and_then change (before.file other) else before.file other
 
 -- entries, how many were made, and how many nodes there may be stay
 pub record KeepsEntries (before after : FileTree) : Type 0 where
@@ -82,21 +88,25 @@ pub record ChangesFile (before : FileTree) (node : ℕ) (change : File → File)
   pub rest : KeepsEntries before after
 
 -- one file is changed or goes, if it is there; no other is changed, and the entries stay
-pub record Alters (before : FileTree) (node : ℕ) (change : File → Option File) (after : FileTree) : Type 0 where
+pub record Alters (before : FileTree) (node : ℕ) (change : File → Option File) (after : FileTree) :
+    Type 0 where
   pub files : (other : ℕ) → after.file other ≡ altered before node change other
   pub rest : KeepsEntries before after
 
 -- an entry goes, and the file that it names loses its name
-pub record RemovesEntry (before : FileTree) (place : ℕ) (entry : DirectoryEntry) (after : FileTree) : Type 0 where
+pub record RemovesEntry (before : FileTree) (place : ℕ) (entry : DirectoryEntry) (after : FileTree) :
+    Type 0 where
   pub files : (other : ℕ) → after.file other ≡ altered before entry.node unnamed other
   pub entries : after.entries ≡ remove before.entries place
   pub made : after.made ≡ before.made
   pub most : after.most ≡ before.most
 
 -- an entry gets another directory and name, and the file that it names lies there
-pub record Moves (before : FileTree) (place : ℕ) (entry : DirectoryEntry) (directory : ℕ) (name : List ℕ) (after : FileTree) : Type 0 where
+pub record Moves (before : FileTree) (place : ℕ) (entry : DirectoryEntry) (directory : ℕ) (name : List ℕ)
+    (after : FileTree) : Type 0 where
   pub files : (other : ℕ) → after.file other ≡ changed before entry.node (in_directory directory) other
-  pub entries : after.entries ≡ slice_set before.entries place (record entry { directory = directory; name = name })
+  pub entries :
+      after.entries ≡ slice_set before.entries place (record entry { directory = directory; name = name })
   pub made : after.made ≡ before.made
   pub most : after.most ≡ before.most
 
@@ -111,8 +121,11 @@ abbrev pub made_file : (directory mode : ℕ) → File
 made_file directory mode = record { contents = []; mode = mode; links = 1; parent = directory; held = 1 }
 
 -- a node is made under a name; its kind stands in the upper bits of its mode (S_IFMT)
-pub record MakesFile (before : FileTree) (node directory : ℕ) (name : List ℕ) (mode : ℕ) (after : FileTree) : Type 0 where
-  pub files : (other : ℕ) → after.file other ≡ (if other == node then Some (made_file directory mode) else before.file other)
-  pub entries : after.entries ≡ before.entries ++ record { directory = directory; name = name; node = node; kind = mode / 2 ^ 12 } ∷ []
+pub record MakesFile (before : FileTree) (node directory : ℕ) (name : List ℕ) (mode : ℕ) (after : FileTree) :
+    Type 0 where
+  pub files : (other : ℕ) →
+      after.file other ≡ (if other == node then Some (made_file directory mode) else before.file other)
+  pub entries : after.entries ≡ before.entries
+      ++ record { directory = directory; name = name; node = node; kind = mode / 2 ^ 12 } ∷ []
   pub made : after.made ≡ before.made + 1
   pub most : after.most ≡ before.most

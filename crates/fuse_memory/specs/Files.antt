@@ -1,12 +1,13 @@
 -- The files as a guest sees them: what each node is, and which entries the directories have.
-use Rattle.std.specs.Prelude.{◌≡◌, ◌≢◌, ℕ, Bool, ◌==◌, bit_and, List, [], length, map, Option, Some, None, option_map, slice_get}
+use Rattle.std.specs.Prelude.{◌≡◌, ◌≢◌, ℕ, Bool, ◌==◌, bit_and, List, [], length, map, Option, Some, None}
+use Rattle.std.specs.Prelude.{option_map, slice_get}
 use Rattle.fuse_base.specs.declared.records.Attr.{Attr}
 use Rattle.fuse_memory.specs.declared.table.MemoryFiles.{MemoryFiles}
 use Rattle.fuse_memory.specs.declared.nodes.Name.{Name}
 use Rattle.fuse_memory.specs.declared.nodes.Node.{Node}
 
--- a file or a directory: its bytes (a directory has none), its mode, how many names it has, the directory that its name is in (the
--- root: 0), and how often the guest holds it
+-- a file or a directory: its bytes (a directory has none), its mode, how many names it has, the directory
+-- that its name is in (the root: 0), and how often the guest holds it
 pub record File : Type 0 where
   pub contents : List ℕ
   pub mode : ℕ
@@ -21,8 +22,8 @@ pub record DirectoryEntry : Type 0 where
   pub node : ℕ
   pub kind : ℕ
 
--- all files by the numbers of their nodes, all entries in the order of listings, how many entries were ever made, and the greatest
--- number that a node may have
+-- all files by the numbers of their nodes, all entries in the order of listings, how many entries were ever
+-- made, and the greatest number that a node may have
 pub record FileTree : Type 0 where
   pub file : (node : ℕ) → Option File
   pub entries : List DirectoryEntry
@@ -44,7 +45,13 @@ pub record HasAttrOf (f : File) (attr : Attr) : Type 0 where
 -- a node as a file
 abbrev pub file_of : Node → File
 file_of node =
-    record { contents = node.contents.bytes.items; mode = node.attr.mode; links = node.attr.nlink; parent = node.parent; held = node.lookups }
+    record {
+      contents = node.contents.bytes.items;
+      mode = node.attr.mode;
+      links = node.attr.nlink;
+      parent = node.parent;
+      held = node.lookups;
+    }
 
 -- the file in a slot of the table
 abbrev pub slot_file : Option Node → Option File
@@ -69,11 +76,18 @@ file_at nodes number = slot_file (node_at nodes number)
 
 -- a name as an entry
 abbrev pub entry_of : Name → DirectoryEntry
-entry_of entry = record { directory = entry.parent; name = entry.name.items; node = entry.node; kind = entry.kind }
+entry_of entry =
+    record { directory = entry.parent; name = entry.name.items; node = entry.node; kind = entry.kind }
 
 -- all files and entries
 abbrev pub files_of : MemoryFiles → FileTree
-files_of m = record { file = file_at m.nodes.items; entries = map entry_of m.names.items; made = m.made; most = m.most_nodes }
+files_of m =
+    record {
+      file = file_at m.nodes.items;
+      entries = map entry_of m.names.items;
+      made = m.made;
+      most = m.most_nodes;
+    }
 
 -- an empty root, which is node 1, and nothing else
 pub record StartsEmpty (most : ℕ) (files : FileTree) : Type 0 where

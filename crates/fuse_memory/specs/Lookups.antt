@@ -1,5 +1,6 @@
 -- Which entry a name stands for, and why there is none.
-use Rattle.std.specs.Prelude.{ℕ, zero, suc, Bool, true, false, not, ◌&&◌, ◌||◌, ◌==◌, nat_lt, List, length, Option, Some, None, option_map, Result, Ok, Err, if◌then◌else◌}
+use Rattle.std.specs.Prelude.{ℕ, zero, suc, Bool, true, false, not, ◌&&◌, ◌||◌, ◌==◌, nat_lt, List, length}
+use Rattle.std.specs.Prelude.{Option, Some, None, option_map, Result, Ok, Err, if◌then◌else◌}
 use Rattle.std.specs.List.{list_all, position}
 use Rattle.std.specs.Option.{unwrap_or}
 use Rattle.std.specs.Str.{bytes_eq}
@@ -15,9 +16,10 @@ abbrev pub no_directory : Option File → Option ℕ
 no_directory None = Some ENOENT
 no_directory (Some f) = if is_directory f then None else Some ENOTDIR
 
--- the place of a name in a directory, if it has one; in a directory that lost its own name there are none, and a name has at most 255
--- bytes (NAME_MAX of limits.h)
-abbrev pub find_in : Option File → List DirectoryEntry → (directory : ℕ) → (name : List ℕ) → Result (Option ℕ) ℕ
+-- the place of a name in a directory, if it has one; in a directory that lost its own name there are none,
+-- and a name has at most 255 bytes (NAME_MAX of limits.h)
+abbrev pub find_in :
+    Option File → List DirectoryEntry → (directory : ℕ) → (name : List ℕ) → Result (Option ℕ) ℕ
 find_in None entries directory name = Err ENOENT
 find_in (Some f) entries directory name =
     if not (is_directory f) then Err ENOTDIR
@@ -43,15 +45,20 @@ is_empty entries directory = list_all (λ e. not (e.directory == directory)) ent
 abbrev pub names_directory : DirectoryEntry → Bool
 names_directory e = e.kind == 4
 
--- why an entry can't come in the place of another, if it can't (rename(2)): a directory only of an empty one, a file only of a file
+-- why an entry can't come in the place of another, if it can't (rename(2)): a directory only of an empty one,
+-- a file only of a file
 abbrev pub cannot_replace : List DirectoryEntry → (moved replaced : DirectoryEntry) → Option ℕ
 cannot_replace entries moved replaced =
     if names_directory moved then
-    (if not (names_directory replaced) then Some ENOTDIR else if is_empty entries replaced.node then None else Some ENOTEMPTY)
+    (if not (names_directory replaced) then Some ENOTDIR
+    else if is_empty entries replaced.node then None
+    else Some ENOTEMPTY)
     else if names_directory replaced then Some EISDIR
     else None
 
 -- whether a node is another or lies in it, by a walk up of so many steps; a longer walk counts as if it does
 abbrev pub lies_in : FileTree → (steps at other : ℕ) → Bool
 lies_in files zero at other = true
-lies_in files (suc steps) at other = at == other || unwrap_or (option_map (λ (f : File). lies_in files steps f.parent other) (files.file at)) false
+lies_in files (suc steps) at other =
+    at == other || unwrap_or (option_map (λ (f : File). lies_in files steps f.parent other) (files.file at))
+    false

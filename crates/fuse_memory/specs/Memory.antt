@@ -1,12 +1,18 @@
 -- What the calls of the file system in memory may answer and do.
-use Rattle.std.specs.Prelude.{◌≡◌, ◌≤◌, ◌<◌, ◌⊎◌, ⊤, ℕ, ◌+◌, ◌-◌, ◌^◌, Bool, true, false, not, ◌==◌, bit_and, bit_or, min, List, length, slice_get, Option, Some, None, Result, Ok, Err, take, if◌then◌else◌}
-use Rattle.fuse_fs.specs.Calls.{FileCall, FileAnswer, Failed, Done, HasEntry, HasAttr, Opened, Created, Wrote, Entries}
-use Rattle.fuse_fs.specs.Calls.{Lookup, Forget, Getattr, Setattr, Mkdir, Unlink, Rmdir, Rename, Open, Create, Read, Write, Release, Statfs, Opendir, Readdir}
+use Rattle.std.specs.Prelude.{◌≡◌, ◌≤◌, ◌<◌, ◌⊎◌, ⊤, ℕ, ◌+◌, ◌-◌, ◌^◌, Bool, true, false, not, ◌==◌, bit_and}
+use Rattle.std.specs.Prelude.{bit_or, min, List, length, slice_get, Option, Some, None, Result, Ok, Err, take}
+use Rattle.std.specs.Prelude.{if◌then◌else◌}
+use Rattle.fuse_fs.specs.Calls.{FileCall, FileAnswer, Failed, Done, HasEntry, HasAttr, Opened, Created, Wrote}
+use Rattle.fuse_fs.specs.Calls.{Entries}
+use Rattle.fuse_fs.specs.Calls.{Lookup, Forget, Getattr, Setattr, Mkdir, Unlink, Rmdir, Rename, Open, Create}
+use Rattle.fuse_fs.specs.Calls.{Read, Write, Release, Statfs, Opendir, Readdir}
 use Rattle.fuse_in.specs.declared.nodes.SetattrIn.{SetattrIn}
-use Rattle.fuse_memory.specs.Changes.{Alters, ChangesFile, IsFree, Keeps, MakesFile, Moves, RemovesEntry, attributes_set, held_more, let_go, made_file, opened, read_of, written}
+use Rattle.fuse_memory.specs.Changes.{Alters, ChangesFile, IsFree, Keeps, MakesFile, Moves, RemovesEntry}
+use Rattle.fuse_memory.specs.Changes.{attributes_set, held_more, let_go, made_file, opened, read_of, written}
 use Rattle.fuse_memory.specs.Errors.{EEXIST, EINVAL, EISDIR, ENOENT, ENOMEM, ENOSPC, ENOTDIR, ENOTEMPTY}
 use Rattle.fuse_memory.specs.Files.{DirectoryEntry, File, FileTree, HasAttrOf, files_of}
-use Rattle.fuse_memory.specs.Lookups.{cannot_replace, find, is_empty, lies_in, names_directory, needed, no_directory}
+use Rattle.fuse_memory.specs.Lookups.{cannot_replace, find, is_empty, lies_in, names_directory, needed}
+use Rattle.fuse_memory.specs.Lookups.{no_directory}
 use Rattle.fuse_memory.specs.declared.table.MemoryFiles.{MemoryFiles}
 
 -- a call fails, and nothing changes
@@ -29,7 +35,8 @@ read_at (Some f) most offset = read_of most offset f
 abbrev pub Sets : FileTree → (node : ℕ) → (valid : ℕ) → SetattrIn → FileAnswer → FileTree → Type 0
 Sets before node valid to (Failed e) after = Keeps before after
 Sets before node valid to (HasAttr attr time) after =
-    ChangesFile before node (attributes_set valid to) after × AnswersGetattr (after.file node) (HasAttr attr time)
+    ChangesFile before node (attributes_set valid to) after
+    × AnswersGetattr (after.file node) (HasAttr attr time)
 Sets before node valid to answer after = ⊥
 
 -- OPEN: the file is emptied if the flags say so; an error changes nothing
@@ -39,26 +46,37 @@ Opens before node flags (Opened handle options) after = ChangesFile before node 
 Opens before node flags answer after = ⊥
 
 -- WRITE: so many of the bytes stand at the offset, none only if none were asked for; an error changes nothing
-abbrev pub WritesFile : FileTree → (node : ℕ) → (bytes : List ℕ) → (size offset : ℕ) → FileAnswer → FileTree → Type 0
+abbrev pub WritesFile :
+    FileTree → (node : ℕ) → (bytes : List ℕ) → (size offset : ℕ) → FileAnswer → FileTree → Type 0
 WritesFile before node bytes size offset (Failed e) after = Keeps before after
 WritesFile before node bytes size offset (Wrote n) after =
-    (n ≤ min size (length bytes)) × (0 < size → 0 < n) × ChangesFile before node (written offset (take n bytes)) after
+    (n ≤ min size (length bytes))
+    × (0 < size → 0 < n)
+    × ChangesFile before node (written offset (take n bytes)) after
 WritesFile before node bytes size offset answer after = ⊥
 
 -- LOOKUP of an entry's node, or a node that is made: it is held once more, and the entry tells it
 abbrev pub HoldsNode : FileTree → (node : ℕ) → FileAnswer → FileTree → Type 0
 HoldsNode before node (Failed e) after = (e ≡ ENOENT) × (before.file node ≡ None) × Keeps before after
-HoldsNode before node (HasEntry e) after = (f : File) × (before.file node ≡ Some f) × (e.inode ≡ node) × HasAttrOf f e.attr × ChangesFile before node held_more after
+HoldsNode before node (HasEntry e) after =
+    (f : File)
+    × (before.file node ≡ Some f)
+    × (e.inode ≡ node)
+    × HasAttrOf f e.attr
+    × ChangesFile before node held_more after
 HoldsNode before node answer after = ⊥
 
 -- LOOKUP: the node that the name stands for
 abbrev pub LooksUpName : FileTree → Result ℕ ℕ → FileAnswer → FileTree → Type 0
 LooksUpName before (Err e) answer after = Fails before e answer after
 LooksUpName before (Ok place) answer after =
-    (entry : DirectoryEntry) × (slice_get before.entries place ≡ Some entry) × HoldsNode before entry.node answer after
+    (entry : DirectoryEntry)
+    × (slice_get before.entries place ≡ Some entry)
+    × HoldsNode before entry.node answer after
 
 -- an entry is taken away, or there is a reason not to
-abbrev pub TakesEntry : FileTree → (place : ℕ) → DirectoryEntry → (refused : Option ℕ) → FileAnswer → FileTree → Type 0
+abbrev pub TakesEntry :
+    FileTree → (place : ℕ) → DirectoryEntry → (refused : Option ℕ) → FileAnswer → FileTree → Type 0
 TakesEntry before place entry (Some e) answer after = Fails before e answer after
 TakesEntry before place entry None answer after = (answer ≡ Done) × RemovesEntry before place entry after
 
@@ -69,12 +87,15 @@ cannot_unlink entry = if names_directory entry then Some EISDIR else None
 abbrev pub Unlinks : FileTree → Result ℕ ℕ → FileAnswer → FileTree → Type 0
 Unlinks before (Err e) answer after = Fails before e answer after
 Unlinks before (Ok place) answer after =
-    (entry : DirectoryEntry) × (slice_get before.entries place ≡ Some entry) × TakesEntry before place entry (cannot_unlink entry) answer after
+    (entry : DirectoryEntry)
+    × (slice_get before.entries place ≡ Some entry)
+    × TakesEntry before place entry (cannot_unlink entry) answer after
 
 -- RMDIR: that of an empty directory
 abbrev pub cannot_rmdir : List DirectoryEntry → DirectoryEntry → Option ℕ
 cannot_rmdir entries entry =
-    if names_directory entry then (if is_empty entries entry.node then None else Some ENOTEMPTY) else Some ENOTDIR
+    if names_directory entry then (if is_empty entries entry.node then None else Some ENOTEMPTY)
+    else Some ENOTDIR
 
 abbrev pub RemovesDirectory : FileTree → Result ℕ ℕ → FileAnswer → FileTree → Type 0
 RemovesDirectory before (Err e) answer after = Fails before e answer after
@@ -82,19 +103,27 @@ RemovesDirectory before (Ok place) answer after =
     (entry : DirectoryEntry) × (slice_get before.entries place ≡ Some entry)
     × TakesEntry before place entry (cannot_rmdir before.entries entry) answer after
 
--- MKDIR and CREATE in a directory that has no such entry: the node gets the least free number; no error but that an allocation fails,
--- or that there may be no more nodes or were as many entries as 64 bits count
-abbrev pub MakesNode : FileTree → (directory : ℕ) → (name : List ℕ) → (mode : ℕ) → FileAnswer → FileTree → Type 0
+-- MKDIR and CREATE in a directory that has no such entry: the node gets the least free number; no error but
+-- that an allocation fails, or that there may be no more nodes or were as many entries as 64 bits count
+abbrev pub MakesNode :
+    FileTree → (directory : ℕ) → (name : List ℕ) → (mode : ℕ) → FileAnswer → FileTree → Type 0
 MakesNode before directory name mode (Failed e) after =
-    ((e ≡ ENOMEM) ⊎ ((e ≡ ENOSPC) × (((node : ℕ) × IsFree before node × (before.most < node)) ⊎ (before.made ≡ 2 ^ 64 - 1)))) × Keeps before after
+    ((e ≡ ENOMEM) ⊎ ((e ≡ ENOSPC)
+    × (((node : ℕ) × IsFree before node × (before.most < node)) ⊎ (before.made ≡ 2 ^ 64 - 1))))
+    × Keeps before after
 MakesNode before directory name mode (HasEntry e) after =
-    IsFree before e.inode × (e.inode ≤ before.most) × MakesFile before e.inode directory name mode after × HasAttrOf (made_file directory mode) e.attr
+    IsFree before e.inode
+    × (e.inode ≤ before.most)
+    × MakesFile before e.inode directory name mode after
+    × HasAttrOf (made_file directory mode) e.attr
 MakesNode before directory name mode answer after = ⊥
 
-abbrev pub MakesEntry : FileTree → Result (Option ℕ) ℕ → (directory : ℕ) → (name : List ℕ) → (mode : ℕ) → FileAnswer → FileTree → Type 0
+abbrev pub MakesEntry : FileTree → Result (Option ℕ) ℕ → (directory : ℕ) → (name : List ℕ) → (mode : ℕ) →
+    FileAnswer → FileTree → Type 0
 MakesEntry before (Err e) directory name mode answer after = Fails before e answer after
 MakesEntry before (Ok (Some place)) directory name mode answer after = Fails before EEXIST answer after
-MakesEntry before (Ok None) directory name mode answer after = MakesNode before directory name mode answer after
+MakesEntry before (Ok None) directory name mode answer after =
+    MakesNode before directory name mode answer after
 
 -- CREATE: the same, and the file is open without a handle
 abbrev pub as_entry : FileAnswer → FileAnswer
@@ -106,46 +135,60 @@ abbrev pub mode_of : (kind mode : ℕ) → ℕ
 mode_of kind mode = bit_or kind (bit_and mode 0xfff)
 
 -- RENAME: an entry moves, or there is a reason not to; no other error but that an allocation fails
-abbrev pub MovesEntry : FileTree → (place : ℕ) → DirectoryEntry → (directory : ℕ) → (name : List ℕ) → (refused : Option ℕ) → FileAnswer → FileTree → Type 0
+abbrev pub MovesEntry : FileTree → (place : ℕ) → DirectoryEntry → (directory : ℕ) → (name : List ℕ) →
+    (refused : Option ℕ) → FileAnswer → FileTree → Type 0
 MovesEntry before place entry directory name (Some e) answer after = Fails before e answer after
 MovesEntry before place entry directory name None (Failed e) after = (e ≡ ENOMEM) × Keeps before after
 MovesEntry before place entry directory name None Done after = Moves before place entry directory name after
 MovesEntry before place entry directory name None answer after = ⊥
 
 -- in the place of another, which goes
-abbrev pub MovesOver : FileTree → (place : ℕ) → DirectoryEntry → (directory : ℕ) → (name : List ℕ) → (other : ℕ) → (replaced : DirectoryEntry) → (refused : Option ℕ) → FileAnswer → FileTree → Type 0
+abbrev pub MovesOver : FileTree → (place : ℕ) → DirectoryEntry → (directory : ℕ) → (name : List ℕ) →
+    (other : ℕ) → (replaced : DirectoryEntry) → (refused : Option ℕ) → FileAnswer → FileTree → Type 0
 MovesOver before place entry directory name other replaced (Some e) answer after = Fails before e answer after
-MovesOver before place entry directory name other replaced None (Failed e) after = (e ≡ ENOMEM) × Keeps before after
+MovesOver before place entry directory name other replaced None (Failed e) after =
+    (e ≡ ENOMEM) × Keeps before after
 MovesOver before place entry directory name other replaced None Done after =
-    (between : FileTree) × Moves before place entry directory name between × RemovesEntry between other replaced after
+    (between : FileTree)
+    × Moves before place entry directory name between
+    × RemovesEntry between other replaced after
 MovesOver before place entry directory name other replaced None answer after = ⊥
 
 -- why a directory can't lie in another, if it can't: it would lie in itself
 abbrev pub cannot_lie_in : FileTree → (directory node : ℕ) → Option ℕ
-cannot_lie_in before directory node = if lies_in before (length before.entries + 2) directory node then Some EINVAL else None
+cannot_lie_in before directory node =
+    if lies_in before (length before.entries + 2) directory node then Some EINVAL else None
 
 -- a refusal, or else another
 abbrev pub first_of_two : Option ℕ → Option ℕ → Option ℕ
 first_of_two (Some e) other = Some e
 first_of_two None other = other
 
--- RENAME of an entry to a name that may be there: with RENAME_NOREPLACE (1 in linux/fs.h) it may not; to itself nothing is done
-abbrev pub RenamesOver : FileTree → (place : ℕ) → DirectoryEntry → (directory : ℕ) → (name : List ℕ) → (found : Option ℕ) → (keep same : Bool) → FileAnswer → FileTree → Type 0
+-- RENAME of an entry to a name that may be there: with RENAME_NOREPLACE (1 in linux/fs.h) it may not; to
+-- itself nothing is done
+abbrev pub RenamesOver : FileTree → (place : ℕ) → DirectoryEntry → (directory : ℕ) → (name : List ℕ) →
+    (found : Option ℕ) → (keep same : Bool) → FileAnswer → FileTree → Type 0
 RenamesOver before place entry directory name None keep same answer after =
     MovesEntry before place entry directory name (cannot_lie_in before directory entry.node) answer after
-RenamesOver before place entry directory name (Some other) true same answer after = Fails before EEXIST answer after
-RenamesOver before place entry directory name (Some other) false true answer after = (answer ≡ Done) × Keeps before after
+RenamesOver before place entry directory name (Some other) true same answer after =
+    Fails before EEXIST answer after
+RenamesOver before place entry directory name (Some other) false true answer after =
+    (answer ≡ Done) × Keeps before after
 RenamesOver before place entry directory name (Some other) false false answer after =
-    (replaced : DirectoryEntry) × (slice_get before.entries other ≡ Some replaced)
-    × MovesOver before place entry directory name other replaced (first_of_two (cannot_lie_in before directory entry.node) (cannot_replace before.entries entry replaced)) answer after
+    (replaced : DirectoryEntry)
+    × (slice_get before.entries other ≡ Some replaced)
+    × MovesOver before place entry directory name other replaced (first_of_two
+    (cannot_lie_in before directory entry.node) (cannot_replace before.entries entry replaced)) answer after
 
 -- whether what stands under the new name is the moved entry itself
 abbrev pub is_at : (place : ℕ) → Option ℕ → Bool
 is_at place (Some other) = other == place
 is_at place None = false
 
--- the first error of the two look-ups is answered, the moved name's before the new one's; else the entry moves by what stands there
-abbrev pub Renames : FileTree → (moved : Result ℕ ℕ) → (target : Result (Option ℕ) ℕ) → (directory : ℕ) → (name : List ℕ) → (keep : Bool) → FileAnswer → FileTree → Type 0
+-- the first error of the two look-ups is answered, the moved name's before the new one's; else the entry
+-- moves by what stands there
+abbrev pub Renames : FileTree → (moved : Result ℕ ℕ) → (target : Result (Option ℕ) ℕ) → (directory : ℕ) →
+    (name : List ℕ) → (keep : Bool) → FileAnswer → FileTree → Type 0
 Renames before (Err e) target directory name keep answer after = Fails before e answer after
 Renames before (Ok place) (Err e) directory name keep answer after = Fails before e answer after
 Renames before (Ok place) (Ok found) directory name keep answer after =
@@ -153,9 +196,11 @@ Renames before (Ok place) (Ok found) directory name keep answer after =
     × RenamesOver before place entry directory name found keep (is_at place found) answer after
 
 -- no other flag is known
-abbrev pub RenamesBy : FileTree → (known : Bool) → (moved : Result ℕ ℕ) → (target : Result (Option ℕ) ℕ) → (directory : ℕ) → (name : List ℕ) → (keep : Bool) → FileAnswer → FileTree → Type 0
+abbrev pub RenamesBy : FileTree → (known : Bool) → (moved : Result ℕ ℕ) → (target : Result (Option ℕ) ℕ) →
+    (directory : ℕ) → (name : List ℕ) → (keep : Bool) → FileAnswer → FileTree → Type 0
 RenamesBy before false moved target directory name keep answer after = Fails before EINVAL answer after
-RenamesBy before true moved target directory name keep answer after = Renames before moved target directory name keep answer after
+RenamesBy before true moved target directory name keep answer after =
+    Renames before moved target directory name keep answer after
 
 -- OPENDIR: without a handle
 abbrev pub directory_opened : Option ℕ → FileAnswer
@@ -171,16 +216,21 @@ Lists None answer = ⊥
 
 -- by the files before and after
 abbrev pub MayDo : FileTree → FileCall → FileAnswer → FileTree → Type 0
-MayDo before (Lookup who node name) answer after = LooksUpName before (needed (find before node name)) answer after
+MayDo before (Lookup who node name) answer after =
+    LooksUpName before (needed (find before node name)) answer after
 MayDo before (Forget who node count) answer after = Alters before node (let_go count) after
-MayDo before (Getattr who node handle) answer after = AnswersGetattr (before.file node) answer × Keeps before after
+MayDo before (Getattr who node handle) answer after =
+    AnswersGetattr (before.file node) answer × Keeps before after
 MayDo before (Setattr who node to handle valid) answer after = Sets before node valid to answer after
 MayDo before (Mkdir who node name mode umask extra) answer after =
     MakesEntry before (find before node name) node name (mode_of 0x4000 mode) answer after
-MayDo before (Unlink who node name) answer after = Unlinks before (needed (find before node name)) answer after
-MayDo before (Rmdir who node name) answer after = RemovesDirectory before (needed (find before node name)) answer after
+MayDo before (Unlink who node name) answer after =
+    Unlinks before (needed (find before node name)) answer after
+MayDo before (Rmdir who node name) answer after =
+    RemovesDirectory before (needed (find before node name)) answer after
 MayDo before (Rename who old_dir old new_dir new flags) answer after =
-    RenamesBy before (bit_and flags 0xfffffffe == 0) (needed (find before old_dir old)) (find before new_dir new) new_dir new (not (bit_and flags 1 == 0)) answer after
+    RenamesBy before (bit_and flags 0xfffffffe == 0) (needed (find before old_dir old))
+    (find before new_dir new) new_dir new (not (bit_and flags 1 == 0)) answer after
 MayDo before (Open who node kill flags) answer after = Opens before node flags answer after
 MayDo before (Create who node name mode kill flags umask extra) answer after =
     MakesEntry before (find before node name) node name (mode_of 0x8000 mode) (as_entry answer) after
@@ -190,8 +240,10 @@ MayDo before (Write who node handle bytes size offset owner delayed kill flags) 
     WritesFile before node bytes size offset answer after
 MayDo before (Statfs who node) answer after = Keeps before after
 MayDo before (Release who node flags handle flush unlock owner) answer after = Keeps before after
-MayDo before (Opendir who node flags) answer after = (answer ≡ directory_opened (no_directory (before.file node))) × Keeps before after
-MayDo before (Readdir who node handle size offset) answer after = Lists (no_directory (before.file node)) answer × Keeps before after
+MayDo before (Opendir who node flags) answer after =
+    (answer ≡ directory_opened (no_directory (before.file node))) × Keeps before after
+MayDo before (Readdir who node handle size offset) answer after =
+    Lists (no_directory (before.file node)) answer × Keeps before after
 MayDo before call answer after = ⊤
 
 -- the file system's relation

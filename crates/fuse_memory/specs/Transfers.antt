@@ -10,5 +10,7 @@ ReadGives f most offset answer g = (answer ≡ Ok (take most (drop offset f.byte
 -- a write puts all bytes at the place and counts them, or fails and changes no byte
 abbrev pub WriteGives : Contents → (bytes : List ℕ) → (offset : ℕ) → Option ℕ → Result ℕ ℕ → Contents → Type 0
 WriteGives f bytes offset flags (Ok n) g =
-    (n ≡ length bytes) × (g.bytes.items ≡ put offset bytes f.bytes.items) × (g.written ≡ min (f.written + n) (2 ^ 64 - 1))
+    (n ≡ length bytes)
+    × (g.bytes.items ≡ put offset bytes f.bytes.items)
+    × (g.written ≡ min (f.written + n) (2 ^ 64 - 1))
 WriteGives f bytes offset flags (Err e) g = (g.bytes.items ≡ f.bytes.items) × (g.written ≡ f.written)

@@ -1,6 +1,7 @@
 //! The bytes of a file.
 
-ghost use Rattle.std.specs.Prelude.{◌≡◌, ℕ, ◌<◌, ◌≤◌, ◌+◌, [], List, length, take, drop, min, vec_capacity, Ok, IfOk, OnOk, OnErr};
+ghost use Rattle.std.specs.Prelude.{◌≡◌, ℕ, ◌<◌, ◌≤◌, ◌+◌, [], List, length, take, drop, min, vec_capacity};
+ghost use Rattle.std.specs.Prelude.{Ok, IfOk, OnOk, OnErr};
 ghost use Rattle.fuse_memory.specs.Contents.{put, sized};
 ghost use Rattle.fuse_memory.specs.Transfers.{ReadGives, WriteGives};
 
@@ -15,7 +16,8 @@ const LONGEST: u64 = i64::MAX as u64;
 #[derive(Drop)]
 pub(crate) struct Contents {
     bytes: Vec<u8>,
-    // Of the write that is at work: how many bytes of memory the contents may take, and how many it has written.
+    // Of the write that is at work: how many bytes of memory the contents may take, and how many it has
+    // written.
     most: u64,
     written: u64,
 }
@@ -56,8 +58,9 @@ impl Contents {
         }
     }
 
-    // Takes the memory for a length, if it is within so many bytes. A file that grows takes an eighth of what it holds more
-    // if that is within them too, since each growth copies the file. EFBIG, ENOSPC and ENOMEM take none.
+    // Takes the memory for a length, if it is within so many bytes. A file that grows takes an eighth of what
+    // it holds more if that is within them too, since each growth copies the file. EFBIG, ENOSPC and ENOMEM
+    // take none.
     fn reserve(&mut self, len: u64, most: u64) -> Result<(), Errno>
         ensures ok { OnOk result (len ≤ vec_capacity self.new.bytes) }
         ensures bytes { self.new.bytes.items ≡ self.old.bytes.items }
@@ -80,8 +83,8 @@ impl Contents {
             .map_err(|_| Errno::ENOMEM)
     }
 
-    /// Cuts them to a length, and gives back the memory behind it; or fills them up with zeros, if they take at most
-    /// `room` bytes more for it. EFBIG, ENOSPC and ENOMEM change nothing.
+    /// Cuts them to a length, and gives back the memory behind it; or fills them up with zeros, if they take
+    /// at most `room` bytes more for it. EFBIG, ENOSPC and ENOMEM change nothing.
     pub fn set_len(&mut self, len: u64, room: u64) -> Result<(), Errno>
         ensures ok { OnOk result (self.new.bytes.items ≡ sized len self.old.bytes.items) }
         ensures err { OnErr result (self.new.bytes.items ≡ self.old.bytes.items) }
@@ -98,8 +101,8 @@ impl Contents {
             .map_err(|_| Errno::ENOMEM)
     }
 
-    // Puts bytes at an offset, and zeros into a gap before them, within the memory of the write that is at work. EFBIG,
-    // ENOSPC and ENOMEM change nothing.
+    // Puts bytes at an offset, and zeros into a gap before them, within the memory of the write that is at
+    // work. EFBIG, ENOSPC and ENOMEM change nothing.
     fn put(&mut self, bytes: &[u8], off: u64) -> Result<(), Errno>
         ensures ok { OnOk result (self.new.bytes.items ≡ put off bytes.now self.old.bytes.items) }
         ensures err { OnErr result (self.new.bytes.items ≡ self.old.bytes.items) }
@@ -118,15 +121,18 @@ impl Contents {
         Ok(())
     }
 
-    /// Puts at most `size` bytes from an offset on into a writer, as many as it has room for, and answers how many. It
-    /// never fails.
+    /// Puts at most `size` bytes from an offset on into a writer, as many as it has room for, and answers how
+    /// many. It never fails.
     pub fn read<W: ZeroCopyWriter>(
         &mut self,
         w: &mut W,
         size: u32,
         offset: u64,
     ) -> Result<usize, Errno>
-        ensures bytes { (bytes : List ℕ) × W.Puts w.old bytes w.new × (W.room w.old ≡ W.room w.new + length bytes) × (result ≡ Ok (length bytes))
+        ensures bytes { (bytes : List ℕ)
+            × W.Puts w.old bytes w.new
+            × (W.room w.old ≡ W.room w.new + length bytes)
+            × (result ≡ Ok (length bytes))
             × (bytes ≡ take (min size (W.room w.old)) (drop offset self.old.bytes.items)) }
         ensures same { self.new ≡ self.old }
     {
@@ -135,9 +141,9 @@ impl Contents {
         w.read_from_file_at(self, wanted as usize, offset)
     }
 
-    /// Writes what a reader has to an offset, if they take at most `room` bytes of memory more for it, and answers how
-    /// many bytes it wrote: fewer than there are if an error comes after some of them, and 0 only if the size is 0. EFBIG,
-    /// ENOSPC, ENOMEM, and EIO if the reader has none of the bytes, change nothing.
+    /// Writes what a reader has to an offset, if they take at most `room` bytes of memory more for it, and
+    /// answers how many bytes it wrote: fewer than there are if an error comes after some of them, and 0 only
+    /// if the size is 0. EFBIG, ENOSPC, ENOMEM, and EIO if the reader has none of the bytes, change nothing.
     pub fn write<R: ZeroCopyReader>(
         &mut self,
         r: &mut R,
@@ -147,7 +153,8 @@ impl Contents {
     ) -> Result<u32, Errno>
         ensures within { IfOk result (λ n. n ≤ min size (length (R.left r.old))) }
         ensures some { IfOk result (λ n. 0 < size → 0 < n) }
-        ensures ok { IfOk result (λ n. self.new.bytes.items ≡ put offset (take n (R.left r.old)) self.old.bytes.items) }
+        ensures ok { IfOk result
+            (λ n. self.new.bytes.items ≡ put offset (take n (R.left r.old)) self.old.bytes.items) }
         ensures err { OnErr result (self.new.bytes.items ≡ self.old.bytes.items) }
     {
         self.most = self.held().saturating_add(room);

@@ -1,12 +1,14 @@
 //! What the calls do with the nodes and names.
 
-ghost use Rattle.std.specs.Prelude.{◌≡◌, ◌≢◌, ℕ, ◌+◌, ◌<◌, ◌≤◌, ◌⊎◌, vec_len, slice_get, option_map, map, Some, None, IfNone, IfErr, IfOk, IfSome, OnOk};
+ghost use Rattle.std.specs.Prelude.{◌≡◌, ◌≢◌, ℕ, ◌+◌, ◌<◌, ◌≤◌, ◌⊎◌, vec_len, slice_get, option_map, map};
+ghost use Rattle.std.specs.Prelude.{Some, None, IfNone, IfErr, IfOk, IfSome, OnOk};
 ghost use Rattle.fuse_fs.specs.Answers.{done_answer, entry_answer};
 ghost use Rattle.fuse_memory.specs.Changes.{Alters, IsFree, Keeps, RemovesEntry, let_go};
 ghost use Rattle.fuse_memory.specs.Errors.{ENOMEM, ENOSPC};
 ghost use Rattle.fuse_memory.specs.Files.{StartsEmpty, entry_of, file_at, files_of, node_at};
 ghost use Rattle.fuse_memory.specs.Lookups.{cannot_replace, find, is_empty, lies_in, needed, no_directory};
-ghost use Rattle.fuse_memory.specs.Memory.{HoldsNode, MakesEntry, MovesEntry, MovesOver, cannot_lie_in, first_of_two};
+ghost use Rattle.fuse_memory.specs.Memory.{HoldsNode, MakesEntry, MovesEntry, MovesOver, cannot_lie_in};
+ghost use Rattle.fuse_memory.specs.Memory.{first_of_two};
 ghost use Rattle.fuse_memory.specs.declared.nodes.Name.{Name as NameRecord};
 
 use crate::nodes::{DT_DIR, Name, Node, S_IFDIR, forget, lose_name, move_to, place_of};
@@ -22,10 +24,10 @@ pub(crate) const ROOT: u64 = 1;
 const LONGEST_NAME: usize = 255;
 
 impl MemoryFiles {
-    /// A file system of an empty root, which belongs to user and group 0. The contents of its files take at most `limit`
-    /// bytes of memory: a file that grew may take an eighth more than it has bytes. While a file grows or is cut, it is
-    /// copied, and its copy counts for nothing. There are at most `most_nodes` files and directories. AllocError if an
-    /// allocation fails.
+    /// A file system of an empty root, which belongs to user and group 0. The contents of its files take at
+    /// most `limit` bytes of memory: a file that grew may take an eighth more than it has bytes. While a file
+    /// grows or is cut, it is copied, and its copy counts for nothing. There are at most `most_nodes` files
+    /// and directories. AllocError if an allocation fails.
     pub fn new(alloc: Global, limit: u64, most_nodes: u64) -> Result<MemoryFiles, AllocError>
         ensures { IfOk result (λ files. StartsEmpty most_nodes (files_of files)) }
     {
@@ -89,7 +91,8 @@ impl MemoryFiles {
         }
     }
 
-    // The place of a name in a directory, if it has one. A directory that is removed has no names and gets none: ENOENT.
+    // The place of a name in a directory, if it has one. A directory that is removed has no names and gets
+    // none: ENOENT.
     pub(crate) fn find(&self, parent: u64, name: &[u8]) -> Result<Option<usize>, Errno>
         ensures { result ≡ find (files_of self.now) parent name.now }
     {
@@ -127,7 +130,8 @@ impl MemoryFiles {
 
     // The guest holds a node once more. ENOENT changes nothing.
     pub(crate) fn hold(&mut self, number: u64) -> Result<Entry<u64>, Errno>
-        ensures may { HoldsNode (files_of self.old) number (entry_answer (λ n. n) result) (files_of self.new) }
+        ensures may { HoldsNode (files_of self.old) number (entry_answer (λ n. n) result)
+            (files_of self.new) }
     {
         let Some(place) = self.place(number) else {
             return Err(Errno::ENOENT);
@@ -161,8 +165,12 @@ impl MemoryFiles {
     fn free_number(&mut self) -> Result<u64, Errno>
         ensures keeps { Keeps (files_of self.old) (files_of self.new) }
         ensures names { self.new.names ≡ self.old.names }
-        ensures free { IfOk result (λ number. IsFree (files_of self.new) number × (number ≤ self.new.most_nodes) × (number < vec_len self.new.nodes)) }
-        ensures err { IfErr result (λ e. (e ≡ ENOMEM) ⊎ ((e ≡ ENOSPC) × ((number : ℕ) × IsFree (files_of self.new) number × (self.new.most_nodes < number)))) }
+        ensures free { IfOk result (λ number. IsFree (files_of self.new) number
+            × (number ≤ self.new.most_nodes)
+            × (number < vec_len self.new.nodes)) }
+        ensures err { IfErr result (λ e. (e ≡ ENOMEM)
+            ⊎ ((e ≡ ENOSPC)
+            × ((number : ℕ) × IsFree (files_of self.new) number × (self.new.most_nodes < number)))) }
     {
         let mut number = ROOT as usize + 1;
         while number < self.nodes.len() && self.nodes[number].is_some() {
@@ -185,7 +193,8 @@ impl MemoryFiles {
         name: &[u8],
         mode: u32,
     ) -> Result<Entry<u64>, Errno>
-        ensures { MakesEntry (files_of self.old) (find (files_of self.old) parent name.now) parent name.now mode (entry_answer (λ n. n) result) (files_of self.new) }
+        ensures { MakesEntry (files_of self.old) (find (files_of self.old) parent name.now) parent name.now
+            mode (entry_answer (λ n. n) result) (files_of self.new) }
     {
         if self.find(parent, name)?.is_some() {
             return Err(Errno::EEXIST);
@@ -215,7 +224,9 @@ impl MemoryFiles {
     // Takes a name away, and its node if the guest doesn't hold it.
     pub(crate) fn remove(&mut self, place: usize)
         requires { place < vec_len self.old.names }
-        ensures { (name : NameRecord) → slice_get self.old.names.items place ≡ Some name → RemovesEntry (files_of self.old) place (entry_of name) (files_of self.new) }
+        ensures { (name : NameRecord)
+            → slice_get self.old.names.items place ≡ Some name
+            → RemovesEntry (files_of self.old) place (entry_of name) (files_of self.new) }
     {
         let number = self.names.remove(place).node;
         if let Some(place) = self.place(number) {
@@ -223,8 +234,8 @@ impl MemoryFiles {
         }
     }
 
-    // Whether a directory is another or lies in it, in any depth. The walk goes up once, from parent to parent. Each
-    // directory on the way has a name, but the first two of a walk that ends may have none.
+    // Whether a directory is another or lies in it, in any depth. The walk goes up once, from parent to
+    // parent. Each directory on the way has a name, but the first two of a walk that ends may have none.
     pub(crate) fn lies_in(&self, directory: u64, other: u64) -> bool
         ensures { result ≡ lies_in (files_of self.now) (vec_len self.now.names + 2) directory other }
     {
@@ -238,14 +249,16 @@ impl MemoryFiles {
                 None => return false,
             }
         }
-        // Each directory has one parent, up to the root, so a walk of more steps than there are names never comes.
+        // Each directory has one parent, up to the root, so a walk of more steps than there are names never
+        // comes.
         true
     }
 
-    // Why a name can't come in the place of another, if it can't (rename(2)): a directory only of an empty one, and a file
-    // only of a file.
+    // Why a name can't come in the place of another, if it can't (rename(2)): a directory only of an empty
+    // one, and a file only of a file.
     pub(crate) fn cannot_replace(&self, moved: &Name, replaced: &Name) -> Option<Errno>
-        ensures { result ≡ cannot_replace (map entry_of self.now.names.items) (entry_of moved.now) (entry_of replaced.now) }
+        ensures { result ≡ cannot_replace (map entry_of self.now.names.items) (entry_of moved.now)
+            (entry_of replaced.now) }
     {
         let directory = replaced.kind == DT_DIR;
         if moved.kind != DT_DIR {
@@ -265,8 +278,11 @@ impl MemoryFiles {
         requires { place < vec_len self.old.names }
         ensures names { vec_len self.new.names ≡ vec_len self.old.names }
         ensures moves { (entry : NameRecord) → slice_get self.old.names.items place ≡ Some entry →
-            MovesEntry (files_of self.old) place (entry_of entry) parent name.now None (done_answer result) (files_of self.new) }
-        ensures others { (other : ℕ) → other ≢ place → slice_get self.new.names.items other ≡ slice_get self.old.names.items other }
+            MovesEntry (files_of self.old) place (entry_of entry) parent name.now None (done_answer result)
+            (files_of self.new) }
+        ensures others { (other : ℕ)
+            → other ≢ place
+            → slice_get self.new.names.items other ≡ slice_get self.old.names.items other }
     {
         let name = copied(self.alloc, name)?;
         let entry = &mut self.names[place];
@@ -308,9 +324,13 @@ impl MemoryFiles {
         requires moved { moved < vec_len self.old.names }
         requires replaced { replaced < vec_len self.old.names }
         requires apart { replaced ≢ moved }
-        ensures { (entry other : NameRecord) → slice_get self.old.names.items moved ≡ Some entry → slice_get self.old.names.items replaced ≡ Some other →
+        ensures { (entry other : NameRecord)
+            → slice_get self.old.names.items moved ≡ Some entry
+            → slice_get self.old.names.items replaced ≡ Some other
+            →
             MovesOver (files_of self.old) moved (entry_of entry) parent name.now replaced (entry_of other)
-            (first_of_two (cannot_lie_in (files_of self.old) parent entry.node) (cannot_replace (map entry_of self.old.names.items) (entry_of entry) (entry_of other)))
+            (first_of_two (cannot_lie_in (files_of self.old) parent entry.node)
+            (cannot_replace (map entry_of self.old.names.items) (entry_of entry) (entry_of other)))
             (done_answer result) (files_of self.new) }
     {
         if self.lies_in(parent, self.names[moved].node) {

@@ -51,8 +51,8 @@ impl DirectoryIterator for MemoryEntries {
     }
 }
 
-// The entries of a directory behind an offset: those that go into a reply of so many bytes, and at most one more. The
-// names are in the order of their offsets.
+// The entries of a directory behind an offset: those that go into a reply of so many bytes, and at most one
+// more. The names are in the order of their offsets.
 pub(crate) fn list(
     alloc: Global,
     names: &[Name],

@@ -1,8 +1,10 @@
 //! Files and directories, and the names that they have.
 
-ghost use Rattle.std.specs.Prelude.{◌≡◌, ℕ, ◌+◌, ◌<◌, ◌≤◌, [], List, length, take, min, map, position, option_map, option_and_then, IfOk, OnOk, OnErr};
+ghost use Rattle.std.specs.Prelude.{◌≡◌, ℕ, ◌+◌, ◌<◌, ◌≤◌, [], List, length, take, min, map, position};
+ghost use Rattle.std.specs.Prelude.{option_map, option_and_then, IfOk, OnOk, OnErr};
 ghost use Rattle.fuse_fs.specs.Answers.{data_answer};
-ghost use Rattle.fuse_memory.specs.Changes.{attributes_set, in_directory, kept, let_go, mode_set, opened, read_of, unnamed, written};
+ghost use Rattle.fuse_memory.specs.Changes.{attributes_set, in_directory, kept, let_go, mode_set, opened};
+ghost use Rattle.fuse_memory.specs.Changes.{read_of, unnamed, written};
 ghost use Rattle.fuse_memory.specs.Contents.{sized};
 ghost use Rattle.fuse_memory.specs.Files.{HasAttrOf, entry_of, file_of, is_directory, slot_file};
 ghost use Rattle.fuse_memory.specs.Lookups.{is_named};
@@ -30,7 +32,8 @@ const PERMISSIONS: u32 = 0o7_777;
 /// A directory, by the kind of an entry (DT_DIR of dirent.h).
 pub(crate) const DT_DIR: u32 = 4;
 
-/// A file or directory. A directory's contents are empty: its entries are the names that have it as their parent.
+/// A file or directory. A directory's contents are empty: its entries are the names that have it as their
+/// parent.
 #[derive(Drop)]
 pub(crate) struct Node {
     /// Its attributes, but for its size. The number of links is 0 if it has no name any more.
@@ -73,7 +76,8 @@ impl Node {
         ctx: Context,
         mode: u32,
     ) -> Node
-        ensures { file_of result ≡ record { contents = []; mode = mode; links = 1; parent = parent; held = 0 } }
+        ensures { file_of result
+            ≡ record { contents = []; mode = mode; links = 1; parent = parent; held = 0 } }
     {
         Node {
             attr: Attr {
@@ -124,8 +128,8 @@ impl Node {
         }
     }
 
-    // Sets what `valid` names, if the file takes at most `room` bytes of memory more for it, and answers all attributes.
-    // An error changes nothing.
+    // Sets what `valid` names, if the file takes at most `room` bytes of memory more for it, and answers all
+    // attributes. An error changes nothing.
     pub fn set(&mut self, to: &SetattrIn, valid: SetattrValid, room: u64) -> Result<Attr, Errno>
         ensures ok { OnOk result (file_of self.new ≡ attributes_set valid.0 to.now (file_of self.old)) }
         ensures told { IfOk result (λ attr. HasAttrOf (file_of self.new) attr) }
@@ -138,7 +142,8 @@ impl Node {
         Ok(self.told())
     }
 
-    // Gives a file a length, if it takes at most `room` bytes of memory more for it. An error, as EISDIR, changes nothing.
+    // Gives a file a length, if it takes at most `room` bytes of memory more for it. An error, as EISDIR,
+    // changes nothing.
     fn set_len(&mut self, len: u64, room: u64) -> Result<(), Errno>
         ensures ok { OnOk result (self.new.contents.bytes.items ≡ sized len self.old.contents.bytes.items) }
         ensures err { OnErr result (self.new.contents.bytes.items ≡ self.old.contents.bytes.items) }
@@ -168,8 +173,11 @@ impl Node {
         size: u32,
         offset: u64,
     ) -> Result<usize, Errno>
-        ensures bytes { (bytes : List ℕ) × W.Puts w.old bytes w.new × (W.room w.old ≡ W.room w.new + length bytes)
-            × IfOk result (λ n. n ≡ length bytes) × OnErr result (length bytes ≡ 0)
+        ensures bytes { (bytes : List ℕ)
+            × W.Puts w.old bytes w.new
+            × (W.room w.old ≡ W.room w.new + length bytes)
+            × IfOk result (λ n. n ≡ length bytes)
+            × OnErr result (length bytes ≡ 0)
             × (data_answer result bytes ≡ read_of (min size (W.room w.old)) offset (file_of self.old)) }
         ensures same { self.new ≡ self.old }
     {
@@ -179,8 +187,8 @@ impl Node {
         self.contents.read(w, size, offset)
     }
 
-    // Writes what a reader has to a file, if it takes at most `room` bytes of memory more for it. An error, as EISDIR,
-    // changes nothing.
+    // Writes what a reader has to a file, if it takes at most `room` bytes of memory more for it. An error,
+    // as EISDIR, changes nothing.
     pub fn write<R: ZeroCopyReader>(
         &mut self,
         r: &mut R,
@@ -190,7 +198,8 @@ impl Node {
     ) -> Result<u32, Errno>
         ensures within { IfOk result (λ n. n ≤ min size (length (R.left r.old))) }
         ensures some { IfOk result (λ n. 0 < size → 0 < n) }
-        ensures ok { IfOk result (λ n. file_of self.new ≡ written offset (take n (R.left r.old)) (file_of self.old)) }
+        ensures ok { IfOk result
+            (λ n. file_of self.new ≡ written offset (take n (R.left r.old)) (file_of self.old)) }
         ensures err { OnErr result (file_of self.new ≡ file_of self.old) }
     {
         if self.is_directory() {
@@ -200,8 +209,8 @@ impl Node {
     }
 }
 
-// Attributes in which those are set that `valid` names, but the size. There is no clock: a time that is to be now stays
-// as it is.
+// Attributes in which those are set that `valid` names, but the size. There is no clock: a time that is to be
+// now stays as it is.
 fn with_set(attr: Attr, to: &SetattrIn, valid: SetattrValid) -> Attr
     ensures mode { result.mode ≡ mode_set valid.0 to.now.mode attr.mode }
     ensures links { result.nlink ≡ attr.nlink }

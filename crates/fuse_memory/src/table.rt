@@ -5,8 +5,8 @@ ghost use Rattle.std.specs.Prelude.{◌<◌, vec_len};
 use crate::nodes::{Name, Node};
 use std::alloc::Global;
 
-/// A file system in memory, empty at first. Each look-up goes through all names, and each write through all nodes, so it
-/// is one of few files.
+/// A file system in memory, empty at first. Each look-up goes through all names, and each write through all
+/// nodes, so it is one of few files.
 #[derive(Drop)]
 pub struct MemoryFiles {
     pub(crate) alloc: Global,

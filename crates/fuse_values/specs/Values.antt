@@ -40,21 +40,29 @@ call_of bytes (value.BatchForget context counts) = call.BatchForget context (pai
 call_of bytes (value.Getattr context node handle) = call.Getattr context node handle
 call_of bytes (value.Setattr context node attr handle valid) = call.Setattr context node attr handle valid.0
 call_of bytes (value.Readlink context node) = call.Readlink context node
-call_of bytes (value.Symlink context link node name extra) = call.Symlink context link.now node name.now (received_extra extra)
-call_of bytes (value.Mknod context node name mode rdev umask extra) = call.Mknod context node name.now mode rdev umask (received_extra extra)
-call_of bytes (value.Mkdir context node name mode umask extra) = call.Mkdir context node name.now mode umask (received_extra extra)
+call_of bytes (value.Symlink context link node name extra) =
+    call.Symlink context link.now node name.now (received_extra extra)
+call_of bytes (value.Mknod context node name mode rdev umask extra) =
+    call.Mknod context node name.now mode rdev umask (received_extra extra)
+call_of bytes (value.Mkdir context node name mode umask extra) =
+    call.Mkdir context node name.now mode umask (received_extra extra)
 call_of bytes (value.Unlink context node name) = call.Unlink context node name.now
 call_of bytes (value.Rmdir context node name) = call.Rmdir context node name.now
-call_of bytes (value.Rename context node old new_dir new flags) = call.Rename context node old.now new_dir new.now flags
+call_of bytes (value.Rename context node old new_dir new flags) =
+    call.Rename context node old.now new_dir new.now flags
 call_of bytes (value.Link context old_node node name) = call.Link context old_node node name.now
 call_of bytes (value.Open context node kill flags) = call.Open context node kill flags
-call_of bytes (value.Read context node handle room size offset owner flags) = call.Read context node handle room size offset owner flags
-call_of bytes (value.Write context node handle len size offset owner delayed kill flags) = call.Write context node handle bytes size offset owner delayed kill flags
+call_of bytes (value.Read context node handle room size offset owner flags) =
+    call.Read context node handle room size offset owner flags
+call_of bytes (value.Write context node handle len size offset owner delayed kill flags) =
+    call.Write context node handle bytes size offset owner delayed kill flags
 call_of bytes (value.Statfs context node) = call.Statfs context node
-call_of bytes (value.Release context node flags handle flush unlock owner) = call.Release context node flags handle flush unlock owner
+call_of bytes (value.Release context node flags handle flush unlock owner) =
+    call.Release context node flags handle flush unlock owner
 call_of bytes (value.Fsync context node data_only handle) = call.Fsync context node data_only handle
 call_of bytes (value.Fsyncdir context node data_only handle) = call.Fsyncdir context node data_only handle
-call_of bytes (value.Setxattr context node name value flags extra) = call.Setxattr context node name.now value.now flags extra.0
+call_of bytes (value.Setxattr context node name value flags extra) =
+    call.Setxattr context node name.now value.now flags extra.0
 call_of bytes (value.Getxattr context node name size) = call.Getxattr context node name.now size
 call_of bytes (value.Listxattr context node size) = call.Listxattr context node size
 call_of bytes (value.Removexattr context node name) = call.Removexattr context node name.now
@@ -70,9 +78,12 @@ call_of bytes value.Ioctl = call.Ioctl
 call_of bytes value.Poll = call.Poll
 call_of bytes value.NotifyReply = call.NotifyReply
 call_of bytes (value.Access context node mask) = call.Access context node mask
-call_of bytes (value.Create context node name mode kill flags umask extra) = call.Create context node name.now mode kill flags umask (received_extra extra)
-call_of bytes (value.Fallocate context node handle mode offset len) = call.Fallocate context node handle mode offset len
+call_of bytes (value.Create context node name mode kill flags umask extra) =
+    call.Create context node name.now mode kill flags umask (received_extra extra)
+call_of bytes (value.Fallocate context node handle mode offset len) =
+    call.Fallocate context node handle mode offset len
 call_of bytes (value.Lseek context node handle offset whence) = call.Lseek context node handle offset whence
-call_of bytes (value.CopyFileRange context node handle offset node_out handle_out offset_out len flags) = call.CopyFileRange context node handle offset node_out handle_out offset_out len flags
+call_of bytes (value.CopyFileRange context node handle offset node_out handle_out offset_out len flags) =
+    call.CopyFileRange context node handle offset node_out handle_out offset_out len flags
 call_of bytes (value.Syncfs context node) = call.Syncfs context node
 call_of bytes value.TmpFile = call.TmpFile

@@ -3,7 +3,8 @@
 use fuse_base::{Attr, Errno, FsOptions, OpenOptions, StatVfs};
 use fuse_fs::{Entry, Timeout};
 
-/// An answer of a file system: an errno, or what the call asked for. Entries of a directory are added one by one instead.
+/// An answer of a file system: an errno, or what the call asked for. Entries of a directory are added one by
+/// one instead.
 #[derive(Drop)]
 pub enum FileAnswer {
     /// An errno (errno.h, 1 to 4095).

@@ -5,9 +5,9 @@ use fuse_base::{FsOptions, SetattrValid, SetxattrFlags};
 use fuse_fs::Context;
 use fuse_in::SetattrIn;
 
-/// A call of a file system with its arguments, named as those of `FileSystem` are. Nodes and open files are the numbers
-/// of linux/fuse.h; offsets and lengths count bytes; names have no zero byte. Who asks stands in `context`. Names, values
-/// and pairs are borrowed: they stand in the request.
+/// A call of a file system with its arguments, named as those of `FileSystem` are. Nodes and open files are
+/// the numbers of linux/fuse.h; offsets and lengths count bytes; names have no zero byte. Who asks stands in
+/// `context`. Names, values and pairs are borrowed: they stand in the request.
 #[derive(Clone, Copy)]
 pub enum FileCall<'a> {
     /// The start of a conversation (FUSE_INIT).
@@ -28,8 +28,8 @@ pub enum FileCall<'a> {
         node: u64,
         count: u64,
     },
-    /// Nodes, each with how many times less it is held (FUSE_BATCH_FORGET): 16 bytes a pair, two numbers with the lowest
-    /// byte first (`struct fuse_forget_one`).
+    /// Nodes, each with how many times less it is held (FUSE_BATCH_FORGET): 16 bytes a pair, two numbers with
+    /// the lowest byte first (`struct fuse_forget_one`).
     BatchForget {
         context: Context,
         counts: &'a [u8],

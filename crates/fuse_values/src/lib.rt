@@ -1,4 +1,5 @@
-//! Calls of a file system and their answers as values, for who owns the files and is told of one call after another.
+//! Calls of a file system and their answers as values, for who owns the files and is told of one call after
+//! another.
 #![tactic(auto)]
 
 mod answer;

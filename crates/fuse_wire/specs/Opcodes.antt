@@ -1,5 +1,6 @@
 -- Which request a number asks for, and which extension a number names (linux/fuse.h).
-use Rattle.std.specs.Prelude.{ℕ, List, [], ◌∷◌, Option, Some, None, Result, Ok, Err, slice_get, nat_lt, ◌==◌, if◌then◌else◌}
+use Rattle.std.specs.Prelude.{ℕ, List, [], ◌∷◌, Option, Some, None, Result, Ok, Err, slice_get, nat_lt, ◌==◌}
+use Rattle.std.specs.Prelude.{if◌then◌else◌}
 use Rattle.fuse_wire.specs.declared.opcodes.Opcode.{Opcode}
 use Rattle.fuse_wire.specs.declared.opcodes.Opcode.TheVariants as op
 use Rattle.fuse_wire.specs.declared.opcodes.NotifyOpcode.{NotifyOpcode}
@@ -10,13 +11,17 @@ use Rattle.fuse_wire.specs.declared.opcodes.ExtType.TheVariants.{SecCtx, SupGrou
 -- the requests by their numbers, from 0 to 51
 abbrev pub opcodes : List (Option Opcode)
 opcodes =
-    None ∷ Some op.Lookup ∷ Some op.Forget ∷ Some op.Getattr ∷ Some op.Setattr ∷ Some op.Readlink ∷ Some op.Symlink ∷
+    None ∷ Some op.Lookup ∷ Some op.Forget ∷ Some op.Getattr ∷ Some op.Setattr ∷ Some op.Readlink
+    ∷ Some op.Symlink ∷
     None ∷ Some op.Mknod ∷ Some op.Mkdir ∷ Some op.Unlink ∷ Some op.Rmdir ∷ Some op.Rename ∷ Some op.Link ∷
     Some op.Open ∷ Some op.Read ∷ Some op.Write ∷ Some op.Statfs ∷ Some op.Release ∷ None ∷ Some op.Fsync ∷
-    Some op.Setxattr ∷ Some op.Getxattr ∷ Some op.Listxattr ∷ Some op.Removexattr ∷ Some op.Flush ∷ Some op.Init ∷
-    Some op.Opendir ∷ Some op.Readdir ∷ Some op.Releasedir ∷ Some op.Fsyncdir ∷ Some op.Getlk ∷ Some op.Setlk ∷
+    Some op.Setxattr ∷ Some op.Getxattr ∷ Some op.Listxattr ∷ Some op.Removexattr ∷ Some op.Flush
+    ∷ Some op.Init ∷
+    Some op.Opendir ∷ Some op.Readdir ∷ Some op.Releasedir ∷ Some op.Fsyncdir ∷ Some op.Getlk
+    ∷ Some op.Setlk ∷
     Some op.Setlkw ∷ Some op.Access ∷ Some op.Create ∷ Some op.Interrupt ∷ Some op.Bmap ∷ Some op.Destroy ∷
-    Some op.Ioctl ∷ Some op.Poll ∷ Some op.NotifyReply ∷ Some op.BatchForget ∷ Some op.Fallocate ∷ Some op.Readdirplus ∷
+    Some op.Ioctl ∷ Some op.Poll ∷ Some op.NotifyReply ∷ Some op.BatchForget ∷ Some op.Fallocate
+    ∷ Some op.Readdirplus ∷
     Some op.Rename2 ∷ Some op.Lseek ∷ Some op.CopyFileRange ∷ Some op.SetupMapping ∷ Some op.RemoveMapping ∷
     Some op.Syncfs ∷ Some op.TmpFile ∷ []
 

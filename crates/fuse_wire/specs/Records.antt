@@ -1,4 +1,5 @@
--- The records (linux/fuse.h): those that are read from requests by their shape, the others as the fields that spell them.
+-- The records (linux/fuse.h): those that are read from requests by their shape, the others as the fields that
+-- spell them.
 use Rattle.std.specs.Prelude.{List, [], ◌++◌, ◌∷◌}
 use Rattle.vm_values.specs.Fields.{Field, d, ds, i, l, q, w}
 use Rattle.fuse_base.specs.Records.{attr, file_lock, kstatfs}
@@ -42,7 +43,9 @@ statfs_out r = kstatfs r.st
 
 -- struct fuse_entry_out, 128 bytes
 abbrev pub entry_out : EntryOut → List Field
-entry_out r = q r.nodeid ∷ q r.generation ∷ q r.entry_valid ∷ q r.attr_valid ∷ d r.entry_valid_nsec ∷ d r.attr_valid_nsec ∷ attr r.attr
+entry_out r =
+    q r.nodeid ∷ q r.generation ∷ q r.entry_valid ∷ q r.attr_valid ∷ d r.entry_valid_nsec
+    ∷ d r.attr_valid_nsec ∷ attr r.attr
 
 -- struct fuse_attr_out, 104 bytes
 abbrev pub attr_out : AttrOut → List Field
@@ -67,7 +70,8 @@ lk_out r = file_lock r.lk
 -- struct fuse_init_out, 64 bytes
 abbrev pub init_out : InitOut → List Field
 init_out r =
-    d r.major ∷ d r.minor ∷ d r.max_readahead ∷ d r.flags ∷ w r.max_background ∷ w r.congestion_threshold ∷ d r.max_write ∷
+    d r.major ∷ d r.minor ∷ d r.max_readahead ∷ d r.flags ∷ w r.max_background ∷ w r.congestion_threshold
+    ∷ d r.max_write ∷
     d r.time_gran ∷ w r.max_pages ∷ w r.map_alignment ∷ d r.flags2 ∷ ds 7 r.unused ∷ []
 
 -- struct fuse_lseek_out, 8 bytes

@@ -1,4 +1,5 @@
-//! The records and numbers of the FUSE protocol, version 7.38 (linux/fuse.h); numbers have the lowest byte first.
+//! The records and numbers of the FUSE protocol, version 7.38 (linux/fuse.h); numbers have the lowest byte
+//! first.
 #![tactic(auto)]
 
 mod notices;

@@ -2,7 +2,8 @@
 
 ghost use Rattle.std.specs.Prelude.{refl};
 ghost use Rattle.std.proofs.Common.{rules};
-ghost use Rattle.fuse_wire.specs.Records.{notify_poll_wakeup_out, notify_inval_inode_out, notify_inval_entry_out, notify_delete_out};
+ghost use Rattle.fuse_wire.specs.Records.{notify_poll_wakeup_out, notify_inval_inode_out};
+ghost use Rattle.fuse_wire.specs.Records.{notify_inval_entry_out, notify_delete_out};
 ghost use Rattle.fuse_wire.specs.Records.{notify_store_out, notify_retrieve_out};
 
 use vm_values::{ByteValued, get_fields, put_fields};

@@ -3,7 +3,8 @@
 ghost use Rattle.std.specs.Prelude.{refl};
 ghost use Rattle.std.proofs.Common.{rules};
 ghost use Rattle.fuse_in.specs.Shapes.{fields_by};
-ghost use Rattle.fuse_wire.specs.Records.{forget_one, removemapping_one, bmap_out, ioctl_iovec, ioctl_out, poll_out};
+ghost use Rattle.fuse_wire.specs.Records.{forget_one, removemapping_one, bmap_out, ioctl_iovec, ioctl_out};
+ghost use Rattle.fuse_wire.specs.Records.{poll_out};
 ghost use Rattle.fuse_wire.specs.Records.{ext_header, secctx, secctx_header, supp_groups};
 
 use fuse_in::InRecord;

@@ -2,7 +2,8 @@
 
 ghost use Rattle.std.specs.Prelude.{refl};
 ghost use Rattle.std.proofs.Common.{rules};
-ghost use Rattle.fuse_wire.specs.Records.{out_header, statfs_out, entry_out, attr_out, open_out, write_out, getxattr_out};
+ghost use Rattle.fuse_wire.specs.Records.{out_header, statfs_out, entry_out, attr_out, open_out, write_out};
+ghost use Rattle.fuse_wire.specs.Records.{getxattr_out};
 ghost use Rattle.fuse_wire.specs.Records.{lk_out, init_out, lseek_out, dirent, direntplus};
 
 use fuse_base::{Attr, FileLock, Kstatfs};

@@ -1,9 +1,11 @@
-//! The flat bytes of FUSE requests that make, write, move, list and remove files (linux/fuse.h), as `requests` has those
-//! that find and read them. If an allocation fails, that is AllocError.
+//! The flat bytes of FUSE requests that make, write, move, list and remove files (linux/fuse.h), as
+//! `requests` has those that find and read them. If an allocation fails, that is AllocError.
 
 ghost use Rattle.std.specs.Prelude.{◌≡◌, ◌<◌, ◌^◌, ◌+◌, ◌++◌, [], ◌∷◌, length, IfOk};
-ghost use Rattle.guest_driver.specs.Changes.{create_bytes, ended, followed_bytes, getattr_bytes, mkdir_bytes, named_bytes, open_bytes};
-ghost use Rattle.guest_driver.specs.Changes.{readdirplus_bytes, record_bytes, release_bytes, rename_bytes, setattr_bytes, write_bytes};
+ghost use Rattle.guest_driver.specs.Changes.{create_bytes, ended, followed_bytes, getattr_bytes, mkdir_bytes};
+ghost use Rattle.guest_driver.specs.Changes.{named_bytes, open_bytes};
+ghost use Rattle.guest_driver.specs.Changes.{readdirplus_bytes, record_bytes, release_bytes, rename_bytes};
+ghost use Rattle.guest_driver.specs.Changes.{setattr_bytes, write_bytes};
 ghost use Rattle.guest_driver.specs.Requests.{header_bytes};
 
 use crate::requests::{IN_HEADER_LEN, header, joined, with_record};
@@ -37,7 +39,8 @@ fn followed<T: ByteValued>(
     behind: &[u8],
 ) -> Result<Vec<u8>, AllocError>
     requires { length behind.now < 2 ^ 31 }
-    ensures { IfOk result (λ all. all.items ≡ followed_bytes opcode unique node T.SIZE (T.fields asked.now) behind.now) }
+    ensures { IfOk result
+        (λ all. all.items ≡ followed_bytes opcode unique node T.SIZE (T.fields asked.now) behind.now) }
 {
     let len = (IN_HEADER_LEN + T::SIZE + behind.len()) as u32;
     let mut all = with_record(alloc, &header(len, opcode, unique, node), asked)?;
@@ -81,7 +84,8 @@ pub fn getattr(alloc: Global, unique: u64, node: u64) -> Result<Vec<u8>, AllocEr
     )
 }
 
-/// SETATTR of those of a node's mode and size that `valid` names (FATTR_ of linux/fuse.h, `struct fuse_setattr_in`).
+/// SETATTR of those of a node's mode and size that `valid` names (FATTR_ of linux/fuse.h, `struct
+/// fuse_setattr_in`).
 pub fn setattr(
     alloc: Global,
     unique: u64,
@@ -154,7 +158,8 @@ pub fn rmdir(alloc: Global, unique: u64, parent: u64, name: &[u8]) -> Result<Vec
     named(alloc, Opcode::Rmdir as u32, unique, parent, name)
 }
 
-/// RENAME2 of a name under a directory to one under another, with flags of `renameat2(2)` (`struct fuse_rename2_in`).
+/// RENAME2 of a name under a directory to one under another, with flags of `renameat2(2)` (`struct
+/// fuse_rename2_in`).
 pub fn rename(
     alloc: Global,
     unique: u64,
@@ -249,7 +254,8 @@ pub fn opendir(alloc: Global, unique: u64, node: u64) -> Result<Vec<u8>, AllocEr
     )
 }
 
-/// READDIRPLUS of a directory behind an offset, for a reply with so many bytes of entries (`struct fuse_read_in`).
+/// READDIRPLUS of a directory behind an offset, for a reply with so many bytes of entries (`struct
+/// fuse_read_in`).
 pub fn readdirplus(
     alloc: Global,
     unique: u64,

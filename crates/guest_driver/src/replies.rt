@@ -9,13 +9,15 @@ use vm_values::ByteValued;
 /// The length of a reply's header in bytes (`struct fuse_out_header`).
 pub const OUT_HEADER_LEN: usize = 16;
 
-/// What follows the header of the reply to this request, or the errno that the header holds (`error` of `struct
-/// fuse_out_header`, 16 bytes, little-endian), made negative as it stands there; nothing if the bytes are no reply
-/// to it: they have no header, they are not as many as it says, it names another request, its error is above 0,
-/// or an error is followed by bytes.
+/// What follows the header of the reply to this request, or the errno that the header holds (`error` of
+/// `struct fuse_out_header`, 16 bytes, little-endian), made negative as it stands there; nothing if the bytes
+/// are no reply to it: they have no header, they are not as many as it says, it names another request, its
+/// error is above 0, or an error is followed by bytes.
 pub fn body(reply: &[u8], unique: u64) -> Option<Result<&[u8], i32>>
-    ensures good { IfSome result (λ told. IfOk told (λ body. reply.now ≡ good_header (16 + length body.now) unique ++ body.now)) }
-    ensures failed { IfSome result (λ told. IfErr told (λ error. (error <ℤ pos 0) × (reply.now ≡ reply_header 16 error unique))) }
+    ensures good { IfSome result
+        (λ told. IfOk told (λ body. reply.now ≡ good_header (16 + length body.now) unique ++ body.now)) }
+    ensures failed { IfSome result (λ told. IfErr told (λ error. (error <ℤ pos 0)
+        × (reply.now ≡ reply_header 16 error unique))) }
     ensures none { IfNone result (IsNoReply reply.now unique) }
 {
     let (header, body) = reply.split_at_checked(OUT_HEADER_LEN)?;

@@ -12,8 +12,8 @@ use vm_values::ByteValued;
 /// The length of a request's header in bytes.
 pub(crate) const IN_HEADER_LEN: usize = 40;
 
-/// A request's header (`struct fuse_in_header`, 40 bytes), from user, group and process 0. `len`, in bytes, may be any,
-/// true or not, and `opcode` of no request.
+/// A request's header (`struct fuse_in_header`, 40 bytes), from user, group and process 0. `len`, in bytes,
+/// may be any, true or not, and `opcode` of no request.
 pub fn header(len: u32, opcode: u32, unique: u64, nodeid: u64) -> [u8; IN_HEADER_LEN]
     ensures { result ≡ header_bytes len opcode unique nodeid }
 {
@@ -52,7 +52,8 @@ pub fn with_record<T: ByteValued>(
     joined(alloc, front, &bytes[..T::SIZE])
 }
 
-/// LOOKUP of a name, which goes out with its zero byte: 41 bytes and the name's. AllocError if an allocation fails.
+/// LOOKUP of a name, which goes out with its zero byte: 41 bytes and the name's. AllocError if an allocation
+/// fails.
 pub fn lookup(alloc: Global, unique: u64, parent: u64, name: &[u8]) -> Result<Vec<u8>, AllocError>
     requires { length name.now < 2 ^ 16 }
     ensures { IfOk result (λ all. all.items ≡ lookup_bytes unique parent name.now) }
@@ -67,7 +68,8 @@ pub fn lookup(alloc: Global, unique: u64, parent: u64, name: &[u8]) -> Result<Ve
     Ok(all)
 }
 
-/// FORGET (`struct fuse_forget_in`) of so many lookups of a node, in 48 bytes. AllocError if an allocation fails.
+/// FORGET (`struct fuse_forget_in`) of so many lookups of a node, in 48 bytes. AllocError if an allocation
+/// fails.
 pub fn forget(
     alloc: Global,
     unique: u64,
@@ -78,8 +80,8 @@ pub fn forget(
     with_record(alloc, &header, &ForgetIn { nlookup })
 }
 
-/// READ (`struct fuse_read_in`) of so many bytes of a node's file `fh` from an offset in bytes, in 80 bytes. AllocError
-/// if an allocation fails.
+/// READ (`struct fuse_read_in`) of so many bytes of a node's file `fh` from an offset in bytes, in 80 bytes.
+/// AllocError if an allocation fails.
 pub fn read(
     alloc: Global,
     unique: u64,
@@ -100,8 +102,8 @@ pub fn read(
     with_record(alloc, &header, &record)
 }
 
-/// INIT (`struct fuse_init_in`, its first 16 bytes) of a version with these flags, in 56 bytes. AllocError if an
-/// allocation fails.
+/// INIT (`struct fuse_init_in`, its first 16 bytes) of a version with these flags, in 56 bytes. AllocError if
+/// an allocation fails.
 pub fn init(alloc: Global, unique: u64, record: &InitInCompat) -> Result<Vec<u8>, AllocError> {
     with_record(alloc, &header(56, Opcode::Init as u32, unique, 0), record)
 }

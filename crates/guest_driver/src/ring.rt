@@ -1,6 +1,7 @@
-//! A guest's memory with a split virtqueue in it, drawn entry by entry (VIRTIO 1.2, section 2.7). Addresses and lengths
-//! count bytes; all numbers stand little-endian. An access fails as `read_slice` and `write_slice` of the memory do:
-//! `InvalidGuestAddress` if no byte has a place, `PartialBuffer` if only some have.
+//! A guest's memory with a split virtqueue in it, drawn entry by entry (VIRTIO 1.2, section 2.7). Addresses
+//! and lengths count bytes; all numbers stand little-endian. An access fails as `read_slice` and
+//! `write_slice` of the memory do: `InvalidGuestAddress` if no byte has a place, `PartialBuffer` if only some
+//! have.
 
 ghost use Rattle.std.specs.Prelude.{◌≡◌};
 ghost use Rattle.vm_memory_core.specs.Host.{lengths, shape};
@@ -20,8 +21,8 @@ pub const WRITE: u16 = 2;
 /// The flag of a descriptor whose bytes are a table of descriptors (VIRTIO 1.2, 2.7.5.3).
 pub const INDIRECT: u16 = 4;
 
-/// A descriptor as a driver puts it into a table: le64 addr, le32 len, le16 flags, le16 next (VIRTIO 1.2, 2.7.5). It is
-/// spelled here once more, so that the device does not read what it wrote itself.
+/// A descriptor as a driver puts it into a table: le64 addr, le32 len, le16 flags, le16 next (VIRTIO 1.2,
+/// 2.7.5). It is spelled here once more, so that the device does not read what it wrote itself.
 #[derive(Clone, Copy, Debug, Default, PartialEq, Eq)]
 pub struct DriverDescriptor {
     pub addr: u64,
@@ -30,15 +31,16 @@ pub struct DriverDescriptor {
     pub next: u16,
 }
 
-/// An element of the used ring: le32 id, the chain's head, and le32 len, the reply's length (VIRTIO 1.2, 2.7.8).
+/// An element of the used ring: le32 id, the chain's head, and le32 len, the reply's length (VIRTIO 1.2,
+/// 2.7.8).
 #[derive(Clone, Copy, Debug, PartialEq, Eq)]
 pub struct UsedElement {
     pub id: u32,
     pub len: u32,
 }
 
-/// A queue's size in descriptors, and the addresses of its descriptor table, available ring and used ring (VIRTIO 1.2,
-/// 2.7).
+/// A queue's size in descriptors, and the addresses of its descriptor table, available ring and used ring
+/// (VIRTIO 1.2, 2.7).
 #[derive(Clone, Copy, Debug)]
 pub struct Ring {
     /// How many descriptors the table has.
@@ -71,9 +73,9 @@ fn clear(host: &mut HostMemory<PageBitmap>)
 }
 
 impl Guest {
-    /// Zeros in these regions, each from an address on and so many bytes long, with a ring in which nothing is offered.
-    /// Refused as `GuestMemoryMmap::from_ranges` refuses them: MmapRegion, InvalidGuestRegion, Collection or
-    /// OutOfMemory.
+    /// Zeros in these regions, each from an address on and so many bytes long, with a ring in which nothing
+    /// is offered. Refused as `GuestMemoryMmap::from_ranges` refuses them: MmapRegion, InvalidGuestRegion,
+    /// Collection or OutOfMemory.
     pub fn new(
         alloc: Global,
         regions: &[(GuestAddress, usize)],
@@ -96,8 +98,8 @@ impl Guest {
         (self.host, self.mem)
     }
 
-    /// The memory behind an IOMMU that is off: no address is mapped, and the I/O pages are those below `io_end`, an I/O
-    /// address in bytes. AllocError if an allocation fails.
+    /// The memory behind an IOMMU that is off: no address is mapped, and the I/O pages are those below
+    /// `io_end`, an I/O address in bytes. AllocError if an allocation fails.
     pub fn into_translated(
         self,
         alloc: Global,
@@ -142,8 +144,8 @@ impl Guest {
         Ok(bytes)
     }
 
-    /// Puts an entry of the descriptor table, 16 bytes (VIRTIO 1.2, 2.7.5). `InvalidGuestAddress` or `PartialBuffer`
-    /// if it has no place.
+    /// Puts an entry of the descriptor table, 16 bytes (VIRTIO 1.2, 2.7.5). `InvalidGuestAddress` or
+    /// `PartialBuffer` if it has no place.
     pub fn descriptor(
         &mut self,
         index: u16,
@@ -168,16 +170,16 @@ impl Guest {
         self.put(at.wrapping_add(14), &descriptor.next.to_le_bytes())
     }
 
-    /// Puts the available ring's index, an le16 (VIRTIO 1.2, 2.7.6). `InvalidGuestAddress` or `PartialBuffer` if it
-    /// has no place.
+    /// Puts the available ring's index, an le16 (VIRTIO 1.2, 2.7.6). `InvalidGuestAddress` or `PartialBuffer`
+    /// if it has no place.
     pub fn set_available(&mut self, index: u16) -> Result<(), GuestMemoryError> {
         let at = self.ring.avail.wrapping_add(2);
         self.offered = index;
         self.put(at, &index.to_le_bytes())
     }
 
-    /// Makes a chain available, by its head: the next entry of the available ring, then its index, each an le16 (VIRTIO
-    /// 1.2, 2.7.6). `InvalidGuestAddress` or `PartialBuffer` if one of them has no place.
+    /// Makes a chain available, by its head: the next entry of the available ring, then its index, each an
+    /// le16 (VIRTIO 1.2, 2.7.6). `InvalidGuestAddress` or `PartialBuffer` if one of them has no place.
     pub fn make_available(&mut self, head: u16) -> Result<(), GuestMemoryError> {
         let slot = u64::from(self.offered % self.ring.size.max(1));
         let at = self.ring.avail.wrapping_add(4 + 2 * slot);
@@ -185,9 +187,9 @@ impl Guest {
         self.set_available(self.offered.wrapping_add(1))
     }
 
-    /// Offers a chain of the entries from `head` on: first a request's bytes, cut into these readable parts (address
-    /// and length in bytes), then these writable ones. `InvalidGuestAddress` or `PartialBuffer` if something that is
-    /// put has no place.
+    /// Offers a chain of the entries from `head` on: first a request's bytes, cut into these readable parts
+    /// (address and length in bytes), then these writable ones. `InvalidGuestAddress` or `PartialBuffer` if
+    /// something that is put has no place.
     pub fn chain(
         &mut self,
         head: u16,
@@ -199,9 +201,9 @@ impl Guest {
         self.make_available(head)
     }
 
-    /// Offers such a chain of the entries of a table of its own, which begins at an address and is named by the entry
-    /// `head` of the descriptor table (VIRTIO 1.2, 2.7.5.3). `InvalidGuestAddress` or `PartialBuffer` if something
-    /// that is put has no place.
+    /// Offers such a chain of the entries of a table of its own, which begins at an address and is named by
+    /// the entry `head` of the descriptor table (VIRTIO 1.2, 2.7.5.3). `InvalidGuestAddress` or
+    /// `PartialBuffer` if something that is put has no place.
     pub fn indirect_chain(
         &mut self,
         head: u16,
@@ -250,8 +252,8 @@ impl Guest {
         Ok(())
     }
 
-    /// The used ring's element in a slot, 8 bytes (VIRTIO 1.2, 2.7.8). `InvalidGuestAddress` or `PartialBuffer` if
-    /// it isn't there.
+    /// The used ring's element in a slot, 8 bytes (VIRTIO 1.2, 2.7.8). `InvalidGuestAddress` or
+    /// `PartialBuffer` if it isn't there.
     pub fn used(&self, slot: u16) -> Result<UsedElement, GuestMemoryError> {
         let at = self.ring.used.wrapping_add(4 + 8 * u64::from(slot));
         let id = u32::from_le_bytes(self.bytes(at)?);
@@ -259,16 +261,16 @@ impl Guest {
         Ok(UsedElement { id, len })
     }
 
-    /// The used ring's index, an le16 (VIRTIO 1.2, 2.7.8). `InvalidGuestAddress` or `PartialBuffer` if it isn't
-    /// there.
+    /// The used ring's index, an le16 (VIRTIO 1.2, 2.7.8). `InvalidGuestAddress` or `PartialBuffer` if it
+    /// isn't there.
     pub fn used_index(&self) -> Result<u16, GuestMemoryError> {
         let bytes = self.bytes(self.ring.used.wrapping_add(2))?;
         Ok(u16::from_le_bytes(bytes))
     }
 
-    /// The element of the chain that was returned last, if all that were offered are returned (VIRTIO 1.2, 2.7.8);
-    /// nothing if one isn't. At least one is to have been offered. `InvalidGuestAddress` or `PartialBuffer` if
-    /// the used ring isn't there.
+    /// The element of the chain that was returned last, if all that were offered are returned (VIRTIO 1.2,
+    /// 2.7.8); nothing if one isn't. At least one is to have been offered. `InvalidGuestAddress` or
+    /// `PartialBuffer` if the used ring isn't there.
     pub fn last_used(&self) -> Result<Option<UsedElement>, GuestMemoryError> {
         if self.used_index()? != self.offered {
             return Ok(None);

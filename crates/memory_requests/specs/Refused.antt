@@ -1,4 +1,5 @@
--- That the allocator refused a request. Only the functions of this crate tell it, and they do nothing but ask: no proof of another crate unfolds these.
+-- That the allocator refused a request. Only the functions of this crate tell it, and they do nothing but
+-- ask: no proof of another crate unfolds these.
 use Rattle.std.specs.Prelude.{ℕ}
 
 -- it refused room for so many elements

@@ -1,5 +1,5 @@
-//! Requests for memory. Each function asks the allocator once and does nothing else, and its contract is the only one that tells
-//! that the allocator refused. So whoever ensures that it did has asked here.
+//! Requests for memory. Each function asks the allocator once and does nothing else, and its contract is the
+//! only one that tells that the allocator refused. So whoever ensures that it did has asked here.
 #![tactic(auto)]
 
 ghost use Rattle.std.specs.Prelude.{◌≡◌, ◌≤◌, ◌<◌, ◌+◌, [], IfErr, IfOk, IsOk, OnErr, OnOk};
@@ -26,7 +26,8 @@ pub fn list_with_room<T>(alloc: Global, len: usize) -> Result<Vec<T>, AllocError
     Vec::with_capacity(alloc, len)
 }
 
-/// Room for `more` elements behind those of a list; AllocError if the allocator refuses it, and then the list is as it was.
+/// Room for `more` elements behind those of a list; AllocError if the allocator refuses it, and then the list
+/// is as it was.
 #[tactic(auto, using(crate::proofs::Asking::room_was_refused, crate::proofs::Asking::memory_was_refused))]
 pub fn reserve<T>(list: &mut Vec<T>, more: usize) -> Result<(), AllocError>
     ensures items { list.new.items ≡ list.old.items }

@@ -18,7 +18,8 @@ power_up d = let one : suc d ≡ 1 + d = omega arith in ap (λ (k : ℕ). 2 ^ k)
 pub joined_part : (v a b : PageCounts) → HaveSamePart (kept_half v) a → HaveSamePart (new_half v) b → HaveSamePart v (both_passes a b)
 joined_part v a b p q =
     halves_are a.parts b.parts v.parts (2 ^ v.depth) (2 ^ a.depth) (2 ^ b.depth)
-    (ap (λ (k : ℕ). a.parts * k) (sym (power_up v.depth)) ∙ p) (ap (λ (k : ℕ). b.parts * k) (sym (power_up v.depth)) ∙ q) ∙ ap (λ (k : ℕ). v.parts * k) (sym (pow-add 2 a.depth b.depth))
+    (ap (λ (k : ℕ). a.parts * k) (sym (power_up v.depth)) ∙ p) (ap (λ (k : ℕ). b.parts * k) (sym (power_up v.depth)) ∙ q)
+    ∙ ap (λ (k : ℕ). v.parts * k) (sym (pow-add 2 a.depth b.depth))
 
 whole_is : (a b y z : ℕ) → 2 * a ≡ y → 2 * b ≡ z → a * z + b * y ≡ y * z
 whole_is a b y z p q =

@@ -1,5 +1,6 @@
 -- What marks of ranges, one after another and side by side, come to.
-use Rattle.std.proofs.Common.{◌≡◌, ℕ, ◌<◌, ◌≤◌, max, Bool, true, false, true≢false, cond, subst, ◌||◌, List, [], ◌∷◌, ◌++◌, length, refl, sym, ap, ◌∙◌, inl, inr, arith}
+use Rattle.std.proofs.Common.{◌≡◌, ℕ, ◌<◌, ◌≤◌, max, Bool, true, false, true≢false, cond, subst, ◌||◌, List, [], ◌∷◌, ◌++◌, length, refl}
+use Rattle.std.proofs.Common.{sym, ap, ◌∙◌, inl, inr, arith}
 use Rattle.std.specs.declared.vec.Vec.{Vec}
 use Rattle.std.proofs.lemmas.Bool.{cases_lt}
 use Rattle.vm_atomic_bitmaps.specs.declared.counts.Tally.{Tally}
@@ -40,8 +41,11 @@ marks_just v hit old new c = record {
 }
   where
     by_hit : (p : ℕ) → p < length old → (b : Bool) → hit p ≡ b → (tally_of new p).marked ≡ (tally_of old p).marked || hit p
-    by_hit p within true e = ap (λ (t : Tally). t.marked) (c.changed p within e).3 ∙ sym (ap (λ (b : Bool). (tally_of old p).marked || b) e ∙ or_true (tally_of old p).marked)
-    by_hit p within false e = ap (λ (t : Tally). t.marked) (c.same p e) ∙ sym (ap (λ (b : Bool). (tally_of old p).marked || b) e ∙ or_false (tally_of old p).marked)
+    by_hit p within true e = ap (λ (t : Tally). t.marked) (c.changed p within e).3
+        ∙ sym (ap (λ (b : Bool). (tally_of old p).marked || b) e ∙ or_true (tally_of old p).marked)
+    by_hit p within false e =
+        ap (λ (t : Tally). t.marked) (c.same p e)
+        ∙ sym (ap (λ (b : Bool). (tally_of old p).marked || b) e ∙ or_false (tally_of old p).marked)
 
     kept_by : (p : ℕ) → p < length old → (b : Bool) → hit p ≡ b → TakesNone (tally_of old p) (tally_of new p)
     kept_by p within true e = subst (λ (t : Tally). TakesNone (tally_of old p) t) (sym (c.changed p within e).3) (refl, refl, omega arith)
@@ -52,7 +56,8 @@ marks_just v hit old new c = record {
       | inl within ↦ kept_by p within (hit p) refl
       | inr past ↦
           let k = c.count in
-          subst (λ (t : Tally). TakesNone (tally_of old p) t) (sym (at_past new p (omega arith) ∙ sym (at_past old p past))) (refl, refl, omega arith)
+          subst (λ (t : Tally). TakesNone (tally_of old p) t) (sym (at_past new p (omega arith) ∙ sym (at_past old p past)))
+          (refl, refl, omega arith)
     ]
 
 -- what is marked so far, with what is left to mark
@@ -64,7 +69,8 @@ pub record Left (rest whole : ℕ → Bool) (old cur : List Tally) : Type 0 wher
   pub held : (p : ℕ) → (tally_of old p).held ≤ (tally_of cur p).held
   pub ahead : (p : ℕ) → p < length old → whole p ≡ true → rest p ≡ false → (tally_of cur p).seen < (tally_of cur p).held
 
-pub left_more : (rest hit rest' whole : ℕ → Bool) (old cur new : List Tally) → Left rest whole old cur → ((p : ℕ) → rest p ≡ hit p || rest' p) → MarksJust hit cur new → Left rest' whole old new
+pub left_more : (rest hit rest' whole : ℕ → Bool) (old cur new : List Tally) → Left rest whole old cur →
+    ((p : ℕ) → rest p ≡ hit p || rest' p) → MarksJust hit cur new → Left rest' whole old new
 left_more rest hit rest' whole old cur new l split m = record {
   count = m.count ∙ l.count;
   off = λ p. m.off p ∙ l.off p;
@@ -76,14 +82,16 @@ left_more rest hit rest' whole old cur new l split m = record {
   ahead = λ p within e n. by_hit p within e n (hit p) refl;
 }
   where
-    by_hit : (p : ℕ) → p < length old → whole p ≡ true → rest' p ≡ false → (b : Bool) → hit p ≡ b → (tally_of new p).seen < (tally_of new p).held
+    by_hit :
+        (p : ℕ) → p < length old → whole p ≡ true → rest' p ≡ false → (b : Bool) → hit p ≡ b → (tally_of new p).seen < (tally_of new p).held
     by_hit p within e n true h = let k = l.count in m.ahead p (omega arith) h
     by_hit p within e n false h =
         let before = l.ahead p within e (split p ∙ (λ i. h i || n i)) in
         let same = m.seen p in
         let more = m.held p in omega arith
 
-pub in_lists-append : {A : Type 0} → (size len : ℕ) (xs ys : List (Vec ByteRange A)) (p : ℕ) → is_in_lists size len (xs ++ ys) p ≡ is_in_lists size len xs p || is_in_lists size len ys p
+pub in_lists-append : {A : Type 0} → (size len : ℕ) (xs ys : List (Vec ByteRange A)) (p : ℕ) →
+    is_in_lists size len (xs ++ ys) p ≡ is_in_lists size len xs p || is_in_lists size len ys p
 in_lists-append size len [] ys p = refl
 in_lists-append size len (x ∷ xs) ys p =
     ap (λ (b : Bool). is_in_ranges size len x.items p || b) (in_lists-append size len xs ys p)
@@ -98,7 +106,8 @@ or_left true b e n = absurd (true≢false n)
 or_left false b e n = e
 
 -- two halves, of which the second has met the first, marked side by side and joined
-pub both_halves : (left right whole : ℕ → Bool) (v met a b : PageCounts) → ((p : ℕ) → whole p ≡ left p || right p) → met.pages ≡ met_with v.pages (new_half v).pages
+pub both_halves : (left right whole : ℕ → Bool) (v met a b : PageCounts) → ((p : ℕ) → whole p ≡ left p || right p)
+    → met.pages ≡ met_with v.pages (new_half v).pages
     → MarksJust left v.pages a.pages → MarksJust right met.pages b.pages → MarksJust whole v.pages (both_passes a b).pages
 both_halves left right whole v met a b split is l r = record {
   count = length-each_tally (λ p t. both_of t (tally_of b.pages p)) 0 a.pages ∙ l.count;
@@ -113,7 +122,8 @@ both_halves left right whole v met a b split is l r = record {
 }
   where
     long : length met.pages ≡ length v.pages
-    long = ap (λ (ts : List Tally). length ts) is ∙ length-each_tally (λ p t. met_of t (tally_of v.pages p)) 0 (new_half v).pages ∙ length-each_tally (λ p t. no_tally) 0 v.pages
+    long = ap (λ (ts : List Tally). length ts) is ∙ length-each_tally (λ p t. met_of t (tally_of v.pages p)) 0 (new_half v).pages
+        ∙ length-each_tally (λ p t. no_tally) 0 v.pages
 
     page : (p : ℕ) → p < length a.pages → tally_of (both_passes a b).pages p ≡ both_of (tally_of a.pages p) (tally_of b.pages p)
     page p within = at_each (λ p t. both_of t (tally_of b.pages p)) a.pages p within
@@ -136,7 +146,9 @@ both_halves left right whole v met a b split is l r = record {
     none p = r.off p ∙ ap (λ (t : Tally). t.off) (start p)
 
     told : (p : ℕ) → (tally_of b.pages p).seen ≡ (tally_of v.pages p).seen
-    told p = let e = r.seen p in let f : (tally_of met.pages p).seen ≡ max 0 (tally_of v.pages p).seen = ap (λ (t : Tally). t.seen) (start p) in omega arith
+    told p = let e = r.seen p in
+        let f : (tally_of met.pages p).seen ≡ max 0 (tally_of v.pages p).seen = ap (λ (t : Tally). t.seen) (start p) in
+        omega arith
 
     each : (p : ℕ) → TakesNone (tally_of v.pages p) (tally_of (both_passes a b).pages p)
     each p = elim (cases_lt p (length a.pages)) [
@@ -150,10 +162,12 @@ both_halves left right whole v met a b split is l r = record {
       | inr past ↦
           let k = length-each_tally (λ p t. both_of t (tally_of b.pages p)) 0 a.pages in
           let c = l.count in
-          subst (λ (t : Tally). TakesNone (tally_of v.pages p) t) (sym (at_past (both_passes a b).pages p (omega arith) ∙ sym (at_past v.pages p (omega arith)))) (refl, refl, omega arith)
+          subst (λ (t : Tally). TakesNone (tally_of v.pages p) t)
+          (sym (at_past (both_passes a b).pages p (omega arith) ∙ sym (at_past v.pages p (omega arith)))) (refl, refl, omega arith)
     ]
 
-    by_left : (p : ℕ) → p < length v.pages → whole p ≡ true → (c : Bool) → left p ≡ c → (tally_of (both_passes a b).pages p).seen < (tally_of (both_passes a b).pages p).held
+    by_left : (p : ℕ) → p < length v.pages → whole p ≡ true → (c : Bool) → left p ≡ c →
+        (tally_of (both_passes a b).pages p).seen < (tally_of (both_passes a b).pages p).held
     by_left p within e true h =
         let k = l.count in
         let first = l.ahead p within h in

@@ -1,5 +1,6 @@
 -- What is gathered, word by word, and what comes of all of it.
-use Rattle.std.proofs.Common.{◌≡◌, ◌≢◌, ℕ, ◌+◌, ◌*◌, ◌/◌, ◌%◌, ◌<◌, ◌≤◌, max, Bool, true, false, true≢false, ◌||◌, List, length, get_or, set, replicate, refl, sym, ap, ◌∙◌, subst, inl, inr, arith, bit_or}
+use Rattle.std.proofs.Common.{◌≡◌, ◌≢◌, ℕ, ◌+◌, ◌*◌, ◌/◌, ◌%◌, ◌<◌, ◌≤◌, max, Bool, true, false, true≢false, ◌||◌, List, length, get_or}
+use Rattle.std.proofs.Common.{set, replicate, refl, sym, ap, ◌∙◌, subst, inl, inr, arith, bit_or}
 use Rattle.std.specs.Int.{bit_at}
 use Rattle.std.proofs.lemmas.Nat.Bits.{bit_at-lt, bit_at_or}
 use Rattle.std.proofs.lemmas.Bool.{cases_lt, cases_eq}
@@ -15,7 +16,8 @@ use Rattle.page_marks_demo.specs.Threads.{MarksJust, Gathering, HaveTaken, IsTak
 use Rattle.page_marks_demo.proofs.Marks.{either_marked}
 
 -- a word that is gathered
-word_run : (l : List Tally) (w found : ℕ) → ChangesRun (λ p t u. u ≡ after_clearing (bit_at found (p % 64)) t) l (cleared_by (in_word w) found l) (64 * w) (64 * w + 64)
+word_run : (l : List Tally) (w found : ℕ) →
+    ChangesRun (λ p t u. u ≡ after_clearing (bit_at found (p % 64)) t) l (cleared_by (in_word w) found l) (64 * w) (64 * w + 64)
 word_run l w found = gathers_word (λ p t u. u ≡ after_clearing (bit_at found (p % 64)) t) l w found (λ p within here. refl)
 
 -- the pages up to the next word are taken
@@ -24,13 +26,15 @@ taken_more l w found before p low = let run = word_run l w found in elim (cases_
   | inl less ↦ subst (λ (t : Tally). t.held ≤ t.seen) (sym (run.below p less)) (before p less)
   | inr more ↦ elim (cases_lt p (length l)) [
     | inl within ↦ subst (λ (t : Tally). t.held ≤ t.seen) (sym (run.inside p more low within)) (omega arith)
-    | inr past ↦ let k = run.count in subst (λ (t : Tally). t.held ≤ t.seen) (sym (at_past (cleared_by (in_word w) found l) p (omega arith))) (omega arith)
+    | inr past ↦ let k = run.count in
+        subst (λ (t : Tally). t.held ≤ t.seen) (sym (at_past (cleared_by (in_word w) found l) p (omega arith))) (omega arith)
   ]
 ]
 
 -- a word gathered into the words
 pub gathers_more : (l : List Tally) (words : List ℕ) (w found : ℕ) → w < length words → NoneBeyond (length l) w found → HaveTaken l words
-    → HaveTaken (cleared_by (in_word w) found l) (set words w (bit_or (get_or words w 0) found)) × Gathering l (cleared_by (in_word w) found l)
+    → HaveTaken (cleared_by (in_word w) found l) (set words w (bit_or (get_or words w 0) found))
+    × Gathering l (cleared_by (in_word w) found l)
 gathers_more l words w found inside beyond g = (gathered, record { count = run.count; marked = marks })
   where
     run : ChangesRun (λ p t u. u ≡ after_clearing (bit_at found (p % 64)) t) l (cleared_by (in_word w) found l) (64 * w) (64 * w + 64)
@@ -50,7 +54,8 @@ gathers_more l words w found inside beyond g = (gathered, record { count = run.c
       | inl here ↦ elim (cases_lt p (length l)) [
         | inl within ↦
             let e = run.inside p (omega arith) (omega arith) within in
-            let off : (tally_of (cleared_by (in_word w) found l) p).off ≡ (tally_of l p).off + bit_at found (p % 64) = ap (λ (t : Tally). t.off) e in
+            let off : (tally_of (cleared_by (in_word w) found l) p).off ≡ (tally_of l p).off + bit_at found (p % 64) =
+            ap (λ (t : Tally). t.off) e in
             let was = bit_was words w p here in
             let now = bit_here words w (bit_or (get_or words w 0) found) p inside here in
             let both = bit_at_or (get_or words w 0) found (p % 64) in
@@ -67,7 +72,8 @@ gathers_more l words w found inside beyond g = (gathered, record { count = run.c
               ]),
             )
         | inr past ↦
-            let off : (tally_of (cleared_by (in_word w) found l) p).off ≡ 0 = ap (λ (t : Tally). t.off) (at_past (cleared_by (in_word w) found l) p (omega arith)) in
+            let off : (tally_of (cleared_by (in_word w) found l) p).off ≡ 0 =
+            ap (λ (t : Tally). t.off) (at_past (cleared_by (in_word w) found l) p (omega arith)) in
             let off' : (tally_of l p).off ≡ 0 = ap (λ (t : Tally). t.off) (at_past l p past) in
             let was = bit_was words w p here in
             let now = bit_here words w (bit_or (get_or words w 0) found) p inside here in
@@ -88,7 +94,8 @@ gathers_more l words w found inside beyond g = (gathered, record { count = run.c
     marks p = elim (cases_eq (p / 64) w) [
       | inl here ↦ elim (cases_lt p (length l)) [
         | inl h ↦ ap (λ (t : Tally). t.marked) (run.inside p (omega arith) (omega arith) h)
-        | inr past ↦ let k = run.count in ap (λ (t : Tally). t.marked) (at_past (cleared_by (in_word w) found l) p (omega arith) ∙ sym (at_past l p past))
+        | inr past ↦ let k = run.count in
+            ap (λ (t : Tally). t.marked) (at_past (cleared_by (in_word w) found l) p (omega arith) ∙ sym (at_past l p past))
       ]
       | inr ne ↦ ap (λ (t : Tally). t.marked) (away p ne)
     ]
@@ -98,15 +105,18 @@ unfolding page_bit
 page_bit-lt words p = bit_at-lt (get_or words (p / 64) 0) (p % 64)
 
 -- nothing is gathered yet
-pub none_gathered : (l : List Tally) (words : List ℕ) (k : ℕ) → ((p : ℕ) → tally_of l p ≡ no_tally) → words ≡ replicate k 0 → HaveTaken l words
+pub none_gathered :
+    (l : List Tally) (words : List ℕ) (k : ℕ) → ((p : ℕ) → tally_of l p ≡ no_tally) → words ≡ replicate k 0 → HaveTaken l words
 none_gathered l words k fresh is p =
     let off : (tally_of l p).off ≡ 0 = ap (λ (t : Tally). t.off) (fresh p) in
     let bit = zero_bits words k is p in
     ((λ s. absurd (omega arith)), (λ s. absurd (omega arith)))
 
 -- what was gathered and what is left is what was marked
-pub accounted : (hit : ℕ → Bool) (a a' g g' : List Tally) (words left : List ℕ) (p : ℕ) → p < length a → p < length g → ((k : ℕ) → tally_of a k ≡ no_tally) → ((k : ℕ) → tally_of g k ≡ no_tally)
-    → MarksJust hit a a' → Gathering g g' → HaveTaken g' words → Settles (both_of (tally_of a' p) (tally_of g' p)) (page_bit left p) → max (page_bit words p) (page_bit left p) ≡ bit_of (hit p)
+pub accounted : (hit : ℕ → Bool) (a a' g g' : List Tally) (words left : List ℕ) (p : ℕ) → p < length a → p < length g
+    → ((k : ℕ) → tally_of a k ≡ no_tally) → ((k : ℕ) → tally_of g k ≡ no_tally)
+    → MarksJust hit a a' → Gathering g g' → HaveTaken g' words → Settles (both_of (tally_of a' p) (tally_of g' p)) (page_bit left p)
+    → max (page_bit words p) (page_bit left p) ≡ bit_of (hit p)
 accounted hit a a' g g' words left p in_a in_g fresh_a fresh_g m n taken settled = by_hit (hit p) refl
   where
     off : (tally_of a' p).off ≡ 0

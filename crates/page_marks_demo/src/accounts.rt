@@ -7,7 +7,8 @@ ghost use Rattle.std.specs.Thread.{IsSync};
 ghost use Rattle.vm_bitmaps.specs.Pages.{pages_of};
 ghost use Rattle.vm_bitmaps.specs.Words.{page_bit};
 ghost use Rattle.vm_atomic_bitmaps.specs.Passes.{IsPassOf, counting};
-ghost use Rattle.page_marks_demo.specs.Threads.{AreWordsOf, Gathering, HasHalf, HaveSamePart, HaveTaken, IsFresh, IsTakenTo, MarksJust};
+ghost use Rattle.page_marks_demo.specs.Threads.{AreWordsOf, Gathering, HasHalf, HaveSamePart, HaveTaken};
+ghost use Rattle.page_marks_demo.specs.Threads.{IsFresh, IsTakenTo, MarksJust};
 ghost use Rattle.page_marks_demo.specs.Threads.{NeitherLostNorInvented, SettleTogether, is_in_lists};
 
 use crate::gathering::gather_into;
@@ -57,7 +58,8 @@ fn mark_beside<R: Threads + Sync>(
     requires room { vec_len words ≡ div_ceil bitmap.now.len 64 }
     requires taken { HaveTaken gatherer.counts.pages words.items }
     ensures marker { IsPassOf bitmap.now result.0 }
-    ensures marked { MarksJust (is_in_lists bitmap.now.page_size bitmap.now.len lists.now) marker.counts.pages result.0.counts.pages }
+    ensures marked { MarksJust (is_in_lists bitmap.now.page_size bitmap.now.len lists.now) marker.counts.pages
+        result.0.counts.pages }
     ensures part { HaveSamePart marker.counts result.0.counts }
     ensures gatherer { IsPassOf bitmap.now result.1.0 }
     ensures pass { result.1.0 ≡ counting gatherer result.1.0.counts.pages }
@@ -96,9 +98,9 @@ fn settle(
     }
 }
 
-/// Each list's ranges, in bytes, are marked by a thread of its own, while one more gathers each word as often as there
-/// are rounds. The pages that were gathered and those that are left are then just those that the lists have; without a
-/// round none was gathered. AllocError if an allocation fails.
+/// Each list's ranges, in bytes, are marked by a thread of its own, while one more gathers each word as often
+/// as there are rounds. The pages that were gathered and those that are left are then just those that the
+/// lists have; without a round none was gathered. AllocError if an allocation fails.
 pub fn mark_and_gather<R: Threads + Sync>(
     rt: &R,
     alloc: Global,
@@ -107,11 +109,14 @@ pub fn mark_and_gather<R: Threads + Sync>(
     lists: &[Vec<ByteRange>],
     rounds: usize,
 ) -> Result<Account, AllocError>
-    ensures gathered { IfOk result (λ r. AreWordsOf (pages_of (non_zero_usize_get page_size) byte_size) r.gathered.items) }
+    ensures gathered { IfOk result
+        (λ r. AreWordsOf (pages_of (non_zero_usize_get page_size) byte_size) r.gathered.items) }
     ensures none { rounds ≡ 0 → IfOk result (λ r. (p : ℕ) → page_bit r.gathered.items p ≡ 0) }
-    ensures left { IfOk result (λ r. AreWordsOf (pages_of (non_zero_usize_get page_size) byte_size) r.left.items) }
+    ensures left { IfOk result
+        (λ r. AreWordsOf (pages_of (non_zero_usize_get page_size) byte_size) r.left.items) }
     ensures pages { let size = non_zero_usize_get page_size in
-        IfOk result (λ r. NeitherLostNorInvented size (pages_of size byte_size) lists.now r.gathered.items r.left.items) }
+        IfOk result (λ r. NeitherLostNorInvented size (pages_of size byte_size) lists.now r.gathered.items
+        r.left.items) }
 {
     let (bitmap, gatherer, marker) = open(alloc, byte_size, page_size)?;
     let words = zeros(alloc, bitmap.words())?;

@@ -18,7 +18,8 @@ fn gather_word(bitmap: &AtomicBitmap, pass: &mut BitmapPass, words: &mut [u64], 
     ensures pages { Gathering pass.old.counts.pages pass.new.counts.pages }
     ensures room { length words.new ≡ length words.old }
     ensures taken { HaveTaken pass.new.counts.pages words.new }
-    ensures round { IsTakenTo pass.old.counts.pages (64 * word) → IsTakenTo pass.new.counts.pages (64 * word + 64) }
+    ensures round { IsTakenTo pass.old.counts.pages (64 * word)
+        → IsTakenTo pass.new.counts.pages (64 * word + 64) }
 {
     let found = bitmap.gather(pass, word);
     words[word] |= found;

@@ -1,5 +1,5 @@
-//! Threads mark dirty pages while another gathers them, as migration does: each marked page is accounted for, and no
-//! other.
+//! Threads mark dirty pages while another gathers them, as migration does: each marked page is accounted for,
+//! and no other.
 #![tactic(auto)]
 
 mod accounts;
@@ -15,8 +15,8 @@ use std::num::NonZeroUsize;
 use std::process::ExitCode;
 use std::thread::Threads;
 
-// Guest memory of 16 MiB in pages of 4 KiB, of which four workers write 2 MiB each, one after another and half over the
-// next.
+// Guest memory of 16 MiB in pages of 4 KiB, of which four workers write 2 MiB each, one after another and
+// half over the next.
 const MEMORY: usize = 0x1000000;
 
 const PAGE: usize = 0x1000;
@@ -65,8 +65,7 @@ fn both<R: Threads + Sync>(rt: &R, alloc: Global) -> Result<(u32, (u32, u32)), A
 fn main(rt: HostRuntime) -> ExitCode {
     let printed = match both(&rt, rt.alloc()) {
         Ok((written, (marked, gathered))) => println!(rt;
-            "{written} pages were written, and gathered or left\n\
-            {marked} pages were marked a million times, and {} gathered meanwhile",
+            "{written} pages were written, and gathered or left\n{marked} pages were marked a million times, and {} gathered meanwhile",
             if gathered > 0 { "some" } else { "none" }
         ),
         Err(_) => println!(rt; "out of memory"),

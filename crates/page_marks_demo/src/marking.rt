@@ -20,7 +20,8 @@ fn mark_ranges(bitmap: &AtomicBitmap, pass: &mut BitmapPass, ranges: &[ByteRange
     requires { IsPassOf bitmap.now pass.old }
     ensures own { IsPassOf bitmap.now pass.new }
     ensures pass { pass.new ≡ counting pass.old pass.new.counts.pages }
-    ensures pages { MarksJust (is_in_ranges bitmap.now.page_size bitmap.now.len ranges.now) pass.old.counts.pages pass.new.counts.pages }
+    ensures pages { MarksJust (is_in_ranges bitmap.now.page_size bitmap.now.len ranges.now)
+        pass.old.counts.pages pass.new.counts.pages }
 {
     for range in ranges {
         bitmap.set_addr_range(pass, range.start, range.len);
@@ -32,7 +33,8 @@ fn mark_in_turn(bitmap: &AtomicBitmap, mut pass: BitmapPass, lists: &[Vec<ByteRa
     requires { IsPassOf bitmap.now pass }
     ensures own { IsPassOf bitmap.now result }
     ensures pass { result ≡ counting pass result.counts.pages }
-    ensures pages { MarksJust (is_in_lists bitmap.now.page_size bitmap.now.len lists.now) pass.counts.pages result.counts.pages }
+    ensures pages { MarksJust (is_in_lists bitmap.now.page_size bitmap.now.len lists.now) pass.counts.pages
+        result.counts.pages }
 {
     for list in lists {
         mark_ranges(bitmap, &mut pass, list);
@@ -49,7 +51,8 @@ pub(crate) fn mark_lists<R: Threads + Sync>(
 ) -> BitmapPass
     requires { IsPassOf bitmap.now pass }
     ensures own { IsPassOf bitmap.now result }
-    ensures pages { MarksJust (is_in_lists bitmap.now.page_size bitmap.now.len lists.now) pass.counts.pages result.counts.pages }
+    ensures pages { MarksJust (is_in_lists bitmap.now.page_size bitmap.now.len lists.now) pass.counts.pages
+        result.counts.pages }
     ensures part { HaveSamePart pass.counts result.counts }
 {
     if lists.len() <= 1 {
@@ -63,13 +66,15 @@ pub(crate) fn mark_lists<R: Threads + Sync>(
         move || -> BitmapPass
             requires { IsSync R.row × IsPassOf bitmap.now pass }
             ensures own { IsPassOf bitmap.entry.now result }
-            ensures pages { MarksJust (is_in_lists bitmap.entry.now.page_size bitmap.entry.now.len left.entry.now) pass.counts.pages result.counts.pages }
+            ensures pages { MarksJust (is_in_lists bitmap.entry.now.page_size bitmap.entry.now.len
+                left.entry.now) pass.counts.pages result.counts.pages }
             ensures part { HaveSamePart pass.counts result.counts }
         { mark_lists(rt, bitmap, pass, left) },
         move || -> BitmapPass
             requires { IsSync R.row × IsPassOf bitmap.now second }
             ensures own { IsPassOf bitmap.entry.now result }
-            ensures pages { MarksJust (is_in_lists bitmap.entry.now.page_size bitmap.entry.now.len right.entry.now) second.counts.pages result.counts.pages }
+            ensures pages { MarksJust (is_in_lists bitmap.entry.now.page_size bitmap.entry.now.len
+                right.entry.now) second.counts.pages result.counts.pages }
             ensures part { HaveSamePart second.counts result.counts }
         { mark_lists(rt, bitmap, second, right) },
     );

@@ -15,8 +15,8 @@ const TIMES: usize = 500;
 // How often the gatherer goes over all words.
 const ROUNDS: usize = 20_000;
 
-// How often all is done, at most, until the gatherer found a page. It runs beside the markers, so mostly it finds one
-// at once.
+// How often all is done, at most, until the gatherer found a page. It runs beside the markers, so mostly it
+// finds one at once.
 const TRIES: usize = 100;
 
 // Each page by itself, again and again: from the first on if `up`, and from the last on otherwise.

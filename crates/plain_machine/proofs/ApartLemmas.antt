@@ -1,5 +1,6 @@
 -- Stores at places apart go in either order.
-use Rattle.std.proofs.Common.{◌≡◌, ℕ, zero, suc, ◌+◌, ◌-◌, ◌/◌, ◌^◌, ◌<◌, ◌≤◌, Bool, true, false, List, [], ◌∷◌, ◌++◌, length, take, drop, set}
+use Rattle.std.proofs.Common.{◌≡◌, ℕ, zero, suc, ◌+◌, ◌-◌, ◌/◌, ◌^◌, ◌<◌, ◌≤◌, Bool, true, false, List, [], ◌∷◌, ◌++◌, length, take, drop}
+use Rattle.std.proofs.Common.{set}
 use Rattle.std.proofs.Common.{refl, sym, ap, ◌∙◌, arith, inl, inr, ⊎_elim, subst, Option, None, Some, nat_lt, if◌then◌else◌}
 use Rattle.std.specs.Prelude.{◌⊎◌, ◌↔◌, ◌||◌, ◌==◌, not, nat_le, IsTrue}
 use Rattle.std.proofs.lemmas.Bool.Decides.{nat_tests}
@@ -21,7 +22,8 @@ abbrev Differ : Place → Place → Type 0
 Differ p q = p.block ≡ q.block → p.offset ≡ q.offset → ⊥
 
 -- changes of a list's elements that commute where they meet
-changed_comm : {X : Type 0} (l : List X) (i j : ℕ) (f g : X → X) → (i ≡ j → (x : X) → g (f x) ≡ f (g x)) → changed_at (changed_at l i f) j g ≡ changed_at (changed_at l j g) i f
+changed_comm : {X : Type 0} (l : List X) (i j : ℕ) (f g : X → X) → (i ≡ j → (x : X) → g (f x) ≡ f (g x)) →
+    changed_at (changed_at l i f) j g ≡ changed_at (changed_at l j g) i f
 changed_comm [] i j f g h = refl
 changed_comm {X} (x ∷ l) zero zero f g h = ap (λ (y : X). y ∷ l) (h refl x)
 changed_comm (x ∷ l) zero (suc j) f g h = refl
@@ -37,7 +39,8 @@ set_twice (x ∷ l) (suc i) zero a = refl
 set_twice {X} (x ∷ l) (suc i) (suc j) a = ap (λ (r : List X). x ∷ r) (set_twice l i j a)
 
 mark_twice : (c d : Bool) (l : List Bool) (i j : ℕ) →
-    (let m : List Bool = if c then set l i true else l in if d then set m j true else m) ≡ (let m : List Bool = if d then set l j true else l in if c then set m i true else m)
+    (let m : List Bool = if c then set l i true else l in if d then set m j true else m)
+    ≡ (let m : List Bool = if d then set l j true else l in if c then set m i true else m)
 mark_twice true true l i j = set_twice l i j true
 mark_twice true false l i j = refl
 mark_twice false true l i j = refl
@@ -60,10 +63,12 @@ twice [] i f g = refl
 twice (x ∷ l) zero f g = refl
 twice {X} (x ∷ l) (suc i) f g = ap (λ (r : List X). x ∷ r) (twice l i f g)
 
-put_is : (h : Host) (p : Place) (x : ℕ) (io : Option IoAddress) → p.io ≡ io → put_byte h p x ≡ host_with h (changed_at h.blocks p.block (in_block p x)) (in_sets p.io h.io_marks)
+put_is : (h : Host) (p : Place) (x : ℕ) (io : Option IoAddress) → p.io ≡ io →
+    put_byte h p x ≡ host_with h (changed_at h.blocks p.block (in_block p x)) (in_sets p.io h.io_marks)
 put_is h p x None e =
     rw e (ap (λ (l : List Block). host_with h l h.io_marks)
-    (twice h.blocks p.block (λ (b : Block). record b { bytes = set b.bytes p.offset x }) (λ (b : Block). record b { marks = marked b.marks p.offset })))
+    (twice h.blocks p.block (λ (b : Block). record b { bytes = set b.bytes p.offset x })
+    (λ (b : Block). record b { marks = marked b.marks p.offset })))
 put_is h p x (Some a) e = rw e refl
 
 sets_comm : (s t : Option IoAddress) (l : List (List Bool)) → in_sets t (in_sets s l) ≡ in_sets s (in_sets t l)
@@ -74,9 +79,11 @@ sets_comm (Some a) (Some b) l =
     changed_comm l a.set b.set (λ marks. marked_at 4096 marks a.address) (λ marks. marked_at 4096 marks b.address)
     (λ e m. mark_twice (nat_lt a.address (2 ^ 64)) (nat_lt b.address (2 ^ 64)) m (a.address / 4096) (b.address / 4096))
 
-blocks_comm : (p q : Place) (x y : ℕ) → Differ p q → p.block ≡ q.block → (b : Block) → in_block q y (in_block p x b) ≡ in_block p x (in_block q y b)
+blocks_comm :
+    (p q : Place) (x y : ℕ) → Differ p q → p.block ≡ q.block → (b : Block) → in_block q y (in_block p x b) ≡ in_block p x (in_block q y b)
 blocks_comm p q x y apart same b =
-    let bytes : set (set b.bytes p.offset x) q.offset y ≡ set (set b.bytes q.offset y) p.offset x = set_comm b.bytes p.offset q.offset x y (λ e. apart same e) in
+    let bytes : set (set b.bytes p.offset x) q.offset y ≡ set (set b.bytes q.offset y) p.offset x =
+    set_comm b.bytes p.offset q.offset x y (λ e. apart same e) in
     let marks = mark_twice (is_none p.io) (is_none q.io) b.marks (p.offset / 4096) (q.offset / 4096) in
     λ j. record { bytes = bytes j; marks = marks j }
 
@@ -91,7 +98,8 @@ put_comm h p q x y apart =
     ∙ ap (λ (k : Host). put_byte k p x) (sym (put_is h q y q.io refl))
 
 -- one byte past many
-put_past : (qs : List Place) (ys : List ℕ) (h : Host) (p : Place) (x : ℕ) → IsApart p qs → put_all (put_byte h p x) (zip qs ys) ≡ put_byte (put_all h (zip qs ys)) p x
+put_past : (qs : List Place) (ys : List ℕ) (h : Host) (p : Place) (x : ℕ) → IsApart p qs →
+    put_all (put_byte h p x) (zip qs ys) ≡ put_byte (put_all h (zip qs ys)) p x
 unfolding put_all
 put_past [] ys h p x apart = refl
 put_past (q ∷ qs) [] h p x apart = refl
@@ -99,7 +107,8 @@ put_past (q ∷ qs) (y ∷ ys) h p x apart =
     ap (λ (k : Host). put_all k (zip qs ys)) (put_comm h p q x y apart.0) ∙ put_past qs ys (put_byte h q y) p x apart.1
 
 -- many past many
-pub put_all_comm : (ps qs : List Place) (xs ys : List ℕ) (h : Host) → Apart ps qs → put_all (put_all h (zip ps xs)) (zip qs ys) ≡ put_all (put_all h (zip qs ys)) (zip ps xs)
+pub put_all_comm : (ps qs : List Place) (xs ys : List ℕ) (h : Host) → Apart ps qs →
+    put_all (put_all h (zip ps xs)) (zip qs ys) ≡ put_all (put_all h (zip qs ys)) (zip ps xs)
 unfolding put_all
 put_all_comm [] qs xs ys h apart = refl
 put_all_comm (p ∷ ps) qs [] ys h apart = refl
@@ -107,7 +116,8 @@ put_all_comm (p ∷ ps) qs (x ∷ xs) ys h apart =
     put_all_comm ps qs xs ys (put_byte h p x) apart.1 ∙ ap (λ (k : Host). put_all k (zip ps xs)) (put_past qs ys h p x apart.0)
 
 -- the front of what is stored may come last
-pub front_last : (h k : Host) (ps : List Place) (front more : List ℕ) → length front ≤ length ps → Apart (take (length front) ps) (drop (length front) ps) →
+pub front_last : (h k : Host) (ps : List Place) (front more : List ℕ) → length front ≤ length ps →
+    Apart (take (length front) ps) (drop (length front) ps) →
     k ≡ put_all h (zip (drop (length front) ps) more) → put_all k (zip ps front) ≡ put_all h (zip ps (front ++ more))
 front_last h k ps front more le apart e =
     let n = length front in
@@ -119,57 +129,70 @@ front_last h k ps front more le apart e =
 
 -- ---- places apart by their numbers
 
-one_apart : (p : Place) (c q : ℕ) (io : Option IoMarks) (m : ℕ) → (p.block ≡ c → (p.offset < q) ⊎ (q + m ≤ p.offset)) → IsApart p (span c q io m)
+one_apart :
+    (p : Place) (c q : ℕ) (io : Option IoMarks) (m : ℕ) → (p.block ≡ c → (p.offset < q) ⊎ (q + m ≤ p.offset)) → IsApart p (span c q io m)
 unfolding span
 one_apart p c q io zero h = tt
 one_apart p c q io (suc m) h = (
   λ same at. ⊎_elim (λ (l : p.offset < q). omega (arith, l, at)) (λ (l : q + suc m ≤ p.offset). omega (arith, l, at)) (h same),
-  one_apart p c (q + 1) io m (λ same. ⊎_elim (λ (l : p.offset < q). inl (omega (arith, l))) (λ (l : q + suc m ≤ p.offset). inr (omega (arith, l))) (h same)),
+  one_apart p c (q + 1) io m
+      (λ same. ⊎_elim (λ (l : p.offset < q). inl (omega (arith, l))) (λ (l : q + suc m ≤ p.offset). inr (omega (arith, l))) (h same)),
 )
 
-spans_apart : (n b o : ℕ) (io : Option IoMarks) (c q : ℕ) (jo : Option IoMarks) (m : ℕ) → (b ≡ c → (o + n ≤ q) ⊎ (q + m ≤ o)) → Apart (span b o io n) (span c q jo m)
+spans_apart : (n b o : ℕ) (io : Option IoMarks) (c q : ℕ) (jo : Option IoMarks) (m : ℕ) → (b ≡ c → (o + n ≤ q) ⊎ (q + m ≤ o)) →
+    Apart (span b o io n) (span c q jo m)
 unfolding span
 spans_apart zero b o io c q jo m h = tt
 spans_apart (suc n) b o io c q jo m h = (
   one_apart (record { block = b; offset = o; io = io_address o io }) c q jo m
       (λ same. ⊎_elim (λ (l : o + suc n ≤ q). inl (omega (arith, l))) (λ (l : q + m ≤ o). inr (omega (arith, l))) (h same)),
-  spans_apart n b (o + 1) io c q jo m (λ same. ⊎_elim (λ (l : o + suc n ≤ q). inl (omega (arith, l))) (λ (l : q + m ≤ o). inr (omega (arith, l))) (h same)),
+  spans_apart n b (o + 1) io c q jo m
+      (λ same. ⊎_elim (λ (l : o + suc n ≤ q). inl (omega (arith, l))) (λ (l : q + m ≤ o). inr (omega (arith, l))) (h same)),
 )
 
 -- windows of different blocks, or one behind the other
-pub windows_apart : (w v : Window) → (w.block ≡ v.block → (w.offset + w.len ≤ v.offset) ⊎ (v.offset + v.len ≤ w.offset)) → Apart (places_of w) (places_of v)
+pub windows_apart :
+    (w v : Window) → (w.block ≡ v.block → (w.offset + w.len ≤ v.offset) ⊎ (v.offset + v.len ≤ w.offset)) → Apart (places_of w) (places_of v)
 windows_apart w v h = spans_apart w.len w.block w.offset w.io v.block v.offset v.io v.len h
 
 -- a byte of a span, and of two
-one_meets : (p : Place) (c q : ℕ) (jo : Option IoMarks) (m : ℕ) → p.block ≡ c → q ≤ p.offset → p.offset < q + m → IsApart p (span c q jo m) → ⊥
+one_meets :
+    (p : Place) (c q : ℕ) (jo : Option IoMarks) (m : ℕ) → p.block ≡ c → q ≤ p.offset → p.offset < q + m → IsApart p (span c q jo m) → ⊥
 unfolding span
 one_meets p c q jo zero same low high a = absurd (omega (arith, low, high))
 one_meets p c q jo (suc m) same low high a =
-    ⊎_elim (λ (e : p.offset ≡ q). a.0 same e) (λ (e : p.offset ≡ q → ⊥). one_meets p c (q + 1) jo m same (omega (arith, low, e)) (omega (arith, high)) a.1) (cases_eq p.offset q)
+    ⊎_elim (λ (e : p.offset ≡ q). a.0 same e)
+    (λ (e : p.offset ≡ q → ⊥). one_meets p c (q + 1) jo m same (omega (arith, low, e)) (omega (arith, high)) a.1) (cases_eq p.offset q)
 
-spans_meet : (n b o : ℕ) (io : Option IoMarks) (c q : ℕ) (jo : Option IoMarks) (m : ℕ) → b ≡ c → 0 < n → 0 < m → o < q + m → q < o + n → Apart (span b o io n) (span c q jo m) → ⊥
+spans_meet : (n b o : ℕ) (io : Option IoMarks) (c q : ℕ) (jo : Option IoMarks) (m : ℕ) → b ≡ c → 0 < n → 0 < m → o < q + m → q < o + n →
+    Apart (span b o io n) (span c q jo m) → ⊥
 unfolding span
 spans_meet zero b o io c q jo m same any some low high a = absurd (omega (arith, any))
 spans_meet (suc n) b o io c q jo m same any some low high a =
-    ⊎_elim (λ (l : o < q). spans_meet n b (o + 1) io c q jo m same (omega (arith, l, high)) some (omega (arith, l, some)) (omega (arith, high)) a.1)
+    ⊎_elim (λ (l : o < q). spans_meet n b (o + 1) io c q jo m same (omega (arith, l, high)) some (omega (arith, l, some))
+    (omega (arith, high)) a.1)
     (λ (l : q ≤ o). one_meets (record { block = b; offset = o; io = io_address o io }) c q jo m same l low a.0) (cases_lt o q)
 
-pub windows_meet : (w v : Window) → w.block ≡ v.block → 0 < w.len → 0 < v.len → w.offset < v.offset + v.len → v.offset < w.offset + w.len → Apart (places_of w) (places_of v) → ⊥
+pub windows_meet : (w v : Window) → w.block ≡ v.block → 0 < w.len → 0 < v.len → w.offset < v.offset + v.len → v.offset < w.offset + w.len →
+    Apart (places_of w) (places_of v) → ⊥
 windows_meet w v same any some low high a = spans_meet w.len w.block w.offset w.io v.block v.offset v.io v.len same any some low high a
 
-decides_by : (a b c : Bool) (w v : Window) → (w.block == v.block) ≡ a → nat_le (w.offset + w.len) v.offset ≡ b → nat_le (v.offset + v.len) w.offset ≡ c → 0 < w.len → 0 < v.len →
+decides_by : (a b c : Bool) (w v : Window) → (w.block == v.block) ≡ a → nat_le (w.offset + w.len) v.offset ≡ b →
+    nat_le (v.offset + v.len) w.offset ≡ c → 0 < w.len → 0 < v.len →
     IsTrue (not a || (b || c)) ↔ Apart (places_of w) (places_of v)
 decides_by false b c w v s t u any some = (λ yes. windows_apart w v (λ same. absurd (grind (arith, nat_tests, s, same))), λ apart. refl)
 decides_by true true c w v s t u any some = (λ yes. windows_apart w v (λ same. inl (grind (arith, nat_tests, t))), λ apart. refl)
 decides_by true false true w v s t u any some = (λ yes. windows_apart w v (λ same. inr (grind (arith, nat_tests, u))), λ apart. refl)
 decides_by true false false w v s t u any some = (
   λ yes. absurd (cc),
-  λ apart. absurd (windows_meet w v (grind (arith, nat_tests, s)) any some (grind (arith, nat_tests, u)) (grind (arith, nat_tests, t)) apart),
+  λ apart. absurd (windows_meet w v (grind (arith, nat_tests, s)) any some (grind (arith, nat_tests, u))
+      (grind (arith, nat_tests, t)) apart),
 )
 
 -- windows that have a byte are apart by their numbers, or they aren't
 pub windows_decide : (w v : Window) → 0 < w.len → 0 < v.len → IsTrue (are_apart w v) ↔ Apart (places_of w) (places_of v)
-windows_decide w v any some = decides_by (w.block == v.block) (nat_le (w.offset + w.len) v.offset) (nat_le (v.offset + v.len) w.offset) w v refl refl refl any some
+windows_decide w v any some =
+    decides_by (w.block == v.block) (nat_le (w.offset + w.len) v.offset) (nat_le (v.offset + v.len) w.offset) w v refl refl refl any some
 
 -- two lists apart from a third
 pub both_apart : (ps rs qs : List Place) → Apart ps qs → Apart rs qs → Apart (ps ++ rs) qs
@@ -205,7 +228,8 @@ apart_none [] = tt
 apart_none (p ∷ ps) = (tt, apart_none ps)
 
 -- where a part of the second list is known to be apart, the rest decides
-pub rest_decides : (A : Type 0) (ps qs part : List Place) (k : ℕ) → part ≡ take k qs → A ↔ Apart ps qs → Apart ps part → A ↔ Apart ps (drop k qs)
+pub rest_decides :
+    (A : Type 0) (ps qs part : List Place) (k : ℕ) → part ≡ take k qs → A ↔ Apart ps qs → Apart ps part → A ↔ Apart ps (drop k qs)
 rest_decides A ps qs part k is all known = (
   λ a. (apart_parts ps (take k qs) (drop k qs) (subst (Apart ps) (sym (take-append-drop k qs)) (all.0 a))).1,
   λ r. all.1 (subst (Apart ps) (take-append-drop k qs) (apart_both ps (take k qs) (drop k qs) (subst (Apart ps) is known) r)),
@@ -224,16 +248,21 @@ cut_front ps zero n le = ap (λ i. take i ps) (let e : n ≡ n - 0 = omega arith
 cut_front [] (suc k) zero le = absurd (omega (arith, le))
 cut_front [] (suc k) (suc n) le = sym (take-nil (suc n - suc k))
 cut_front (p ∷ ps) (suc k) zero le = absurd (omega (arith, le))
-cut_front (p ∷ ps) (suc k) (suc n) le = ap (λ l. p ∷ l) (cut_front ps k n (omega (arith, le)) ∙ ap (λ i. take k ps ++ take i (drop k ps)) (let e : n - k ≡ suc n - suc k = omega arith in e))
+cut_front (p ∷ ps) (suc k) (suc n) le = ap (λ l. p ∷ l)
+    (cut_front ps k n (omega (arith, le)) ∙ ap (λ i. take k ps ++ take i (drop k ps)) (let e : n - k ≡ suc n - suc k = omega arith in e))
 
-pub front_decides : (A : Type 0) (ps qs part : List Place) (k n : ℕ) → k ≤ n → part ≡ take k ps → A ↔ Apart (take n ps) qs → Apart part qs → A ↔ Apart (take (n - k) (drop k ps)) qs
+pub front_decides : (A : Type 0) (ps qs part : List Place) (k n : ℕ) → k ≤ n → part ≡ take k ps → A ↔ Apart (take n ps) qs → Apart part qs →
+    A ↔ Apart (take (n - k) (drop k ps)) qs
 front_decides A ps qs part k n le is all known =
     let cut = cut_front ps k n le in (
       λ a. (front_parts (take k ps) (take (n - k) (drop k ps)) qs (subst (λ l. Apart l qs) cut (all.0 a))).1,
-      λ r. all.1 (subst (λ l. Apart l qs) (sym cut) (both_apart (take k ps) (take (n - k) (drop k ps)) qs (subst (λ l. Apart l qs) is known) r)),
+      λ r. all.1 (subst (λ l. Apart l qs) (sym cut)
+          (both_apart (take k ps) (take (n - k) (drop k ps)) qs (subst (λ l. Apart l qs) is known) r)),
     )
 
-pub front_denies : (A : Type 0) (ps qs part : List Place) (k n : ℕ) → k ≤ n → part ≡ take k ps → A ↔ Apart (take n ps) qs → (Apart part qs → ⊥) → A → ⊥
+pub front_denies :
+    (A : Type 0) (ps qs part : List Place) (k n : ℕ) → k ≤ n → part ≡ take k ps → A ↔ Apart (take n ps) qs → (Apart part qs → ⊥) → A → ⊥
 front_denies A ps qs part k n le is all none a =
     let cut = cut_front ps k n le in
-    none (subst (λ l. Apart l qs) (sym is) (front_parts (take k ps) (take (n - k) (drop k ps)) qs (subst (λ l. Apart l qs) cut (all.0 a))).0)
+    none (subst (λ l. Apart l qs) (sym is)
+    (front_parts (take k ps) (take (n - k) (drop k ps)) qs (subst (λ l. Apart l qs) cut (all.0 a))).0)

@@ -1,5 +1,6 @@
 -- a reply's header has its length
-use Rattle.std.proofs.Common.{◌≡◌, ℕ, ◌*◌, ◌-◌, ◌<◌, ◌≤◌, Bool, true, false, List, [], ◌∷◌, length, Option, Some, None, Ok, Err, refl, ap, sym, arith}
+use Rattle.std.proofs.Common.{◌≡◌, ℕ, ◌*◌, ◌-◌, ◌<◌, ◌≤◌, Bool, true, false, List, [], ◌∷◌, length, Option, Some, None, Ok, Err, refl, ap}
+use Rattle.std.proofs.Common.{sym, arith}
 use Rattle.std.specs.Prelude.{if◌then◌else◌, Result, nat_lt, nat_le}
 use Rattle.std.specs.Int.{w32, to_le_bytes}
 use Rattle.std.proofs.lemmas.Bool.{ltb-false}
@@ -13,15 +14,18 @@ use Rattle.fuse_wire.specs.Opcodes.{opcode_of}
 use Rattle.fuse_fs.specs.Calls.{FileCall, FileAnswer}
 use Rattle.fuse_fs.specs.Calls as call
 use Rattle.server_segments.specs.declared.error.Error.TheVariants.{EncodeMessage}
-use Rattle.server_requests.specs.Reading.{ReadFailure, Faults, Sends, Reading, and_then, needs, give, many, rest, reading_of, ◌>>=◌, ◌>>◌, within, last_name, two_names, name_and_value}
+use Rattle.server_requests.specs.Reading.{ReadFailure, Faults, Sends, Reading, and_then, needs, give, many, rest, reading_of, ◌>>=◌, ◌>>◌}
+use Rattle.server_requests.specs.Reading.{within, last_name, two_names, name_and_value}
 use Rattle.server_requests.specs.Extras.{new_link, new_name}
 use Rattle.server_requests.specs.Fronts as fronts
 use Rattle.server_calls.specs.Requests as request
 use Rattle.server_calls.specs.Requests.{is_silent}
-use Rattle.server_replies.specs.WholeReplies.{reply_bytes, error_bytes, data_reply, told_bytes, listing_bytes, listing_answer, started_bytes}
+use Rattle.server_replies.specs.WholeReplies.{reply_bytes, error_bytes, data_reply, told_bytes, listing_bytes, listing_answer}
+use Rattle.server_replies.specs.WholeReplies.{started_bytes}
 use Rattle.server_replies.proofs.ReplyLemmas.{length_reply, length_error}
 use Rattle.virtiofsd_fuse.specs.Grammar as grammar
-use Rattle.virtiofsd_fuse.specs.Grammar.{Meaning, IsFault, Replies, IsSilent, Asks, FileCommand, One, Starts, Lists, Given, given, one, row, row_of, refused, ended, meant, meaning, with_header}
+use Rattle.virtiofsd_fuse.specs.Grammar.{Meaning, IsFault, Replies, IsSilent, Asks, FileCommand, One, Starts, Lists, Given, given, one, row}
+use Rattle.virtiofsd_fuse.specs.Grammar.{row_of, refused, ended, meant, meaning, with_header}
 use Rattle.virtiofsd_fuse.specs.Listings as listings
 use Rattle.virtiofsd_fuse.specs.Listings.{ListRequest, list_entries}
 use Rattle.virtiofsd_fuse.specs.Serving.{Setting, served, replied, commanded, list_answered, start_answered, answer_bytes, agreed}
@@ -64,7 +68,8 @@ told_headed silent unique (call.Entries ds) = unless_silent silent unique _
 told_headed silent unique (call.Wants options) = unless_silent silent unique _
 
 start_headed : (page_size unique capable readahead : ℕ) (a : FileAnswer) → IsHeaded (start_answered page_size unique capable readahead a)
-start_headed page_size unique capable readahead (call.Wants wanted) = reply_headed unique (started_bytes page_size readahead (agreed capable wanted))
+start_headed page_size unique capable readahead (call.Wants wanted) =
+    reply_headed unique (started_bytes page_size readahead (agreed capable wanted))
 start_headed page_size unique capable readahead (call.Failed errno) = error_headed unique errno
 start_headed page_size unique capable readahead call.Done = none_headed
 start_headed page_size unique capable readahead (call.HasEntry e) = none_headed
@@ -98,24 +103,30 @@ IsTold room bytes = IsHeaded bytes × (length bytes ≤ room)
 none_told : (room : ℕ) → IsTold room []
 none_told room = (none_headed, omega arith)
 
-unless_long : (room : ℕ) (calls : List FileCall) (options : ℕ) (bytes : List ℕ) (long : Bool) → nat_lt room (length bytes) ≡ long → IsHeaded bytes →
+unless_long :
+    (room : ℕ) (calls : List FileCall) (options : ℕ) (bytes : List ℕ) (long : Bool) → nat_lt room (length bytes) ≡ long → IsHeaded bytes →
     IsTold room (if long then [] else bytes)
 unless_long room calls options bytes true is headed = none_told room
 unless_long room calls options bytes false is headed = (headed, ltb-false room (length bytes) is)
 
-which_reply : (room : ℕ) (calls : List FileCall) (options : ℕ) (bytes : List ℕ) (long : Bool) → IsTold room (if long then [] else bytes) → nat_lt room (length bytes) ≡ long →
+which_reply : (room : ℕ) (calls : List FileCall) (options : ℕ) (bytes : List ℕ) (long : Bool) → IsTold room (if long then [] else bytes) →
+    nat_lt room (length bytes) ≡ long →
     IsTold room (replied room calls options bytes).reply
 which_reply room calls options bytes true told is = rw is told
 which_reply room calls options bytes false told is = rw is told
 
-replied_told : (room : ℕ) (calls : List FileCall) (options : ℕ) (bytes : List ℕ) → IsHeaded bytes → IsTold room (replied room calls options bytes).reply
+replied_told : (room : ℕ) (calls : List FileCall) (options : ℕ) (bytes : List ℕ) → IsHeaded bytes →
+    IsTold room (replied room calls options bytes).reply
 replied_told room calls options bytes headed =
-    which_reply room calls options bytes (nat_lt room (length bytes)) (unless_long room calls options bytes (nat_lt room (length bytes)) refl headed) refl
+    which_reply room calls options bytes (nat_lt room (length bytes))
+    (unless_long room calls options bytes (nat_lt room (length bytes)) refl headed) refl
 
-list_told : (s : Setting) (unique : ℕ) (l : ListRequest) (a : FileAnswer) (answers : List FileAnswer) → IsTold s.room (list_answered s unique l a answers).reply
+list_told : (s : Setting) (unique : ℕ) (l : ListRequest) (a : FileAnswer) (answers : List FileAnswer) →
+    IsTold s.room (list_answered s unique l a answers).reply
 list_told s unique l (call.Entries ds) answers =
     let w = list_entries l ds l.size (s.room - 16) answers in
-    replied_told s.room _ s.options (listing_bytes unique l.with_nodes w.bytes w.error) (data_headed unique (listing_answer (length w.bytes) l.with_nodes w.error) w.bytes)
+    replied_told s.room _ s.options (listing_bytes unique l.with_nodes w.bytes w.error)
+    (data_headed unique (listing_answer (length w.bytes) l.with_nodes w.error) w.bytes)
 list_told s unique l (call.Failed errno) answers = replied_told s.room _ s.options (error_bytes unique errno) (error_headed unique errno)
 list_told s unique l call.Done answers = none_told s.room
 list_told s unique l (call.HasEntry e) answers = none_told s.room
@@ -156,7 +167,8 @@ module _ (g : Given) where
   abbrev Ends : Result (Meaning × List ℕ) ReadFailure → Type 0
   Ends r = RepliesHeaded (ended g.header.unique r)
 
-  then_ends : {A : Type 0} (r : Result (A × List ℕ) ReadFailure) (f : A → Reading Meaning) → ((x : A) (more : List ℕ) → Ends (f x more)) → Ends (and_then r (λ x. f x.0 x.1))
+  then_ends : {A : Type 0} (r : Result (A × List ℕ) ReadFailure) (f : A → Reading Meaning) → ((x : A) (more : List ℕ) → Ends (f x more)) →
+      Ends (and_then r (λ x. f x.0 x.1))
   then_ends (Ok x) f good = good x.0 x.1
   then_ends (Err e) f good = refused_headed g.header.unique e
 
@@ -172,25 +184,29 @@ module _ (g : Given) where
       then_ends (fronts.counted g.header.len 0 bytes) (λ inner. within inner last_name >>= λ name. one g (c g.header name)) (λ inner more.
       then_ends (within inner last_name more) (λ name. one g (c g.header name)) (λ name rest. tt))
 
-  bytes_ends : {R A : Type 0} (front : Given → Reading (R × List ℕ)) (parts : Given → R → Reading A) (c : InHeader → R → A → FileCall) (bytes : List ℕ) → Ends (grammar.bytes_row front parts c g bytes)
+  bytes_ends : {R A : Type 0} (front : Given → Reading (R × List ℕ)) (parts : Given → R → Reading A) (c : InHeader → R → A →
+      FileCall) (bytes : List ℕ) → Ends (grammar.bytes_row front parts c g bytes)
   bytes_ends front parts c bytes =
       then_ends (front g bytes) (λ x. within x.1 (parts g x.0) >>= λ y. one g (c g.header x.0 y)) (λ x more.
       then_ends (within x.1 (parts g x.0) more) (λ y. one g (c g.header x.0 y)) (λ y rest. tt))
 
   symlink_ends : (bytes : List ℕ) → Ends (grammar.symlink_row g bytes)
   symlink_ends bytes =
-      then_ends (fronts.counted g.header.len 0 bytes) (λ inner. within inner (new_link g.options) >>= λ x. one g (request.symlink_call g.header x)) (λ inner more.
+      then_ends (fronts.counted g.header.len 0 bytes)
+      (λ inner. within inner (new_link g.options) >>= λ x. one g (request.symlink_call g.header x)) (λ inner more.
       then_ends (within inner (new_link g.options) more) (λ x. one g (request.symlink_call g.header x)) (λ x rest. tt))
 
   listxattr_ends : (bytes : List ℕ) → Ends (grammar.listxattr_row g bytes)
   listxattr_ends bytes =
-      then_ends (reading_of inputs.getxattr_in bytes) (λ r. grammar.at_most_a_mebibyte r.size >> one g (request.listxattr_call g.header r)) (λ r more.
+      then_ends (reading_of inputs.getxattr_in bytes)
+      (λ r. grammar.at_most_a_mebibyte r.size >> one g (request.listxattr_call g.header r)) (λ r more.
       then_ends (grammar.at_most_a_mebibyte r.size more) (λ x. one g (request.listxattr_call g.header r)) (λ x rest. tt))
 
   read_ends : (bytes : List ℕ) → Ends (grammar.read_row g bytes)
   read_ends bytes =
       then_ends (reading_of inputs.read_in bytes) (λ r. grammar.read_asked g r) (λ r more.
-      then_ends (needs (nat_le 16 g.room) (Faults EncodeMessage) more) (λ x. one g (request.read_call g.header (g.room - 16) r)) (λ x rest. tt))
+      then_ends (needs (nat_le 16 g.room) (Faults EncodeMessage) more) (λ x. one g (request.read_call g.header (g.room - 16) r))
+      (λ x rest. tt))
 
   write_ends : (bytes : List ℕ) → Ends (grammar.write_row g bytes)
   write_ends bytes =
@@ -207,10 +223,12 @@ module _ (g : Given) where
   batch_ends : (bytes : List ℕ) → Ends (grammar.batch_forget_row g bytes)
   batch_ends bytes =
       then_ends (reading_of inputs.batch_forget_in bytes) (λ r. grammar.forgets_asked r.count g) (λ r more.
-      then_ends ((grammar.at_most_a_mebibyte (r.count * 16) >> many r.count fronts.forget_pair) more) (λ pairs. one g (request.batch_forget_call g.header pairs)) (λ pairs rest. tt))
+      then_ends ((grammar.at_most_a_mebibyte (r.count * 16) >> many r.count fronts.forget_pair) more)
+      (λ pairs. one g (request.batch_forget_call g.header pairs)) (λ pairs rest. tt))
 
   -- of two tests, and then a meaning
-  tests_end : (b : Bool) (e : ReadFailure) (r : Result (Unit {0} × List ℕ) ReadFailure) (m : Meaning) → RepliesHeaded m → Ends (and_then (and_then r (λ x. needs b e x.1)) (λ x. give m x.1))
+  tests_end : (b : Bool) (e : ReadFailure) (r : Result (Unit {0} × List ℕ) ReadFailure) (m : Meaning) → RepliesHeaded m →
+      Ends (and_then (and_then r (λ x. needs b e x.1)) (λ x. give m x.1))
   tests_end true e (Ok x) m good = good
   tests_end false e (Ok x) m good = refused_headed g.header.unique e
   tests_end true e (Err f) m good = refused_headed g.header.unique f
@@ -219,7 +237,8 @@ module _ (g : Given) where
   listing_ends : (with_nodes : Bool) (bytes : List ℕ) → Ends (grammar.listing_row with_nodes g bytes)
   listing_ends with_nodes bytes =
       then_ends (reading_of inputs.read_in bytes) (λ r. grammar.listing_asked with_nodes r g) (λ r more.
-      tests_end (nat_le 16 g.room) (Faults EncodeMessage) ((grammar.at_most_a_mebibyte r.size >> needs (nat_le r.size g.room) (Sends grammar.ENOMEM)) more)
+      tests_end (nat_le 16 g.room) (Faults EncodeMessage)
+      ((grammar.at_most_a_mebibyte r.size >> needs (nat_le r.size g.room) (Sends grammar.ENOMEM)) more)
       (Asks (Lists g.header.unique (listings.listing_of with_nodes g.header r))) tt)
 
   unserved : RepliesHeaded (refused g.header.unique (Sends grammar.ENOSYS))
@@ -266,16 +285,23 @@ module _ (g : Given) where
   row_headed op.CopyFileRange bytes = record_ends inputs.copyfilerange_in request.copy_file_range_call bytes
   row_headed op.Syncfs bytes = tt
   row_headed op.TmpFile bytes = tt
-  row_headed op.Setxattr bytes = bytes_ends (λ g. fronts.setxattr_front g.options g.header.len) (λ g r. name_and_value r.size) request.setxattr_call bytes
-  row_headed op.Getxattr bytes = bytes_ends (λ g. fronts.with_bytes inputs.getxattr_in 8 g.header.len) (λ g r. grammar.at_most_a_mebibyte r.size >> last_name) request.getxattr_call bytes
+  row_headed op.Setxattr bytes =
+      bytes_ends (λ g. fronts.setxattr_front g.options g.header.len) (λ g r. name_and_value r.size) request.setxattr_call bytes
+  row_headed op.Getxattr bytes = bytes_ends (λ g. fronts.with_bytes inputs.getxattr_in 8 g.header.len)
+      (λ g r. grammar.at_most_a_mebibyte r.size >> last_name) request.getxattr_call bytes
   row_headed op.Listxattr bytes = listxattr_ends bytes
   row_headed op.Symlink bytes = symlink_ends bytes
-  row_headed op.Mknod bytes = bytes_ends (λ g. fronts.with_bytes inputs.mknod_in 16 g.header.len) (λ g r. new_name g.options) request.mknod_call bytes
-  row_headed op.Mkdir bytes = bytes_ends (λ g. fronts.with_bytes inputs.mkdir_in 8 g.header.len) (λ g r. new_name g.options) request.mkdir_call bytes
-  row_headed op.Create bytes = bytes_ends (λ g. fronts.with_bytes inputs.create_in 16 g.header.len) (λ g r. new_name g.options) request.create_call bytes
+  row_headed op.Mknod bytes =
+      bytes_ends (λ g. fronts.with_bytes inputs.mknod_in 16 g.header.len) (λ g r. new_name g.options) request.mknod_call bytes
+  row_headed op.Mkdir bytes =
+      bytes_ends (λ g. fronts.with_bytes inputs.mkdir_in 8 g.header.len) (λ g r. new_name g.options) request.mkdir_call bytes
+  row_headed op.Create bytes =
+      bytes_ends (λ g. fronts.with_bytes inputs.create_in 16 g.header.len) (λ g r. new_name g.options) request.create_call bytes
   row_headed op.Link bytes = bytes_ends (λ g. fronts.with_bytes inputs.link_in 8 g.header.len) (λ g r. last_name) request.link_call bytes
-  row_headed op.Rename bytes = bytes_ends (λ g. fronts.with_bytes inputs.rename_in 8 g.header.len) (λ g r. two_names) request.rename_call bytes
-  row_headed op.Rename2 bytes = bytes_ends (λ g. fronts.with_bytes inputs.rename2_in 16 g.header.len) (λ g r. two_names) request.rename2_call bytes
+  row_headed op.Rename bytes =
+      bytes_ends (λ g. fronts.with_bytes inputs.rename_in 8 g.header.len) (λ g r. two_names) request.rename_call bytes
+  row_headed op.Rename2 bytes =
+      bytes_ends (λ g. fronts.with_bytes inputs.rename2_in 16 g.header.len) (λ g r. two_names) request.rename2_call bytes
 
   by_opcode : (b : Bool) (o : Option Opcode) (bytes : List ℕ) → Ends ((needs b (Sends grammar.ENOMEM) >> row_of g o) bytes)
   by_opcode false o bytes = refused_headed g.header.unique (Sends grammar.ENOMEM)
@@ -295,6 +321,7 @@ unfolding meaning
 meaning_headed options room bs = with_header_headed options room (reading_of inputs.in_header bs)
 
 -- the reply to a request begins with its header, and has room
-pub reply_told : (s : Setting) (options room : ℕ) (bs : List ℕ) (answers : List FileAnswer) → IsHeaded (served s (meaning options bs room) answers).reply ×
+pub reply_told : (s : Setting) (options room : ℕ) (bs : List ℕ) (answers : List FileAnswer) →
+    IsHeaded (served s (meaning options bs room) answers).reply ×
     (length (served s (meaning options bs room) answers).reply ≤ s.room)
 reply_told s options room bs answers = served_told s (meaning options bs room) answers (meaning_headed options room bs)

@@ -1,5 +1,6 @@
 -- which pages stores mark
-use Rattle.std.proofs.Common.{◌≡◌, ℕ, zero, suc, ◌^◌, ◌/◌, Bool, true, false, ◌||◌, ◌&&◌, not, nat_lt, List, [], ◌∷◌, ◌++◌, map, set, Option, Some, None, refl, ap, sym, ◌∙◌, subst, ⊎_elim}
+use Rattle.std.proofs.Common.{◌≡◌, ℕ, zero, suc, ◌^◌, ◌/◌, Bool, true, false, ◌||◌, ◌&&◌, not, nat_lt, List, [], ◌∷◌, ◌++◌, map, set}
+use Rattle.std.proofs.Common.{Option, Some, None, refl, ap, sym, ◌∙◌, subst, ⊎_elim}
 use Rattle.std.specs.Prelude.{if◌then◌else◌, ◌==◌, ◌≢◌, slice_get, slice_set, option_map, option_and_then, is_some}
 use Rattle.std.specs.List.{list_any}
 use Rattle.std.proofs.lemmas.Bool.{cases_eq, eq-eqb, ne_eqb}
@@ -13,7 +14,8 @@ use Rattle.vm_memory.specs.Memory.{Memory, for_io, location, place_behind, store
 use Rattle.fs_queue.specs.Taking.{room_of}
 use Rattle.fs_queue.specs.Returning.{writes}
 use Rattle.virtiofsd_fuse.specs.Serving.{May}
-use Rattle.plain_machine.specs.MarkedPages.{block_mark, io_mark, is_in_page, marks_block, marks_io, marked_by, returned_addresses, Marks, StepsMark, WritesMark}
+use Rattle.plain_machine.specs.MarkedPages.{block_mark, io_mark, is_in_page, marks_block, marks_io, marked_by, returned_addresses, Marks}
+use Rattle.plain_machine.specs.MarkedPages.{StepsMark, WritesMark}
 use Rattle.plain_machine.proofs.PlainPlaces.{IsPlain, plain_place}
 use Rattle.plain_machine.proofs.UsedLemmas.{exchange_returns, step_offers}
 
@@ -78,8 +80,10 @@ page_set : (marks : List Bool) (k page : ℕ) → slice_get (slice_set marks k t
 page_set marks k page =
     ⊎_elim
     (λ (e : k ≡ page).
-    ap (λ (j : ℕ). slice_get (slice_set marks j true) page) e ∙ set_here marks page ∙ is_set (slice_get marks page) ∙ ap (λ (b : Bool). or_set b (slice_get marks page)) (sym (eq-eqb k page e)))
-    (λ (apart : k ≢ page). set_there marks k page apart ∙ stays (slice_get marks page) ∙ ap (λ (b : Bool). or_set b (slice_get marks page)) (sym (ne_eqb k page apart)))
+    ap (λ (j : ℕ). slice_get (slice_set marks j true) page) e ∙ set_here marks page ∙ is_set (slice_get marks page)
+    ∙ ap (λ (b : Bool). or_set b (slice_get marks page)) (sym (eq-eqb k page e)))
+    (λ (apart : k ≢ page). set_there marks k page apart ∙ stays (slice_get marks page)
+    ∙ ap (λ (b : Bool). or_set b (slice_get marks page)) (sym (ne_eqb k page apart)))
     (cases_eq k page)
 
 -- ---- a block's page
@@ -88,11 +92,13 @@ page_set marks k page =
 abbrev page_in : ℕ → Option Block → Option Bool
 page_in page o = option_and_then (λ b. slice_get b.marks page) o
 
-page_marked : (k page : ℕ) (o : Option Block) → page_in page (option_map (λ (b : Block). record b { marks = slice_set b.marks k true }) o) ≡ or_set (k == page) (page_in page o)
+page_marked : (k page : ℕ) (o : Option Block) →
+    page_in page (option_map (λ (b : Block). record b { marks = slice_set b.marks k true }) o) ≡ or_set (k == page) (page_in page o)
 page_marked k page None = refl
 page_marked k page (Some b) = page_set b.marks k page
 
-byte_marks_none : (o : Option Block) (offset byte page : ℕ) → page_in page (option_map (λ (b : Block). record b { bytes = slice_set b.bytes offset byte }) o) ≡ page_in page o
+byte_marks_none : (o : Option Block) (offset byte page : ℕ) →
+    page_in page (option_map (λ (b : Block). record b { bytes = slice_set b.bytes offset byte }) o) ≡ page_in page o
 byte_marks_none None offset byte page = refl
 byte_marks_none (Some b) offset byte page = refl
 
@@ -102,7 +108,8 @@ byte_put h p byte block page =
     ⊎_elim
     (λ (e : p.block ≡ block).
     ap (page_in page)
-    (ap (λ (j : ℕ). slice_get (changed_at h.blocks p.block (λ b. record b { bytes = slice_set b.bytes p.offset byte })) j) (sym e) ∙ changed_here h.blocks p.block _)
+    (ap (λ (j : ℕ). slice_get (changed_at h.blocks p.block (λ b. record b { bytes = slice_set b.bytes p.offset byte })) j) (sym e)
+    ∙ changed_here h.blocks p.block _)
     ∙ byte_marks_none (slice_get h.blocks p.block) p.offset byte page ∙ ap (λ (j : ℕ). page_in page (slice_get h.blocks j)) e)
     (λ (apart : p.block ≢ block). ap (page_in page) (changed_there h.blocks p.block block _ apart))
     (cases_eq p.block block)
@@ -116,16 +123,19 @@ and_unset true b o e = absurd (cc)
 and_unset false b o e = stays o
 
 -- the page of a place is marked, and this is looked at
-block_marked : (h : Host) (p : Place) (block page : ℕ) → block_mark (with_mark_by None p h) block page ≡ or_set (is_in_page block page (Some p)) (block_mark h block page)
+block_marked : (h : Host) (p : Place) (block page : ℕ) →
+    block_mark (with_mark_by None p h) block page ≡ or_set (is_in_page block page (Some p)) (block_mark h block page)
 block_marked h p block page =
     ⊎_elim
     (λ (e : p.block ≡ block).
-    ap (page_in page) (ap (λ (j : ℕ). slice_get (changed_at h.blocks p.block (λ b. record b { marks = slice_set b.marks (p.offset / 4096) true })) j) (sym e) ∙ changed_here h.blocks p.block _)
+    ap (page_in page) (ap (λ (j : ℕ). slice_get (changed_at h.blocks p.block
+    (λ b. record b { marks = slice_set b.marks (p.offset / 4096) true })) j) (sym e) ∙ changed_here h.blocks p.block _)
     ∙ page_marked (p.offset / 4096) page (slice_get h.blocks p.block)
     ∙ ap (λ (j : ℕ). or_set (p.offset / 4096 == page) (page_in page (slice_get h.blocks j))) e
     ∙ and_set (p.block == block) (p.offset / 4096 == page) (block_mark h block page) (eq-eqb p.block block e))
     (λ (apart : p.block ≢ block).
-    ap (page_in page) (changed_there h.blocks p.block block _ apart) ∙ and_unset (p.block == block) (p.offset / 4096 == page) (block_mark h block page) (ne_eqb p.block block apart))
+    ap (page_in page) (changed_there h.blocks p.block block _ apart)
+    ∙ and_unset (p.block == block) (p.offset / 4096 == page) (block_mark h block page) (ne_eqb p.block block apart))
     (cases_eq p.block block)
 
 -- ---- an I/O page
@@ -135,35 +145,41 @@ abbrev io_page_in : ℕ → Option (List Bool) → Option Bool
 io_page_in page o = option_and_then (λ marks. slice_get marks page) o
 
 -- where the address is one
-page_if : (fits : Bool) (marks : List Bool) (k page : ℕ) → slice_get (if fits then slice_set marks k true else marks) page ≡ or_set (fits && (k == page)) (slice_get marks page)
+page_if : (fits : Bool) (marks : List Bool) (k page : ℕ) →
+    slice_get (if fits then slice_set marks k true else marks) page ≡ or_set (fits && (k == page)) (slice_get marks page)
 page_if true marks k page = page_set marks k page
 page_if false marks k page = stays (slice_get marks page)
 
-io_page_marked : (fits : Bool) (k page : ℕ) (o : Option (List Bool)) → io_page_in page (option_map (λ marks. if fits then slice_set marks k true else marks) o) ≡ or_set
+io_page_marked : (fits : Bool) (k page : ℕ) (o : Option (List Bool)) →
+    io_page_in page (option_map (λ marks. if fits then slice_set marks k true else marks) o) ≡ or_set
     (fits && (k == page)) (io_page_in page o)
 io_page_marked fits k page None = refl
 io_page_marked fits k page (Some marks) = page_if fits marks k page
 
 -- the page of an I/O address is marked, and this is looked at
 io_marked : (h : Host) (a : IoAddress) (p : Place) (set page : ℕ) →
-    io_mark (with_mark_by (Some a) p h) set page ≡ or_set ((a.set == set) && (nat_lt a.address (2 ^ 64) && (a.address / 4096 == page))) (io_mark h set page)
+    io_mark (with_mark_by (Some a) p h) set page
+    ≡ or_set ((a.set == set) && (nat_lt a.address (2 ^ 64) && (a.address / 4096 == page))) (io_mark h set page)
 io_marked h a p set page =
     let here = nat_lt a.address (2 ^ 64) && (a.address / 4096 == page) in
     ⊎_elim
     (λ (e : a.set ≡ set).
     ap (io_page_in page)
-    (ap (λ (j : ℕ). slice_get (changed_at h.io_marks a.set (λ marks. if nat_lt a.address (2 ^ 64) then slice_set marks (a.address / 4096) true else marks)) j) (sym e)
+    (ap (λ (j : ℕ). slice_get (changed_at h.io_marks a.set
+    (λ marks. if nat_lt a.address (2 ^ 64) then slice_set marks (a.address / 4096) true else marks)) j) (sym e)
     ∙ changed_here h.io_marks a.set _)
     ∙ io_page_marked (nat_lt a.address (2 ^ 64)) (a.address / 4096) page (slice_get h.io_marks a.set)
     ∙ ap (λ (j : ℕ). or_set here (io_page_in page (slice_get h.io_marks j))) e
     ∙ and_set (a.set == set) here (io_mark h set page) (eq-eqb a.set set e))
-    (λ (apart : a.set ≢ set). ap (io_page_in page) (changed_there h.io_marks a.set set _ apart) ∙ and_unset (a.set == set) here (io_mark h set page) (ne_eqb a.set set apart))
+    (λ (apart : a.set ≢ set). ap (io_page_in page) (changed_there h.io_marks a.set set _ apart)
+    ∙ and_unset (a.set == set) here (io_mark h set page) (ne_eqb a.set set apart))
     (cases_eq a.set set)
 
 -- ---- one store
 
 -- with the IOMMU off, at a place whose own page is marked
-plain_block : (h : Host) (p : Place) (byte block page : ℕ) → p.io ≡ None → block_mark (put_byte h p byte) block page ≡ or_set (is_in_page block page (Some p)) (block_mark h block page)
+plain_block : (h : Host) (p : Place) (byte block page : ℕ) → p.io ≡ None →
+    block_mark (put_byte h p byte) block page ≡ or_set (is_in_page block page (Some p)) (block_mark h block page)
 plain_block h p byte block page plain =
     ap (λ (io : Option IoAddress). block_mark (with_mark_by io p (with_byte h p byte)) block page) plain
     ∙ block_marked (with_byte h p byte) p block page
@@ -172,11 +188,13 @@ plain_block h p byte block page plain =
 plain_io : (h : Host) (p : Place) (byte set page : ℕ) → p.io ≡ None → io_mark (put_byte h p byte) set page ≡ io_mark h set page
 plain_io h p byte set page plain = ap (λ (io : Option IoAddress). io_mark (with_mark_by io p (with_byte h p byte)) set page) plain
 
-off_block : (m : Memory) (byte : ℕ) (o : Option Place) (block page : ℕ) → IsPlain o → block_mark (stored_at m byte o).host block page ≡ or_set (is_in_page block page o) (block_mark m.host block page)
+off_block : (m : Memory) (byte : ℕ) (o : Option Place) (block page : ℕ) → IsPlain o →
+    block_mark (stored_at m byte o).host block page ≡ or_set (is_in_page block page o) (block_mark m.host block page)
 off_block m byte None block page plain = stays (block_mark m.host block page)
 off_block m byte (Some p) block page plain = plain_block m.host p byte block page plain
 
-off_io : (m : Memory) (byte : ℕ) (o : Option Place) (set page : ℕ) → IsPlain o → io_mark (stored_at m byte o).host set page ≡ or_set false (io_mark m.host set page)
+off_io : (m : Memory) (byte : ℕ) (o : Option Place) (set page : ℕ) → IsPlain o →
+    io_mark (stored_at m byte o).host set page ≡ or_set false (io_mark m.host set page)
 off_io m byte None set page plain = stays (io_mark m.host set page)
 off_io m byte (Some p) set page plain = plain_io m.host p byte set page plain ∙ stays (io_mark m.host set page)
 
@@ -192,13 +210,16 @@ and_none false = refl
 
 on_io : (m : Memory) (byte address : ℕ) (o : Option Place) (set page : ℕ) →
     io_mark (stored_at m byte (for_io m.io_pages address o)).host set page
-    ≡ or_set ((m.io_pages == set) && (is_some (for_io m.io_pages address o) && (nat_lt address (2 ^ 64) && (address / 4096 == page)))) (io_mark m.host set page)
-on_io m byte address None set page = stays (io_mark m.host set page) ∙ ap (λ (b : Bool). or_set b (io_mark m.host set page)) (sym (and_none (m.io_pages == set)))
+    ≡ or_set ((m.io_pages == set) && (is_some (for_io m.io_pages address o) && (nat_lt address (2 ^ 64) && (address / 4096 == page))))
+    (io_mark m.host set page)
+on_io m byte address None set page =
+    stays (io_mark m.host set page) ∙ ap (λ (b : Bool). or_set b (io_mark m.host set page)) (sym (and_none (m.io_pages == set)))
 on_io m byte address (Some p) set page = io_marked (with_byte m.host p byte) (record { set = m.io_pages; address = address }) p set page
 
 -- either way
 one_block : (m : Memory) (write : ℕ × ℕ) (block page : ℕ) (on : Bool) → m.translates ≡ on →
-    block_mark (stored_at m write.1 (if on then for_io m.io_pages write.0 (place_behind m.layout Write (table_of m write.0)) else place m.layout write.0)).host block page
+    block_mark (stored_at m write.1 (if on then for_io m.io_pages write.0 (place_behind m.layout Write (table_of m write.0))
+    else place m.layout write.0)).host block page
     ≡ or_set (not on && is_in_page block page (place m.layout write.0)) (block_mark m.host block page)
 one_block m write block page true is = on_block m write.1 write.0 (place_behind m.layout Write (table_of m write.0)) block page
 one_block m write block page false is = off_block m write.1 (place m.layout write.0) block page (plain_place m.layout write.0)
@@ -206,7 +227,8 @@ one_block m write block page false is = off_block m write.1 (place m.layout writ
 one_io : (m : Memory) (write : ℕ × ℕ) (set page : ℕ) (on : Bool) → m.translates ≡ on →
     let there = if on then for_io m.io_pages write.0 (place_behind m.layout Write (table_of m write.0)) else place m.layout write.0 in
     io_mark (stored_at m write.1 there).host set page
-    ≡ or_set (on && ((m.io_pages == set) && (is_some there && (nat_lt write.0 (2 ^ 64) && (write.0 / 4096 == page))))) (io_mark m.host set page)
+    ≡ or_set (on && ((m.io_pages == set) && (is_some there && (nat_lt write.0 (2 ^ 64) && (write.0 / 4096 == page)))))
+    (io_mark m.host set page)
 one_io m write set page true is = on_io m write.1 write.0 (place_behind m.layout Write (table_of m write.0)) set page
 one_io m write set page false is = off_io m write.1 (place m.layout write.0) set page (plain_place m.layout write.0)
 
@@ -222,7 +244,8 @@ tables_stay (Some a) p h = refl
 
 way_stays : (m : Memory) (byte : ℕ) (o : Option Place) → ways (stored_at m byte o) ≡ ways m
 way_stays m byte None = refl
-way_stays m byte (Some p) = ap (λ (tables : List (List IotlbRange)). record m { host = record m.host { blocks = []; tables = tables; io_marks = [] } }) (tables_stay p.io p (with_byte m.host p byte))
+way_stays m byte (Some p) = ap (λ (tables : List (List IotlbRange)).
+    record m { host = record m.host { blocks = []; tables = tables; io_marks = [] } }) (tables_stay p.io p (with_byte m.host p byte))
 
 pub ways_stay : (m : Memory) (ws : List (ℕ × ℕ)) → ways (stored_all m ws) ≡ ways m
 unfolding stored_all
@@ -231,7 +254,8 @@ ways_stay m (w ∷ ws) = ways_stay (stored m w) ws ∙ way_stays m w.1 (location
 
 -- nothing is written
 pub none_written : (m : Memory) → Marks m [] m.host
-none_written m = record { blocks = λ block page. stays (block_mark m.host block page); io_sets = λ set page. stays (io_mark m.host set page) }
+none_written m =
+    record { blocks = λ block page. stays (block_mark m.host block page); io_sets = λ set page. stays (io_mark m.host set page) }
 
 pub writes_mark : WritesMark
 unfolding stored_all
@@ -254,7 +278,8 @@ writes_mark m (w ∷ ws) =
     }
 
 -- what is written later marks besides
-pub marks_join : (m n : Memory) (xs ys : List ℕ) (after : Host) → ways n ≡ ways m → Marks m xs n.host → Marks n ys after → Marks m (xs ++ ys) after
+pub marks_join :
+    (m n : Memory) (xs ys : List ℕ) (after : Host) → ways n ≡ ways m → Marks m xs n.host → Marks n ys after → Marks m (xs ++ ys) after
 marks_join m n xs ys after same first later = record {
   blocks = λ block page.
       later.blocks block page
@@ -278,5 +303,6 @@ steps_mark may s after i calls x notice step =
     let o = found.0 in
     let is = exchange_returns may s i o.queue x.head o.fetched calls x notice after found.1 in (
       o,
-      subst (λ (m : Memory). Marks s.memory (returned_addresses o.queue x.head (room_of o.fetched) x.reply) m.host) (sym is) (writes_mark s.memory (writes o.queue x.head (room_of o.fetched) x.reply)),
+      subst (λ (m : Memory). Marks s.memory (returned_addresses o.queue x.head (room_of o.fetched) x.reply) m.host) (sym is)
+          (writes_mark s.memory (writes o.queue x.head (room_of o.fetched) x.reply)),
     )

@@ -1,5 +1,6 @@
 -- steps told by loads and stores
-use Rattle.std.proofs.Common.{◌≡◌, ℕ, zero, suc, List, [], ◌∷◌, ◌++◌, length, map, take, drop, refl, sym, ap, ◌∙◌, subst, arith, append-nil, take-append-drop, inl, inr, Bool, Option, Some, None}
+use Rattle.std.proofs.Common.{◌≡◌, ℕ, zero, suc, List, [], ◌∷◌, ◌++◌, length, map, take, drop, refl, sym, ap, ◌∙◌, subst, arith, append-nil}
+use Rattle.std.proofs.Common.{take-append-drop, inl, inr, Bool, Option, Some, None}
 use Rattle.std.specs.Prelude.{slice_get, flat_map}
 use Rattle.std.specs.List.{zip, AllByRecursion, Contains}
 use Rattle.std.proofs.lemmas.List.Concat.{flat_map-append}
@@ -22,9 +23,12 @@ use Rattle.fs_queue.specs.Returning.{Store, writes_of, stores_after_reply, retur
 use Rattle.plain_machine.proofs.ApartLemmas.{put_all_comm}
 use Rattle.virtiofsd_fuse.specs.Serving.{May}
 use Rattle.plain_machine.specs.declared.error.DeviceError.TheVariants as device
-use Rattle.plain_machine.specs.Step.{State, Exchange, StepEnd, Idle, Refused, Exchanged, Calls, Unchanged, Acts, Exchanges, Returns, StepOf, with_queue, faulty, served_exchange}
-use Rattle.plain_machine.specs.StepBy.{StepLoads, AreStepLoadsOf, byte_store, reply_stores, return_stores, after_stores, Act, Effects, stores_among, return_acts}
-use Rattle.plain_machine.specs.StepBy.{DoesNothing, FindFlags, ReturnsBy, ExchangesBy, ActsBy, StepOfBy, IsFrontApart, MayStoreLast, IsOfMemory, HasEffects, StepByIsStep}
+use Rattle.plain_machine.specs.Step.{State, Exchange, StepEnd, Idle, Refused, Exchanged, Calls, Unchanged, Acts, Exchanges, Returns, StepOf}
+use Rattle.plain_machine.specs.Step.{with_queue, faulty, served_exchange}
+use Rattle.plain_machine.specs.StepBy.{StepLoads, AreStepLoadsOf, byte_store, reply_stores, return_stores, after_stores, Act, Effects}
+use Rattle.plain_machine.specs.StepBy.{stores_among, return_acts}
+use Rattle.plain_machine.specs.StepBy.{DoesNothing, FindFlags, ReturnsBy, ExchangesBy, ActsBy, StepOfBy, IsFrontApart, MayStoreLast}
+use Rattle.plain_machine.specs.StepBy.{IsOfMemory, HasEffects, StepByIsStep}
 use Rattle.plain_machine.specs.StepBy.{StepIsStepBy, StoresOnlyThere, return_addresses}
 
 some_same : {A : Type 0} (x y : A) → Some x ≡ Some y → x ≡ y
@@ -53,14 +57,17 @@ zip_cut (suc n) (a ∷ as') [] = sym (zip_none (drop n as'))
 zip_cut (suc n) (a ∷ as') (x ∷ xs) = ap (λ (l : List (ℕ × ℕ)). (a, x) ∷ l) (zip_cut n as' xs)
 
 -- a reply's stores write it, its front last
-pub reply_writes : (room reply : List ℕ) (n : ℕ) → flat_map writes_of (reply_stores room reply n) ≡ zip (drop n room) (drop n reply) ++ zip (take n room) (take n reply)
+pub reply_writes : (room reply : List ℕ) (n : ℕ) →
+    flat_map writes_of (reply_stores room reply n) ≡ zip (drop n room) (drop n reply) ++ zip (take n room) (take n reply)
 reply_writes room reply n =
     flat_map-append writes_of (map byte_store (zip (drop n room) (drop n reply))) (map byte_store (zip (take n room) (take n reply)))
-    ∙ ap (λ (l : List (ℕ × ℕ)). l ++ flat_map writes_of (map byte_store (zip (take n room) (take n reply)))) (written_bytes (zip (drop n room) (drop n reply)))
+    ∙ ap (λ (l : List (ℕ × ℕ)). l ++ flat_map writes_of (map byte_store (zip (take n room) (take n reply))))
+    (written_bytes (zip (drop n room) (drop n reply)))
     ∙ ap (λ (l : List (ℕ × ℕ)). zip (drop n room) (drop n reply) ++ l) (written_bytes (zip (take n room) (take n reply)))
 
 -- stores at some addresses, and then at others
-two_stored : (m : Memory) (as' bs : List ℕ) (ps qs : List Place) (xs ys : List ℕ) → located (location m Write) as' ≡ Some ps → located (location m Write) bs ≡ Some qs →
+two_stored : (m : Memory) (as' bs : List ℕ) (ps qs : List Place) (xs ys : List ℕ) → located (location m Write) as' ≡ Some ps →
+    located (location m Write) bs ≡ Some qs →
     stored_all (stored_all m (zip as' xs)) (zip bs ys) ≡ over m (put_all (put_all m.host (zip ps xs)) (zip qs ys))
 two_stored m as' bs ps qs xs ys at bt =
     let h = put_all m.host (zip ps xs) in
@@ -74,7 +81,8 @@ front_stored_last m room reply n apart =
     stored_all-append (zip (drop n room) (drop n reply)) (zip (take n room) (take n reply)) m
     ∙ two_stored m (drop n room) (take n room) apart.rest apart.first (drop n reply) (take n reply) apart.rest_places apart.first_places
     ∙ ap (over m) (sym (put_all_comm apart.first apart.rest (take n reply) (drop n reply) m.host apart.apart))
-    ∙ sym (two_stored m (take n room) (drop n room) apart.first apart.rest (take n reply) (drop n reply) apart.first_places apart.rest_places)
+    ∙ sym (two_stored m (take n room) (drop n room) apart.first apart.rest (take n reply) (drop n reply) apart.first_places
+    apart.rest_places)
     ∙ sym (stored_all-append (zip (take n room) (take n reply)) (zip (drop n room) (drop n reply)) m)
     ∙ ap (stored_all m) (sym (zip_cut n room reply))
 
@@ -85,10 +93,12 @@ reply_stored m room reply n (inl none) = rw none (ap (stored_all m) (append-nil 
 reply_stored m room reply n (inr apart) = front_stored_last m room reply n apart
 
 -- the stores of a return make of a memory what its writes do
-pub stores_return : (m : Memory) (q : Queue) (head : ℕ) (room reply : List ℕ) (n : ℕ) → MayStoreLast m room n → after_stores m (return_stores q head room reply n) ≡ returned m q head room reply
+pub stores_return : (m : Memory) (q : Queue) (head : ℕ) (room reply : List ℕ) (n : ℕ) → MayStoreLast m room n →
+    after_stores m (return_stores q head room reply n) ≡ returned m q head room reply
 stores_return m q head room reply n last =
     let back = flat_map writes_of (stores_after_reply q head (length reply)) in
-    ap (stored_all m) (flat_map-append writes_of (reply_stores room reply n) (stores_after_reply q head (length reply)) ∙ ap (λ (l : List (ℕ × ℕ)). l ++ back) (reply_writes room reply n))
+    ap (stored_all m) (flat_map-append writes_of (reply_stores room reply n) (stores_after_reply q head (length reply))
+    ∙ ap (λ (l : List (ℕ × ℕ)). l ++ back) (reply_writes room reply n))
     ∙ stored_all-append (zip (drop n room) (drop n reply) ++ zip (take n room) (take n reply)) back m
     ∙ ap (λ (k : Memory). stored_all k back) (reply_stored m room reply n last)
     ∙ sym (stored_all-append (zip room reply) back m)
@@ -100,19 +110,23 @@ among_return [] flags = refl
 among_return (store ∷ stores) flags = ap (λ (l : List Store). store ∷ l) (among_return stores flags)
 
 -- one store, and then others
-stored_in_turn : (m : Memory) (store : Store) (stores : List Store) → after_stores m (store ∷ stores) ≡ after_stores (after_stores m (store ∷ [])) stores
+stored_in_turn :
+    (m : Memory) (store : Store) (stores : List Store) → after_stores m (store ∷ stores) ≡ after_stores (after_stores m (store ∷ [])) stores
 stored_in_turn m store stores =
     stored_all-append (writes_of store) (flat_map writes_of stores) m
     ∙ ap (λ (l : List (ℕ × ℕ)). stored_all (stored_all m l) (flat_map writes_of stores)) (sym (append-nil (writes_of store)))
 
 -- the flags that are loaded last are those that memory has after all stores
-flags_found : (m : Memory) (q : Queue) (stores : List Store) (flags : List ℕ) → FindFlags m q (return_acts stores flags) → flags ≡ bytes (after_stores m stores) q.avail 2
+flags_found : (m : Memory) (q : Queue) (stores : List Store) (flags : List ℕ) → FindFlags m q (return_acts stores flags) →
+    flags ≡ bytes (after_stores m stores) q.avail 2
 unfolding stored_all
 flags_found m q [] flags found = found.0
 flags_found m q (store ∷ stores) flags found =
-    flags_found (after_stores m (store ∷ [])) q stores flags found ∙ ap (λ (k : Memory). bytes k q.avail 2) (sym (stored_in_turn m store stores))
+    flags_found (after_stores m (store ∷ [])) q stores flags found
+    ∙ ap (λ (k : Memory). bytes k q.avail 2) (sym (stored_in_turn m store stores))
 
-flags_find : (m : Memory) (q : Queue) (stores : List Store) (flags : List ℕ) → flags ≡ bytes (after_stores m stores) q.avail 2 → FindFlags m q (return_acts stores flags)
+flags_find : (m : Memory) (q : Queue) (stores : List Store) (flags : List ℕ) → flags ≡ bytes (after_stores m stores) q.avail 2 →
+    FindFlags m q (return_acts stores flags)
 unfolding stored_all
 flags_find m q [] flags is = (is, tt)
 flags_find m q (store ∷ stores) flags is =
@@ -143,7 +157,8 @@ module _ {F : Type 0} (may : May F) (s : State F) (i : ℕ) (e : Effects) (after
   nothing_stored none = ap (λ (l : List Act). after_stores s.memory (stores_among l)) none
 
   still : (calls : Calls) → Unchanged s calls after → DoesNothing e → Unchanged s calls (at after stored)
-  still calls same none = record { same = ap (at after) (nothing_stored none) ∙ ap (λ (t : State F). at t s.memory) same.same; no_call = same.no_call }
+  still calls same none =
+      record { same = ap (at after) (nothing_stored none) ∙ ap (λ (t : State F). at t s.memory) same.same; no_call = same.no_call }
 
   refused_still : (q p : Queue) → after ≡ with_queue s i p → DoesNothing e → at after stored ≡ with_queue s i p
   refused_still q p is none = ap (at after) (nothing_stored none) ∙ ap (λ (t : State F). at t s.memory) is
@@ -157,7 +172,8 @@ module _ {F : Type 0} (may : May F) (s : State F) (i : ℕ) (e : Effects) (after
         let memory : stored ≡ returned s.memory q expected.head room expected.reply =
         ap (after_stores s.memory) among ∙ stores_return s.memory q expected.head room expected.reply e.last last in
         let found : back.flags ≡ bytes stored q.avail 2 =
-        flags_found s.memory q stores back.flags (subst (FindFlags s.memory q) back.acts flags) ∙ ap (λ (l : List Store). bytes (after_stores s.memory l) q.avail 2) (sym among) in
+        flags_found s.memory q stores back.flags (subst (FindFlags s.memory q) back.acts flags)
+        ∙ ap (λ (l : List Store). bytes (after_stores s.memory l) q.avail 2) (sym among) in
         record {
           exchange = back.exchange;
           state = ap (λ (t : State F). at t stored) back.state
@@ -169,12 +185,17 @@ module _ {F : Type 0} (may : May F) (s : State F) (i : ℕ) (e : Effects) (after
         ((head : ℕ) (request room : List ℕ) → o ≡ Offers head (IsRequest request room) → MayStoreLast s.memory room e.last) →
         ExchangesBy may s i q o calls x notice e after → Exchanges may s i q o calls x notice (at after stored)
     exchanges_still (Offers head (CannotFetch why)) calls x notice last made =
-        record { no_call = made.no_call; files = made.files; returns = gone_back [] (faulty head why) s.options x notice (empty_last s.memory e.last) made.returns }
+        record {
+          no_call = made.no_call;
+          files = made.files;
+          returns = gone_back [] (faulty head why) s.options x notice (empty_last s.memory e.last) made.returns;
+        }
     exchanges_still (Offers head (IsRequest request room)) calls x notice last made =
         record {
           given = made.given;
           serves = made.serves;
-          returns = gone_back room (served_exchange head request made.given) made.given.options x notice (last head request room refl) made.returns;
+          returns = gone_back room (served_exchange head request made.given) made.given.options x notice (last head request room refl)
+              made.returns;
         }
     exchanges_still taking.Idle calls x notice last made = absurd made
     exchanges_still (Refuses error) calls x notice last made = absurd made
@@ -185,23 +206,34 @@ module _ {F : Type 0} (may : May F) (s : State F) (i : ℕ) (e : Effects) (after
     acts_still o calls Idle last (offered, same, none) = (offered, still calls same none)
     acts_still o calls (Refused (device.Queue stop.OutOfMemory)) last (lacks, same, none) = (lacks, still calls same none)
     acts_still o calls (Refused (device.Queue stop.Stopped)) last (is, no_call, state, none) = (is, no_call, refused_still q _ state none)
-    acts_still o calls (Refused (device.Queue stop.AvailIndexUnreachable)) last (is, no_call, state, none) = (is, no_call, refused_still q _ state none)
-    acts_still o calls (Refused (device.Queue stop.AvailTooFar)) last (is, no_call, state, none) = (is, no_call, refused_still q _ state none)
-    acts_still o calls (Refused (device.Queue stop.RingEntryUnreachable)) last (is, no_call, state, none) = (is, no_call, refused_still q _ state none)
-    acts_still o calls (Refused (device.Queue stop.HeadOutOfTable)) last (is, no_call, state, none) = (is, no_call, refused_still q _ state none)
-    acts_still o calls (Refused (device.Queue stop.UsedUnreachable)) last (is, no_call, state, none) = (is, no_call, refused_still q _ state none)
-    acts_still o calls (Refused (device.Queue stop.AvailFlagsUnreachable)) last (is, no_call, state, none) = (is, no_call, refused_still q _ state none)
-    acts_still o calls (Refused (device.Queue stop.DescriptorUnreachable)) last (is, no_call, state, none) = (is, no_call, refused_still q _ state none)
+    acts_still o calls (Refused (device.Queue stop.AvailIndexUnreachable)) last (is, no_call, state, none) =
+        (is, no_call, refused_still q _ state none)
+    acts_still o calls (Refused (device.Queue stop.AvailTooFar)) last (is, no_call, state, none) =
+        (is, no_call, refused_still q _ state none)
+    acts_still o calls (Refused (device.Queue stop.RingEntryUnreachable)) last (is, no_call, state, none) =
+        (is, no_call, refused_still q _ state none)
+    acts_still o calls (Refused (device.Queue stop.HeadOutOfTable)) last (is, no_call, state, none) =
+        (is, no_call, refused_still q _ state none)
+    acts_still o calls (Refused (device.Queue stop.UsedUnreachable)) last (is, no_call, state, none) =
+        (is, no_call, refused_still q _ state none)
+    acts_still o calls (Refused (device.Queue stop.AvailFlagsUnreachable)) last (is, no_call, state, none) =
+        (is, no_call, refused_still q _ state none)
+    acts_still o calls (Refused (device.Queue stop.DescriptorUnreachable)) last (is, no_call, state, none) =
+        (is, no_call, refused_still q _ state none)
     acts_still o calls (Refused device.NoSuchQueue) last made = absurd made
     acts_still o calls (Exchanged x notice) last made = exchanges_still o calls x notice last made
 
-by_queue : {F : Type 0} (may : May F) (s : State F) (i : ℕ) (l : StepLoads) (calls : Calls) (outcome : StepEnd) (e : Effects) (after : State F) → IsOfMemory s i l e →
-    (o : Option Queue) → slice_get s.queues i ≡ o → StepOfBy may s i o l calls outcome e after → StepOf may s i o calls outcome (at after (after_stores s.memory (stores_among e.acts)))
+by_queue : {F : Type 0} (may : May F) (s : State F) (i : ℕ) (l : StepLoads) (calls : Calls) (outcome : StepEnd) (e : Effects)
+    (after : State F) → IsOfMemory s i l e →
+    (o : Option Queue) → slice_get s.queues i ≡ o → StepOfBy may s i o l calls outcome e after →
+    StepOf may s i o calls outcome (at after (after_stores s.memory (stores_among e.acts)))
 by_queue may s i l calls outcome e after one None there (is, same, none, loaded) = (is, still may s i e after calls same none)
 by_queue may s i l calls outcome e after one (Some q) there (offered, is, acts) =
-    let meant : offered ≡ offer s.memory s.limit q = offer_is_still s.memory s.limit q l.index l.entry l.entries l.request offered (one.loads q there) is in
+    let meant : offered ≡ offer s.memory s.limit q =
+    offer_is_still s.memory s.limit q l.index l.entry l.entries l.request offered (one.loads q there) is in
     subst (λ (o : Offer). Acts may s i q o calls outcome (at after (after_stores s.memory (stores_among e.acts)))) meant
-    (acts_still may s i e after q (one.flags q there) offered calls outcome (λ head request room same. one.apart q head request room there (is ∙ ap Some same)) acts)
+    (acts_still may s i e after q (one.flags q there) offered calls outcome
+    (λ head request room same. one.apart q head request room there (is ∙ ap Some same)) acts)
 
 pub step_by_is_step : {F : Type 0} (may : May F) → StepByIsStep may
 step_by_is_step may s i l calls outcome e after one made = by_queue may s i l calls outcome e after one (slice_get s.queues i) refl made
@@ -218,9 +250,11 @@ module _ {F : Type 0} (may : May F) (s : State F) (i : ℕ) (q : Queue) (there :
   same_queue : (p : Queue) → slice_get s.queues i ≡ Some p → q ≡ p
   same_queue p at = some_same q p (sym there ∙ at)
 
-  with_effects : (h : HasLoads s.memory s.limit q) (did : List Act) (calls : Calls) (outcome : StepEnd) (after : State F) → FindFlags s.memory q did →
+  with_effects :
+      (h : HasLoads s.memory s.limit q) (did : List Act) (calls : Calls) (outcome : StepEnd) (after : State F) → FindFlags s.memory q did →
       after.memory ≡ after_stores s.memory (stores_among did) →
-      ActsBy may s i q (offer s.memory s.limit q) calls outcome (effects_of did) (at after s.memory) → HasEffects may s i calls outcome after
+      ActsBy may s i q (offer s.memory s.limit q) calls outcome (effects_of did) (at after s.memory) →
+      HasEffects may s i calls outcome after
   with_effects h did calls outcome after found memory acts =
       let l : StepLoads = record { index = h.index; entry = h.entry; entries = h.entries; request = h.request } in
       record {
@@ -239,7 +273,8 @@ module _ {F : Type 0} (may : May F) (s : State F) (i : ℕ) (q : Queue) (there :
   abbrev back_stores : (room : List ℕ) → Exchange → List Store
   back_stores room expected = return_stores q expected.head room expected.reply 0
 
-  memory_back : (room : List ℕ) (expected : Exchange) (options : ℕ) (x : Exchange) (notice : Bool) (after : State F) → Returns s i q room expected options x notice after →
+  memory_back : (room : List ℕ) (expected : Exchange) (options : ℕ) (x : Exchange) (notice : Bool) (after : State F) →
+      Returns s i q room expected options x notice after →
       after.memory ≡ after_stores s.memory (back_stores room expected)
   memory_back room expected options x notice after back =
       ap (λ (t : State F). t.memory) back.state ∙ sym (stores_return s.memory q expected.head room expected.reply 0 (inl refl))
@@ -252,9 +287,11 @@ module _ {F : Type 0} (may : May F) (s : State F) (i : ℕ) (q : Queue) (there :
 
   acts_back : (room : List ℕ) (expected : Exchange) (after : State F) → after.memory ≡ after_stores s.memory (back_stores room expected) →
       after.memory ≡ after_stores s.memory (stores_among (back_acts room expected))
-  acts_back room expected after is = is ∙ ap (after_stores s.memory) (sym (among_return (back_stores room expected) (flags_after s.memory q (back_stores room expected))))
+  acts_back room expected after is =
+      is ∙ ap (after_stores s.memory) (sym (among_return (back_stores room expected) (flags_after s.memory q (back_stores room expected))))
 
-  returns_by : (room : List ℕ) (expected : Exchange) (options : ℕ) (x : Exchange) (notice : Bool) (after : State F) → Returns s i q room expected options x notice after →
+  returns_by : (room : List ℕ) (expected : Exchange) (options : ℕ) (x : Exchange) (notice : Bool) (after : State F) →
+      Returns s i q room expected options x notice after →
       ReturnsBy s i q room expected options x notice (effects_of (back_acts room expected)) (at after s.memory)
   returns_by room expected options x notice after back = record {
     exchange = back.exchange;
@@ -265,7 +302,8 @@ module _ {F : Type 0} (may : May F) (s : State F) (i : ℕ) (q : Queue) (there :
     told = back.told ∙ ap (λ (m : Memory). wants_notice m q) (memory_back room expected options x notice after back);
   }
 
-  exchange_by : (h : HasLoads s.memory s.limit q) (o : Offer) → o ≡ offer s.memory s.limit q → (calls : Calls) (x : Exchange) (notice : Bool) (after : State F) →
+  exchange_by : (h : HasLoads s.memory s.limit q) (o : Offer) → o ≡ offer s.memory s.limit q →
+      (calls : Calls) (x : Exchange) (notice : Bool) (after : State F) →
       Exchanges may s i q o calls x notice after → HasEffects may s i calls (Exchanged x notice) after
   exchange_by h (Offers head (CannotFetch why)) is calls x notice after made =
       let expected : Exchange = faulty head why in
@@ -278,7 +316,11 @@ module _ {F : Type 0} (may : May F) (s : State F) (i : ℕ) (q : Queue) (there :
       with_effects h (back_acts room expected) calls (Exchanged x notice) after (flags_back room expected)
       (acts_back room expected after (memory_back room expected made.given.options x notice after made.returns))
       (subst (λ (o : Offer). ExchangesBy may s i q o calls x notice (effects_of (back_acts room expected)) (at after s.memory)) is
-      (record { given = made.given; serves = made.serves; returns = returns_by room expected made.given.options x notice after made.returns }))
+      (record {
+        given = made.given;
+        serves = made.serves;
+        returns = returns_by room expected made.given.options x notice after made.returns;
+      }))
   exchange_by h taking.Idle is calls x notice after made = absurd made
   exchange_by h (Refuses error) is calls x notice after made = absurd made
 
@@ -289,31 +331,45 @@ module _ {F : Type 0} (may : May F) (s : State F) (i : ℕ) (q : Queue) (there :
   unfolding stored_all
   kept_memory after t is kept = ap (λ (u : State F). u.memory) is ∙ kept
 
-  refused_by : (h : HasLoads s.memory s.limit q) (error : QueueError) (calls : Calls) (after : State F) → after ≡ with_queue s i (after_refusal q error) →
+  refused_by : (h : HasLoads s.memory s.limit q) (error : QueueError) (calls : Calls) (after : State F) →
+      after ≡ with_queue s i (after_refusal q error) →
       ActsBy may s i q (offer s.memory s.limit q) calls (Refused (device.Queue error)) (effects_of []) (at after s.memory) →
       HasEffects may s i calls (Refused (device.Queue error)) after
-  refused_by h error calls after state acts = with_effects h [] calls (Refused (device.Queue error)) after tt (kept_memory after (with_queue s i (after_refusal q error)) state refl) acts
+  refused_by h error calls after state acts = with_effects h [] calls (Refused (device.Queue error)) after tt
+      (kept_memory after (with_queue s i (after_refusal q error)) state refl) acts
 
   over_same : (after t : State F) → after ≡ t → at after s.memory ≡ at t s.memory
   over_same after t is = ap (λ (u : State F). at u s.memory) is
 
-  acts_by : (h : HasLoads s.memory s.limit q) (calls : Calls) (outcome : StepEnd) (after : State F) → Acts may s i q (offer s.memory s.limit q) calls outcome after →
+  acts_by : (h : HasLoads s.memory s.limit q) (calls : Calls) (outcome : StepEnd) (after : State F) →
+      Acts may s i q (offer s.memory s.limit q) calls outcome after →
       HasEffects may s i calls outcome after
-  acts_by h calls Idle after (offered, same) = with_effects h [] calls Idle after tt (kept_memory after s same.same refl) (offered, unchanged_by calls after same, refl)
+  acts_by h calls Idle after (offered, same) =
+      with_effects h [] calls Idle after tt (kept_memory after s same.same refl) (offered, unchanged_by calls after same, refl)
   acts_by h calls (Refused (device.Queue stop.OutOfMemory)) after (lacks, same) =
-      with_effects h [] calls (Refused (device.Queue stop.OutOfMemory)) after tt (kept_memory after s same.same refl) (lacks, unchanged_by calls after same, refl)
-  acts_by h calls (Refused (device.Queue stop.Stopped)) after (is, none, state) = refused_by h stop.Stopped calls after state (is, none, over_same after _ state, refl)
-  acts_by h calls (Refused (device.Queue stop.AvailIndexUnreachable)) after (is, none, state) = refused_by h stop.AvailIndexUnreachable calls after state (is, none, over_same after _ state, refl)
-  acts_by h calls (Refused (device.Queue stop.AvailTooFar)) after (is, none, state) = refused_by h stop.AvailTooFar calls after state (is, none, over_same after _ state, refl)
-  acts_by h calls (Refused (device.Queue stop.RingEntryUnreachable)) after (is, none, state) = refused_by h stop.RingEntryUnreachable calls after state (is, none, over_same after _ state, refl)
-  acts_by h calls (Refused (device.Queue stop.HeadOutOfTable)) after (is, none, state) = refused_by h stop.HeadOutOfTable calls after state (is, none, over_same after _ state, refl)
-  acts_by h calls (Refused (device.Queue stop.UsedUnreachable)) after (is, none, state) = refused_by h stop.UsedUnreachable calls after state (is, none, over_same after _ state, refl)
-  acts_by h calls (Refused (device.Queue stop.AvailFlagsUnreachable)) after (is, none, state) = refused_by h stop.AvailFlagsUnreachable calls after state (is, none, over_same after _ state, refl)
-  acts_by h calls (Refused (device.Queue stop.DescriptorUnreachable)) after (is, none, state) = refused_by h stop.DescriptorUnreachable calls after state (is, none, over_same after _ state, refl)
+      with_effects h [] calls (Refused (device.Queue stop.OutOfMemory)) after tt (kept_memory after s same.same refl)
+      (lacks, unchanged_by calls after same, refl)
+  acts_by h calls (Refused (device.Queue stop.Stopped)) after (is, none, state) =
+      refused_by h stop.Stopped calls after state (is, none, over_same after _ state, refl)
+  acts_by h calls (Refused (device.Queue stop.AvailIndexUnreachable)) after (is, none, state) =
+      refused_by h stop.AvailIndexUnreachable calls after state (is, none, over_same after _ state, refl)
+  acts_by h calls (Refused (device.Queue stop.AvailTooFar)) after (is, none, state) =
+      refused_by h stop.AvailTooFar calls after state (is, none, over_same after _ state, refl)
+  acts_by h calls (Refused (device.Queue stop.RingEntryUnreachable)) after (is, none, state) =
+      refused_by h stop.RingEntryUnreachable calls after state (is, none, over_same after _ state, refl)
+  acts_by h calls (Refused (device.Queue stop.HeadOutOfTable)) after (is, none, state) =
+      refused_by h stop.HeadOutOfTable calls after state (is, none, over_same after _ state, refl)
+  acts_by h calls (Refused (device.Queue stop.UsedUnreachable)) after (is, none, state) =
+      refused_by h stop.UsedUnreachable calls after state (is, none, over_same after _ state, refl)
+  acts_by h calls (Refused (device.Queue stop.AvailFlagsUnreachable)) after (is, none, state) =
+      refused_by h stop.AvailFlagsUnreachable calls after state (is, none, over_same after _ state, refl)
+  acts_by h calls (Refused (device.Queue stop.DescriptorUnreachable)) after (is, none, state) =
+      refused_by h stop.DescriptorUnreachable calls after state (is, none, over_same after _ state, refl)
   acts_by h calls (Refused device.NoSuchQueue) after made = absurd made
   acts_by h calls (Exchanged x notice) after made = exchange_by h (offer s.memory s.limit q) refl calls x notice after made
 
-missing_by : {F : Type 0} (may : May F) (s : State F) (i : ℕ) (calls : Calls) (outcome : StepEnd) (after : State F) → slice_get s.queues i ≡ None →
+missing_by :
+    {F : Type 0} (may : May F) (s : State F) (i : ℕ) (calls : Calls) (outcome : StepEnd) (after : State F) → slice_get s.queues i ≡ None →
     outcome ≡ Refused device.NoSuchQueue → Unchanged s calls after → HasEffects may s i calls outcome after
 unfolding stored_all
 missing_by {F} may s i calls outcome after missing is same =
@@ -332,7 +388,8 @@ missing_by {F} may s i calls outcome after missing is same =
           (is, record { same = ap (λ (t : State F). at t s.memory) same.same; no_call = same.no_call }, refl, refl);
     }
 
-by_found : {F : Type 0} (may : May F) (s : State F) (i : ℕ) (calls : Calls) (outcome : StepEnd) (after : State F) (o : Option Queue) → slice_get s.queues i ≡ o →
+by_found : {F : Type 0} (may : May F) (s : State F) (i : ℕ) (calls : Calls) (outcome : StepEnd) (after : State F) (o : Option Queue) →
+    slice_get s.queues i ≡ o →
     StepOf may s i o calls outcome after → HasEffects may s i calls outcome after
 by_found may s i calls outcome after None there (is, same) = missing_by may s i calls outcome after there is same
 by_found may s i calls outcome after (Some q) there made = acts_by may s i q there (offer_finds s.memory s.limit q) calls outcome after made
@@ -343,7 +400,8 @@ step_is_step_by may s i calls outcome after made = by_found may s i calls outcom
 -- ---- where stores go
 
 -- what is zipped with some addresses goes there
-zipped_there : (as' xs target : List ℕ) → ((a : ℕ) → Contains as' a → Contains target a) → AllByRecursion (λ (w : ℕ × ℕ). Contains target w.0) (zip as' xs)
+zipped_there : (as' xs target : List ℕ) → ((a : ℕ) → Contains as' a → Contains target a) →
+    AllByRecursion (λ (w : ℕ × ℕ). Contains target w.0) (zip as' xs)
 zipped_there [] xs target there = tt
 zipped_there (a ∷ as') [] target there = tt
 zipped_there (a ∷ as') (x ∷ xs) target there = (
@@ -352,44 +410,56 @@ zipped_there (a ∷ as') (x ∷ xs) target there = (
       (λ b in_rest. there b (Contains-append_right (a ∷ []) as' b in_rest)),
 )
 
-both_there : (target : List ℕ) (ws vs : List (ℕ × ℕ)) → AllByRecursion (λ (w : ℕ × ℕ). Contains target w.0) ws → AllByRecursion (λ (w : ℕ × ℕ). Contains target w.0) vs →
+both_there : (target : List ℕ) (ws vs : List (ℕ × ℕ)) → AllByRecursion (λ (w : ℕ × ℕ). Contains target w.0) ws →
+    AllByRecursion (λ (w : ℕ × ℕ). Contains target w.0) vs →
     AllByRecursion (λ (w : ℕ × ℕ). Contains target w.0) (ws ++ vs)
 both_there target [] vs a b = b
 both_there target (w ∷ ws) vs a b = (a.0, both_there target ws vs a.1 b)
 
 -- the element and the index
 used_there : (q : Queue) (room : List ℕ) (head : ℕ) (reply : List ℕ) →
-    AllByRecursion (λ (w : ℕ × ℕ). Contains (room ++ addresses (element_at q) 8 ++ addresses (index_at q) 2) w.0) (flat_map writes_of (stores_after_reply q head (length reply)))
+    AllByRecursion (λ (w : ℕ × ℕ). Contains (room ++ addresses (element_at q) 8 ++ addresses (index_at q) 2) w.0)
+    (flat_map writes_of (stores_after_reply q head (length reply)))
 used_there q room head reply =
     let target : List ℕ = room ++ addresses (element_at q) 8 ++ addresses (index_at q) 2 in
     subst (AllByRecursion (λ (w : ℕ × ℕ). Contains target w.0)) (returns_by_stores q head [] reply)
     (both_there target _ _
-    (zipped_there (addresses (element_at q) 8) _ target (λ a is. Contains-append_left (room ++ addresses (element_at q) 8) (addresses (index_at q) 2) a
+    (zipped_there (addresses (element_at q) 8) _ target
+    (λ a is. Contains-append_left (room ++ addresses (element_at q) 8) (addresses (index_at q) 2) a
     (Contains-append_right room (addresses (element_at q) 8) a is)))
-    (zipped_there (addresses (index_at q) 2) _ target (λ a is. Contains-append_right (room ++ addresses (element_at q) 8) (addresses (index_at q) 2) a is)))
+    (zipped_there (addresses (index_at q) 2) _ target
+    (λ a is. Contains-append_right (room ++ addresses (element_at q) 8) (addresses (index_at q) 2) a is)))
 
 -- the reply
 reply_there : (q : Queue) (room reply : List ℕ) (n : ℕ) →
-    AllByRecursion (λ (w : ℕ × ℕ). Contains (room ++ addresses (element_at q) 8 ++ addresses (index_at q) 2) w.0) (flat_map writes_of (reply_stores room reply n))
+    AllByRecursion (λ (w : ℕ × ℕ). Contains (room ++ addresses (element_at q) 8 ++ addresses (index_at q) 2) w.0)
+    (flat_map writes_of (reply_stores room reply n))
 reply_there q room reply n =
     let target : List ℕ = room ++ addresses (element_at q) 8 ++ addresses (index_at q) 2 in
     let in_room : (a : ℕ) → Contains room a → Contains target a =
-    λ a is. Contains-append_left (room ++ addresses (element_at q) 8) (addresses (index_at q) 2) a (Contains-append_left room (addresses (element_at q) 8) a is) in
+    λ a is. Contains-append_left (room ++ addresses (element_at q) 8) (addresses (index_at q) 2) a
+    (Contains-append_left room (addresses (element_at q) 8) a is) in
     subst (AllByRecursion (λ (w : ℕ × ℕ). Contains target w.0)) (sym (reply_writes room reply n))
     (both_there target _ _
-    (zipped_there (drop n room) (drop n reply) target (λ a is. in_room a (subst (λ (l : List ℕ). Contains l a) (take-append-drop n room) (Contains-append_right (take n room) (drop n room) a is))))
-    (zipped_there (take n room) (take n reply) target (λ a is. in_room a (subst (λ (l : List ℕ). Contains l a) (take-append-drop n room) (Contains-append_left (take n room) (drop n room) a is)))))
+    (zipped_there (drop n room) (drop n reply) target (λ a is.
+    in_room a (subst (λ (l : List ℕ). Contains l a) (take-append-drop n room) (Contains-append_right (take n room) (drop n room) a is))))
+    (zipped_there (take n room) (take n reply) target (λ a is.
+    in_room a (subst (λ (l : List ℕ). Contains l a) (take-append-drop n room) (Contains-append_left (take n room) (drop n room) a is)))))
 
 return_there : (q : Queue) (head : ℕ) (room reply : List ℕ) (n : ℕ) →
-    AllByRecursion (λ (w : ℕ × ℕ). Contains (room ++ addresses (element_at q) 8 ++ addresses (index_at q) 2) w.0) (flat_map writes_of (return_stores q head room reply n))
+    AllByRecursion (λ (w : ℕ × ℕ). Contains (room ++ addresses (element_at q) 8 ++ addresses (index_at q) 2) w.0)
+    (flat_map writes_of (return_stores q head room reply n))
 return_there q head room reply n =
     let target : List ℕ = room ++ addresses (element_at q) 8 ++ addresses (index_at q) 2 in
-    subst (AllByRecursion (λ (w : ℕ × ℕ). Contains target w.0)) (sym (flat_map-append writes_of (reply_stores room reply n) (stores_after_reply q head (length reply))))
+    subst (AllByRecursion (λ (w : ℕ × ℕ). Contains target w.0))
+    (sym (flat_map-append writes_of (reply_stores room reply n) (stores_after_reply q head (length reply))))
     (both_there target _ _ (reply_there q room reply n) (used_there q room head reply))
 
 -- nothing goes anywhere
-none_there : (target : List ℕ) (acts : List Act) → acts ≡ [] → AllByRecursion (λ (w : ℕ × ℕ). Contains target w.0) (flat_map writes_of (stores_among acts))
-none_there target acts none = subst (λ (l : List Act). AllByRecursion (λ (w : ℕ × ℕ). Contains target w.0) (flat_map writes_of (stores_among l))) (sym none) tt
+none_there : (target : List ℕ) (acts : List Act) → acts ≡ [] →
+    AllByRecursion (λ (w : ℕ × ℕ). Contains target w.0) (flat_map writes_of (stores_among acts))
+none_there target acts none =
+    subst (λ (l : List Act). AllByRecursion (λ (w : ℕ × ℕ). Contains target w.0) (flat_map writes_of (stores_among l))) (sym none) tt
 
 module _ {F : Type 0} (may : May F) (s : State F) (i : ℕ) (q : Queue) (e : Effects) (after : State F) where
   abbrev There : Offer → Type 0
@@ -400,11 +470,13 @@ module _ {F : Type 0} (may : May F) (s : State F) (i : ℕ) (q : Queue) (e : Eff
 
   exchange_there : (o : Offer) (calls : Calls) (x : Exchange) (notice : Bool) → ExchangesBy may s i q o calls x notice e after → There o
   exchange_there (Offers head (CannotFetch why)) calls x notice made =
-      subst (λ (l : List Store). AllByRecursion (λ (w : ℕ × ℕ). Contains (addresses (element_at q) 8 ++ addresses (index_at q) 2) w.0) (flat_map writes_of l))
+      subst (λ (l : List Store). AllByRecursion (λ (w : ℕ × ℕ). Contains (addresses (element_at q) 8 ++ addresses (index_at q) 2) w.0)
+      (flat_map writes_of l))
       (sym (among _ made.returns.flags made.returns.acts))
       (return_there q head [] [] e.last)
   exchange_there (Offers head (IsRequest request room)) calls x notice made =
-      subst (λ (l : List Store). AllByRecursion (λ (w : ℕ × ℕ). Contains (return_addresses q (Offers head (IsRequest request room))) w.0) (flat_map writes_of l))
+      subst (λ (l : List Store). AllByRecursion (λ (w : ℕ × ℕ). Contains (return_addresses q (Offers head (IsRequest request room))) w.0)
+      (flat_map writes_of l))
       (sym (among _ made.returns.flags made.returns.acts))
       (return_there q head room made.given.reply e.last)
   exchange_there taking.Idle calls x notice made = absurd made
@@ -426,6 +498,8 @@ module _ {F : Type 0} (may : May F) (s : State F) (i : ℕ) (q : Queue) (e : Eff
 
 pub stores_only_there : {F : Type 0} (may : May F) → StoresOnlyThere may
 stores_only_there may s i l calls outcome e after q o there is made =
-    let found : StepOfBy may s i (Some q) l calls outcome e after = subst (λ (k : Option Queue). StepOfBy may s i k l calls outcome e after) there made in
-    subst (λ (k : Offer). AllByRecursion (λ (w : ℕ × ℕ). Contains (return_addresses q k) w.0) (flat_map writes_of (stores_among e.acts))) (some_same found.0 o (sym found.1 ∙ is))
+    let found : StepOfBy may s i (Some q) l calls outcome e after =
+    subst (λ (k : Option Queue). StepOfBy may s i k l calls outcome e after) there made in
+    subst (λ (k : Offer). AllByRecursion (λ (w : ℕ × ℕ). Contains (return_addresses q k) w.0) (flat_map writes_of (stores_among e.acts)))
+    (some_same found.0 o (sym found.1 ∙ is))
     (acts_there may s i q e after found.0 calls outcome found.2)

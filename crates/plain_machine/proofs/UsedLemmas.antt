@@ -1,5 +1,6 @@
 -- the used length of an exchange
-use Rattle.std.proofs.Common.{◌≡◌, ℕ, ◌≤◌, Bool, List, [], ◌∷◌, ◌++◌, length, suc, Option, Some, None, refl, ap, sym, ◌∙◌, subst, arith, append_assoc}
+use Rattle.std.proofs.Common.{◌≡◌, ℕ, ◌≤◌, Bool, List, [], ◌∷◌, ◌++◌, length, suc, Option, Some, None, refl, ap, sym, ◌∙◌, subst, arith}
+use Rattle.std.proofs.Common.{append_assoc}
 use Rattle.std.specs.Prelude.{slice_get, zip}
 use Rattle.vm_memory.specs.Memory.{Memory, stored_all}
 use Rattle.fs_queue.specs.Queue.{Queue}
@@ -29,13 +30,17 @@ no_byte [] e = refl
 no_byte (y ∷ ys) e = absurd (omega (arith, e))
 
 -- what is written, in two parts
-in_two : (q : Queue) (head : ℕ) (room reply : List ℕ) → writes q head room reply ≡ reply_writes room reply ++ ring_writes q head (length reply)
+in_two :
+    (q : Queue) (head : ℕ) (room reply : List ℕ) → writes q head room reply ≡ reply_writes room reply ++ ring_writes q head (length reply)
 in_two q head room reply = append_assoc (zip room reply) _ _
 
-tells : (m : Memory) (q : Queue) (head : ℕ) (room reply : List ℕ) (after : Memory) → after ≡ returned m q head room reply → length reply ≤ length room → IsHeaded reply →
+tells : (m : Memory) (q : Queue) (head : ℕ) (room reply : List ℕ) (after : Memory) → after ≡ returned m q head room reply →
+    length reply ≤ length room → IsHeaded reply →
     TellsLength m q head room reply (length reply) after
 tells m q head room reply after is fits headed =
-    let written : after ≡ stored_all m (reply_writes room reply ++ ring_writes q head (length reply)) = is ∙ ap (stored_all m) (in_two q head room reply) in record {
+    let written : after ≡ stored_all m (reply_writes room reply ++ ring_writes q head (length reply)) =
+    is ∙ ap (stored_all m) (in_two q head room reply) in
+    record {
       written = written;
       count = zip_count room reply fits;
       header = headed;
@@ -49,17 +54,21 @@ tells m q head room reply after is fits headed =
 
 -- it is offered
 abbrev pub OffersAndExchanges : {F : Type 0} → May F → State F → ℕ → Calls → Exchange → Bool → State F → Type 0
-OffersAndExchanges may s i calls x notice after = (o : IsOffered s i x) × Exchanges may s i o.queue (Offers x.head o.fetched) calls x notice after
+OffersAndExchanges may s i calls x notice after =
+    (o : IsOffered s i x) × Exchanges may s i o.queue (Offers x.head o.fetched) calls x notice after
 
-by_head : {F : Type 0} (may : May F) (s : State F) (i : ℕ) (q : Queue) (head : ℕ) (fetched : RequestAndRoom) (calls : Calls) (x : Exchange) (notice : Bool)
+by_head : {F : Type 0} (may : May F) (s : State F) (i : ℕ) (q : Queue) (head : ℕ) (fetched : RequestAndRoom) (calls : Calls) (x : Exchange)
+    (notice : Bool)
     (after : State F) → slice_get s.queues i ≡ Some q →
-    offer s.memory s.limit q ≡ Offers head fetched → x.head ≡ head → Exchanges may s i q (Offers head fetched) calls x notice after → OffersAndExchanges may s i calls x notice after
+    offer s.memory s.limit q ≡ Offers head fetched → x.head ≡ head → Exchanges may s i q (Offers head fetched) calls x notice after →
+    OffersAndExchanges may s i calls x notice after
 by_head may s i q head fetched calls x notice after there is same r = (
   record { queue = q; fetched = fetched; there = there; offered = is ∙ ap (λ (h : ℕ). Offers h fetched) (sym same) },
   subst (λ (h : ℕ). Exchanges may s i q (Offers h fetched) calls x notice after) (sym same) r,
 )
 
-by_offer : {F : Type 0} (may : May F) (s : State F) (i : ℕ) (q : Queue) (o : Offer) (calls : Calls) (x : Exchange) (notice : Bool) (after : State F) → slice_get s.queues i ≡ Some q →
+by_offer : {F : Type 0} (may : May F) (s : State F) (i : ℕ) (q : Queue) (o : Offer) (calls : Calls) (x : Exchange) (notice : Bool)
+    (after : State F) → slice_get s.queues i ≡ Some q →
     offer s.memory s.limit q ≡ o → Exchanges may s i q o calls x notice after → OffersAndExchanges may s i calls x notice after
 by_offer may s i q taking.Idle calls x notice after there is r = absurd r
 by_offer may s i q (Refuses e) calls x notice after there is r = absurd r
@@ -68,36 +77,47 @@ by_offer may s i q (Offers head (CannotFetch why)) calls x notice after there is
 by_offer may s i q (Offers head (IsRequest request room)) calls x notice after there is r =
     by_head may s i q head (IsRequest request room) calls x notice after there is (ap (λ (e : Exchange). e.head) r.returns.exchange) r
 
-by_queue : {F : Type 0} (may : May F) (s : State F) (i : ℕ) (o : Option Queue) (calls : Calls) (x : Exchange) (notice : Bool) (after : State F) → slice_get s.queues i ≡ o →
+by_queue : {F : Type 0} (may : May F) (s : State F) (i : ℕ) (o : Option Queue) (calls : Calls) (x : Exchange) (notice : Bool)
+    (after : State F) → slice_get s.queues i ≡ o →
     StepOf may s i o calls (Exchanged x notice) after → OffersAndExchanges may s i calls x notice after
 by_queue may s i None calls x notice after there t = absurd (cc)
 by_queue may s i (Some q) calls x notice after there t = by_offer may s i q (offer s.memory s.limit q) calls x notice after there refl t
 
 -- a step that exchanges a chain has it of its queue
-pub step_offers : {F : Type 0} (may : May F) (s after : State F) (i : ℕ) (calls : Calls) (x : Exchange) (notice : Bool) → Step may s i calls (Exchanged x notice) after →
+pub step_offers : {F : Type 0} (may : May F) (s after : State F) (i : ℕ) (calls : Calls) (x : Exchange) (notice : Bool) →
+    Step may s i calls (Exchanged x notice) after →
     OffersAndExchanges may s i calls x notice after
 step_offers may s after i calls x notice step = by_queue may s i (slice_get s.queues i) calls x notice after refl step
 
 -- what is left of the memory
-pub exchange_returns : {F : Type 0} (may : May F) (s : State F) (i : ℕ) (q : Queue) (head : ℕ) (fetched : RequestAndRoom) (calls : Calls) (x : Exchange) (notice : Bool) (after : State F) →
+pub exchange_returns : {F : Type 0} (may : May F) (s : State F) (i : ℕ) (q : Queue) (head : ℕ) (fetched : RequestAndRoom) (calls : Calls)
+    (x : Exchange) (notice : Bool) (after : State F) →
     Exchanges may s i q (Offers head fetched) calls x notice after → after.memory ≡ returned s.memory q head (room_of fetched) x.reply
 exchange_returns {F} may s i q head (CannotFetch why) calls x notice after r =
-    ap (λ (t : State F). t.memory) r.returns.state ∙ ap (returned s.memory q head []) (sym (ap (λ (e : Exchange). e.reply) r.returns.exchange))
+    ap (λ (t : State F). t.memory) r.returns.state
+    ∙ ap (returned s.memory q head []) (sym (ap (λ (e : Exchange). e.reply) r.returns.exchange))
 exchange_returns {F} may s i q head (IsRequest request room) calls x notice after r =
-    ap (λ (t : State F). t.memory) r.returns.state ∙ ap (returned s.memory q head room) (sym (ap (λ (e : Exchange). e.reply) r.returns.exchange))
+    ap (λ (t : State F). t.memory) r.returns.state
+    ∙ ap (returned s.memory q head room) (sym (ap (λ (e : Exchange). e.reply) r.returns.exchange))
 
 -- a reply begins with its header and has room
-exchange_told : {F : Type 0} (may : May F) (s : State F) (i : ℕ) (q : Queue) (head : ℕ) (fetched : RequestAndRoom) (calls : Calls) (x : Exchange) (notice : Bool) (after : State F) →
+exchange_told : {F : Type 0} (may : May F) (s : State F) (i : ℕ) (q : Queue) (head : ℕ) (fetched : RequestAndRoom) (calls : Calls)
+    (x : Exchange) (notice : Bool) (after : State F) →
     Exchanges may s i q (Offers head fetched) calls x notice after → IsHeaded x.reply × (length x.reply ≤ length (room_of fetched))
 exchange_told may s i q head (CannotFetch why) calls x notice after r =
-    subst (λ (bytes : List ℕ). IsHeaded bytes × (length bytes ≤ 0)) (sym (ap (λ (e : Exchange). e.reply) r.returns.exchange)) ((λ some. absurd (omega (arith, some))), omega arith)
+    subst (λ (bytes : List ℕ). IsHeaded bytes × (length bytes ≤ 0)) (sym (ap (λ (e : Exchange). e.reply) r.returns.exchange))
+    ((λ some. absurd (omega (arith, some))), omega arith)
 exchange_told may s i q head (IsRequest request room) calls x notice after r =
-    subst (λ (bytes : List ℕ). IsHeaded bytes × (length bytes ≤ length room)) (sym (ap (λ (e : Exchange). e.reply) r.returns.exchange ∙ ap (λ g. g.reply) r.serves.gives))
+    subst (λ (bytes : List ℕ). IsHeaded bytes × (length bytes ≤ length room))
+    (sym (ap (λ (e : Exchange). e.reply) r.returns.exchange ∙ ap (λ g. g.reply) r.serves.gives))
     (reply_told (setting s.page_size s.options (length room)) s.options (length room) request (answers_alone calls))
 
 pub lengths_are_told : {F : Type 0} (may : May F) → LengthsAreTold may
 lengths_are_told may s after i calls x notice step =
     let found = step_offers may s after i calls x notice step in
     let o = found.0 in
-    let told = exchange_told may s i o.queue x.head o.fetched calls x notice after found.1 in
-    (o, tells s.memory o.queue x.head (room_of o.fetched) x.reply after.memory (exchange_returns may s i o.queue x.head o.fetched calls x notice after found.1) told.1 told.0)
+    let told = exchange_told may s i o.queue x.head o.fetched calls x notice after found.1 in (
+      o,
+      tells s.memory o.queue x.head (room_of o.fetched) x.reply after.memory
+          (exchange_returns may s i o.queue x.head o.fetched calls x notice after found.1) told.1 told.0,
+    )

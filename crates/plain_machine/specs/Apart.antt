@@ -13,7 +13,8 @@ abbrev pub Apart : (first second : List Place) → Type 0
 Apart [] qs = Unit {0}
 Apart (p ∷ ps) qs = IsApart p qs × Apart ps qs
 
--- whether windows are of different blocks, or one of them begins where the other has ended or further on: where both have a byte, they are apart if
--- they are so, and only then
+-- whether windows are of different blocks, or one of them begins where the other has ended or further on:
+-- where both have a byte, they are apart if they are so, and only then
 abbrev pub are_apart : (first second : Window) → Bool
-are_apart w v = not (w.block == v.block) || (nat_le (w.offset + w.len) v.offset || nat_le (v.offset + v.len) w.offset)
+are_apart w v =
+    not (w.block == v.block) || (nat_le (w.offset + w.len) v.offset || nat_le (v.offset + v.len) w.offset)

@@ -1,4 +1,5 @@
--- Worked examples that compute: one region from 0 to 0x10000, and a queue of four descriptors, its table at 0, its rings at 0x100 and 0x200.
+-- Worked examples that compute: one region from 0 to 0x10000, and a queue of four descriptors, its table at
+-- 0, its rings at 0x100 and 0x200.
 use Rattle.std.specs.Prelude.{◌≡◌, ℕ, true, false, List, [], ◌∷◌, ◌++◌, length, refl, None}
 use Rattle.std.specs.List.{zip}
 use Rattle.vm_memory_core.specs.Host.{new_block}
@@ -21,7 +22,9 @@ use Rattle.plain_machine.specs.Step.{State, Exchange, Refused, Exchanged, Step, 
 
 -- 64 KiB of zeros from address 0 on
 abbrev pub blank : Memory
-blank = memory_of (record { blocks = new_block 0x10000 ∷ []; tables = []; io_marks = [] }) (record { start = 0; size = 0x10000; block = 0 } ∷ [])
+blank =
+    memory_of (record { blocks = new_block 0x10000 ∷ []; tables = []; io_marks = [] })
+    (record { start = 0; size = 0x10000; block = 0 } ∷ [])
 
 -- four descriptors, none of them taken so far
 abbrev pub queue : Queue
@@ -61,11 +64,13 @@ unfolding offer place addresses stored_all path found
 one_request = refl
 
 -- a descriptor that leads to itself
-too_long : gives (put with_one_request 0 (descriptor_bytes 0x1000 40 1 0)) ≡ Offers 0 (CannotFetch chain_fault.TooLong)
+too_long : gives (put with_one_request 0 (descriptor_bytes 0x1000 40 1 0))
+    ≡ Offers 0 (CannotFetch chain_fault.TooLong)
 unfolding offer place addresses stored_all path found
 too_long = refl
 
-next_past_table : gives (put with_one_request 0 (descriptor_bytes 0x1000 40 1 4)) ≡ Offers 0 (CannotFetch chain_fault.NextOutOfTable)
+next_past_table : gives (put with_one_request 0 (descriptor_bytes 0x1000 40 1 4))
+    ≡ Offers 0 (CannotFetch chain_fault.NextOutOfTable)
 unfolding offer place addresses stored_all path found
 next_past_table = refl
 
@@ -77,19 +82,23 @@ head_past_table : gives (put with_one_request 0x104 (le16 4)) ≡ Refuses queue_
 unfolding offer place addresses stored_all path found
 head_past_table = refl
 
-past_64_bits : gives (put with_one_request 0 (descriptor_bytes 0xfffffffffffffff8 8 1 1)) ≡ Offers 0 (CannotFetch chain_fault.AddressOverflow)
+past_64_bits : gives (put with_one_request 0 (descriptor_bytes 0xfffffffffffffff8 8 1 1))
+    ≡ Offers 0 (CannotFetch chain_fault.AddressOverflow)
 unfolding offer place addresses stored_all path found
 past_64_bits = refl
 
-over_limit : gives (put with_one_request 0 (descriptor_bytes 0x1000 0x101001 1 1)) ≡ Offers 0 (CannotFetch chain_fault.OverLimit)
+over_limit : gives (put with_one_request 0 (descriptor_bytes 0x1000 0x101001 1 1))
+    ≡ Offers 0 (CannotFetch chain_fault.OverLimit)
 unfolding offer place addresses stored_all path found
 over_limit = refl
 
-request_far_away : gives (put with_one_request 0 (descriptor_bytes 0xfff0 40 1 1)) ≡ Offers 0 (CannotFetch chain_fault.RequestUnreachable)
+request_far_away : gives (put with_one_request 0 (descriptor_bytes 0xfff0 40 1 1))
+    ≡ Offers 0 (CannotFetch chain_fault.RequestUnreachable)
 unfolding offer place addresses stored_all path found
 request_far_away = refl
 
-room_far_away : gives (put with_one_request 16 (descriptor_bytes 0x20000 16 2 0)) ≡ Offers 0 (CannotFetch chain_fault.RoomUnreachable)
+room_far_away : gives (put with_one_request 16 (descriptor_bytes 0x20000 16 2 0))
+    ≡ Offers 0 (CannotFetch chain_fault.RoomUnreachable)
 unfolding offer place addresses stored_all path found
 room_far_away = refl
 
@@ -107,46 +116,56 @@ unfolding offer place addresses stored_all path found
 by_table = refl
 
 -- that the descriptor is one to write says nothing
-by_table_to_write : gives (put with_descriptors 0 (descriptor_bytes 0x3000 32 6 0)) ≡ Offers 0 (IsRequest request (addresses 0x2000 16))
+by_table_to_write : gives (put with_descriptors 0 (descriptor_bytes 0x3000 32 6 0))
+    ≡ Offers 0 (IsRequest request (addresses 0x2000 16))
 unfolding offer place addresses stored_all path found
 by_table_to_write = refl
 
 -- descriptors of the queue come first, and the one that names the table is the last of these
-after_own : gives (put (put with_descriptors 0 (descriptor_bytes 0x1000 40 1 1 ++ descriptor_bytes 0x3010 16 4 0)) 0x3010 (descriptor_bytes 0x2000 16 2 0)) ≡ Offers 0
+after_own : gives (put (put with_descriptors 0 (descriptor_bytes 0x1000 40 1 1
+    ++ descriptor_bytes 0x3010 16 4 0)) 0x3010 (descriptor_bytes 0x2000 16 2 0)) ≡ Offers 0
     (IsRequest request (addresses 0x2000 16))
 unfolding offer place addresses stored_all path found
 after_own = refl
 
-table_with_next : gives (put with_descriptors 0 (descriptor_bytes 0x3000 32 5 1)) ≡ Offers 0 (CannotFetch chain_fault.IndirectWithNext)
+table_with_next : gives (put with_descriptors 0 (descriptor_bytes 0x3000 32 5 1))
+    ≡ Offers 0 (CannotFetch chain_fault.IndirectWithNext)
 unfolding offer place addresses stored_all path found
 table_with_next = refl
 
-table_in_table : gives (put with_descriptors 0x3000 (descriptor_bytes 0x3000 32 4 0)) ≡ Offers 0 (CannotFetch chain_fault.IndirectNested)
+table_in_table : gives (put with_descriptors 0x3000 (descriptor_bytes 0x3000 32 4 0))
+    ≡ Offers 0 (CannotFetch chain_fault.IndirectNested)
 unfolding offer place addresses stored_all path found
 table_in_table = refl
 
-table_of_no_entry : gives (put with_descriptors 0 (descriptor_bytes 0x3000 0 4 0)) ≡ Offers 0 (CannotFetch chain_fault.IndirectLength)
+table_of_no_entry : gives (put with_descriptors 0 (descriptor_bytes 0x3000 0 4 0))
+    ≡ Offers 0 (CannotFetch chain_fault.IndirectLength)
 unfolding offer place addresses stored_all path found
 table_of_no_entry = refl
 
-table_of_half_entries : gives (put with_descriptors 0 (descriptor_bytes 0x3000 40 4 0)) ≡ Offers 0 (CannotFetch chain_fault.IndirectLength)
+table_of_half_entries : gives (put with_descriptors 0 (descriptor_bytes 0x3000 40 4 0))
+    ≡ Offers 0 (CannotFetch chain_fault.IndirectLength)
 unfolding offer place addresses stored_all path found
 table_of_half_entries = refl
 
-table_past_64_bits : gives (put with_descriptors 0 (descriptor_bytes 0xfffffffffffffff0 16 4 0)) ≡ Offers 0 (CannotFetch chain_fault.AddressOverflow)
+table_past_64_bits : gives (put with_descriptors 0 (descriptor_bytes 0xfffffffffffffff0 16 4 0))
+    ≡ Offers 0 (CannotFetch chain_fault.AddressOverflow)
 unfolding offer place addresses stored_all path found
 table_past_64_bits = refl
 
-table_far_away : gives (put with_descriptors 0 (descriptor_bytes 0x20000 32 4 0)) ≡ Offers 0 (CannotFetch chain_fault.TableUnreachable)
+table_far_away : gives (put with_descriptors 0 (descriptor_bytes 0x20000 32 4 0))
+    ≡ Offers 0 (CannotFetch chain_fault.TableUnreachable)
 unfolding offer place addresses stored_all path found
 table_far_away = refl
 
-next_past_named_table : gives (put with_descriptors 0x3000 (descriptor_bytes 0x1000 40 1 2)) ≡ Offers 0 (CannotFetch chain_fault.NextOutOfTable)
+next_past_named_table : gives (put with_descriptors 0x3000 (descriptor_bytes 0x1000 40 1 2))
+    ≡ Offers 0 (CannotFetch chain_fault.NextOutOfTable)
 unfolding offer place addresses stored_all path found
 next_past_named_table = refl
 
 -- a descriptor of a table that leads to itself
-loop_in_table : gives (put with_descriptors 0x3000 (descriptor_bytes 0x1000 40 1 0)) ≡ Offers 0 (CannotFetch chain_fault.TooLong)
+loop_in_table : gives (put with_descriptors 0x3000 (descriptor_bytes 0x1000 40 1 0))
+    ≡ Offers 0 (CannotFetch chain_fault.TooLong)
 unfolding offer place addresses stored_all path found
 loop_in_table = refl
 
@@ -156,7 +175,8 @@ unknown : meaning 0 request 16 ≡ Replies (0x10 ∷ 0 ∷ 0 ∷ 0 ∷ 0xda ∷ 
 unfolding meaning reading_of meant error_bytes fields.field_bytes
 unknown = refl
 
-too_great_a_length : meaning 0 (in_header_bytes 0x101001 7 1 0) 16 ≡ Replies (0x10 ∷ 0 ∷ 0 ∷ 0 ∷ 0xf4 ∷ 0xff ∷ 0xff ∷ 0xff ∷ 1 ∷ zeros 7)
+too_great_a_length : meaning 0 (in_header_bytes 0x101001 7 1 0) 16
+    ≡ Replies (0x10 ∷ 0 ∷ 0 ∷ 0 ∷ 0xf4 ∷ 0xff ∷ 0xff ∷ 0xff ∷ 1 ∷ zeros 7)
 unfolding meaning reading_of meant error_bytes fields.field_bytes
 too_great_a_length = refl
 
@@ -176,7 +196,8 @@ may before call answer after = ⊥
 
 -- a device of one queue over a memory
 abbrev pub device : Memory → Queue → State Nothing
-device m q = record { memory = m; queues = q ∷ []; options = 0; files = tt; limit = 0x101000; page_size = 4096 }
+device m q =
+    record { memory = m; queues = q ∷ []; options = 0; files = tt; limit = 0x101000; page_size = 4096 }
 
 -- struct fuse_out_header with ENOSYS
 abbrev pub unknown_reply : List ℕ
@@ -191,7 +212,8 @@ abbrev pub after_reply : Memory → Queue → State Nothing
 after_reply m q = after_return (device m q) 0 q 0 (addresses 0x2000 16) unknown_reply 0 tt
 
 -- the chain is taken, answered and given back, and the driver is told
-pub one_step : Step may (device with_one_request queue) 0 [] (Exchanged unknown_exchange true) (after_reply with_one_request queue)
+pub one_step : Step may (device with_one_request queue) 0 [] (Exchanged unknown_exchange true)
+    (after_reply with_one_request queue)
 unfolding offer place addresses stored_all path found meaning reading_of meant error_bytes fields.field_bytes
 one_step = record {
   given = record { calls = []; options = 0; reply = unknown_reply; fault = None };
@@ -204,12 +226,14 @@ reply_stands : bytes (after_reply with_one_request queue).memory 0x2000 16 ≡ u
 unfolding offer place addresses stored_all path found
 reply_stands = refl
 
-element_stands : bytes (after_reply with_one_request queue).memory 0x202 10 ≡ 1 ∷ 0 ∷ 0 ∷ 0 ∷ 0 ∷ 0 ∷ 0x10 ∷ 0 ∷ 0 ∷ 0 ∷ []
+element_stands :
+    bytes (after_reply with_one_request queue).memory 0x202 10 ≡ 1 ∷ 0 ∷ 0 ∷ 0 ∷ 0 ∷ 0 ∷ 0x10 ∷ 0 ∷ 0 ∷ 0 ∷ []
 unfolding offer place addresses stored_all path found
 element_stands = refl
 
 -- the driver asks not to be told
-not_told : Step may (device (put with_one_request 0x100 (le16 1)) queue) 0 [] (Exchanged unknown_exchange false) (after_reply (put with_one_request 0x100 (le16 1)) queue)
+not_told : Step may (device (put with_one_request 0x100 (le16 1)) queue) 0 []
+    (Exchanged unknown_exchange false) (after_reply (put with_one_request 0x100 (le16 1)) queue)
 unfolding offer place addresses stored_all path found meaning reading_of meant error_bytes fields.field_bytes
 not_told = record {
   given = record { calls = []; options = 0; reply = unknown_reply; fault = None };
@@ -218,10 +242,12 @@ not_told = record {
 }
 
 -- a queue that is told of too many chains stops
-far_stops : Step may (device (put with_one_request 0x102 (le16 5)) queue) 0 [] (Refused (device_error.Queue queue_error.AvailTooFar)) (device (put with_one_request 0x102 (le16 5)) (with_stop queue))
+far_stops : Step may (device (put with_one_request 0x102 (le16 5)) queue) 0 [] (Refused (device_error.Queue
+    queue_error.AvailTooFar)) (device (put with_one_request 0x102 (le16 5)) (with_stop queue))
 unfolding offer place addresses stored_all path found
 far_stops = (refl, refl, refl)
 
-no_queue : Step may (device with_one_request queue) 1 [] (Refused device_error.NoSuchQueue) (device with_one_request queue)
+no_queue : Step may (device with_one_request queue) 1 [] (Refused device_error.NoSuchQueue)
+    (device with_one_request queue)
 unfolding offer
 no_queue = (refl, record { same = refl; no_call = refl })

@@ -1,4 +1,5 @@
--- A step told by loads and stores, worked out: a request of an opcode that no request has, with a room of 16 bytes.
+-- A step told by loads and stores, worked out: a request of an opcode that no request has, with a room of 16
+-- bytes.
 use Rattle.std.specs.Prelude.{◌≡◌, ℕ, true, List, [], ◌∷◌, ◌++◌, Option, Some, None, refl}
 use Rattle.std.proofs.Common.{inl}
 use Rattle.vm_memory.specs.Layout.{place}
@@ -16,8 +17,11 @@ use Rattle.server_requests.specs.Reading.{reading_of}
 use Rattle.virtiofsd_fuse.specs.Grammar.{meaning, meant}
 use Rattle.plain_machine.specs.declared.error.DeviceError.TheVariants as device_error
 use Rattle.plain_machine.specs.Step.{Exchanged, Refused}
-use Rattle.plain_machine.specs.Examples.{blank, descriptor_bytes, device, may, queue, request, unknown_exchange, unknown_reply}
-use Rattle.plain_machine.specs.StepBy.{StepBy, StepLoads, Effects, offered_by, byte_store, return_stores, Stores, LoadsFlags, return_acts, FindFlags, MayStoreLast, return_addresses, stores_among}
+use Rattle.plain_machine.specs.Examples.{blank, descriptor_bytes, device, may, queue, request}
+use Rattle.plain_machine.specs.Examples.{unknown_exchange, unknown_reply}
+use Rattle.plain_machine.specs.StepBy.{StepBy, StepLoads, Effects, offered_by, byte_store, return_stores}
+use Rattle.plain_machine.specs.StepBy.{Stores, LoadsFlags, return_acts, FindFlags, MayStoreLast}
+use Rattle.plain_machine.specs.StepBy.{return_addresses, stores_among}
 
 -- an entry of the table at 0
 abbrev entry : (index : ℕ) → List ℕ → Load
@@ -25,7 +29,8 @@ entry index bytes = record { address = index; came = Some bytes }
 
 -- what is loaded, by these entries of the table
 abbrev loads_with : List Load → StepLoads
-loads_with entries = record { index = Some (le16 1); entry = Some (le16 0); entries = entries; request = request }
+loads_with entries =
+    record { index = Some (le16 1); entry = Some (le16 0); entries = entries; request = request }
 
 -- 40 bytes of request, 16 bytes of room
 abbrev loads : StepLoads
@@ -36,7 +41,8 @@ offered : offered_by blank 0x101000 queue loads ≡ Some (Offers 0 (IsRequest re
 unfolding place addresses stored_all found_exactly
 offered = refl
 
--- entries that change while they are walked: the first was loaded with another next the second time; no request is loaded then
+-- entries that change while they are walked: the first was loaded with another next the second time; no
+-- request is loaded then
 changing : offered_by blank 0x101000 queue (record {
   index = Some (le16 1);
   entry = Some (le16 0);
@@ -48,41 +54,51 @@ unfolding place addresses stored_all found_exactly
 changing = refl
 
 -- too few loads tell nothing
-cut_short : offered_by blank 0x101000 queue (loads_with (entry 0 (descriptor_bytes 0x1000 40 1 1) ∷ [])) ≡ None
+cut_short :
+    offered_by blank 0x101000 queue (loads_with (entry 0 (descriptor_bytes 0x1000 40 1 1) ∷ [])) ≡ None
 unfolding place addresses stored_all found_exactly
 cut_short = refl
 
 -- an index that is too far ahead, after which nothing is loaded
-too_far : offered_by blank 0x101000 queue (record { index = Some (le16 5); entry = None; entries = []; request = [] }) ≡ Some (Refuses queue_error.AvailTooFar)
+too_far : offered_by blank 0x101000 queue
+    (record { index = Some (le16 5); entry = None; entries = []; request = [] })
+    ≡ Some (Refuses queue_error.AvailTooFar)
 unfolding place addresses stored_all found_exactly
 too_far = refl
 
 -- a reply of 4 bytes of which 2 are stored last: the data, the header, the element's halves, the index
 returned_in_order : return_stores queue 0 (0x2000 ∷ 0x2001 ∷ 0x3000 ∷ 0x3001 ∷ []) (1 ∷ 2 ∷ 3 ∷ 4 ∷ []) 2
     ≡ byte_store (0x3000, 3) ∷ byte_store (0x3001, 4) ∷ byte_store (0x2000, 1) ∷ byte_store (0x2001, 2)
-    ∷ record { address = 0x204; bytes = le32 0 } ∷ record { address = 0x208; bytes = le32 4 } ∷ record { address = 0x202; bytes = le16 1 } ∷ []
+    ∷ record { address = 0x204; bytes = le32 0 } ∷ record { address = 0x208; bytes = le32 4 }
+    ∷ record { address = 0x202; bytes = le16 1 } ∷ []
 returned_in_order = refl
 
 -- its flags are loaded behind all of them
-flags_behind : return_acts (record { address = 0x202; bytes = le16 1 } ∷ []) (le16 1) ≡ Stores (record { address = 0x202; bytes = le16 1 }) ∷ LoadsFlags (le16 1) ∷ []
+flags_behind : return_acts (record { address = 0x202; bytes = le16 1 } ∷ []) (le16 1)
+    ≡ Stores (record { address = 0x202; bytes = le16 1 }) ∷ LoadsFlags (le16 1) ∷ []
 flags_behind = refl
 
--- flags that a store wrote are found so behind it, and as they were before it (a ring at 0x100, whose flags are at 0x100)
-flags_as_stored : FindFlags blank queue (LoadsFlags (le16 0) ∷ Stores (record { address = 0x100; bytes = le16 1 }) ∷ LoadsFlags (le16 1) ∷ [])
+-- flags that a store wrote are found so behind it, and as they were before it (a ring at 0x100, whose flags
+-- are at 0x100)
+flags_as_stored : FindFlags blank queue
+    (LoadsFlags (le16 0) ∷ Stores (record { address = 0x100; bytes = le16 1 }) ∷ LoadsFlags (le16 1) ∷ [])
 unfolding place addresses stored_all
 flags_as_stored = (refl, (refl, tt))
 
 -- a load of the flags is no store
-stores_alone : stores_among (LoadsFlags (le16 0) ∷ Stores (byte_store (0x2000, 7)) ∷ LoadsFlags (le16 1) ∷ Stores (byte_store (0x2001, 8)) ∷ []) ≡ byte_store (0x2000, 7) ∷ byte_store (0x2001, 8) ∷ []
+stores_alone : stores_among (LoadsFlags (le16 0) ∷ Stores (byte_store (0x2000, 7)) ∷ LoadsFlags (le16 1)
+    ∷ Stores (byte_store (0x2001, 8)) ∷ []) ≡ byte_store (0x2000, 7) ∷ byte_store (0x2001, 8) ∷ []
 stores_alone = refl
 
 -- a chain that goes back is stored in its room, and then in the used element and the used index
-return_with_room : return_addresses queue (Offers 0 (IsRequest [] (0x2000 ∷ 0x2001 ∷ []))) ≡ 0x2000 ∷ 0x2001 ∷ 0x204 ∷ 0x205 ∷ 0x206 ∷ 0x207 ∷ 0x208 ∷ 0x209 ∷ 0x20a ∷ 0x20b ∷ 0x202 ∷ 0x203 ∷ []
+return_with_room : return_addresses queue (Offers 0 (IsRequest [] (0x2000 ∷ 0x2001 ∷ [])))
+    ≡ 0x2000 ∷ 0x2001 ∷ 0x204 ∷ 0x205 ∷ 0x206 ∷ 0x207 ∷ 0x208 ∷ 0x209 ∷ 0x20a ∷ 0x20b ∷ 0x202 ∷ 0x203 ∷ []
 unfolding addresses
 return_with_room = refl
 
 -- a faulty one has no room
-return_without_room : return_addresses queue (Offers 0 (CannotFetch chain_fault.TooLong)) ≡ 0x204 ∷ 0x205 ∷ 0x206 ∷ 0x207 ∷ 0x208 ∷ 0x209 ∷ 0x20a ∷ 0x20b ∷ 0x202 ∷ 0x203 ∷ []
+return_without_room : return_addresses queue (Offers 0 (CannotFetch chain_fault.TooLong))
+    ≡ 0x204 ∷ 0x205 ∷ 0x206 ∷ 0x207 ∷ 0x208 ∷ 0x209 ∷ 0x20a ∷ 0x20b ∷ 0x202 ∷ 0x203 ∷ []
 unfolding addresses
 return_without_room = refl
 
@@ -94,11 +110,17 @@ nothing_goes_back = refl
 none_last : MayStoreLast blank (0x2000 ∷ 0x2000 ∷ []) 0
 none_last = inl refl
 
--- a whole step by these loads: the reply to the unknown request, the element and the index are stored, and then the flags say that the driver is told
+-- a whole step by these loads: the reply to the unknown request, the element and the index are stored, and
+-- then the flags say that the driver is told
 abbrev stored_in_order : Effects
-stored_in_order = record { acts = return_acts (return_stores queue 0 (addresses 0x2000 16) unknown_reply 0) (le16 0); last = 0 }
+stored_in_order =
+    record {
+      acts = return_acts (return_stores queue 0 (addresses 0x2000 16) unknown_reply 0) (le16 0);
+      last = 0;
+    }
 
-step_by_loads : StepBy may (device blank queue) 0 loads [] (Exchanged unknown_exchange true) stored_in_order (record (device blank queue) { queues = advanced queue ∷ [] })
+step_by_loads : StepBy may (device blank queue) 0 loads [] (Exchanged unknown_exchange true) stored_in_order
+    (record (device blank queue) { queues = advanced queue ∷ [] })
 unfolding place addresses stored_all found_exactly meaning reading_of meant error_bytes fields.field_bytes
 step_by_loads = (
   Offers 0 (IsRequest request (addresses 0x2000 16)),
@@ -106,12 +128,15 @@ step_by_loads = (
   record {
     given = record { calls = []; options = 0; reply = unknown_reply; fault = None };
     serves = record { gives = refl; asks = refl; run = refl };
-    returns = record { exchange = refl; flags = le16 0; flags_len = refl; acts = refl; state = refl; told = refl };
+    returns =
+        record { exchange = refl; flags = le16 0; flags_len = refl; acts = refl; state = refl; told = refl };
   },
 )
 
 -- one that is refused stores nothing and loads no flags
-step_stops : StepBy may (device blank queue) 0 (record { index = Some (le16 5); entry = None; entries = []; request = [] }) [] (Refused (device_error.Queue queue_error.AvailTooFar))
+step_stops : StepBy may (device blank queue) 0
+    (record { index = Some (le16 5); entry = None; entries = []; request = [] }) []
+    (Refused (device_error.Queue queue_error.AvailTooFar))
     (record { acts = []; last = 0 }) (device blank (with_stop queue))
 unfolding place addresses stored_all found_exactly
 step_stops = (Refuses queue_error.AvailTooFar, too_far, (refl, refl, refl, refl))

@@ -4,7 +4,8 @@ use Rattle.vm_memory_core.specs.Host.{Host, Place, shape}
 use Rattle.vm_memory_core.specs.Window.{Stores}
 
 -- these bytes were stored at the first places of a room, in order, and the places that follow are left of it
-pub record Fills (old : Host) (room : List Place) (bytes : List ℕ) (new : Host) (rest : List Place) : Type 0 where
+pub record Fills (old : Host) (room : List Place) (bytes : List ℕ) (new : Host) (rest : List Place) :
+    Type 0 where
   pub stored : Stores old new room bytes
   pub left : rest ≡ drop (length bytes) room
   pub fits : length bytes ≤ length room

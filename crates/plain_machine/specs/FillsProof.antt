@@ -1,5 +1,7 @@
--- A proof: a room that is filled part by part. It stands here since `RoomWriter` cites it, and nothing in it has to be believed.
-use Rattle.std.proofs.Common.{◌≡◌, ℕ, zero, suc, ◌≤◌, List, [], ◌∷◌, ◌++◌, length, take, drop, refl, sym, ap, ◌∙◌, arith, length-append}
+-- A proof: a room that is filled part by part. It stands here since `RoomWriter` cites it, and nothing in it
+-- has to be believed.
+use Rattle.std.proofs.Common.{◌≡◌, ℕ, zero, suc, ◌≤◌, List, [], ◌∷◌, ◌++◌, length, take, drop, refl, sym, ap}
+use Rattle.std.proofs.Common.{◌∙◌, arith, length-append}
 use Rattle.std.specs.List.{zip}
 use Rattle.std.proofs.lemmas.List.{take_at, drop_at, drop-drop, length-drop, length-take-le, take-append-drop}
 use Rattle.vm_memory_core.specs.Host.{Host, Place}
@@ -12,7 +14,8 @@ zip_nothing [] = refl
 zip_nothing (p ∷ ps) = refl
 
 -- a list of bytes cut in two
-pub zip-both : (ps : List Place) (xs ys : List ℕ) → length xs ≤ length ps → zip ps (xs ++ ys) ≡ zip (take (length xs) ps) xs ++ zip (drop (length xs) ps) ys
+pub zip-both : (ps : List Place) (xs ys : List ℕ) → length xs ≤ length ps →
+    zip ps (xs ++ ys) ≡ zip (take (length xs) ps) xs ++ zip (drop (length xs) ps) ys
 zip-both ps xs ys h =
     let n = length xs in
     let long : length (take n ps) ≡ n = length-take-le n ps h in
@@ -30,10 +33,12 @@ zip-front (suc n) (p ∷ ps) [] h = refl
 zip-front (suc n) (p ∷ ps) (x ∷ xs) h = ap (λ l. (p, x) ∷ l) (zip-front n ps xs (omega (arith, h)))
 
 -- what is stored behind something
-pub stored_more : (a b c : Host) (ps : List Place) (xs ys : List ℕ) → length xs ≤ length ps → b ≡ put_all a (zip ps xs) → c ≡ put_all b (zip (drop (length xs) ps) ys) →
+pub stored_more : (a b c : Host) (ps : List Place) (xs ys : List ℕ) → length xs ≤ length ps →
+    b ≡ put_all a (zip ps xs) → c ≡ put_all b (zip (drop (length xs) ps) ys) →
     c ≡ put_all a (zip ps (xs ++ ys))
 stored_more a b c ps xs ys h e f =
-    f ∙ ap (λ k. put_all k (zip (drop (length xs) ps) ys)) (e ∙ ap (put_all a) (sym (zip-front (length xs) ps xs (omega arith))))
+    f ∙ ap (λ k. put_all k (zip (drop (length xs) ps) ys))
+    (e ∙ ap (put_all a) (sym (zip-front (length xs) ps xs (omega arith))))
     ∙ sym (put_all-append (zip (take (length xs) ps) xs) (zip (drop (length xs) ps) ys) a)
     ∙ ap (put_all a) (sym (zip-both ps xs ys h))
 
@@ -46,12 +51,14 @@ stored_none h (p ∷ ps) = refl
 pub fills_none : (h : Host) (ps : List Place) → Fills h ps [] h ps
 fills_none h ps = record { stored = stored_none h ps; left = refl; fits = omega arith; shape = refl }
 
-pub fills_more : (a b c : Host) (ps qs rs : List Place) (xs ys : List ℕ) → Fills a ps xs b qs → Fills b qs ys c rs → Fills a ps (xs ++ ys) c rs
+pub fills_more : (a b c : Host) (ps qs rs : List Place) (xs ys : List ℕ) → Fills a ps xs b qs →
+    Fills b qs ys c rs → Fills a ps (xs ++ ys) c rs
 fills_more a b c ps qs rs xs ys f g =
     let long = length-append xs ys in
     record {
       stored = stored_more a b c ps xs ys f.fits f.stored (g.stored ∙ ap (λ l. put_all b (zip l ys)) f.left);
-      left = g.left ∙ ap (drop (length ys)) f.left ∙ drop-drop (length ys) (length xs) ps ∙ ap (λ n. drop n ps) (sym long);
+      left = g.left ∙ ap (drop (length ys)) f.left ∙ drop-drop (length ys) (length xs) ps
+          ∙ ap (λ n. drop n ps) (sym long);
       fits = omega (arith, f.fits, g.fits, ap length f.left, length-drop (length xs) ps, long);
       shape = g.shape ∙ f.shape;
     }

@@ -10,7 +10,12 @@ pub record Page : Type 0 where
 
 -- a copy of a page of a block, which may end with the block
 abbrev pub page_copied : (block : ℕ) → (bytes : List ℕ) → (page : ℕ) → Page
-page_copied block bytes page = record { block = block; offset = page * 4096; bytes = slice_range bytes (page * 4096) (page * 4096 + 4096) }
+page_copied block bytes page =
+    record {
+      block = block;
+      offset = page * 4096;
+      bytes = slice_range bytes (page * 4096) (page * 4096 + 4096);
+    }
 
 -- the pages of a block that are marked, with their bytes; the last may be short
 unfoldable pub block_pages : (block : ℕ) → (bytes : List ℕ) → (page : ℕ) → List Bool → List Page

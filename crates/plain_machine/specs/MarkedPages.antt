@@ -1,5 +1,6 @@
 -- Which pages are marked (vm-memory, bitmap), told by the addresses that are written.
-use Rattle.std.specs.Prelude.{◌≡◌, ◌↔◌, ℕ, zero, suc, ◌/◌, ◌^◌, ◌==◌, ◌&&◌, ◌||◌, not, nat_lt, Bool, false, true, List, [], ◌∷◌, ◌++◌, length, map, Option, Some, None}
+use Rattle.std.specs.Prelude.{◌≡◌, ◌↔◌, ℕ, zero, suc, ◌/◌, ◌^◌, ◌==◌, ◌&&◌, ◌||◌, not, nat_lt, Bool, false}
+use Rattle.std.specs.Prelude.{true, List, [], ◌∷◌, ◌++◌, length, map, Option, Some, None}
 use Rattle.std.specs.Prelude.{is_some, slice_get, option_map, option_and_then}
 use Rattle.std.specs.List.{list_any}
 use Rattle.vm_iotlb.specs.declared.permissions.Permissions.TheVariants.{Write}
@@ -12,7 +13,8 @@ use Rattle.fs_queue.specs.Returning.{writes}
 use Rattle.virtiofsd_fuse.specs.Serving.{May}
 use Rattle.plain_machine.specs.Step.{State, Exchange, Exchanged, Calls, Step}
 use Rattle.plain_machine.specs.UsedLength.{IsOffered}
-use Rattle.plain_machine.specs.Run.{Command, GuestWrite, Kick, Answer, Done, Served, Copied, Pages, Turns, Performs}
+use Rattle.plain_machine.specs.Run.{Command, GuestWrite, Kick, Answer, Done, Served, Copied, Pages, Turns}
+use Rattle.plain_machine.specs.Run.{Performs}
 
 -- the mark of a page of a block, if there is such a page
 abbrev pub block_mark : Host → (block page : ℕ) → Option Bool
@@ -27,39 +29,47 @@ abbrev pub is_in_page : (block page : ℕ) → Option Place → Bool
 is_in_page block page None = false
 is_in_page block page (Some p) = (p.block == block) && (p.offset / 4096 == page)
 
--- whether a write at an address marks a page of a block: with the IOMMU off, where its place lies in that page
+-- whether a write at an address marks a page of a block: with the IOMMU off, where its place lies in that
+-- page
 abbrev pub marks_block : Memory → (block page : ℕ) → (address : ℕ) → Bool
 marks_block m block page address = not m.translates && is_in_page block page (place m.layout address)
 
--- whether a write at an address marks a page of a set of I/O pages: with the IOMMU on, where the address has a place to be written, and
--- lies in that page of the device's set; no address lies at or past 2^64
+-- whether a write at an address marks a page of a set of I/O pages: with the IOMMU on, where the address has
+-- a place to be written, and lies in that page of the device's set; no address lies at or past 2^64
 abbrev pub marks_io : Memory → (set page : ℕ) → (address : ℕ) → Bool
 marks_io m set page address =
-    m.translates && ((m.io_pages == set) && (is_some (location m Write address) && (nat_lt address (2 ^ 64) && (address / 4096 == page))))
+    m.translates && ((m.io_pages == set)
+    && (is_some (location m Write address) && (nat_lt address (2 ^ 64) && (address / 4096 == page))))
 
 -- a mark after some addresses were written, of which these mark its page: it is set then, or as it was
 abbrev pub marked_by : (ℕ → Bool) → List ℕ → Option Bool → Option Bool
 marked_by marks written old = option_map (λ was. was || list_any marks written) old
 
--- the pages that are marked besides those that were are those that these addresses mark, and no others: a page past the end of its block
--- or of its set isn't there, and no page comes or goes
+-- the pages that are marked besides those that were are those that these addresses mark, and no others: a
+-- page past the end of its block or of its set isn't there, and no page comes or goes
 pub record Marks (m : Memory) (written : List ℕ) (after : Host) : Type 0 where
-  pub blocks : (block page : ℕ) → block_mark after block page ≡ marked_by (marks_block m block page) written (block_mark m.host block page)
-  pub io_sets : (set page : ℕ) → io_mark after set page ≡ marked_by (marks_io m set page) written (io_mark m.host set page)
+  pub blocks : (block page : ℕ) →
+      block_mark after block page
+      ≡ marked_by (marks_block m block page) written (block_mark m.host block page)
+  pub io_sets : (set page : ℕ) →
+      io_mark after set page ≡ marked_by (marks_io m set page) written (io_mark m.host set page)
 
 -- so it is of any writes, in order
 abbrev pub WritesMark : Type 0
 WritesMark = (m : Memory) (writes : List (ℕ × ℕ)) → Marks m (map (λ w. w.0) writes) (stored_all m writes).host
 
--- the addresses that are written where a chain goes back: the first of its room, as many as the reply has bytes, the used element and the used index
+-- the addresses that are written where a chain goes back: the first of its room, as many as the reply has
+-- bytes, the used element and the used index
 abbrev pub returned_addresses : Queue → (head : ℕ) → (room reply : List ℕ) → List ℕ
 returned_addresses q head room reply = map (λ w. w.0) (writes q head room reply)
 
 -- so it is of a step that exchanges a chain, which its queue offers
 abbrev pub StepsMark : {F : Type 0} → May F → Type 0
 StepsMark {F} may =
-    (s after : State F) (i : ℕ) (calls : Calls) (x : Exchange) (notice : Bool) → Step may s i calls (Exchanged x notice) after →
-    (o : IsOffered s i x) × Marks s.memory (returned_addresses o.queue x.head (room_of o.fetched) x.reply) after.memory.host
+    (s after : State F) (i : ℕ) (calls : Calls) (x : Exchange) (notice : Bool) →
+    Step may s i calls (Exchanged x notice) after →
+    (o : IsOffered s i x)
+    × Marks s.memory (returned_addresses o.queue x.head (room_of o.fetched) x.reply) after.memory.host
 
 -- ---- over commands
 
@@ -68,30 +78,41 @@ unfoldable pub KickWrites : {F : Type 0} → May F → State F → ℕ → ℕ �
 KickWrites may s i most [] written = written ≡ []
 KickWrites may s i zero (t ∷ ts) written = ⊥
 KickWrites {F} may s i (suc most) (t ∷ ts) written =
-    (mid : State F) × Step may s i t.calls (Exchanged t.exchange t.notice) mid × (o : IsOffered s i t.exchange) × (later : List ℕ) × KickWrites may mid i most ts later
+    (mid : State F)
+    × Step may s i t.calls (Exchanged t.exchange t.notice) mid
+    × (o : IsOffered s i t.exchange) × (later : List ℕ)
+    × KickWrites may mid i most ts later
     × (written ≡ returned_addresses o.queue t.exchange.head (room_of o.fetched) t.exchange.reply ++ later)
 
 -- no page of a block is marked any more, and the I/O pages stay
 pub record ClearsMarks (before after : Host) : Type 0 where
-  pub blocks : (block page : ℕ) → block_mark after block page ≡ option_map (λ was. false) (block_mark before block page)
-  pub io_sets : (set page : ℕ) → io_mark after set page ≡ io_mark before set page
+  pub blocks : (block page : ℕ) →
+      block_mark after block page ≡ option_map (λ was. false) (block_mark before block page)
+  pub io_sets : (set page : ℕ) →
+      io_mark after set page ≡ io_mark before set page
 
 -- the pages that are marked are those that were
 pub record KeepsMarks (before after : Host) : Type 0 where
-  pub blocks : (block page : ℕ) → (block_mark after block page ≡ Some true) ↔ (block_mark before block page ≡ Some true)
-  pub io_sets : (set page : ℕ) → io_mark after set page ≡ io_mark before set page
+  pub blocks : (block page : ℕ) →
+      (block_mark after block page ≡ Some true) ↔ (block_mark before block page ≡ Some true)
+  pub io_sets : (set page : ℕ) →
+      io_mark after set page ≡ io_mark before set page
 
--- a command that was done: a guest's write marks the pages of its places in their blocks, with the IOMMU on too; no other marks any
+-- a command that was done: a guest's write marks the pages of its places in their blocks, with the IOMMU on
+-- too; no other marks any
 abbrev pub DoneMarks : {F : Type 0} → State F → Command → State F → Type 0
-DoneMarks s (GuestWrite a bytes) after = Marks (physical s.memory) (addresses a (length bytes)) after.memory.host
+DoneMarks s (GuestWrite a bytes) after =
+    Marks (physical s.memory) (addresses a (length bytes)) after.memory.host
 DoneMarks s command after = KeepsMarks s.memory.host after.memory.host
 
 -- a kick marks what its exchanges write, one after the other
 abbrev pub ServedMarks : {F : Type 0} → May F → State F → Command → Turns → State F → Type 0
-ServedMarks may s (Kick i most) told after = (written : List ℕ) × KickWrites may s i most told written × Marks s.memory written after.memory.host
+ServedMarks may s (Kick i most) told after =
+    (written : List ℕ) × KickWrites may s i most told written × Marks s.memory written after.memory.host
 ServedMarks may s command told after = KeepsMarks s.memory.host after.memory.host
 
--- by the answer to a command: an image and a harvest clear the marks of blocks; what has another answer keeps the marks that there are
+-- by the answer to a command: an image and a harvest clear the marks of blocks; what has another answer keeps
+-- the marks that there are
 abbrev pub AnswerMarks : {F : Type 0} → May F → Answer → State F → Command → Turns → State F → Type 0
 AnswerMarks may Done s command told after = DoneMarks s command after
 AnswerMarks may (Served k) s command told after = ServedMarks may s command told after
@@ -102,4 +123,6 @@ AnswerMarks may answer s command told after = KeepsMarks s.memory.host after.mem
 -- so it is of each command of a run
 abbrev pub CommandsMark : {F : Type 0} → May F → Type 0
 CommandsMark {F} may =
-    (s after : State F) (command : Command) (told : Turns) (answer : Answer) → Performs may s command told answer after → AnswerMarks may answer s command told after
+    (s after : State F) (command : Command) (told : Turns) (answer : Answer) →
+    Performs may s command told answer after →
+    AnswerMarks may answer s command told after

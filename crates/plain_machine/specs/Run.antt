@@ -1,5 +1,7 @@
 -- Whole runs of the plain machine.
-use Rattle.std.specs.Prelude.{◌≡◌, ◌==◌, ◌&&◌, ◌||◌, not, nat_lt, ℕ, zero, suc, ◌+◌, ◌^◌, Bool, false, true, IsTrue, List, [], ◌∷◌, length, map, zip, Option, Some, None, if◌then◌else◌, slice_get}
+use Rattle.std.specs.Prelude.{◌≡◌, ◌==◌, ◌&&◌, ◌||◌, not, nat_lt, ℕ, zero, suc, ◌+◌, ◌^◌, Bool, false, true}
+use Rattle.std.specs.Prelude.{IsTrue, List, [], ◌∷◌, length, map, zip, Option, Some, None, if◌then◌else◌}
+use Rattle.std.specs.Prelude.{slice_get}
 use Rattle.std.specs.List.{list_all, list_any}
 use Rattle.vm_iotlb.specs.declared.permissions.Permissions.{Permissions}
 use Rattle.vm_iotlb.specs.declared.permissions.Permissions.TheVariants.{Read, Write}
@@ -64,7 +66,9 @@ no refusal s = (IsRefused refusal, s)
 
 -- a guest reads its physical addresses, all of them or none
 abbrev pub guest_read : {F : Type 0} → State F → ℕ → ℕ → Effect F
-guest_read s a n = if reach (physical s.memory) Read a n then (Bytes (bytes (physical s.memory) a n), s) else no why.NoPlace s
+guest_read s a n =
+    if reach (physical s.memory) Read a n then (Bytes (bytes (physical s.memory) a n), s)
+    else no why.NoPlace s
 
 -- the memory after a guest wrote
 abbrev pub guest_written : Memory → ℕ → List ℕ → Memory
@@ -73,7 +77,8 @@ guest_written m a bs = record m { host = (stored_all (physical m) (zip (addresse
 -- a guest writes its physical addresses, all of them or none
 abbrev pub guest_write : {F : Type 0} → State F → ℕ → List ℕ → Effect F
 guest_write s a bs =
-    if reach (physical s.memory) Write a (length bs) then (Done, record s { memory = guest_written s.memory a bs })
+    if reach (physical s.memory) Write a (length bs)
+    then (Done, record s { memory = guest_written s.memory a bs })
     else no why.NoPlace s
 
 -- another host under the same layout
@@ -105,7 +110,8 @@ insert_block s base block (Some b) = insert s (record { start = base; size = len
 -- the layout without a region
 abbrev pub remove_region : {F : Type 0} → State F → (base size : ℕ) → Effect F
 remove_region s base size =
-    if list_any (is_region base size) s.memory.layout then (Done, with_layout s (without_region base size s.memory.layout))
+    if list_any (is_region base size) s.memory.layout
+    then (Done, with_layout s (without_region base size s.memory.layout))
     else no why.NoRegion s
 
 -- whether there is a block, of this length
@@ -151,7 +157,8 @@ image s = (Copied (cleared s.memory.host), with_marks_cleared s)
 abbrev pub harvest : {F : Type 0} → State F → Effect F
 harvest s = (Pages (harvested s.memory.host), with_marks_cleared s)
 
--- what a command answers, and the state that it leaves; a kick, and what changes the table, aren't decided here
+-- what a command answers, and the state that it leaves; a kick, and what changes the table, aren't decided
+-- here
 unfoldable pub effect : {F : Type 0} → State F → Command → Option (Effect F)
 effect s (GuestRead a n) = Some (guest_read s a n)
 effect s (GuestWrite a bs) = Some (guest_write s a bs)
@@ -160,7 +167,8 @@ effect s (InsertRegion base block) = Some (insert_block s base block (slice_get 
 effect s (RemoveRegion base size) = Some (remove_region s base size)
 effect s (SetLayout layout) = Some (set_layout s layout)
 effect s (SetIommu on) = Some (set_iommu s on)
-effect s (ResetQueue queue size desc avail used) = Some (reset s queue (fresh size desc avail used) (slice_get s.queues queue))
+effect s (ResetQueue queue size desc avail used) =
+    Some (reset s queue (fresh size desc avail used) (slice_get s.queues queue))
 effect s Image = Some (image s)
 effect s Harvest = Some (harvest s)
 effect s (Map iova target n perm) = None
@@ -183,9 +191,14 @@ ends_fit a n = nat_lt (a + n) (2 ^ 64)
 abbrev pub with_ranges : {F : Type 0} → State F → List IotlbRange → State F
 with_ranges s ranges = with_host s (with_table_at s.memory.host s.memory.table ranges)
 
--- the table becomes this one, and all else stays. A host tells a table by its ranges: those that ascend and are as long as can be, of which each table has one list
+-- the table becomes this one, and all else stays. A host tells a table by its ranges: those that ascend and
+-- are as long as can be, of which each table has one list
 abbrev pub TableBecomes : {F : Type 0} → State F → Table → State F → Type 0
-TableBecomes s table after = (ranges : List IotlbRange) × AreRanges ranges × AreSame (table_kept ranges) table × (after ≡ with_ranges s ranges)
+TableBecomes s table after =
+    (ranges : List IotlbRange)
+    × AreRanges ranges
+    × AreSame (table_kept ranges) table
+    × (after ≡ with_ranges s ranges)
 
 -- the table becomes this one where each end fits 64 bits
 abbrev pub ChangesTable : {F : Type 0} → State F → (fit : Bool) → Table → Answer → State F → Type 0
@@ -194,13 +207,17 @@ ChangesTable s false table answer after = (answer, after) ≡ no why.BadMapping 
 
 -- n addresses from iova on are mapped to those from target on
 abbrev pub Maps : {F : Type 0} → State F → (iova target n : ℕ) → Permissions → Answer → State F → Type 0
-Maps s iova target n perm answer after = ChangesTable s (ends_fit iova n && ends_fit target n) (mapped iova target n perm (table_of s.memory)) answer after
+Maps s iova target n perm answer after =
+    ChangesTable s (ends_fit iova n && ends_fit target n) (mapped iova target n perm (table_of s.memory))
+    answer after
 
 -- n addresses from iova on are taken out
 abbrev pub Unmaps : {F : Type 0} → State F → (iova n : ℕ) → Answer → State F → Type 0
-Unmaps s iova n answer after = ChangesTable s (ends_fit iova n) (unmapped iova n (table_of s.memory)) answer after
+Unmaps s iova n answer after =
+    ChangesTable s (ends_fit iova n) (unmapped iova n (table_of s.memory)) answer after
 
--- what a command that isn't a kick may answer, and the state that it leaves then; a kick has its exchanges (`Kicks`), and nothing by this
+-- what a command that isn't a kick may answer, and the state that it leaves then; a kick has its exchanges
+-- (`Kicks`), and nothing by this
 abbrev pub Affects : {F : Type 0} → State F → Command → Answer → State F → Type 0
 Affects s (Map iova target n perm) answer after = Maps s iova target n perm answer after
 Affects s (Unmap iova n) answer after = Unmaps s iova n answer after
@@ -216,7 +233,8 @@ pub record Turn : Type 0 where
   pub notice : Bool
   pub calls : Calls
 
--- what is behind the answer to a command: the exchanges of a kick, one after the other; behind other answers there is nothing
+-- what is behind the answer to a command: the exchanges of a kick, one after the other; behind other answers
+-- there is nothing
 abbrev pub Turns : Type 0
 Turns = List Turn
 
@@ -232,16 +250,22 @@ KickEnds may s i zero (Some e) after = ⊥
 KickEnds may s i (suc most) (Some e) after = Step may s i [] (Refused e) after
 
 -- these exchanges, one after the other, each with its calls, and this end
-unfoldable pub KickRun : {F : Type 0} → May F → State F → ℕ → ℕ → Turns → Option DeviceError → State F → Type 0
+unfoldable pub KickRun :
+    {F : Type 0} → May F → State F → ℕ → ℕ → Turns → Option DeviceError → State F → Type 0
 KickRun may s i most [] refused after = KickEnds may s i most refused after
 KickRun may s i zero (t ∷ ts) refused after = ⊥
 KickRun {F} may s i (suc most) (t ∷ ts) refused after =
-    (mid : State F) × Step may s i t.calls (Exchanged t.exchange t.notice) mid × KickRun may mid i most ts refused after
+    (mid : State F)
+    × Step may s i t.calls (Exchanged t.exchange t.notice) mid
+    × KickRun may mid i most ts refused after
 
 -- of a missing queue a kick lists that, whatever most
-abbrev pub Kicks : {F : Type 0} → May F → State F → ℕ → ℕ → Option Queue → Turns → KickAnswer → State F → Type 0
-Kicks may s i most None told k after = (after ≡ s) × (told ≡ []) × (k ≡ record { exchanges = []; refused = Some device.NoSuchQueue })
-Kicks may s i most (Some q) told k after = KickRun may s i most told k.refused after × (k.exchanges ≡ map shown told)
+abbrev pub Kicks :
+    {F : Type 0} → May F → State F → ℕ → ℕ → Option Queue → Turns → KickAnswer → State F → Type 0
+Kicks may s i most None told k after =
+    (after ≡ s) × (told ≡ []) × (k ≡ record { exchanges = []; refused = Some device.NoSuchQueue })
+Kicks may s i most (Some q) told k after =
+    KickRun may s i most told k.refused after × (k.exchanges ≡ map shown told)
 
 -- ---- runs
 
@@ -261,15 +285,20 @@ goes_in layout r = fits r && not (list_any (overlap r) layout)
 -- whether a block is there, and the region from an address on that is all of it may be there too
 abbrev pub block_goes_in : List Region → (base block : ℕ) → Option Block → Bool
 block_goes_in layout base block None = false
-block_goes_in layout base block (Some b) = goes_in layout (record { start = base; size = length b.bytes; block = block })
+block_goes_in layout base block (Some b) =
+    goes_in layout (record { start = base; size = length b.bytes; block = block })
 
--- whether a command takes memory, and so may be refused since an allocation fails: a read of some bytes, a block, a region more or less and a change of mappings only if they aren't refused anyway.
--- What maps addresses takes some only if a run of them begins anew, and what takes a mapping out only if the address behind them is mapped as one with the last
+-- whether a command takes memory, and so may be refused since an allocation fails: a read of some bytes, a
+-- block, a region more or less and a change of mappings only if they aren't refused anyway. What maps
+-- addresses takes some only if a run of them begins anew, and what takes a mapping out only if the address
+-- behind them is mapped as one with the last
 abbrev pub command_takes_memory : {F : Type 0} → State F → Command → Bool
 command_takes_memory s (GuestWrite a bs) = false
 command_takes_memory s (Map iova target n perm) =
-    (nat_lt 0 n && (ends_fit iova n && ends_fit target n)) && begins_anew_about (table_of s.memory) (mapped iova target n perm (table_of s.memory)) iova (iova + n)
-command_takes_memory s (Unmap iova n) = (nat_lt 0 n && ends_fit iova n) && goes_on_at (table_of s.memory) (iova + n)
+    (nat_lt 0 n && (ends_fit iova n && ends_fit target n))
+    && begins_anew_about (table_of s.memory) (mapped iova target n perm (table_of s.memory)) iova (iova + n)
+command_takes_memory s (Unmap iova n) =
+    (nat_lt 0 n && ends_fit iova n) && goes_on_at (table_of s.memory) (iova + n)
 command_takes_memory s UnmapAll = false
 command_takes_memory s (SetIommu on) = false
 command_takes_memory s (Kick queue most) = kick_takes_memory s queue most
@@ -277,7 +306,8 @@ command_takes_memory s (ResetQueue queue size desc avail used) = false
 command_takes_memory s (SetLayout layout) = false
 command_takes_memory s (GuestRead a n) = nat_lt 0 n && reach (physical s.memory) Read a n
 command_takes_memory s (NewBlock n) = nat_lt 0 n
-command_takes_memory s (InsertRegion base block) = block_goes_in s.memory.layout base block (slice_get s.memory.host.blocks block)
+command_takes_memory s (InsertRegion base block) =
+    block_goes_in s.memory.layout base block (slice_get s.memory.host.blocks block)
 command_takes_memory s (RemoveRegion base size) = list_any (is_region base size) s.memory.layout
 command_takes_memory s Image = true
 command_takes_memory s Harvest = true
@@ -289,7 +319,8 @@ HasEffect s command (t ∷ ts) answer after = ⊥
 
 -- a command that has enough memory
 abbrev pub Does : {F : Type 0} → May F → State F → Command → Turns → Answer → State F → Type 0
-Does may s (Kick queue most) told (Served k) after = Kicks may s queue most (slice_get s.queues queue) told k after
+Does may s (Kick queue most) told (Served k) after =
+    Kicks may s queue most (slice_get s.queues queue) told k after
 Does may s (Kick queue most) told answer after = ⊥
 Does may s command told answer after = HasEffect s command told answer after
 
@@ -304,11 +335,13 @@ Performs may s command told (IsRefused why.OutOfMemory) after = LacksMemory s co
 Performs may s command told answer after = Does may s command told answer after
 
 -- these answers to these commands, one after the other, with what is behind each
-unfoldable pub RunTold : {F : Type 0} → May F → State F → List (Command × Answer) → List Turns → State F → Type 0
+unfoldable pub RunTold :
+    {F : Type 0} → May F → State F → List (Command × Answer) → List Turns → State F → Type 0
 RunTold may s [] [] after = after ≡ s
 RunTold may s [] (told ∷ tolds) after = ⊥
 RunTold may s (e ∷ es) [] after = ⊥
-RunTold {F} may s (e ∷ es) (told ∷ tolds) after = (mid : State F) × Performs may s e.0 told e.1 mid × RunTold may mid es tolds after
+RunTold {F} may s (e ∷ es) (told ∷ tolds) after =
+    (mid : State F) × Performs may s e.0 told e.1 mid × RunTold may mid es tolds after
 
 -- these answers to these commands, one after the other
 abbrev pub Run : {F : Type 0} → May F → State F → List (Command × Answer) → State F → Type 0

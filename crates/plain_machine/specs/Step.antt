@@ -5,7 +5,8 @@ use Rattle.vm_memory.specs.Memory.{Memory}
 use Rattle.fs_queue.specs.declared.fault.ChainFault.{ChainFault}
 use Rattle.fs_queue.specs.declared.fault.QueueError.TheVariants as stop
 use Rattle.fs_queue.specs.Queue.{Queue}
-use Rattle.fs_queue.specs.Taking.{IsRequest, CannotFetch, Offer, Refuses, Offers, offer, may_lack_memory, after_refusal}
+use Rattle.fs_queue.specs.Taking.{IsRequest, CannotFetch, Offer, Refuses, Offers, offer, may_lack_memory}
+use Rattle.fs_queue.specs.Taking.{after_refusal}
 use Rattle.fs_queue.specs.Taking as taking
 use Rattle.fs_queue.specs.Returning.{returned, wants_notice, advanced}
 use Rattle.fuse_fs.specs.Calls.{FileCall, FileAnswer, FileRun, suits}
@@ -17,7 +18,8 @@ use Rattle.plain_machine.specs.declared.error.DeviceError.TheVariants as device
 use Rattle.plain_machine.specs.declared.fault.Fault.{Fault}
 use Rattle.plain_machine.specs.declared.fault.Fault.TheVariants as fault
 
--- the plain machine: its memory, its queues, the options that client and server agreed on, and the file system; limit and page size never change
+-- the plain machine: its memory, its queues, the options that client and server agreed on, and the file
+-- system; limit and page size never change
 pub record State (F : Type 0) : Type 0 where
   pub memory : Memory
   pub queues : List Queue
@@ -66,7 +68,8 @@ pub record Unchanged {F : Type 0} (before : State F) (calls : Calls) (after : St
   pub no_call : calls ≡ []
 
 -- the state after a chain was returned, with these options and this file system
-abbrev pub after_return : {F : Type 0} → State F → ℕ → Queue → (head : ℕ) → (room reply : List ℕ) → ℕ → F → State F
+abbrev pub after_return :
+    {F : Type 0} → State F → ℕ → Queue → (head : ℕ) → (room reply : List ℕ) → ℕ → F → State F
 after_return s i q head room reply options files =
     record s {
       memory = returned s.memory q head room reply;
@@ -80,14 +83,18 @@ abbrev pub served_fault : Option Error → Option Fault
 served_fault None = None
 served_fault (Some e) = Some (fault.Served e)
 
--- what the server does for a request: these calls, along which the file system's state moves, and what comes of their answers
-pub record ServesRequest {F : Type 0} (may : May F) (page_size options : ℕ) (request : List ℕ) (room : ℕ) (before : F) (calls : Calls) (given : ServedMessage) (after : F) : Type 0 where
-  pub gives : given ≡ served (setting page_size options room) (meaning options request room) (answers_alone calls)
+-- what the server does for a request: these calls, along which the file system's state moves, and what comes
+-- of their answers
+pub record ServesRequest {F : Type 0} (may : May F) (page_size options : ℕ) (request : List ℕ) (room : ℕ)
+    (before : F) (calls : Calls) (given : ServedMessage) (after : F) : Type 0 where
+  pub gives :
+      given ≡ served (setting page_size options room) (meaning options request room) (answers_alone calls)
   pub asks : given.calls ≡ calls_alone calls
   pub run : FileRun may before calls after
 
 -- a chain goes back with this exchange
-pub record Returns {F : Type 0} (before : State F) (i : ℕ) (q : Queue) (room : List ℕ) (expected : Exchange) (options : ℕ) (x : Exchange) (notice : Bool) (after : State F) : Type 0 where
+pub record Returns {F : Type 0} (before : State F) (i : ℕ) (q : Queue) (room : List ℕ) (expected : Exchange)
+    (options : ℕ) (x : Exchange) (notice : Bool) (after : State F) : Type 0 where
   pub exchange : x ≡ expected
   pub state : after ≡ after_return before i q expected.head room expected.reply options after.files
   pub told : notice ≡ wants_notice after.memory q
@@ -98,39 +105,53 @@ faulty head why = record { head = head; request = []; reply = []; fault = Some (
 
 -- a request is answered by what it means: its reply whole, or not at all
 abbrev pub served_exchange : (head : ℕ) → (request : List ℕ) → ServedMessage → Exchange
-served_exchange head request given = record { head = head; request = request; reply = given.reply; fault = served_fault given.fault }
+served_exchange head request given =
+    record { head = head; request = request; reply = given.reply; fault = served_fault given.fault }
 
 -- a faulty chain goes back with nothing, and no call is made
-pub record ReturnsFaulty {F : Type 0} (before : State F) (i : ℕ) (q : Queue) (head : ℕ) (why : ChainFault) (calls : Calls) (x : Exchange) (notice : Bool) (after : State F) : Type 0 where
+pub record ReturnsFaulty {F : Type 0} (before : State F) (i : ℕ) (q : Queue) (head : ℕ) (why : ChainFault)
+    (calls : Calls) (x : Exchange) (notice : Bool) (after : State F) : Type 0 where
   pub no_call : calls ≡ []
   pub files : after.files ≡ before.files
   pub returns : Returns before i q [] (faulty head why) before.options x notice after
 
--- a request is answered: what it means, its calls in order, its reply whole or not at all, then the used element and the used index
-pub record Answers {F : Type 0} (may : May F) (before : State F) (i : ℕ) (q : Queue) (head : ℕ) (request room : List ℕ) (calls : Calls) (x : Exchange) (notice : Bool) (after : State F) : Type 0 where
+-- a request is answered: what it means, its calls in order, its reply whole or not at all, then the used
+-- element and the used index
+pub record Answers {F : Type 0} (may : May F) (before : State F) (i : ℕ) (q : Queue) (head : ℕ)
+    (request room : List ℕ) (calls : Calls) (x : Exchange) (notice : Bool) (after : State F) : Type 0 where
   pub given : ServedMessage
-  pub serves : ServesRequest may before.page_size before.options request (length room) before.files calls given after.files
+  pub serves : ServesRequest may before.page_size before.options request (length room) before.files calls
+      given after.files
   pub returns : Returns before i q room (served_exchange head request given) given.options x notice after
 
 -- a chain that was offered is exchanged
-abbrev pub Exchanges : {F : Type 0} → May F → State F → ℕ → Queue → Offer → Calls → Exchange → Bool → State F → Type 0
-Exchanges may before i q (Offers head (CannotFetch why)) calls x notice after = ReturnsFaulty before i q head why calls x notice after
-Exchanges may before i q (Offers head (IsRequest request room)) calls x notice after = Answers may before i q head request room calls x notice after
+abbrev pub Exchanges :
+    {F : Type 0} → May F → State F → ℕ → Queue → Offer → Calls → Exchange → Bool → State F → Type 0
+Exchanges may before i q (Offers head (CannotFetch why)) calls x notice after =
+    ReturnsFaulty before i q head why calls x notice after
+Exchanges may before i q (Offers head (IsRequest request room)) calls x notice after =
+    Answers may before i q head request room calls x notice after
 Exchanges may before i q taking.Idle calls x notice after = ⊥
 Exchanges may before i q (Refuses e) calls x notice after = ⊥
 
--- what may happen at an offer: a step may be refused since an allocation fails, if a chain is offered, and then nothing changes and no call is made
+-- what may happen at an offer: a step may be refused since an allocation fails, if a chain is offered, and
+-- then nothing changes and no call is made
 abbrev pub Acts : {F : Type 0} → May F → State F → ℕ → Queue → Offer → Calls → StepEnd → State F → Type 0
 Acts may before i q offered calls Idle after = (offered ≡ taking.Idle) × Unchanged before calls after
-Acts may before i q offered calls (Refused (device.Queue stop.OutOfMemory)) after = IsTrue (may_lack_memory offered) × Unchanged before calls after
-Acts may before i q offered calls (Refused (device.Queue e)) after = (offered ≡ Refuses e) × (calls ≡ []) × (after ≡ with_queue before i (after_refusal q e))
+Acts may before i q offered calls (Refused (device.Queue stop.OutOfMemory)) after =
+    IsTrue (may_lack_memory offered) × Unchanged before calls after
+Acts may before i q offered calls (Refused (device.Queue e)) after =
+    (offered ≡ Refuses e) × (calls ≡ []) × (after ≡ with_queue before i (after_refusal q e))
 Acts may before i q offered calls (Refused device.NoSuchQueue) after = ⊥
-Acts may before i q offered calls (Exchanged x notice) after = Exchanges may before i q offered calls x notice after
+Acts may before i q offered calls (Exchanged x notice) after =
+    Exchanges may before i q offered calls x notice after
 
 -- a step on a queue that may be missing
 abbrev pub StepOf : {F : Type 0} → May F → State F → ℕ → Option Queue → Calls → StepEnd → State F → Type 0
-StepOf may before i None calls outcome after = (outcome ≡ Refused device.NoSuchQueue) × Unchanged before calls after
-StepOf may before i (Some q) calls outcome after = Acts may before i q (offer before.memory before.limit q) calls outcome after
+StepOf may before i None calls outcome after =
+    (outcome ≡ Refused device.NoSuchQueue) × Unchanged before calls after
+StepOf may before i (Some q) calls outcome after =
+    Acts may before i q (offer before.memory before.limit q) calls outcome after
 
 -- a step on queue i may make these calls, end so, and leave this state
 abbrev pub Step : {F : Type 0} → May F → State F → ℕ → Calls → StepEnd → State F → Type 0

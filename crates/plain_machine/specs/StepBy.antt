@@ -1,5 +1,7 @@
--- One step of the device on one queue, told by what was loaded and what is stored, whatever the guest writes meanwhile.
-use Rattle.std.specs.Prelude.{◌≡◌, ◌⊎◌, ℕ, Bool, IsTrue, List, [], ◌∷◌, ◌++◌, length, map, flat_map, take, drop, Option, Some, None, slice_get}
+-- One step of the device on one queue, told by what was loaded and what is stored, whatever the guest writes
+-- meanwhile.
+use Rattle.std.specs.Prelude.{◌≡◌, ◌⊎◌, ℕ, Bool, IsTrue, List, [], ◌∷◌, ◌++◌, length, map, flat_map, take}
+use Rattle.std.specs.Prelude.{drop, Option, Some, None, slice_get}
 use Rattle.std.specs.List.{zip, AllByRecursion, Contains}
 use Rattle.vm_iotlb.specs.declared.permissions.Permissions.TheVariants.{Write}
 use Rattle.vm_memory_core.specs.Host.{Place, changed_at}
@@ -7,7 +9,8 @@ use Rattle.vm_memory.specs.Memory.{Memory, addresses, bytes, located, location, 
 use Rattle.fs_queue.specs.declared.fault.ChainFault.{ChainFault}
 use Rattle.fs_queue.specs.declared.fault.QueueError.TheVariants as stop
 use Rattle.fs_queue.specs.Queue.{Queue, element_at, index_at}
-use Rattle.fs_queue.specs.Taking.{IsRequest, CannotFetch, Offer, Refuses, Offers, may_lack_memory, after_refusal}
+use Rattle.fs_queue.specs.Taking.{IsRequest, CannotFetch, Offer, Refuses, Offers, may_lack_memory}
+use Rattle.fs_queue.specs.Taking.{after_refusal}
 use Rattle.fs_queue.specs.Taking as taking
 use Rattle.fs_queue.specs.Loads.{Load}
 use Rattle.fs_queue.specs.OfferLoads.{offer_by, AreLoadsOf}
@@ -15,9 +18,11 @@ use Rattle.fs_queue.specs.Returning.{Store, writes_of, stores_after_reply, tells
 use Rattle.plain_machine.specs.Apart.{Apart}
 use Rattle.virtiofsd_fuse.specs.Serving.{May, ServedMessage}
 use Rattle.plain_machine.specs.declared.error.DeviceError.TheVariants as device
-use Rattle.plain_machine.specs.Step.{State, Exchange, StepEnd, Idle, Refused, Exchanged, Calls, Unchanged, ServesRequest, with_queue, faulty, served_exchange, Step}
+use Rattle.plain_machine.specs.Step.{State, Exchange, StepEnd, Idle, Refused, Exchanged, Calls, Unchanged}
+use Rattle.plain_machine.specs.Step.{ServesRequest, with_queue, faulty, served_exchange, Step}
 
--- what a step loads before its calls: the available index, the ring's entry, the tables' entries, and the request's bytes (VIRTIO 1.2, 2.7.5 and 2.7.6)
+-- what a step loads before its calls: the available index, the ring's entry, the tables' entries, and the
+-- request's bytes (VIRTIO 1.2, 2.7.5 and 2.7.6)
 pub record StepLoads : Type 0 where
   pub index : Option (List ℕ)
   pub entry : Option (List ℕ)
@@ -36,11 +41,14 @@ offered_by places limit q l = offer_by places limit q l.index l.entry l.entries 
 abbrev pub byte_store : ℕ × ℕ → Store
 byte_store write = record { address = write.0; bytes = write.1 ∷ [] }
 
--- a reply over a room, byte by byte: what is behind its first n bytes, which may come straight from a file, and then these
+-- a reply over a room, byte by byte: what is behind its first n bytes, which may come straight from a file,
+-- and then these
 abbrev pub reply_stores : (room reply : List ℕ) → (n : ℕ) → List Store
-reply_stores room reply n = map byte_store (zip (drop n room) (drop n reply)) ++ map byte_store (zip (take n room) (take n reply))
+reply_stores room reply n =
+    map byte_store (zip (drop n room) (drop n reply)) ++ map byte_store (zip (take n room) (take n reply))
 
--- the stores of a chain that goes back, in order (2.7.8): the reply, the used element's two halves, the used index
+-- the stores of a chain that goes back, in order (2.7.8): the reply, the used element's two halves, the used
+-- index
 abbrev pub return_stores : Queue → (head : ℕ) → (room reply : List ℕ) → (n : ℕ) → List Store
 return_stores q head room reply n = reply_stores room reply n ++ stores_after_reply q head (length reply)
 
@@ -48,7 +56,8 @@ return_stores q head room reply n = reply_stores room reply n ++ stores_after_re
 abbrev pub after_stores : Memory → List Store → Memory
 after_stores m stores = stored_all m (flat_map writes_of stores)
 
--- what a step does to memory once its calls are answered: a store, or a load of two bytes: the available flags (2.7.7), or used_event of a queue with the event index (2.7.10)
+-- what a step does to memory once its calls are answered: a store, or a load of two bytes: the available
+-- flags (2.7.7), or used_event of a queue with the event index (2.7.10)
 pub data Act : Type 0 where
   Stores : Store → Act
   LoadsFlags : (found : List ℕ) → Act
@@ -73,59 +82,83 @@ abbrev pub DoesNothing : Effects → Type 0
 DoesNothing e = e.acts ≡ []
 
 -- a chain goes back with this exchange; what memory holds then isn't told
-pub record ReturnsBy {F : Type 0} (before : State F) (i : ℕ) (q : Queue) (room : List ℕ) (expected : Exchange) (options : ℕ) (x : Exchange) (notice : Bool)
+pub record ReturnsBy {F : Type 0} (before : State F) (i : ℕ) (q : Queue) (room : List ℕ) (expected : Exchange)
+    (options : ℕ) (x : Exchange) (notice : Bool)
     (e : Effects) (after : State F) : Type 0 where
   pub exchange : x ≡ expected
   pub flags : List ℕ
   pub flags_len : length flags ≡ 2
   pub acts : e.acts ≡ return_acts (return_stores q expected.head room expected.reply e.last) flags
-  pub state : after ≡ record before { queues = changed_at before.queues i (λ _. advanced q); options = options; files = after.files }
+  pub state : after ≡ record before {
+    queues = changed_at before.queues i (λ _. advanced q);
+    options = options;
+    files = after.files;
+  }
   pub told : notice ≡ tells flags
 
 -- a faulty chain goes back with nothing, and no call is made
-pub record ReturnsFaultyBy {F : Type 0} (before : State F) (i : ℕ) (q : Queue) (head : ℕ) (why : ChainFault) (calls : Calls) (x : Exchange) (notice : Bool)
+pub record ReturnsFaultyBy {F : Type 0} (before : State F) (i : ℕ) (q : Queue) (head : ℕ) (why : ChainFault)
+    (calls : Calls) (x : Exchange) (notice : Bool)
     (e : Effects) (after : State F) : Type 0 where
   pub no_call : calls ≡ []
   pub files : after.files ≡ before.files
   pub returns : ReturnsBy before i q [] (faulty head why) before.options x notice e after
 
 -- a request is answered by what its loaded bytes mean
-pub record AnswersBy {F : Type 0} (may : May F) (before : State F) (i : ℕ) (q : Queue) (head : ℕ) (request room : List ℕ) (calls : Calls) (x : Exchange) (notice : Bool)
+pub record AnswersBy {F : Type 0} (may : May F) (before : State F) (i : ℕ) (q : Queue) (head : ℕ)
+    (request room : List ℕ) (calls : Calls) (x : Exchange) (notice : Bool)
     (e : Effects) (after : State F) : Type 0 where
   pub given : ServedMessage
-  pub serves : ServesRequest may before.page_size before.options request (length room) before.files calls given after.files
+  pub serves : ServesRequest may before.page_size before.options request (length room) before.files calls
+      given after.files
   pub returns : ReturnsBy before i q room (served_exchange head request given) given.options x notice e after
 
 -- a chain that was offered is exchanged
-abbrev pub ExchangesBy : {F : Type 0} → May F → State F → ℕ → Queue → Offer → Calls → Exchange → Bool → Effects → State F → Type 0
-ExchangesBy may before i q (Offers head (CannotFetch why)) calls x notice e after = ReturnsFaultyBy before i q head why calls x notice e after
-ExchangesBy may before i q (Offers head (IsRequest request room)) calls x notice e after = AnswersBy may before i q head request room calls x notice e after
+abbrev pub ExchangesBy :
+    {F : Type 0} → May F → State F → ℕ → Queue → Offer → Calls → Exchange → Bool → Effects → State F → Type 0
+ExchangesBy may before i q (Offers head (CannotFetch why)) calls x notice e after =
+    ReturnsFaultyBy before i q head why calls x notice e after
+ExchangesBy may before i q (Offers head (IsRequest request room)) calls x notice e after =
+    AnswersBy may before i q head request room calls x notice e after
 ExchangesBy may before i q taking.Idle calls x notice e after = ⊥
 ExchangesBy may before i q (Refuses error) calls x notice e after = ⊥
 
 -- what may happen at an offer
-abbrev pub ActsBy : {F : Type 0} → May F → State F → ℕ → Queue → Offer → Calls → StepEnd → Effects → State F → Type 0
-ActsBy may before i q offered calls Idle e after = (offered ≡ taking.Idle) × Unchanged before calls after × DoesNothing e
+abbrev pub ActsBy :
+    {F : Type 0} → May F → State F → ℕ → Queue → Offer → Calls → StepEnd → Effects → State F → Type 0
+ActsBy may before i q offered calls Idle e after =
+    (offered ≡ taking.Idle) × Unchanged before calls after × DoesNothing e
 ActsBy may before i q offered calls (Refused (device.Queue stop.OutOfMemory)) e after =
     IsTrue (may_lack_memory offered) × Unchanged before calls after × DoesNothing e
 ActsBy may before i q offered calls (Refused (device.Queue error)) e after =
-    (offered ≡ Refuses error) × (calls ≡ []) × (after ≡ with_queue before i (after_refusal q error)) × DoesNothing e
+    (offered ≡ Refuses error)
+    × (calls ≡ [])
+    × (after ≡ with_queue before i (after_refusal q error))
+    × DoesNothing e
 ActsBy may before i q offered calls (Refused device.NoSuchQueue) e after = ⊥
-ActsBy may before i q offered calls (Exchanged x notice) e after = ExchangesBy may before i q offered calls x notice e after
+ActsBy may before i q offered calls (Exchanged x notice) e after =
+    ExchangesBy may before i q offered calls x notice e after
 
 -- no load was made
 abbrev pub LoadsNothing : StepLoads → Type 0
 LoadsNothing l = l ≡ record { index = None; entry = None; entries = []; request = [] }
 
 -- a step on a queue that may be missing, for which nothing is loaded: its loads say what is offered
-abbrev pub StepOfBy : {F : Type 0} → May F → State F → ℕ → Option Queue → StepLoads → Calls → StepEnd → Effects → State F → Type 0
-StepOfBy may before i None l calls outcome e after = (outcome ≡ Refused device.NoSuchQueue) × Unchanged before calls after × DoesNothing e × LoadsNothing l
+abbrev pub StepOfBy : {F : Type 0} → May F → State F → ℕ → Option Queue → StepLoads → Calls → StepEnd →
+    Effects → State F → Type 0
+StepOfBy may before i None l calls outcome e after =
+    (outcome ≡ Refused device.NoSuchQueue) × Unchanged before calls after × DoesNothing e × LoadsNothing l
 StepOfBy may before i (Some q) l calls outcome e after =
-    (o : Offer) × (offered_by before.memory before.limit q l ≡ Some o) × ActsBy may before i q o calls outcome e after
+    (o : Offer)
+    × (offered_by before.memory before.limit q l ≡ Some o)
+    × ActsBy may before i q o calls outcome e after
 
--- a step on queue i that loads this may make these calls, end so, store this, and leave this state; of both states' memories only the places count
-abbrev pub StepBy : {F : Type 0} → May F → State F → ℕ → StepLoads → Calls → StepEnd → Effects → State F → Type 0
-StepBy may before i l calls outcome e after = StepOfBy may before i (slice_get before.queues i) l calls outcome e after
+-- a step on queue i that loads this may make these calls, end so, store this, and leave this state; of both
+-- states' memories only the places count
+abbrev pub StepBy :
+    {F : Type 0} → May F → State F → ℕ → StepLoads → Calls → StepEnd → Effects → State F → Type 0
+StepBy may before i l calls outcome e after =
+    StepOfBy may before i (slice_get before.queues i) l calls outcome e after
 
 -- ---- laws
 
@@ -147,21 +180,32 @@ FindFlags m q [] = Unit {0}
 FindFlags m q (Stores store ∷ acts) = FindFlags (after_stores m (store ∷ [])) q acts
 FindFlags m q (LoadsFlags found ∷ acts) = (found ≡ bytes m q.avail 2) × FindFlags m q acts
 
--- the loads of a step are what one memory has, the flags by then, and what is stored last of the reply lies apart from the rest
+-- the loads of a step are what one memory has, the flags by then, and what is stored last of the reply lies
+-- apart from the rest
 pub record IsOfMemory {F : Type 0} (s : State F) (i : ℕ) (l : StepLoads) (e : Effects) : Type 0 where
-  pub loads : (q : Queue) → slice_get s.queues i ≡ Some q → AreStepLoadsOf s.memory q l
-  pub flags : (q : Queue) → slice_get s.queues i ≡ Some q → FindFlags s.memory q e.acts
-  pub apart : (q : Queue) (head : ℕ) (request room : List ℕ) → slice_get s.queues i ≡ Some q → offered_by s.memory s.limit q l ≡ Some (Offers head (IsRequest request room)) →
+  pub loads : (q : Queue) →
+      slice_get s.queues i ≡ Some q →
+      AreStepLoadsOf s.memory q l
+  pub flags : (q : Queue) →
+      slice_get s.queues i ≡ Some q →
+      FindFlags s.memory q e.acts
+  pub apart : (q : Queue) (head : ℕ) (request room : List ℕ) →
+      slice_get s.queues i ≡ Some q →
+      offered_by s.memory s.limit q l ≡ Some (Offers head (IsRequest request room)) →
       MayStoreLast s.memory room e.last
 
 -- a step by loads that one memory has is a step of the plain machine over it: the stores leave its memory
 abbrev pub StepByIsStep : {F : Type 0} → May F → Type 0
 StepByIsStep {F} may =
-    (s : State F) (i : ℕ) (l : StepLoads) (calls : Calls) (outcome : StepEnd) (e : Effects) (after : State F) → IsOfMemory s i l e →
-    StepBy may s i l calls outcome e after → Step may s i calls outcome (record after { memory = after_stores s.memory (stores_among e.acts) })
+    (s : State F) (i : ℕ) (l : StepLoads) (calls : Calls) (outcome : StepEnd) (e : Effects)
+    (after : State F) →
+    IsOfMemory s i l e →
+    StepBy may s i l calls outcome e after →
+    Step may s i calls outcome (record after { memory = after_stores s.memory (stores_among e.acts) })
 
 -- and each step of the plain machine is one by such loads and stores
-pub record HasEffects {F : Type 0} (may : May F) (s : State F) (i : ℕ) (calls : Calls) (outcome : StepEnd) (after : State F) : Type 0 where
+pub record HasEffects {F : Type 0} (may : May F) (s : State F) (i : ℕ) (calls : Calls) (outcome : StepEnd)
+    (after : State F) : Type 0 where
   pub loads : StepLoads
   pub effects : Effects
   pub are : IsOfMemory s i loads effects
@@ -169,16 +213,26 @@ pub record HasEffects {F : Type 0} (may : May F) (s : State F) (i : ℕ) (calls 
   pub step : StepBy may s i loads calls outcome effects (record after { memory = s.memory })
 
 abbrev pub StepIsStepBy : {F : Type 0} → May F → Type 0
-StepIsStepBy {F} may = (s : State F) (i : ℕ) (calls : Calls) (outcome : StepEnd) (after : State F) → Step may s i calls outcome after → HasEffects may s i calls outcome after
+StepIsStepBy {F} may =
+    (s : State F) (i : ℕ) (calls : Calls) (outcome : StepEnd) (after : State F) →
+    Step may s i calls outcome after →
+    HasEffects may s i calls outcome after
 
--- whatever was loaded, a step stores nothing unless a chain goes back, and then in its room as it was walked, in the used element and in the used index alone
+-- whatever was loaded, a step stores nothing unless a chain goes back, and then in its room as it was walked,
+-- in the used element and in the used index alone
 abbrev pub return_addresses : Queue → Offer → List ℕ
-return_addresses q (Offers head (IsRequest request room)) = room ++ addresses (element_at q) 8 ++ addresses (index_at q) 2
+return_addresses q (Offers head (IsRequest request room)) =
+    room ++ addresses (element_at q) 8 ++ addresses (index_at q) 2
 return_addresses q (Offers head (CannotFetch why)) = addresses (element_at q) 8 ++ addresses (index_at q) 2
 return_addresses q taking.Idle = []
 return_addresses q (Refuses error) = []
 
 abbrev pub StoresOnlyThere : {F : Type 0} → May F → Type 0
 StoresOnlyThere {F} may =
-    (s : State F) (i : ℕ) (l : StepLoads) (calls : Calls) (outcome : StepEnd) (e : Effects) (after : State F) (q : Queue) (o : Offer) → slice_get s.queues i ≡ Some q →
-    offered_by s.memory s.limit q l ≡ Some o → StepBy may s i l calls outcome e after → AllByRecursion (λ (w : ℕ × ℕ). Contains (return_addresses q o) w.0) (flat_map writes_of (stores_among e.acts))
+    (s : State F) (i : ℕ) (l : StepLoads) (calls : Calls) (outcome : StepEnd) (e : Effects) (after : State F)
+    (q : Queue) (o : Offer) →
+    slice_get s.queues i ≡ Some q →
+    offered_by s.memory s.limit q l ≡ Some o →
+    StepBy may s i l calls outcome e after →
+    AllByRecursion (λ (w : ℕ
+    × ℕ). Contains (return_addresses q o) w.0) (flat_map writes_of (stores_among e.acts))

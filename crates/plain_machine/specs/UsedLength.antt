@@ -16,20 +16,24 @@ header_length reply = take 4 reply
 abbrev pub reply_writes : (room reply : List ℕ) → List (ℕ × ℕ)
 reply_writes room reply = zip room reply
 
--- what is written besides: the used element, which is le32 head and le32 used length, and then le16 used index
+-- what is written besides: the used element, which is le32 head and le32 used length, and then le16 used
+-- index
 abbrev pub ring_writes : Queue → (head used_length : ℕ) → List (ℕ × ℕ)
 ring_writes q head used_length =
-    zip (addresses (element_at q) 8) (to_le_bytes w32 head ++ to_le_bytes w32 used_length) ++ zip (addresses (index_at q) 2) (to_le_bytes w16 (next_position q))
+    zip (addresses (element_at q) 8) (to_le_bytes w32 head ++ to_le_bytes w32 used_length)
+    ++ zip (addresses (index_at q) 2) (to_le_bytes w16 (next_position q))
 
--- a used length above 0 is the length in the reply's header, as le32, and the number of reply bytes written; where it is 0, the used
--- element and the used index alone are written
-pub record TellsLength (before : Memory) (q : Queue) (head : ℕ) (room reply : List ℕ) (used_length : ℕ) (after : Memory) : Type 0 where
+-- a used length above 0 is the length in the reply's header, as le32, and the number of reply bytes written;
+-- where it is 0, the used element and the used index alone are written
+pub record TellsLength (before : Memory) (q : Queue) (head : ℕ) (room reply : List ℕ) (used_length : ℕ)
+    (after : Memory) : Type 0 where
   pub written : after ≡ stored_all before (reply_writes room reply ++ ring_writes q head used_length)
   pub count : length (reply_writes room reply) ≡ used_length
   pub header : 0 < used_length → header_length reply ≡ to_le_bytes w32 used_length
   pub nothing : used_length ≡ 0 → after ≡ stored_all before (ring_writes q head 0)
 
--- the queue that a step exchanges a chain of, and what that chain asks, which its queue offers in the state before
+-- the queue that a step exchanges a chain of, and what that chain asks, which its queue offers in the state
+-- before
 pub record IsOffered {F : Type 0} (s : State F) (i : ℕ) (x : Exchange) : Type 0 where
   pub queue : Queue
   pub fetched : RequestAndRoom
@@ -39,5 +43,7 @@ pub record IsOffered {F : Type 0} (s : State F) (i : ℕ) (x : Exchange) : Type 
 -- so it is of each exchange, where the used length is that of its reply
 abbrev pub LengthsAreTold : {F : Type 0} → May F → Type 0
 LengthsAreTold {F} may =
-    (s after : State F) (i : ℕ) (calls : Calls) (x : Exchange) (notice : Bool) → Step may s i calls (Exchanged x notice) after →
-    (o : IsOffered s i x) × TellsLength s.memory o.queue x.head (room_of o.fetched) x.reply (length x.reply) after.memory
+    (s after : State F) (i : ℕ) (calls : Calls) (x : Exchange) (notice : Bool) →
+    Step may s i calls (Exchanged x notice) after →
+    (o : IsOffered s i x)
+    × TellsLength s.memory o.queue x.head (room_of o.fetched) x.reply (length x.reply) after.memory

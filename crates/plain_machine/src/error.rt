@@ -6,8 +6,8 @@ use fs_queue::QueueError;
 use std::alloc::AllocError;
 use thiserror::Error;
 
-/// Why a step is refused: by its queue (`QueueError`, of which `OutOfMemory` comes from the device too), or since that
-/// queue is missing.
+/// Why a step is refused: by its queue (`QueueError`, of which `OutOfMemory` comes from the device too), or
+/// since that queue is missing.
 #[derive(Clone, Copy, Debug, PartialEq, Eq, Error)]
 pub enum DeviceError {
     #[error("{0}")]

@@ -30,7 +30,8 @@ pub enum Refusal {
 impl Refusal {
     ghost use Rattle.plain_machine.specs.Refusing.{command_refusal_number};
 
-    /// The number that tells the refusal apart, from 1 for `NoPlace` to 9 for `OutOfMemory`, in the order above.
+    /// The number that tells the refusal apart, from 1 for `NoPlace` to 9 for `OutOfMemory`, in the order
+    /// above.
     pub fn number(&self) -> u8
         ensures { result ≡ command_refusal_number self.now }
     {

@@ -3,9 +3,12 @@ use Rattle.std.specs.Prelude.{◌≡◌, Bool, true, false}
 use Rattle.fuse_in.specs.declared.session.InHeader.{InHeader}
 use Rattle.fuse_fs.specs.declared.answers.Context.{Context}
 use Rattle.fuse_fs.specs.Answers.{context_of}
-use Rattle.fuse_fs.specs.Calls.{FileCall, Init, BatchForget, Lookup, Symlink, Mknod, Mkdir, Link, Create, Read, Write, Readdir}
-use Rattle.fuse_fs.specs.Calls.{Readlink, Statfs, Syncfs, Destroy, Getlk, Setlk, Setlkw, Bmap, Ioctl, Poll, NotifyReply, TmpFile, Unlink, Rmdir}
-use Rattle.fuse_fs.specs.Calls.{Removexattr, Getxattr, Rename, Setxattr, Forget, Getattr, Setattr, Access, Listxattr, Open, Opendir}
+use Rattle.fuse_fs.specs.Calls.{FileCall, Init, BatchForget, Lookup, Symlink, Mknod, Mkdir, Link, Create}
+use Rattle.fuse_fs.specs.Calls.{Read, Write, Readdir}
+use Rattle.fuse_fs.specs.Calls.{Readlink, Statfs, Syncfs, Destroy, Getlk, Setlk, Setlkw, Bmap, Ioctl, Poll}
+use Rattle.fuse_fs.specs.Calls.{NotifyReply, TmpFile, Unlink, Rmdir}
+use Rattle.fuse_fs.specs.Calls.{Removexattr, Getxattr, Rename, Setxattr, Forget, Getattr, Setattr, Access}
+use Rattle.fuse_fs.specs.Calls.{Listxattr, Open, Opendir}
 use Rattle.fuse_fs.specs.Calls.{Release, Releasedir, Fsync, Fsyncdir, Flush, Fallocate, Lseek, CopyFileRange}
 
 -- who gets an entry, of the calls that have one
@@ -31,7 +34,8 @@ is_plain _ = true
 abbrev pub CallSays : InHeader → FileCall → Type 0
 CallSays h call = (is_plain call ≡ true) × IsFor (context_of h) call
 
--- what a request has behind its header: nothing, a record, a record of an open file, a name, a record with names, or the name of a node that is made
+-- what a request has behind its header: nothing, a record, a record of an open file, a name, a record with
+-- names, or the name of a node that is made
 pub data RequestShape : Type 0 where
   Header : RequestShape
   Fixed : RequestShape

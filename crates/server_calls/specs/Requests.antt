@@ -1,5 +1,6 @@
 -- What requests ask of the file system, by their header and what they say (linux/fuse.h).
-use Rattle.std.specs.Prelude.{ℕ, Bool, true, false, not, ◌||◌, nat_lt, List, [], ◌∷◌, length, Option, Some, None, is_none, if◌then◌else◌, bit_and}
+use Rattle.std.specs.Prelude.{ℕ, Bool, true, false, not, ◌||◌, nat_lt, List, [], ◌∷◌, length, Option, Some}
+use Rattle.std.specs.Prelude.{None, is_none, if◌then◌else◌, bit_and}
 use Rattle.vm_values.specs.Bits.{has_bit}
 use Rattle.fuse_in.specs.declared.session.InHeader.{InHeader}
 use Rattle.fuse_in.specs.declared.nodes.AccessIn.{AccessIn}
@@ -26,9 +27,13 @@ use Rattle.fuse_in.specs.declared.files.WriteIn.{WriteIn}
 use Rattle.fuse_fs.specs.declared.answers.Context.{Context}
 use Rattle.fuse_fs.specs.Answers.{context_of}
 use Rattle.fuse_fs.specs.Calls.{FileAnswer, HasEntry, Created}
-use Rattle.fuse_fs.specs.Calls.{FileCall, Access, CopyFileRange, Fallocate, Flush, Forget, Fsync, Fsyncdir, Getattr, Lookup, Lseek, Open, Opendir, Readlink, Release}
-use Rattle.fuse_fs.specs.Calls.{Releasedir, Removexattr, Rmdir, Setattr, Statfs, Syncfs, Unlink, Read, Readdir, Link, Rename, Setxattr, Getxattr, Listxattr, BatchForget, Write, Extra}
-use Rattle.fuse_fs.specs.Calls.{Symlink, Mknod, Mkdir, Create, NewLink, Destroy, Getlk, Setlk, Setlkw, Bmap, Ioctl, Poll, NotifyReply}
+use Rattle.fuse_fs.specs.Calls.{FileCall, Access, CopyFileRange, Fallocate, Flush, Forget, Fsync, Fsyncdir}
+use Rattle.fuse_fs.specs.Calls.{Getattr, Lookup, Lseek, Open, Opendir, Readlink, Release}
+use Rattle.fuse_fs.specs.Calls.{Releasedir, Removexattr, Rmdir, Setattr, Statfs, Syncfs, Unlink, Read}
+use Rattle.fuse_fs.specs.Calls.{Readdir, Link, Rename, Setxattr, Getxattr, Listxattr, BatchForget, Write}
+use Rattle.fuse_fs.specs.Calls.{Extra}
+use Rattle.fuse_fs.specs.Calls.{Symlink, Mknod, Mkdir, Create, NewLink, Destroy, Getlk, Setlk, Setlkw, Bmap}
+use Rattle.fuse_fs.specs.Calls.{Ioctl, Poll, NotifyReply}
 
 -- a number that counts only if its flag is set
 abbrev pub if_set : Bool → ℕ → Option ℕ
@@ -44,7 +49,9 @@ forget_call h r = Forget (context_of h) h.nodeid r.nlookup
 
 -- READ: `lock_owner` counts only with FUSE_READ_LOCKOWNER (bit 1 of `read_flags`)
 abbrev pub read_call : InHeader → (room : ℕ) → ReadIn → FileCall
-read_call h room r = Read (context_of h) h.nodeid r.fh room r.size r.offset (if_set (has_bit r.read_flags 1) r.lock_owner) r.flags
+read_call h room r =
+    Read (context_of h) h.nodeid r.fh room r.size r.offset
+    (if_set (has_bit r.read_flags 1) r.lock_owner) r.flags
 
 -- READDIR and READDIRPLUS
 abbrev pub directory_call : InHeader → ReadIn → FileCall
@@ -54,10 +61,11 @@ directory_call h r = Readdir (context_of h) h.nodeid r.fh r.size r.offset
 abbrev pub batch_forget_call : InHeader → List (ℕ × ℕ) → FileCall
 batch_forget_call h pairs = BatchForget (context_of h) pairs
 
--- WRITE: `lock_owner` counts only with FUSE_WRITE_LOCKOWNER (bit 1 of `write_flags`); the page cache writes late with
--- FUSE_WRITE_CACHE (bit 0), and set-id bits are dropped with FUSE_WRITE_KILL_SUIDGID (bit 2)
+-- WRITE: `lock_owner` counts only with FUSE_WRITE_LOCKOWNER (bit 1 of `write_flags`); the page cache writes
+-- late with FUSE_WRITE_CACHE (bit 0), and set-id bits are dropped with FUSE_WRITE_KILL_SUIDGID (bit 2)
 abbrev pub write_call : InHeader → WriteIn → List ℕ → FileCall
-write_call h r bytes = Write (context_of h) h.nodeid r.fh bytes r.size r.offset (if_set (has_bit r.write_flags 1) r.lock_owner)
+write_call h r bytes =
+    Write (context_of h) h.nodeid r.fh bytes r.size r.offset (if_set (has_bit r.write_flags 1) r.lock_owner)
     (has_bit r.write_flags 0) (has_bit r.write_flags 2) r.flags
 
 -- GETATTR: the handle counts only with FUSE_GETATTR_FH (bit 0 of `flags`)
@@ -70,7 +78,8 @@ known_setattr = 0xdbf
 
 -- SETATTR: the handle counts only with FATTR_FH (bit 6 of `valid`)
 abbrev pub setattr_call : InHeader → SetattrIn → FileCall
-setattr_call h r = Setattr (context_of h) h.nodeid r (if_set (has_bit r.valid 6) r.fh) (bit_and r.valid known_setattr)
+setattr_call h r =
+    Setattr (context_of h) h.nodeid r (if_set (has_bit r.valid 6) r.fh) (bit_and r.valid known_setattr)
 
 -- READLINK
 abbrev pub readlink_call : InHeader → FileCall
@@ -92,9 +101,11 @@ open_call h r = Open (context_of h) h.nodeid (has_bit r.open_flags 0) r.flags
 abbrev pub statfs_call : InHeader → FileCall
 statfs_call h = Statfs (context_of h) h.nodeid
 
--- RELEASE: `lock_owner` counts only with FUSE_RELEASE_FLUSH or FUSE_RELEASE_FLOCK_UNLOCK (bits 0 and 1 of `release_flags`)
+-- RELEASE: `lock_owner` counts only with FUSE_RELEASE_FLUSH or FUSE_RELEASE_FLOCK_UNLOCK (bits 0 and 1 of
+-- `release_flags`)
 abbrev pub release_call : InHeader → ReleaseIn → FileCall
-release_call h r = Release (context_of h) h.nodeid r.flags r.fh (has_bit r.release_flags 0) (has_bit r.release_flags 1)
+release_call h r =
+    Release (context_of h) h.nodeid r.flags r.fh (has_bit r.release_flags 0) (has_bit r.release_flags 1)
     (if_set (has_bit r.release_flags 0 || has_bit r.release_flags 1) r.lock_owner)
 
 -- FSYNC: the data alone with FUSE_FSYNC_FDATASYNC (bit 0 of `fsync_flags`)
@@ -135,7 +146,8 @@ lseek_call h r = Lseek (context_of h) h.nodeid r.fh r.offset r.whence
 
 -- COPY_FILE_RANGE
 abbrev pub copy_file_range_call : InHeader → CopyfilerangeIn → FileCall
-copy_file_range_call h r = CopyFileRange (context_of h) h.nodeid r.fh_in r.off_in r.nodeid_out r.fh_out r.off_out r.len r.flags
+copy_file_range_call h r =
+    CopyFileRange (context_of h) h.nodeid r.fh_in r.off_in r.nodeid_out r.fh_out r.off_out r.len r.flags
 
 -- SYNCFS
 abbrev pub syncfs_call : InHeader → FileCall
@@ -159,7 +171,8 @@ known_setxattr = 1
 
 -- SETXATTR of a name to a value; of its further flags one is known
 abbrev pub setxattr_call : InHeader → SetxattrIn → List ℕ × List ℕ → FileCall
-setxattr_call h r parts = Setxattr (context_of h) h.nodeid parts.0 parts.1 r.flags (bit_and r.setxattr_flags known_setxattr)
+setxattr_call h r parts =
+    Setxattr (context_of h) h.nodeid parts.0 parts.1 r.flags (bit_and r.setxattr_flags known_setxattr)
 
 -- GETXATTR
 abbrev pub getxattr_call : InHeader → GetxattrIn → List ℕ → FileCall

@@ -9,14 +9,15 @@ use fuse_fs::{Context, FileNumber, FileSystem};
 use fuse_in::{InHeader, ReadIn};
 use fuse_wire::Errno;
 
-/// READDIR and READDIRPLUS (`struct fuse_read_in`): the entries of a directory behind an offset, or the file system's
-/// errno, from 1 to 4095. READDIRPLUS then looks each of them up.
+/// READDIR and READDIRPLUS (`struct fuse_read_in`): the entries of a directory behind an offset, or the file
+/// system's errno, from 1 to 4095. READDIRPLUS then looks each of them up.
 pub fn make_readdir_call<F: FileSystem>(
     fs: &mut F,
     head: &InHeader,
     request: &ReadIn,
 ) -> Result<F::DirIter, Errno>
-    ensures may { F.may fs.old (directory_call head.now request.now) (listed_answer F.DirIter.rest result) fs.new }
+    ensures may { F.may fs.old (directory_call head.now request.now)
+        (listed_answer F.DirIter.rest result) fs.new }
     ensures errno { IfErr result (λ e. (0 < e) × (e < 4096)) }
 {
     received(fs.readdir(

@@ -101,7 +101,8 @@ pub fn symlink_value<'a>(
     name: &'a [u8],
     extra: Received<'a>,
 ) -> FileCall<'a>
-    ensures { call_of [] result ≡ symlink_call head.now (record { name = name.now; link = link.now; extra = received_extra extra.entry }) }
+    ensures { call_of [] result ≡ symlink_call head.now
+        (record { name = name.now; link = link.now; extra = received_extra extra.entry }) }
 {
     FileCall::Symlink {
         context: Context::from(*head),

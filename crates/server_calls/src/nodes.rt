@@ -1,8 +1,10 @@
 //! Requests about names and nodes.
 
 ghost use Rattle.std.specs.Prelude.{◌≡◌, bit_and, refl};
-ghost use Rattle.server_calls.specs.Requests.{lookup_call, forget_call, getattr_call, setattr_call, readlink_call};
-ghost use Rattle.server_calls.specs.Requests.{unlink_call, rmdir_call, statfs_call, removexattr_call, access_call, syncfs_call, known_setattr};
+ghost use Rattle.server_calls.specs.Requests.{lookup_call, forget_call, getattr_call, setattr_call};
+ghost use Rattle.server_calls.specs.Requests.{readlink_call};
+ghost use Rattle.server_calls.specs.Requests.{unlink_call, rmdir_call, statfs_call, removexattr_call};
+ghost use Rattle.server_calls.specs.Requests.{access_call, syncfs_call, known_setattr};
 
 use crate::values::{NameValue, PlainValue, RecordValue, number_if};
 use bitflags::Flags;

@@ -2,8 +2,10 @@
 
 ghost use Rattle.std.specs.Prelude.{◌≡◌, ◌||◌, refl};
 ghost use Rattle.vm_values.specs.Bits.{has_bit};
-ghost use Rattle.server_calls.specs.Requests.{open_call, release_call, fsync_call, fsyncdir_call, flush_call, opendir_call};
-ghost use Rattle.server_calls.specs.Requests.{releasedir_call, fallocate_call, lseek_call, copy_file_range_call, if_set};
+ghost use Rattle.server_calls.specs.Requests.{open_call, release_call, fsync_call, fsyncdir_call, flush_call};
+ghost use Rattle.server_calls.specs.Requests.{opendir_call};
+ghost use Rattle.server_calls.specs.Requests.{releasedir_call, fallocate_call, lseek_call};
+ghost use Rattle.server_calls.specs.Requests.{copy_file_range_call, if_set};
 
 use crate::values::{RecordValue, number_if};
 use fuse_fs::Context;
@@ -37,7 +39,8 @@ impl RecordValue for Open {
 
 // Who holds the lock, where a flag says that it is told.
 fn releasing_owner(request: &ReleaseIn) -> Option<u64>
-    ensures { result ≡ if_set (has_bit request.now.release_flags 0 || has_bit request.now.release_flags 1) request.now.lock_owner }
+    ensures { result ≡ if_set (has_bit request.now.release_flags 0 || has_bit request.now.release_flags 1)
+        request.now.lock_owner }
 {
     let told = request.release_flags & RELEASE_FLUSH != 0
         || request.release_flags & RELEASE_FLOCK_UNLOCK != 0;

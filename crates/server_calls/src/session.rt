@@ -26,8 +26,8 @@ impl PlainValue for Destroy {
     }
 }
 
-/// INIT (`struct fuse_init_in`): of the options that both sides have, those that the file system asks for; or its errno,
-/// from 1 to 4095.
+/// INIT (`struct fuse_init_in`): of the options that both sides have, those that the file system asks for; or
+/// its errno, from 1 to 4095.
 pub fn make_init_call<F: FileSystem>(fs: &mut F, capable: FsOptions) -> Result<FsOptions, Errno>
     ensures may { F.may fs.old (Init capable.0) (options_answer result) fs.new }
     ensures suits { IsTrue (suits (Init capable.0) (options_answer result)) }

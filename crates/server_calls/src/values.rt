@@ -39,7 +39,8 @@ pub trait RecordValue {
     ghost call: { InHeader → Self.Record → call.FileCall };
 
     // It is of this shape, and made for who sent the request.
-    ghost says: { (h : InHeader) (r : Self.Record) → (is_record (shape_of (call h r)) ≡ true) × CallSays h (call h r) };
+    ghost says: { (h : InHeader) (r : Self.Record)
+        → (is_record (shape_of (call h r)) ≡ true) × CallSays h (call h r) };
 
     /// The call.
     fn value<'a>(head: &InHeader, request: &Self::Record) -> FileCall<'a>
@@ -52,7 +53,8 @@ pub trait NameValue {
     ghost call: { InHeader → List ℕ → call.FileCall };
 
     // It is of this shape, and made for who sent the request.
-    ghost says: { (h : InHeader) (name : List ℕ) → (shape_of (call h name) ≡ Named) × CallSays h (call h name) };
+    ghost says: { (h : InHeader) (name : List ℕ)
+        → (shape_of (call h name) ≡ Named) × CallSays h (call h name) };
 
     /// The call.
     fn value<'a>(head: &InHeader, name: &'a [u8]) -> FileCall<'a>
@@ -67,7 +69,8 @@ pub trait RecordNameValue {
     ghost call: { InHeader → Self.Record → List ℕ → call.FileCall };
 
     // It is of this shape, and made for who sent the request.
-    ghost says: { (h : InHeader) (r : Self.Record) (name : List ℕ) → (shape_of (call h r name) ≡ NamedRecord) × CallSays h (call h r name) };
+    ghost says: { (h : InHeader) (r : Self.Record) (name : List ℕ)
+        → (shape_of (call h r name) ≡ NamedRecord) × CallSays h (call h r name) };
 
     /// The call.
     fn value<'a>(head: &InHeader, request: &Self::Record, name: &'a [u8]) -> FileCall<'a>
@@ -82,7 +85,8 @@ pub trait TwoPartsValue {
     ghost call: { InHeader → Self.Record → List ℕ × List ℕ → call.FileCall };
 
     // It is of this shape, and made for who sent the request.
-    ghost says: { (h : InHeader) (r : Self.Record) (parts : List ℕ × List ℕ) → (shape_of (call h r parts) ≡ NamedRecord) × CallSays h (call h r parts) };
+    ghost says: { (h : InHeader) (r : Self.Record) (parts : List ℕ × List ℕ)
+        → (shape_of (call h r parts) ≡ NamedRecord) × CallSays h (call h r parts) };
 
     /// The call.
     fn value<'a>(
@@ -102,7 +106,8 @@ pub trait NewNameValue {
     ghost call: { InHeader → Self.Record → List ℕ × Extra → call.FileCall };
 
     // It is of this shape, and made for who sent the request.
-    ghost says: { (h : InHeader) (r : Self.Record) (x : List ℕ × Extra) → (shape_of (call h r x) ≡ Made) × CallSays h (call h r x) };
+    ghost says: { (h : InHeader) (r : Self.Record) (x : List ℕ × Extra)
+        → (shape_of (call h r x) ≡ Made) × CallSays h (call h r x) };
 
     /// The call.
     fn value<'a>(

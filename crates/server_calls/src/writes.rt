@@ -38,15 +38,16 @@ pub fn write_flags(request: &WriteIn) -> WriteFlags
     }
 }
 
-/// WRITE (`struct fuse_write_in`): a file is written with what a reader has left. Answers how many bytes, or the file
-/// system's errno, from 1 to 4095.
+/// WRITE (`struct fuse_write_in`): a file is written with what a reader has left. Answers how many bytes, or
+/// the file system's errno, from 1 to 4095.
 pub fn make_write_call<F: FileSystem, R: ZeroCopyReader>(
     fs: &mut F,
     head: &InHeader,
     request: &WriteIn,
     from: &mut R,
 ) -> Result<u32, Errno>
-    ensures may { F.may fs.old (write_call head.now request.now (R.left from.old)) (written_answer result) fs.new }
+    ensures may { F.may fs.old (write_call head.now request.now (R.left from.old))
+        (written_answer result) fs.new }
     ensures errno { IfErr result (λ e. (0 < e) × (e < 4096)) }
     ensures count { IfOk result (λ n. n < 2 ^ 32) }
 {

@@ -1,5 +1,6 @@
 -- What the first bytes of a request say of the whole.
-use Rattle.std.proofs.Common.{◌≡◌, ◌≤◌, ℕ, Bool, true, false, List, ◌++◌, length, take, drop, Ok, Err, Option, Some, None, cond, refl, sym, ap, ◌∙◌, arith}
+use Rattle.std.proofs.Common.{◌≡◌, ◌≤◌, ℕ, Bool, true, false, List, ◌++◌, length, take, drop, Ok, Err, Option, Some, None, cond, refl, sym}
+use Rattle.std.proofs.Common.{ap, ◌∙◌, arith}
 use Rattle.std.specs.Prelude.{nat_lt}
 use Rattle.std.proofs.lemmas.Bool.Decides.{nat_tests}
 use Rattle.std.proofs.lemmas.List.{length-take, length-drop, take-append-drop, take-append-le, drop-append-le, drop-drop}
@@ -28,8 +29,10 @@ short_same n xs ys e =
     grind (arith, nat_tests)
 
 read_by : {R : Type 0} → (t u : Bool) (n : ℕ) (make : List ℕ → R) (front all : List ℕ) → t ≡ u → take n front ≡ take n all
-    → ◌≡◌ {A = reading.Read R} (and_then {A = List ℕ × List ℕ} {B = R × List ℕ} (cond u (Err (Faults DecodeMessage)) (Ok (take n all, drop n all))) (λ x. Ok (make x.0, x.1)))
-    (leaving (and_then {A = List ℕ × List ℕ} {B = R × List ℕ} (cond t (Err (Faults DecodeMessage)) (Ok (take n front, drop n front))) (λ x. Ok (make x.0, x.1))) (drop n all))
+    → ◌≡◌ {A = reading.Read R} (and_then {A = List ℕ × List ℕ} {B = R × List ℕ}
+    (cond u (Err (Faults DecodeMessage)) (Ok (take n all, drop n all))) (λ x. Ok (make x.0, x.1)))
+    (leaving (and_then {A = List ℕ × List ℕ} {B = R × List ℕ} (cond t (Err (Faults DecodeMessage)) (Ok (take n front, drop n front)))
+    (λ x. Ok (make x.0, x.1))) (drop n all))
 read_by true true n make front all e f = refl
 read_by true false n make front all e f = absurd (cc)
 read_by false true n make front all e f = absurd (cc)
@@ -40,29 +43,38 @@ read_by_front : {R : Type 0} → (s : RecordShape R) (front all : List ℕ) → 
     → reading_of s all ≡ leaving (reading_of s front) (drop (size s.parts) all)
 unfolding reading_of
 read_by_front s front all e =
-    read_by (nat_lt (length front) (size s.parts)) (nat_lt (length all) (size s.parts)) (size s.parts) (λ b. made s.parts s.make b) front all
+    read_by (nat_lt (length front) (size s.parts)) (nat_lt (length all) (size s.parts)) (size s.parts)
+    (λ b. made s.parts s.make b) front all
     (short_same (size s.parts) front all e) e
 
-pub record_by_front : {R : Type 0} → (s : RecordShape R) (front all more : List ℕ) (r : R) → take (size s.parts) front ≡ take (size s.parts) all
+pub record_by_front :
+    {R : Type 0} → (s : RecordShape R) (front all more : List ℕ) (r : R) → take (size s.parts) front ≡ take (size s.parts) all
     → Ok (r, more) ≡ reading_of s front → Ok (r, drop (size s.parts) all) ≡ reading_of s all
-record_by_front {R} s front all more r e h = ap (λ (x : reading.Read R). leaving x (drop (size s.parts) all)) h ∙ sym (read_by_front s front all e)
+record_by_front {R} s front all more r e h =
+    ap (λ (x : reading.Read R). leaving x (drop (size s.parts) all)) h ∙ sym (read_by_front s front all e)
 
-pub fault_by_front : {R : Type 0} → (s : RecordShape R) (front all : List ℕ) (f : Error) → take (size s.parts) front ≡ take (size s.parts) all
+pub fault_by_front :
+    {R : Type 0} → (s : RecordShape R) (front all : List ℕ) (f : Error) → take (size s.parts) front ≡ take (size s.parts) all
     → Err (Faults f) ≡ reading_of s front → Err (Faults f) ≡ reading_of s all
-fault_by_front {R} s front all f e h = ap (λ (x : reading.Read R). leaving x (drop (size s.parts) all)) h ∙ sym (read_by_front s front all e)
+fault_by_front {R} s front all f e h =
+    ap (λ (x : reading.Read R). leaving x (drop (size s.parts) all)) h ∙ sym (read_by_front s front all e)
 
 -- a request by its first bytes and the others
 front_and_rest : (front request : List ℕ) → IsRequestFront front request → request ≡ front ++ drop (length front) request
-front_and_rest front request e = sym (ap (λ (x : List ℕ). x ++ drop (length front) request) (sym e) ∙ take-append-drop (length front) request)
+front_and_rest front request e =
+    sym (ap (λ (x : List ℕ). x ++ drop (length front) request) (sym e) ∙ take-append-drop (length front) request)
 
 pub front_begins : (n : ℕ) (front request : List ℕ) → IsRequestFront front request → n ≤ length front → take n front ≡ take n request
-front_begins n front request e h = sym (ap (take n) (front_and_rest front request e) ∙ take-append-le n front (drop (length front) request) h)
+front_begins n front request e h =
+    sym (ap (take n) (front_and_rest front request e) ∙ take-append-le n front (drop (length front) request) h)
 
 -- the record behind a header
-pub record_begins : (front request : List ℕ) → IsRequestFront front request → 80 ≤ length front → BeginsRecord (drop 40 front) (drop 40 request)
+pub record_begins :
+    (front request : List ℕ) → IsRequestFront front request → 80 ≤ length front → BeginsRecord (drop 40 front) (drop 40 request)
 record_begins front request e h =
     let rest = drop (length front) request in
-    let behind : drop 40 request ≡ drop 40 front ++ rest = ap (drop 40) (front_and_rest front request e) ∙ drop-append-le 40 front rest (omega arith) in
+    let behind : drop 40 request ≡ drop 40 front ++ rest =
+    ap (drop 40) (front_and_rest front request e) ∙ drop-append-le 40 front rest (omega arith) in
     let long : 40 ≤ length (drop 40 front) = rw (length-drop 40 front) (omega arith) in
     sym (ap (take 40) behind ∙ take-append-le 40 (drop 40 front) rest long)
 
@@ -77,12 +89,14 @@ left_over bytes (Ok x) = x.1
 left_over bytes (Err e) = bytes
 
 behind_by : {R : Type 0} → (t : Bool) (n : ℕ) (make : List ℕ → R) (bytes more : List ℕ) (r : R)
-    → ◌≡◌ {A = reading.Read R} (Ok (r, more)) (and_then {A = List ℕ × List ℕ} {B = R × List ℕ} (cond t (Err (Faults DecodeMessage)) (Ok (take n bytes, drop n bytes))) (λ x. Ok (make x.0, x.1)))
+    → ◌≡◌ {A = reading.Read R} (Ok (r, more)) (and_then {A = List ℕ × List ℕ} {B = R × List ℕ}
+    (cond t (Err (Faults DecodeMessage)) (Ok (take n bytes, drop n bytes))) (λ x. Ok (make x.0, x.1)))
     → drop n bytes ≡ more
 behind_by true n make bytes more r e = absurd (cc)
 behind_by false n make bytes more r e = sym (ap (left_over bytes) e)
 
-pub behind : {R : Type 0} → (s : RecordShape R) (bytes more : List ℕ) (r : R) → Ok (r, more) ≡ reading_of s bytes → drop (size s.parts) bytes ≡ more
+pub behind :
+    {R : Type 0} → (s : RecordShape R) (bytes more : List ℕ) (r : R) → Ok (r, more) ≡ reading_of s bytes → drop (size s.parts) bytes ≡ more
 unfolding reading_of
 behind s bytes more r e = behind_by (nat_lt (length bytes) (size s.parts)) (size s.parts) (λ b. made s.parts s.make b) bytes more r e
 

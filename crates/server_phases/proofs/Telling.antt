@@ -1,5 +1,6 @@
 -- What is told of a request: a reply without a call, or one call.
-use Rattle.std.proofs.Common.{◌≡◌, ◌*◌, ◌<◌, ◌≤◌, ◌^◌, ℕ, zero, suc, drop, Bool, true, false, List, [], length, Ok, Err, cond, refl, sym, ap, subst, ◌∙◌, arith}
+use Rattle.std.proofs.Common.{◌≡◌, ◌*◌, ◌<◌, ◌≤◌, ◌^◌, ℕ, zero, suc, drop, Bool, true, false, List, [], length, Ok, Err, cond, refl, sym}
+use Rattle.std.proofs.Common.{ap, subst, ◌∙◌, arith}
 use Rattle.std.specs.Prelude.{◌/◌, nat_le, nat_lt}
 use Rattle.std.proofs.lemmas.Bool.Decides.{nat_tests}
 use Rattle.fuse_in.specs.declared.session.InHeader.{InHeader}
@@ -31,16 +32,19 @@ reply_by true page_size options room reply bytes e some = rw e refl
 reply_by false page_size options room reply bytes e some = (rw e refl, some)
 
 -- an immediate reply, if it has room
-pub reply_told : (page_size options room : ℕ) (reply bytes : List ℕ) → 0 < length reply → IsDecoded (setting page_size options room) (Replies reply) bytes (told_reply room reply)
+pub reply_told : (page_size options room : ℕ) (reply bytes : List ℕ) → 0 < length reply →
+    IsDecoded (setting page_size options room) (Replies reply) bytes (told_reply room reply)
 reply_told page_size options room reply bytes some = reply_by (nat_lt room (length reply)) page_size options room reply bytes refl some
 
 -- the same of an error
 pub error_told : (page_size options room unique errno : ℕ) (bytes : List ℕ)
     → IsDecoded (setting page_size options room) (Replies (error_bytes unique errno)) bytes (told_reply room (error_bytes unique errno))
-error_told page_size options room unique errno bytes = reply_told page_size options room (error_bytes unique errno) bytes (omega (arith, length_error unique errno))
+error_told page_size options room unique errno bytes =
+    reply_told page_size options room (error_bytes unique errno) bytes (omega (arith, length_error unique errno))
 
 -- what is kept of a call names who sent the header
-pub has_asker : (request left : List ℕ) (head : InHeader) (a : DecodedRequest) → Ok (head, left) ≡ reading_of in_header request → IsAskedBy (context_of head) a → HasAsker request a
+pub has_asker : (request left : List ℕ) (head : InHeader) (a : DecodedRequest) → Ok (head, left) ≡ reading_of in_header request →
+    IsAskedBy (context_of head) a → HasAsker request a
 has_asker request left head a reads by = λ h more e.
     let both = reads ∙ e in
     let pair : ◌≡◌ {A = InHeader × List ℕ} (head, left) (h, more) = cc in
@@ -56,14 +60,17 @@ plain_not : (c d : FileCall) → c ≡ d → is_plain c ≡ false → is_plain d
 plain_not c d e not_c is_d = let same : false ≡ true = sym not_c ∙ ap is_plain e ∙ is_d in absurd (cc)
 
 -- the value of such a call holds no data
-plain_by : (call : made.FileCall) (bytes : List ℕ) (c : FileCall) → call_of [] call ≡ c → is_plain c ≡ true → (call_of bytes call ≡ c) × TellsData bytes call
+plain_by : (call : made.FileCall) (bytes : List ℕ) (c : FileCall) → call_of [] call ≡ c → is_plain c ≡ true →
+    (call_of bytes call ≡ c) × TellsData bytes call
 plain_by (value.Write x n h b s o w d k f) bytes c e p = absurd (plain_not _ c e refl p)
 plain_by (value.BatchForget x counts) bytes c e p = absurd (plain_not _ c e refl p)
 plain_by call bytes c e p = (e, tt)
 
 -- one call is told with what it waits for
-pub call_is_told : (s : Setting) (h : InHeader) (bytes : List ℕ) (c : FileCall) (call : made.FileCall) (room : ℕ) → s.room ≡ room → CallSays h c → call_of [] call ≡ c
-    → IsDecoded s (Asks (One h.unique c)) bytes (asked.Call call (record { unique = h.unique; context = context_of h; awaits = awaits_of (call_of [] call); room = room }))
+pub call_is_told : (s : Setting) (h : InHeader) (bytes : List ℕ) (c : FileCall) (call : made.FileCall) (room : ℕ) → s.room ≡ room
+    → CallSays h c → call_of [] call ≡ c
+    → IsDecoded s (Asks (One h.unique c)) bytes
+    (asked.Call call (record { unique = h.unique; context = context_of h; awaits = awaits_of (call_of [] call); room = room }))
 call_is_told s h bytes c call room place says e =
     let w = plain_by call bytes c e says.0 in
     (One h.unique c, refl, w.0, w.1, (refl, ap awaits_of e, says.1, single c says.0), sym place)
@@ -78,7 +85,8 @@ silence_told s m h = rw h refl
 
 -- a reply that tells the versions
 pub versions_told : (page_size options room unique : ℕ) (bytes : List ℕ)
-    → IsDecoded (setting page_size options room) (Replies (reply_bytes unique versions_bytes)) bytes (told_reply room (reply_bytes unique versions_bytes))
+    → IsDecoded (setting page_size options room) (Replies (reply_bytes unique versions_bytes)) bytes
+    (told_reply room (reply_bytes unique versions_bytes))
 versions_told page_size options room unique bytes =
     reply_told page_size options room (reply_bytes unique versions_bytes) bytes (omega (arith, length_reply unique versions_bytes))
 
@@ -94,13 +102,16 @@ whole_pairs count bytes e =
     e ∙ ap (λ k. 16 * k) (sym (length_pairs (length bytes / 16) bytes ∙ n))
 
 -- the pairs of a BATCH_FORGET
-pub forgets_read : (count : ℕ) (g : Given) (bytes : List ℕ) (pairs : List (ℕ × ℕ)) → count ≤ 65536 → Ok pairs ≡ value_of (many count forget_pair bytes)
+pub forgets_read :
+    (count : ℕ) (g : Given) (bytes : List ℕ) (pairs : List (ℕ × ℕ)) → count ≤ 65536 → Ok pairs ≡ value_of (many count forget_pair bytes)
     → ended g.header.unique (forgets_asked count g bytes) ≡ Asks (One g.header.unique (batch_forget_call g.header pairs))
 forgets_read count g bytes pairs h e =
     let few : nat_le (count * 16) (2 ^ 20) ≡ true = grind (arith, nat_tests) in
-    rw few (ended_ask g.header.unique (batch_forget_call g.header) (many count forget_pair bytes) ∙ ap (ask_of g.header.unique (batch_forget_call g.header)) (sym e))
+    rw few (ended_ask g.header.unique (batch_forget_call g.header) (many count forget_pair bytes)
+    ∙ ap (ask_of g.header.unique (batch_forget_call g.header)) (sym e))
 
-pub forgets_cut : (count : ℕ) (g : Given) (bytes : List ℕ) (f : Error) → count ≤ 65536 → Err (Faults f) ≡ value_of (many count forget_pair bytes)
+pub forgets_cut :
+    (count : ℕ) (g : Given) (bytes : List ℕ) (f : Error) → count ≤ 65536 → Err (Faults f) ≡ value_of (many count forget_pair bytes)
     → ended g.header.unique (forgets_asked count g bytes) ≡ IsFault f
 forgets_cut count g bytes f h e =
     let few : nat_le (count * 16) (2 ^ 20) ≡ true = grind (arith, nat_tests) in

@@ -1,8 +1,10 @@
 -- What an answer gives: the reply, the options after it, and the call that gives an entry back.
-use Rattle.std.specs.Prelude.{◌≡◌, ℕ, ◌+◌, ◌^◌, Bool, true, false, not, ◌&&◌, nat_lt, nat_le, List, [], ◌∷◌, ◌++◌, length, Option, Some, None, if◌then◌else◌}
+use Rattle.std.specs.Prelude.{◌≡◌, ℕ, ◌+◌, ◌^◌, Bool, true, false, not, ◌&&◌, nat_lt, nat_le, List, [], ◌∷◌}
+use Rattle.std.specs.Prelude.{◌++◌, length, Option, Some, None, if◌then◌else◌}
 use Rattle.fuse_fs.specs.declared.answers.Context.{Context}
 use Rattle.fuse_fs.specs.Calls as call
-use Rattle.fuse_fs.specs.Calls.{AnswerForm, IsDone, IsNeverGood, IsEntry, IsAttr, IsOpen, IsCreate, IsBytes, IsBytesOrCount, IsStats, IsWritten, IsOffset, IsEntries, IsWish, is_of, suits}
+use Rattle.fuse_fs.specs.Calls.{AnswerForm, IsDone, IsNeverGood, IsEntry, IsAttr, IsOpen, IsCreate, IsBytes}
+use Rattle.fuse_fs.specs.Calls.{IsBytesOrCount, IsStats, IsWritten, IsOffset, IsEntries, IsWish, is_of, suits}
 use Rattle.fuse_values.specs.declared.answer.FileAnswer.{FileAnswer}
 use Rattle.fuse_values.specs.declared.answer.FileAnswer.TheVariants as value
 use Rattle.fuse_values.specs.Answers.{answer_of}
@@ -78,13 +80,16 @@ forget_call (Some node) = call.Forget node.0 node.1 1 ∷ []
 
 -- the calls that were made, the options, and the reply; bytes: the data behind its front
 abbrev pub served_by : List call.FileCall → (options : ℕ) → Sent → (bytes : List ℕ) → ServedMessage
-served_by calls options (sent.Reply front) bytes = record { calls = calls; options = options; reply = front ++ bytes; fault = None }
-served_by calls options sent.NoRoom bytes = record { calls = calls; options = options; reply = []; fault = Some EncodeMessage }
+served_by calls options (sent.Reply front) bytes =
+    record { calls = calls; options = options; reply = front ++ bytes; fault = None }
+served_by calls options sent.NoRoom bytes =
+    record { calls = calls; options = options; reply = []; fault = Some EncodeMessage }
 
 -- what an answer to a command's first call gives, in a setting, with its data and the options after it
 abbrev pub Gives : Setting → FileCommand → (bytes : List ℕ) → FileAnswer → Answered → (options : ℕ) → Type 0
 Gives s command bytes answer given options =
-    commanded s command (answer_of bytes answer ∷ []) ≡ served_by (first_call command ∷ forget_call given.forget) options given.sent bytes
+    commanded s command (answer_of bytes answer ∷ [])
+    ≡ served_by (first_call command ∷ forget_call given.forget) options given.sent bytes
 
 -- who gave an entry holds it less
 abbrev pub back_by : Bool → Context → call.FileAnswer → List call.FileCall
@@ -100,7 +105,8 @@ abbrev pub wish_of : Awaits → Option (ℕ × ℕ)
 wish_of (awaits.Wish capable readahead) = Some (capable, readahead)
 wish_of _ = None
 
--- whether an answer is data whose reply has room, but more bytes than its header can tell (struct fuse_out_header, len: 32 bits)
+-- whether an answer is data whose reply has room, but more bytes than its header can tell (struct
+-- fuse_out_header, len: 32 bits)
 abbrev pub is_too_long : (room : ℕ) → FileAnswer → Bool
 is_too_long room (value.Bytes len) = nat_le (16 + len) room && nat_le (2 ^ 32) (16 + len)
 is_too_long room _ = false
@@ -108,4 +114,5 @@ is_too_long room _ = false
 -- why an answer is refused: it isn't one that the call can have, or it is, and too long
 abbrev pub IsRefusedFor : AnswerRefusal → call.FileCall → (room : ℕ) → (bytes : List ℕ) → FileAnswer → Type 0
 IsRefusedFor refused.OtherKind asked room bytes answer = suits asked (answer_of bytes answer) ≡ false
-IsRefusedFor refused.TooLong asked room bytes answer = (suits asked (answer_of bytes answer) ≡ true) × (is_too_long room answer ≡ true)
+IsRefusedFor refused.TooLong asked room bytes answer =
+    (suits asked (answer_of bytes answer) ≡ true) × (is_too_long room answer ≡ true)

@@ -1,5 +1,6 @@
 -- What a request asks, as it is told to who owns the files.
-use Rattle.std.specs.Prelude.{◌≡◌, ◌==◌, ◌<◌, ◌*◌, ℕ, Bool, true, false, ◌||◌, ◌&&◌, List, [], length, take, drop, nat_lt, nat_le, Some, None, Ok, if◌then◌else◌}
+use Rattle.std.specs.Prelude.{◌≡◌, ◌==◌, ◌<◌, ◌*◌, ℕ, Bool, true, false, ◌||◌, ◌&&◌, List, [], length, take}
+use Rattle.std.specs.Prelude.{drop, nat_lt, nat_le, Some, None, Ok, if◌then◌else◌}
 use Rattle.fuse_values.specs.declared.call.FileCall.{FileCall}
 use Rattle.fuse_values.specs.declared.call.FileCall.TheVariants as value
 use Rattle.fuse_values.specs.Values.{call_of, pairs_in}
@@ -21,14 +22,21 @@ use Rattle.server_phases.specs.Waiting.{WaitsFor, first_call}
 
 -- a WRITE says how many bytes of data it has, and a BATCH_FORGET has 16 bytes a pair and no more
 abbrev pub TellsData : (bytes : List ℕ) → FileCall → Type 0
-TellsData bytes (value.Write context node handle len size offset owner delayed kill flags) = len ≡ length bytes
+TellsData bytes (value.Write context node handle len size offset owner delayed kill flags) =
+    len ≡ length bytes
 TellsData bytes (value.BatchForget context counts) = length counts.now ≡ 16 * length (pairs_in counts.now)
 TellsData bytes _ = Unit {0}
 
--- the command that is asked for, the call that it makes first, and what is kept of it with its room; bytes: the data of a WRITE
+-- the command that is asked for, the call that it makes first, and what is kept of it with its room; bytes:
+-- the data of a WRITE
 abbrev pub AsksCall : Setting → Meaning → (bytes : List ℕ) → FileCall → Waiting → Type 0
 AsksCall s m bytes made w =
-    (command : FileCommand) × (m ≡ Asks command) × (call_of bytes made ≡ first_call command) × TellsData bytes made × WaitsFor w command × (w.room ≡ s.room)
+    (command : FileCommand)
+    × (m ≡ Asks command)
+    × (call_of bytes made ≡ first_call command)
+    × TellsData bytes made
+    × WaitsFor w command
+    × (w.room ≡ s.room)
 
 -- no call is made, and this is the reply
 abbrev pub all_reply : (options : ℕ) → List ℕ → ServedMessage
@@ -48,24 +56,31 @@ IsAskedBy who asked = Unit {0}
 
 -- it names who sent the request (struct fuse_in_header: uid, gid, pid)
 abbrev pub HasAsker : (request : List ℕ) → DecodedRequest → Type 0
-HasAsker request asked = (h : InHeader) (more : List ℕ) → reading_of in_header request ≡ Ok (h, more) → IsAskedBy (context_of h) asked
+HasAsker request asked =
+    (h : InHeader) (more : List ℕ) →
+    reading_of in_header request ≡ Ok (h, more) →
+    IsAskedBy (context_of h) asked
 
 -- what is told of a reply without a call: it has room, or it is a fault
 abbrev pub told_reply : (room : ℕ) → List ℕ → DecodedRequest
 told_reply room reply = if nat_lt room (length reply) then asked.Fault EncodeMessage else asked.Reply reply
 
 -- a row of the grammar is told so, of a request whose header is this one; bytes: those behind the header
-abbrev pub IsRowTold : (page_size options : ℕ) → InHeader → (room : ℕ) → (Given → Reading Meaning) → (bytes : List ℕ) → DecodedRequest → Type 0
+abbrev pub IsRowTold : (page_size options : ℕ) → InHeader → (room : ℕ) → (Given → Reading Meaning) →
+    (bytes : List ℕ) → DecodedRequest → Type 0
 IsRowTold page_size options h room row bytes asked =
-    IsDecoded (setting page_size options room) (ended h.unique (row (given h options room) bytes)) (drop 40 bytes) asked
+    IsDecoded (setting page_size options room) (ended h.unique (row (given h options room) bytes))
+    (drop 40 bytes) asked
 
 -- the first bytes of a request
 abbrev pub IsRequestFront : (front request : List ℕ) → Type 0
 IsRequestFront front request = take (length front) request ≡ front
 
--- whether the first bytes of a request of so many tell what it asks: all of them do, and of a WRITE those before its data
+-- whether the first bytes of a request of so many tell what it asks: all of them do, and of a WRITE those
+-- before its data
 abbrev pub front_tells : (front : List ℕ) → (len : ℕ) → Bool
-front_tells front len = length front == len || (nat_le 80 (length front) && nat_le (length front) len && begins_a_write front)
+front_tells front len =
+    length front == len || (nat_le 80 (length front) && nat_le (length front) len && begins_a_write front)
 
 -- whether they were told
 abbrev pub is_told : AskedFront → Bool

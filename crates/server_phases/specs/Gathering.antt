@@ -1,5 +1,7 @@
 -- Listings that are answered entry by entry: what was brought, and what `served` says of it.
-use Rattle.std.specs.Prelude.{◌≡◌, ℕ, ◌+◌, ◌-◌, ◌^◌, ◌≤◌, Bool, true, false, not, ◌&&◌, nat_lt, nat_le, List, [], ◌∷◌, ◌++◌, length, take, drop, map, Option, Some, None, Result, Ok, Err, if◌then◌else◌}
+use Rattle.std.specs.Prelude.{◌≡◌, ℕ, ◌+◌, ◌-◌, ◌^◌, ◌≤◌, Bool, true, false, not, ◌&&◌, nat_lt, nat_le, List}
+use Rattle.std.specs.Prelude.{[], ◌∷◌, ◌++◌, length, take, drop, map, Option, Some, None, Result, Ok, Err}
+use Rattle.std.specs.Prelude.{if◌then◌else◌}
 use Rattle.fuse_fs.specs.declared.answers.Entry.{Entry}
 use Rattle.fuse_fs.specs.Calls.{FileCall, FileAnswer, Listed, Lookup, HasEntry, Entries}
 use Rattle.server_replies.specs.Entries.{entry_len, entry_bytes, is_dot, no_node, EIO, EOVERFLOW}
@@ -62,10 +64,15 @@ node_given_back command e = []
 abbrev pub entries_of : List Brought → List Listed
 entries_of es = map (λ e. e.0) es
 
--- the listing of a command that has this room: how many bytes of entries were asked for, and how many have room behind the header
+-- the listing of a command that has this room: how many bytes of entries were asked for, and how many have
+-- room behind the header
 abbrev pub IsListingFor : Listing → (room : ℕ) → FileCommand → Type 0
 IsListingFor l room (Lists unique asked) =
-    (l.unique ≡ unique) × (l.with_nodes ≡ asked.with_nodes) × (l.size ≡ asked.size) × (l.room ≡ room - 16) × (16 ≤ room)
+    (l.unique ≡ unique)
+    × (l.with_nodes ≡ asked.with_nodes)
+    × (l.size ≡ asked.size)
+    × (l.room ≡ room - 16)
+    × (16 ≤ room)
 IsListingFor l room command = ⊥
 
 -- whether a command is a listing
@@ -78,21 +85,34 @@ pub record Holds (l : Listing) (list : List ℕ) (es : List Brought) : Type 0 wh
   pub long : l.len ≡ length (all_bytes l.with_nodes es)
   pub stands : take l.len list ≡ all_bytes l.with_nodes es
 
--- an entry that has no place in the size that was asked for ends the list, whatever is behind it: the reply is that of the entries before it, and its node is given back
+-- an entry that has no place in the size that was asked for ends the list, whatever is behind it: the reply
+-- is that of the entries before it, and its node is given back
 abbrev pub EndsList : Listing → (list : List ℕ) → Brought → Type 0
-EndsList l list e = (s : Setting) (command : FileCommand) (es : List Brought) (behind : List Listed) (answers : List FileAnswer)
-    → IsListingFor l s.room command → Holds l list es →
+EndsList l list e =
+    (s : Setting) (command : FileCommand) (es : List Brought) (behind : List Listed)
+    (answers : List FileAnswer)
+    → IsListingFor l s.room command
+    → Holds l list es
+    →
     let before = commanded s command (Entries (entries_of es) ∷ all_found l.with_nodes es) in
-    commanded s command (Entries (entries_of es ++ e.0 ∷ behind) ∷ (all_found l.with_nodes es ++ (found_of l.with_nodes e ++ answers)))
+    commanded s command (Entries (entries_of es ++ e.0 ∷ behind)
+    ∷ (all_found l.with_nodes es ++ (found_of l.with_nodes e ++ answers)))
     ≡ record before { calls = before.calls ++ (look_up command e.0 ++ node_given_back command e) }
 
--- an entry fails the list by an error, whatever is behind it: the reply is that of an error after the entries before it, and its node is given back
+-- an entry fails the list by an error, whatever is behind it: the reply is that of an error after the entries
+-- before it, and its node is given back
 abbrev pub FailsList : Listing → (list : List ℕ) → Brought → (errno : ℕ) → Type 0
-FailsList l list e errno = (s : Setting) (command : FileCommand) (es : List Brought) (behind : List Listed) (answers : List FileAnswer)
-    → IsListingFor l s.room command → Holds l list es →
-    commanded s command (Entries (entries_of es ++ e.0 ∷ behind) ∷ (all_found l.with_nodes es ++ (found_of l.with_nodes e ++ answers)))
+FailsList l list e errno =
+    (s : Setting) (command : FileCommand) (es : List Brought) (behind : List Listed)
+    (answers : List FileAnswer)
+    → IsListingFor l s.room command
+    → Holds l list es
+    →
+    commanded s command (Entries (entries_of es ++ e.0 ∷ behind)
+    ∷ (all_found l.with_nodes es ++ (found_of l.with_nodes e ++ answers)))
     ≡ record {
-      calls = first_call command ∷ (look_ups command es ++ (look_up command e.0 ++ node_given_back command e));
+      calls = first_call command
+          ∷ (look_ups command es ++ (look_up command e.0 ++ node_given_back command e));
       options = s.options;
       reply = listing_bytes l.unique l.with_nodes (all_bytes l.with_nodes es) (Some errno);
       fault = None;
@@ -104,8 +124,8 @@ error_of not_added.NoRoom = Some EIO
 error_of not_added.TooLong = Some EOVERFLOW
 error_of _ = None
 
--- what comes of an entry of the listing's kind: its name is too long, or it has no place in what is left of the size, or of the room, or in a list of
--- this length; else it is in
+-- what comes of an entry of the listing's kind: its name is too long, or it has no place in what is left of
+-- the size, or of the room, or in a list of this length; else it is in
 abbrev pub placed : Listing → (list_len : ℕ) → (name_len : ℕ) → Result (Unit {0}) NotAdded
 placed l list_len name_len =
     if nat_le (2 ^ 32) name_len then Err not_added.TooLong
@@ -128,8 +148,13 @@ put_at at bytes list = take at list ++ bytes ++ drop (at + length bytes) list
 
 -- a listing but for how many bytes came
 abbrev pub StaysBut : (old new : Listing) → Type 0
-StaysBut old new = (new.unique ≡ old.unique) × (new.with_nodes ≡ old.with_nodes) × (new.size ≡ old.size) × (new.room ≡ old.room)
+StaysBut old new =
+    (new.unique ≡ old.unique)
+    × (new.with_nodes ≡ old.with_nodes)
+    × (new.size ≡ old.size)
+    × (new.room ≡ old.room)
 
 -- these calls were made, and this is the reply, of which so many bytes stand in the list
 abbrev pub served_list : List FileCall → (options : ℕ) → ListingReply → (list : List ℕ) → ServedMessage
-served_list calls options reply list = record { calls = calls; options = options; reply = reply.front ++ take reply.len list; fault = None }
+served_list calls options reply list =
+    record { calls = calls; options = options; reply = reply.front ++ take reply.len list; fault = None }

@@ -1,8 +1,10 @@
 -- What is kept of a request while its call waits for an answer.
 use Rattle.std.specs.Prelude.{◌≡◌, ◌≤◌, ◌^◌}
 use Rattle.std.specs.Prelude.{Bool, true, false, bit_and}
-use Rattle.fuse_fs.specs.Calls.{FileCall, Init, Destroy, Lookup, Forget, BatchForget, Getattr, Setattr, Readlink, Symlink, Mknod, Mkdir, Link, Open, Read, Write}
-use Rattle.fuse_fs.specs.Calls.{Statfs, Readdir, Getxattr, Listxattr, Opendir, Getlk, Setlk, Setlkw, Bmap, Ioctl, Poll, NotifyReply, Create, Lseek, CopyFileRange, TmpFile}
+use Rattle.fuse_fs.specs.Calls.{FileCall, Init, Destroy, Lookup, Forget, BatchForget, Getattr, Setattr}
+use Rattle.fuse_fs.specs.Calls.{Readlink, Symlink, Mknod, Mkdir, Link, Open, Read, Write}
+use Rattle.fuse_fs.specs.Calls.{Statfs, Readdir, Getxattr, Listxattr, Opendir, Getlk, Setlk, Setlkw, Bmap}
+use Rattle.fuse_fs.specs.Calls.{Ioctl, Poll, NotifyReply, Create, Lseek, CopyFileRange, TmpFile}
 use Rattle.server_calls.specs.Callers.{IsFor}
 use Rattle.virtiofsd_fuse.specs.Listings.{readdir_call}
 use Rattle.virtiofsd_fuse.specs.Grammar.{FileCommand, One, Starts, Lists, known_options}
@@ -51,11 +53,18 @@ is_one_call _ = true
 
 -- a request that means this command waits so
 abbrev pub WaitsFor : Waiting → FileCommand → Type 0
-WaitsFor w (One unique call) = (w.unique ≡ unique) × (w.awaits ≡ awaits_of call) × IsFor w.context call × (is_one_call call ≡ true)
+WaitsFor w (One unique call) =
+    (w.unique ≡ unique) × (w.awaits ≡ awaits_of call) × IsFor w.context call × (is_one_call call ≡ true)
 WaitsFor w (Starts unique capable readahead) =
-    (w.unique ≡ unique) × (w.awaits ≡ awaits.Wish capable readahead) × (bit_and capable known_options ≡ capable)
+    (w.unique ≡ unique)
+    × (w.awaits ≡ awaits.Wish capable readahead)
+    × (bit_and capable known_options ≡ capable)
 WaitsFor w (Lists unique l) =
-    (w.unique ≡ unique) × (w.awaits ≡ awaits.Entries l.with_nodes l.size) × (l.context ≡ w.context) × (l.size ≤ 2 ^ 20) × (16 ≤ w.room)
+    (w.unique ≡ unique)
+    × (w.awaits ≡ awaits.Entries l.with_nodes l.size)
+    × (l.context ≡ w.context)
+    × (l.size ≤ 2 ^ 20)
+    × (16 ≤ w.room)
 
 -- the call that a command makes first
 abbrev pub first_call : FileCommand → FileCall

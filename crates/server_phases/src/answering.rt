@@ -1,12 +1,14 @@
 //! Answers to the calls of requests.
 
-ghost use Rattle.std.specs.Prelude.{◌≡◌, ℕ, ◌+◌, ◌<◌, ◌≤◌, ◌^◌, ◌++◌, ◌&&◌, [], ◌∷◌, List, length, true, false, nat_lt, nat_le, option_map};
+ghost use Rattle.std.specs.Prelude.{◌≡◌, ℕ, ◌+◌, ◌<◌, ◌≤◌, ◌^◌, ◌++◌, ◌&&◌, [], ◌∷◌, List, length, true};
+ghost use Rattle.std.specs.Prelude.{false, nat_lt, nat_le, option_map};
 ghost use Rattle.fuse_fs.specs.Calls.{FileCall, is_handle, Done, Bytes};
 ghost use Rattle.fuse_values.specs.Answers.{answer_of};
 ghost use Rattle.server_replies.specs.WholeReplies.{reply_bytes, told_bytes};
 ghost use Rattle.server_calls.specs.Requests.{entry_node, give_back};
 ghost use Rattle.virtiofsd_fuse.specs.Serving.{replied, undone};
-ghost use Rattle.server_phases.specs.Answering.{TellsBytes, takes, tells_nothing, fails_never, brings_entry, back_by, forget_call, served_by, is_too_long};
+ghost use Rattle.server_phases.specs.Answering.{TellsBytes, takes, tells_nothing, fails_never, brings_entry};
+ghost use Rattle.server_phases.specs.Answering.{back_by, forget_call, served_by, is_too_long};
 
 use crate::waiting::{Awaits, Waiting};
 use bitflags::Flags;
@@ -87,7 +89,8 @@ fn silent_front(unique: u64, answer: &FileAnswer) -> Front
 
 // The front of the reply to an answer.
 fn front_of(waiting: &Waiting, answer: FileAnswer) -> Front
-    ensures { result ≡ told_bytes (tells_nothing waiting.now.awaits) waiting.now.unique (answer_of [] answer) }
+    ensures { result ≡ told_bytes (tells_nothing waiting.now.awaits) waiting.now.unique
+        (answer_of [] answer) }
 {
     if tells_nothing(&waiting.awaits) {
         silent_front(waiting.unique, &answer)
@@ -109,7 +112,8 @@ fn entry_node(answer: &FileAnswer) -> Option<u64>
 
 // Who is to hold which node less, if an entry was answered.
 fn back_of(waiting: &Waiting, answer: &FileAnswer) -> Option<(Context, u64)>
-    ensures { forget_call result ≡ back_by (brings_entry waiting.now.awaits) waiting.now.context (answer_of [] answer.now) }
+    ensures { forget_call result
+        ≡ back_by (brings_entry waiting.now.awaits) waiting.now.context (answer_of [] answer.now) }
 {
     if !brings_entry(&waiting.awaits) {
         return None;
@@ -143,7 +147,8 @@ fn brings_entry(awaits: &Awaits) -> bool
 
 // A front where it has room, else that who answered is to hold a node less.
 pub(crate) fn placed(front: Front, room: usize, back: Option<(Context, u64)>) -> Answered
-    ensures { (options : ℕ) (call : FileCall) → replied room (call ∷ undone room front (forget_call back)) options front
+    ensures { (options : ℕ) (call : FileCall)
+        → replied room (call ∷ undone room front (forget_call back)) options front
         ≡ served_by (call ∷ forget_call result.forget) options result.sent [] }
 {
     if room < front.bytes().len() {
@@ -161,7 +166,8 @@ pub(crate) fn placed(front: Front, room: usize, back: Option<(Context, u64)>) ->
 
 // The reply to an answer without data.
 pub(crate) fn answered_without_data(waiting: &Waiting, answer: FileAnswer) -> Answered
-    ensures { let room = waiting.now.room in let told = told_bytes (tells_nothing waiting.now.awaits) waiting.now.unique (answer_of [] answer) in
+    ensures { let room = waiting.now.room in
+        let told = told_bytes (tells_nothing waiting.now.awaits) waiting.now.unique (answer_of [] answer) in
         let back = back_by (brings_entry waiting.now.awaits) waiting.now.context (answer_of [] answer) in
         (options : ℕ) (call : FileCall) → replied room (call ∷ undone room told back) options told
         ≡ served_by (call ∷ forget_call result.forget) options result.sent [] }
@@ -218,7 +224,9 @@ pub(crate) fn is_too_long(room: usize, answer: &FileAnswer) -> bool
 
 // A front where it has room, of a call that gives nothing back.
 pub(crate) fn placed_alone(front: Front, room: usize) -> Answered
-    ensures { (options : ℕ) (call : FileCall) → replied room (call ∷ []) options front ≡ served_by (call ∷ forget_call result.forget) options result.sent [] }
+    ensures { (options : ℕ) (call : FileCall)
+        → replied room (call ∷ []) options front
+        ≡ served_by (call ∷ forget_call result.forget) options result.sent [] }
 {
     placed(front, room, None)
 }
@@ -249,7 +257,9 @@ fn is_handle(handle: Option<u64>) -> bool
 
 /// Whether an answer is one that is waited for.
 pub(crate) fn suits(awaits: &Awaits, answer: &FileAnswer) -> bool
-    ensures { (bytes : List ℕ) → TellsBytes bytes answer.now → result ≡ takes awaits.now (answer_of bytes answer.now) }
+    ensures { (bytes : List ℕ)
+        → TellsBytes bytes answer.now
+        → result ≡ takes awaits.now (answer_of bytes answer.now) }
 {
     match answer {
         FileAnswer::Failed(error) => {

@@ -9,10 +9,12 @@ ghost use Rattle.server_calls.specs.Callers.{CallSays};
 ghost use Rattle.server_calls.specs.Requests.{batch_forget_call, read_call, write_call};
 ghost use Rattle.server_replies.specs.WholeReplies.{error_bytes};
 ghost use Rattle.virtiofsd_fuse.specs.DataApart.{begins_a_write, is_write};
-ghost use Rattle.virtiofsd_fuse.specs.Grammar.{Meaning, Replies, Asks, One, Starts, Lists, given, ended, known_options, meant, meaning, write_row};
+ghost use Rattle.virtiofsd_fuse.specs.Grammar.{Meaning, Replies, Asks, One, Starts, Lists, given, ended};
+ghost use Rattle.virtiofsd_fuse.specs.Grammar.{known_options, meant, meaning, write_row};
 ghost use Rattle.virtiofsd_fuse.specs.Listings.{listing_of};
 ghost use Rattle.virtiofsd_fuse.specs.Serving.{Setting, setting};
-ghost use Rattle.server_phases.specs.Asking.{IsDecoded, IsAskedBy, HasAsker, TellsData, IsRequestFront, BeginsRecord, told_reply};
+ghost use Rattle.server_phases.specs.Asking.{IsDecoded, IsAskedBy, HasAsker, TellsData, IsRequestFront};
+ghost use Rattle.server_phases.specs.Asking.{BeginsRecord, told_reply};
 
 use crate::waiting::{Awaits, Waiting, awaits_of};
 use bitflags::Flags;
@@ -67,7 +69,9 @@ pub(crate) fn replied<'a>(room: usize, reply: Front) -> DecodedRequest<'a>
 
 /// The reply of an error, if it has room.
 pub(crate) fn refused<'a>(head: &InHeader, error: Errno, room: usize) -> DecodedRequest<'a>
-    ensures told { (page_size options : ℕ) (m : Meaning) (bytes : List ℕ) → m ≡ Replies (error_bytes head.now.unique error) → IsDecoded (setting page_size options room) m bytes result }
+    ensures told { (page_size options : ℕ) (m : Meaning) (bytes : List ℕ)
+        → m ≡ Replies (error_bytes head.now.unique error)
+        → IsDecoded (setting page_size options room) m bytes result }
     ensures asker { IsAskedBy (context_of head.now) result }
 {
     replied(room, Front::error(head.unique, error))
@@ -77,7 +81,8 @@ pub(crate) fn refused<'a>(head: &InHeader, error: Errno, room: usize) -> Decoded
 pub(crate) fn read_asked<'a>(head: &InHeader, request: &ReadIn, room: usize) -> DecodedRequest<'a>
     requires { 16 ≤ room }
     ensures told { (page_size options : ℕ) (bytes : List ℕ)
-        → IsDecoded (setting page_size options room) (Asks (One head.now.unique (read_call head.now (room - 16) request.now))) bytes result }
+        → IsDecoded (setting page_size options room)
+        (Asks (One head.now.unique (read_call head.now (room - 16) request.now))) bytes result }
     ensures asker { IsAskedBy (context_of head.now) result }
 {
     let most = room - OUT_HEADER_LEN;
@@ -117,7 +122,8 @@ pub(crate) fn entries_asked<'a>(
     requires size { request.now.size ≤ 2 ^ 20 }
     requires enough { 16 ≤ room }
     ensures told { (page_size options : ℕ) (bytes : List ℕ)
-        → IsDecoded (setting page_size options room) (Asks (Lists head.now.unique (listing_of with_nodes head.now request.now))) bytes result }
+        → IsDecoded (setting page_size options room)
+        (Asks (Lists head.now.unique (listing_of with_nodes head.now request.now))) bytes result }
     ensures asker { IsAskedBy (context_of head.now) result }
 {
     let context = Context::from(*head);
@@ -151,8 +157,10 @@ fn write_asked<'a>(
     len: usize,
     room: usize,
 ) -> DecodedRequest<'a>
-    ensures told { (page_size options : ℕ) (bytes : List ℕ) → len ≡ length bytes
-        → IsDecoded (setting page_size options room) (Asks (One head.now.unique (write_call head.now request.now bytes))) bytes result }
+    ensures told { (page_size options : ℕ) (bytes : List ℕ)
+        → len ≡ length bytes
+        → IsDecoded (setting page_size options room)
+        (Asks (One head.now.unique (write_call head.now request.now bytes))) bytes result }
     ensures asker { IsAskedBy (context_of head.now) result }
 {
     let waiting = Waiting {
@@ -186,8 +194,12 @@ fn write_value<'a>(head: &InHeader, request: &WriteIn, len: usize) -> FileCall<'
 
 /// One call, which waits for its answer.
 pub(crate) fn called<'a>(head: &InHeader, made: FileCall<'a>, room: usize) -> DecodedRequest<'a>
-    ensures told { (s : Setting) (m : Meaning) (bytes : List ℕ) (c : call.FileCall) → s.room ≡ room → m ≡ Asks (One head.now.unique c) → CallSays head.now c
-        → call_of [] made.entry ≡ c → IsDecoded s m bytes result }
+    ensures told { (s : Setting) (m : Meaning) (bytes : List ℕ) (c : call.FileCall)
+        → s.room ≡ room
+        → m ≡ Asks (One head.now.unique c)
+        → CallSays head.now c
+        → call_of [] made.entry ≡ c
+        → IsDecoded s m bytes result }
     ensures asker { IsAskedBy (context_of head.now) result }
 {
     let awaits = awaits_of(&made);
@@ -202,8 +214,10 @@ pub(crate) fn called<'a>(head: &InHeader, made: FileCall<'a>, room: usize) -> De
 
 /// BATCH_FORGET: a call whose pairs are these bytes.
 pub(crate) fn pairs_asked<'a>(head: &InHeader, counts: &'a [u8], room: usize) -> DecodedRequest<'a>
-    ensures told { (page_size options : ℕ) (m : Meaning) (bytes : List ℕ) → length counts.now ≡ 16 * length (pairs_in counts.now)
-        → m ≡ Asks (One head.now.unique (batch_forget_call head.now (pairs_in counts.now))) → IsDecoded (setting page_size options room) m bytes result }
+    ensures told { (page_size options : ℕ) (m : Meaning) (bytes : List ℕ)
+        → length counts.now ≡ 16 * length (pairs_in counts.now)
+        → m ≡ Asks (One head.now.unique (batch_forget_call head.now (pairs_in counts.now)))
+        → IsDecoded (setting page_size options room) m bytes result }
     ensures asker { IsAskedBy (context_of head.now) result }
 {
     let context = Context::from(*head);
@@ -224,7 +238,10 @@ pub(crate) fn init_asked<'a>(
     room: usize,
 ) -> DecodedRequest<'a>
     requires { bit_and capable.0 known_options ≡ capable.0 }
-    ensures told { (s : Setting) (m : Meaning) (bytes : List ℕ) → s.room ≡ room → m ≡ Asks (Starts head.now.unique capable.0 readahead) → IsDecoded s m bytes result }
+    ensures told { (s : Setting) (m : Meaning) (bytes : List ℕ)
+        → s.room ≡ room
+        → m ≡ Asks (Starts head.now.unique capable.0 readahead)
+        → IsDecoded s m bytes result }
     ensures asker { IsAskedBy (context_of head.now) result }
 {
     let waiting = Waiting {
@@ -246,8 +263,11 @@ pub(crate) fn ask_write_row<'a>(
     room: usize,
     source: Flat<'a>,
 ) -> DecodedRequest<'a>
-    ensures told { (page_size options : ℕ) (bytes : List ℕ) → BeginsRecord source.entry.bytes.now bytes → len ≡ length (drop 40 bytes)
-        → IsDecoded (setting page_size options room) (ended head.now.unique (write_row (given head.now options room) bytes)) (drop 40 bytes) result }
+    ensures told { (page_size options : ℕ) (bytes : List ℕ)
+        → BeginsRecord source.entry.bytes.now bytes
+        → len ≡ length (drop 40 bytes)
+        → IsDecoded (setting page_size options room)
+        (ended head.now.unique (write_row (given head.now options room) bytes)) (drop 40 bytes) result }
     ensures asker { IsAskedBy (context_of head.now) result }
 {
     let mut source = source;
@@ -280,7 +300,9 @@ pub(crate) fn ask_write_front<'a>(front: &'a [u8], len: usize, room: usize) -> D
     requires write { begins_a_write front.now ≡ true }
     requires front { 80 ≤ length front.now }
     requires len { 80 ≤ len }
-    ensures told { (page_size options : ℕ) (request : List ℕ) → len ≡ length request → IsRequestFront front.now request
+    ensures told { (page_size options : ℕ) (request : List ℕ)
+        → len ≡ length request
+        → IsRequestFront front.now request
         → IsDecoded (setting page_size options room) (meaning options request room) (drop 80 request) result }
     ensures asker { (request : List ℕ) → IsRequestFront front.now request → HasAsker request result }
 {
@@ -299,8 +321,11 @@ fn ask_write_head<'a>(
     source: Flat<'a>,
 ) -> DecodedRequest<'a>
     requires { is_write (opcode_of head.now.opcode) ≡ true }
-    ensures told { (page_size options : ℕ) (bytes : List ℕ) → BeginsRecord source.entry.bytes.now bytes → len ≡ length (drop 40 bytes)
-        → IsDecoded (setting page_size options room) (meant (given head.now options room) bytes) (drop 40 bytes) result }
+    ensures told { (page_size options : ℕ) (bytes : List ℕ)
+        → BeginsRecord source.entry.bytes.now bytes
+        → len ≡ length (drop 40 bytes)
+        → IsDecoded (setting page_size options room) (meant (given head.now options room) bytes)
+        (drop 40 bytes) result }
     ensures asker { IsAskedBy (context_of head.now) result }
 {
     if head.len > MAX_REQUEST_LEN {

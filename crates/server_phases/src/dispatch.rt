@@ -23,7 +23,8 @@ impl Session {
         room: usize,
         source: Flat<'a>,
     ) -> DecodedRequest<'a>
-        ensures told { IsRowTold self.now.page_size self.now.options.0 head.now room (λ g. row g opcode) source.entry.bytes.now result }
+        ensures told { IsRowTold self.now.page_size self.now.options.0 head.now room (λ g. row g opcode)
+            source.entry.bytes.now result }
         ensures asker { IsAskedBy (context_of head.now) result }
     {
         match opcode {
@@ -45,7 +46,8 @@ impl Session {
         source: Flat<'a>,
     ) -> DecodedRequest<'a>
         ensures told { IsDecoded (setting self.now.page_size self.now.options.0 room)
-            (meant (given head.now self.now.options.0 room) source.entry.bytes.now) (drop 40 source.entry.bytes.now) result }
+            (meant (given head.now self.now.options.0 room) source.entry.bytes.now)
+            (drop 40 source.entry.bytes.now) result }
         ensures asker { IsAskedBy (context_of head.now) result }
     {
         if head.len > MAX_REQUEST_LEN {

@@ -1,11 +1,13 @@
 //! How a session answers the calls of requests.
 
-ghost use Rattle.std.specs.Prelude.{◌≡◌, ℕ, ◌<◌, ◌^◌, [], ◌∷◌, List, None, true, false, bit_and, IfOk, IfErr, OnOk, OnErr};
+ghost use Rattle.std.specs.Prelude.{◌≡◌, ℕ, ◌<◌, ◌^◌, [], ◌∷◌, List, None, true, false, bit_and, IfOk, IfErr};
+ghost use Rattle.std.specs.Prelude.{OnOk, OnErr};
 ghost use Rattle.fuse_fs.specs.Calls.{FileCall, Init, suits};
 ghost use Rattle.fuse_values.specs.Answers.{answer_of};
 ghost use Rattle.virtiofsd_fuse.specs.Grammar.{FileCommand, known_options};
 ghost use Rattle.virtiofsd_fuse.specs.Serving.{setting, replied, start_options, start_answered};
-ghost use Rattle.server_phases.specs.Answering.{Gives, TellsBytes, takes, forget_call, served_by, data_of, wish_of, leaves_options, is_too_long, IsRefusedFor};
+ghost use Rattle.server_phases.specs.Answering.{Gives, TellsBytes, takes, forget_call, served_by, data_of};
+ghost use Rattle.server_phases.specs.Answering.{wish_of, leaves_options, is_too_long, IsRefusedFor};
 ghost use Rattle.server_phases.specs.Waiting.{WaitsFor, first_call};
 
 use crate::answering::{
@@ -64,7 +66,8 @@ impl Session {
         answer: &FileAnswer,
     ) -> Answered
         requires { bit_and capable.0 known_options ≡ capable.0 }
-        ensures gives { replied room (Init capable.0 ∷ []) (start_options self.old.options.0 capable.0 (answer_of [] answer.now))
+        ensures gives { replied room (Init capable.0 ∷ [])
+            (start_options self.old.options.0 capable.0 (answer_of [] answer.now))
             (start_answered self.old.page_size unique capable.0 readahead (answer_of [] answer.now))
             ≡ served_by (Init capable.0 ∷ forget_call result.forget) self.new.options.0 result.sent [] }
         ensures page_size { self.new.page_size ≡ self.old.page_size }
@@ -85,9 +88,12 @@ impl Session {
     fn answer_single(&mut self, waiting: &Waiting, answer: FileAnswer) -> Answered
         requires without_data { data_of answer ≡ None }
         requires single { wish_of waiting.now.awaits ≡ None }
-        ensures gives { (command : FileCommand) (bytes : List ℕ) → WaitsFor waiting.now command → TellsBytes bytes answer
+        ensures gives { (command : FileCommand) (bytes : List ℕ)
+            → WaitsFor waiting.now command
+            → TellsBytes bytes answer
             → takes waiting.now.awaits (answer_of bytes answer) ≡ true
-            → Gives (setting self.old.page_size self.old.options.0 waiting.now.room) command bytes answer result self.new.options.0 }
+            → Gives (setting self.old.page_size self.old.options.0 waiting.now.room) command bytes answer
+            result self.new.options.0 }
         ensures page_size { self.new.page_size ≡ self.old.page_size }
     {
         self.options = left_options(self.options, &waiting.awaits);
@@ -97,9 +103,12 @@ impl Session {
     // An answer without data.
     fn answer_without_data(&mut self, waiting: &Waiting, answer: FileAnswer) -> Answered
         requires without_data { data_of answer ≡ None }
-        ensures gives { (command : FileCommand) (bytes : List ℕ) → WaitsFor waiting.now command → TellsBytes bytes answer
+        ensures gives { (command : FileCommand) (bytes : List ℕ)
+            → WaitsFor waiting.now command
+            → TellsBytes bytes answer
             → takes waiting.now.awaits (answer_of bytes answer) ≡ true
-            → Gives (setting self.old.page_size self.old.options.0 waiting.now.room) command bytes answer result self.new.options.0 }
+            → Gives (setting self.old.page_size self.old.options.0 waiting.now.room) command bytes answer
+            result self.new.options.0 }
         ensures page_size { self.new.page_size ≡ self.old.page_size }
     {
         match wish_of(&waiting.awaits) {
@@ -119,9 +128,12 @@ impl Session {
     // An answer that is waited for.
     fn answer_taken(&mut self, waiting: &Waiting, answer: FileAnswer) -> Answered
         requires { is_too_long waiting.now.room answer ≡ false }
-        ensures gives { (command : FileCommand) (bytes : List ℕ) → WaitsFor waiting.now command → TellsBytes bytes answer
+        ensures gives { (command : FileCommand) (bytes : List ℕ)
+            → WaitsFor waiting.now command
+            → TellsBytes bytes answer
             → takes waiting.now.awaits (answer_of bytes answer) ≡ true
-            → Gives (setting self.old.page_size self.old.options.0 waiting.now.room) command bytes answer result self.new.options.0 }
+            → Gives (setting self.old.page_size self.old.options.0 waiting.now.room) command bytes answer
+            result self.new.options.0 }
         ensures page_size { self.new.page_size ≡ self.old.page_size }
     {
         match data_of(&answer) {
@@ -130,19 +142,27 @@ impl Session {
         }
     }
 
-    /// Answers the call of a request: the reply's front and the options after it, by what the call's answer is served. An
-    /// answer that the call can't have is refused (`OtherKind`), and one whose reply has room but no length that a header
-    /// tells (`TooLong`): that changes nothing, and the request waits still.
+    /// Answers the call of a request: the reply's front and the options after it, by what the call's answer
+    /// is served. An answer that the call can't have is refused (`OtherKind`), and one whose reply has room
+    /// but no length that a header tells (`TooLong`): that changes nothing, and the request waits still.
     pub fn answer(
         &mut self,
         waiting: Waiting,
         answer: FileAnswer,
     ) -> Result<Answered, RefusedAnswer>
-        ensures gives { IfOk result (λ given. (command : FileCommand) (bytes : List ℕ) → WaitsFor waiting command → TellsBytes bytes answer
-            → Gives (setting self.old.page_size self.old.options.0 waiting.room) command bytes answer given self.new.options.0) }
-        ensures taken { OnOk result ((command : FileCommand) (bytes : List ℕ) → WaitsFor waiting command → TellsBytes bytes answer
-            → (suits (first_call command) (answer_of bytes answer) ≡ true) × (is_too_long waiting.room answer ≡ false)) }
-        ensures refused { IfErr result (λ r. (command : FileCommand) (bytes : List ℕ) → WaitsFor waiting command → TellsBytes bytes answer
+        ensures gives { IfOk result (λ given. (command : FileCommand) (bytes : List ℕ)
+            → WaitsFor waiting command
+            → TellsBytes bytes answer
+            → Gives (setting self.old.page_size self.old.options.0 waiting.room) command bytes answer given
+            self.new.options.0) }
+        ensures taken { OnOk result ((command : FileCommand) (bytes : List ℕ)
+            → WaitsFor waiting command
+            → TellsBytes bytes answer
+            → (suits (first_call command) (answer_of bytes answer) ≡ true)
+            × (is_too_long waiting.room answer ≡ false)) }
+        ensures refused { IfErr result (λ r. (command : FileCommand) (bytes : List ℕ)
+            → WaitsFor waiting command
+            → TellsBytes bytes answer
             → IsRefusedFor r.why (first_call command) waiting.room bytes answer) }
         ensures given_back { IfErr result (λ r. r.waiting ≡ waiting) }
         ensures same { OnErr result (self.new ≡ self.old) }

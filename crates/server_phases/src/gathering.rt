@@ -1,6 +1,7 @@
 //! How a listing gathers its entries, and what it replies.
 
-ghost use Rattle.std.specs.Prelude.{◌≡◌, ℕ, ◌+◌, ◌-◌, ◌<◌, ◌≤◌, ◌^◌, ◌&&◌, [], ◌∷◌, ◌++◌, List, length, take, min, nat_lt};
+ghost use Rattle.std.specs.Prelude.{◌≡◌, ℕ, ◌+◌, ◌-◌, ◌<◌, ◌≤◌, ◌^◌, ◌&&◌, [], ◌∷◌, ◌++◌, List, length, take};
+ghost use Rattle.std.specs.Prelude.{min, nat_lt};
 ghost use Rattle.std.specs.Prelude.{Some, Ok, Err, true, false, IfOk, IfErr, OnOk, OnErr, if◌then◌else◌};
 ghost use Rattle.fuse_fs.specs.Answers.{listed};
 ghost use Rattle.fuse_fs.specs.Calls.{Listed, Failed, Entries};
@@ -8,8 +9,11 @@ ghost use Rattle.server_replies.specs.Entries.{dirent_bytes, entry_len, is_dot, 
 ghost use Rattle.server_replies.specs.WholeReplies.{data_header, listing_bytes};
 ghost use Rattle.virtiofsd_fuse.specs.Grammar.{FileCommand};
 ghost use Rattle.virtiofsd_fuse.specs.Serving.{Setting, commanded};
-ghost use Rattle.server_phases.specs.Gathering.{Brought, EndsList, FailsList, Holds, IsListingFor, StaysBut, placed, added_plain, added_found, error_of, put_at, served_list};
-ghost use Rattle.server_phases.specs.Gathering.{is_listing, bytes_of, all_bytes, all_found, entries_of, look_up, look_ups};
+ghost use Rattle.server_phases.specs.Gathering.{Brought, EndsList, FailsList, Holds, IsListingFor, StaysBut};
+ghost use Rattle.server_phases.specs.Gathering.{placed, added_plain, added_found, error_of, put_at};
+ghost use Rattle.server_phases.specs.Gathering.{served_list};
+ghost use Rattle.server_phases.specs.Gathering.{is_listing, bytes_of, all_bytes, all_found, entries_of};
+ghost use Rattle.server_phases.specs.Gathering.{look_up, look_ups};
 ghost use Rattle.server_phases.specs.Waiting.{WaitsFor, first_call};
 
 use crate::answering::{AnswerRefusal, RefusedAnswer};
@@ -57,12 +61,19 @@ impl NotAdded {
 }
 
 impl Listing {
-    /// The list of the entries that a READDIR or READDIRPLUS waits for: none so far. Another request is given back.
+    /// The list of the entries that a READDIR or READDIRPLUS waits for: none so far. Another request is given
+    /// back.
     pub fn begin(waiting: Waiting) -> Result<Listing, RefusedAnswer>
-        ensures lists { IfOk result (λ l. (command : FileCommand) → WaitsFor waiting command → IsListingFor l waiting.room command) }
+        ensures lists { IfOk result (λ l. (command : FileCommand)
+            → WaitsFor waiting command
+            → IsListingFor l waiting.room command) }
         ensures empty { IfOk result (λ l. l.len ≡ 0) }
-        ensures taken { OnOk result ((command : FileCommand) → WaitsFor waiting command → is_listing command ≡ true) }
-        ensures refused { OnErr result ((command : FileCommand) → WaitsFor waiting command → is_listing command ≡ false) }
+        ensures taken { OnOk result ((command : FileCommand)
+            → WaitsFor waiting command
+            → is_listing command ≡ true) }
+        ensures refused { OnErr result ((command : FileCommand)
+            → WaitsFor waiting command
+            → is_listing command ≡ false) }
         ensures given_back { IfErr result (λ r. (r.why ≡ AnswerRefusal.OtherKind) × (r.waiting ≡ waiting)) }
     {
         match waiting.awaits {
@@ -91,8 +102,10 @@ impl Listing {
     fn put(&mut self, list: &mut [u8], node: &[u8], entry: &DirEntry<'_>) -> Result<(), NotAdded>
         requires { length node.now ≡ (if self.old.with_nodes then 128 else 0) }
         ensures outcome { result ≡ placed self.old (length list.old) (length entry.now.name.now) }
-        ensures list { OnOk result (list.new ≡ put_at self.old.len (node.now ++ dirent_bytes (listed entry.now)) list.old) }
-        ensures len { OnOk result (self.new.len ≡ self.old.len + entry_len self.old.with_nodes (length entry.now.name.now)) }
+        ensures list { OnOk result
+            (list.new ≡ put_at self.old.len (node.now ++ dirent_bytes (listed entry.now)) list.old) }
+        ensures len { OnOk result
+            (self.new.len ≡ self.old.len + entry_len self.old.with_nodes (length entry.now.name.now)) }
         ensures same { OnErr result ((self.new ≡ self.old) × (list.new ≡ list.old)) }
         ensures stays { StaysBut self.old self.new }
     {
@@ -118,11 +131,18 @@ impl Listing {
     /// Puts an entry of READDIR behind the others, with zeros up to a multiple of 8 bytes.
     pub fn add(&mut self, list: &mut [u8], entry: &DirEntry<'_>) -> Result<(), NotAdded>
         ensures outcome { result ≡ added_plain self.old (length list.old) (length entry.now.name.now) }
-        ensures holds { OnOk result ((es : List Brought) → Holds self.old list.old es → Holds self.new list.new (es ++ (listed entry.now, no_node (listed entry.now)) ∷ [])) }
-        ensures list { OnOk result (list.new ≡ put_at self.old.len (bytes_of false (listed entry.now, no_node (listed entry.now))) list.old) }
-        ensures len { OnOk result (self.new.len ≡ self.old.len + entry_len false (length entry.now.name.now)) }
-        ensures full { result ≡ Err NotAdded.Full → EndsList self.old list.old (listed entry.now, no_node (listed entry.now)) }
-        ensures fails { IfErr result (λ why. (errno : ℕ) → error_of why ≡ Some errno → FailsList self.old list.old (listed entry.now, no_node (listed entry.now)) errno) }
+        ensures holds { OnOk result ((es : List Brought)
+            → Holds self.old list.old es
+            → Holds self.new list.new (es ++ (listed entry.now, no_node (listed entry.now)) ∷ [])) }
+        ensures list { OnOk result (list.new
+            ≡ put_at self.old.len (bytes_of false (listed entry.now, no_node (listed entry.now))) list.old) }
+        ensures len { OnOk result
+            (self.new.len ≡ self.old.len + entry_len false (length entry.now.name.now)) }
+        ensures full { result ≡ Err NotAdded.Full
+            → EndsList self.old list.old (listed entry.now, no_node (listed entry.now)) }
+        ensures fails { IfErr result (λ why. (errno : ℕ)
+            → error_of why ≡ Some errno
+            → FailsList self.old list.old (listed entry.now, no_node (listed entry.now)) errno) }
         ensures same { OnErr result ((self.new ≡ self.old) × (list.new ≡ list.old)) }
         ensures stays { StaysBut self.old self.new }
     {
@@ -132,8 +152,9 @@ impl Listing {
         self.put(list, &[], entry)
     }
 
-    /// Puts an entry of READDIRPLUS behind the others, with its node in front: `node` is what its look-up gave, and the
-    /// client holds it once more from then on. `.` and `..` aren't looked up: with them goes node 0, whatever is brought.
+    /// Puts an entry of READDIRPLUS behind the others, with its node in front: `node` is what its look-up
+    /// gave, and the client holds it once more from then on. `.` and `..` aren't looked up: with them goes
+    /// node 0, whatever is brought.
     pub fn add_with_node(
         &mut self,
         list: &mut [u8],
@@ -141,11 +162,16 @@ impl Listing {
         node: Entry<u64>,
     ) -> Result<(), NotAdded>
         ensures outcome { result ≡ added_found self.old (length list.old) (length entry.now.name.now) }
-        ensures holds { OnOk result ((es : List Brought) → Holds self.old list.old es → Holds self.new list.new (es ++ (listed entry.now, node) ∷ [])) }
-        ensures list { OnOk result (list.new ≡ put_at self.old.len (bytes_of true (listed entry.now, node)) list.old) }
+        ensures holds { OnOk result ((es : List Brought)
+            → Holds self.old list.old es
+            → Holds self.new list.new (es ++ (listed entry.now, node) ∷ [])) }
+        ensures list { OnOk result
+            (list.new ≡ put_at self.old.len (bytes_of true (listed entry.now, node)) list.old) }
         ensures len { OnOk result (self.new.len ≡ self.old.len + entry_len true (length entry.now.name.now)) }
         ensures full { result ≡ Err NotAdded.Full → EndsList self.old list.old (listed entry.now, node) }
-        ensures fails { IfErr result (λ why. (errno : ℕ) → error_of why ≡ Some errno → FailsList self.old list.old (listed entry.now, node) errno) }
+        ensures fails { IfErr result (λ why. (errno : ℕ)
+            → error_of why ≡ Some errno
+            → FailsList self.old list.old (listed entry.now, node) errno) }
         ensures same { OnErr result ((self.new ≡ self.old) × (list.new ≡ list.old)) }
         ensures stays { StaysBut self.old self.new }
     {
@@ -164,7 +190,9 @@ impl Listing {
 
     /// The reply: the entries so far. With none the directory has ended.
     pub fn end(self) -> ListingReply
-        ensures gives { (s : Setting) (command : FileCommand) (list : List ℕ) (es : List Brought) → IsListingFor self s.room command → Holds self list es
+        ensures gives { (s : Setting) (command : FileCommand) (list : List ℕ) (es : List Brought)
+            → IsListingFor self s.room command
+            → Holds self list es
             → commanded s command (Entries (entries_of es) ∷ all_found self.with_nodes es)
             ≡ served_list (first_call command ∷ look_ups command es) s.options result list }
         ensures len { result.len ≡ self.len }
@@ -172,17 +200,27 @@ impl Listing {
         entries_reply(self.unique, self.len)
     }
 
-    /// The reply if reading, a look-up or an entry failed: the error, and nothing of the list; but if READDIRPLUS has
-    /// brought entries, these, since their nodes are held.
+    /// The reply if reading, a look-up or an entry failed: the error, and nothing of the list; but if
+    /// READDIRPLUS has brought entries, these, since their nodes are held.
     pub fn fail(self, error: Errno) -> ListingReply
-        ensures reply { (list : List ℕ) (es : List Brought) → Holds self list es
-            → result.front ++ take result.len list ≡ listing_bytes self.unique self.with_nodes (all_bytes self.with_nodes es) (Some error) }
-        ensures alone { (self.with_nodes && nat_lt 0 self.len) ≡ false → (s : Setting) (command : FileCommand) (list : List ℕ) → IsListingFor self s.room command
-            → commanded s command (Failed error ∷ []) ≡ served_list (first_call command ∷ []) s.options result list }
-        ensures looked_up { self.with_nodes ≡ true → (s : Setting) (command : FileCommand) (list : List ℕ) (es : List Brought) (d : Listed)
-            → IsListingFor self s.room command → Holds self list es → is_dot d.name ≡ false
-            → commanded s command (Entries (entries_of es ++ d ∷ []) ∷ (all_found true es ++ Failed error ∷ []))
-            ≡ served_list (first_call command ∷ (look_ups command es ++ look_up command d)) s.options result list }
+        ensures reply { (list : List ℕ) (es : List Brought)
+            → Holds self list es
+            → result.front ++ take result.len list
+            ≡ listing_bytes self.unique self.with_nodes (all_bytes self.with_nodes es) (Some error) }
+        ensures alone { (self.with_nodes && nat_lt 0 self.len) ≡ false
+            → (s : Setting) (command : FileCommand) (list : List ℕ)
+            → IsListingFor self s.room command
+            → commanded s command (Failed error ∷ [])
+            ≡ served_list (first_call command ∷ []) s.options result list }
+        ensures looked_up { self.with_nodes ≡ true
+            → (s : Setting) (command : FileCommand) (list : List ℕ) (es : List Brought) (d : Listed)
+            → IsListingFor self s.room command
+            → Holds self list es
+            → is_dot d.name ≡ false
+            → commanded s command
+            (Entries (entries_of es ++ d ∷ []) ∷ (all_found true es ++ Failed error ∷ []))
+            ≡ served_list (first_call command ∷ (look_ups command es ++ look_up command d)) s.options
+            result list }
     {
         if self.brought_nodes() {
             return entries_reply(self.unique, self.len);

@@ -4,8 +4,8 @@ ghost use Rattle.std.specs.Prelude.{◌≤◌, ◌^◌};
 
 use server_replies::fronts::Front;
 
-/// The entries of a READDIR or READDIRPLUS so far. They gather in a list of the caller's, the same at each call, whose front
-/// is the reply's data.
+/// The entries of a READDIR or READDIRPLUS so far. They gather in a list of the caller's, the same at each
+/// call, whose front is the reply's data.
 #[derive(Debug, Drop)]
 pub struct Listing {
     pub(crate) unique: u64,
@@ -25,11 +25,11 @@ pub struct Listing {
 pub enum NotAdded {
     /// READDIR brings entries without nodes, READDIRPLUS with them.
     OtherKind,
-    /// It has no place in what is left of the size that was asked for: the entries so far are the answer (`Listing::end`). In
-    /// READDIRPLUS its node is given back, by FORGET of 1.
+    /// It has no place in what is left of the size that was asked for: the entries so far are the answer
+    /// (`Listing::end`). In READDIRPLUS its node is given back, by FORGET of 1.
     Full,
-    /// It has a place in the size, but none in the room: the listing fails by EIO (`Listing::fail`). In READDIRPLUS its node
-    /// is given back, by FORGET of 1.
+    /// It has a place in the size, but none in the room: the listing fails by EIO (`Listing::fail`). In
+    /// READDIRPLUS its node is given back, by FORGET of 1.
     NoRoom,
     /// Its name has 2^32 bytes or more: the same, by EOVERFLOW.
     TooLong,

@@ -2,7 +2,8 @@
 
 ghost use Rattle.std.specs.Prelude.{◌≡◌, ◌≤◌, ℕ, List, true};
 ghost use Rattle.fuse_fs.specs.Answers.{context_of};
-ghost use Rattle.virtiofsd_fuse.specs.Grammar.{row, forgets_asked, batch_forget_row, init_row, listing_row, read_row, write_row, ended, given};
+ghost use Rattle.virtiofsd_fuse.specs.Grammar.{row, forgets_asked, batch_forget_row, init_row, listing_row};
+ghost use Rattle.virtiofsd_fuse.specs.Grammar.{read_row, write_row, ended, given};
 ghost use Rattle.virtiofsd_fuse.specs.RowMeanings.{is_single};
 ghost use Rattle.virtiofsd_fuse.specs.Serving.{setting};
 ghost use Rattle.server_phases.specs.Asking.{IsAskedBy, IsRowTold, IsDecoded};
@@ -32,7 +33,8 @@ impl Session {
         source: Flat<'a>,
     ) -> DecodedRequest<'a>
         requires { is_single opcode ≡ true }
-        ensures told { IsRowTold self.now.page_size self.now.options.0 head.now room (λ g. row g opcode) source.entry.bytes.now result }
+        ensures told { IsRowTold self.now.page_size self.now.options.0 head.now room (λ g. row g opcode)
+            source.entry.bytes.now result }
         ensures asker { IsAskedBy (context_of head.now) result }
     {
         match row_meaning(opcode, head, self.options, source) {
@@ -53,7 +55,8 @@ impl Session {
     ) -> DecodedRequest<'a>
         requires { count ≤ 65536 }
         ensures told { (bytes : List ℕ) → IsDecoded (setting self.now.page_size self.now.options.0 room)
-            (ended head.now.unique (forgets_asked count (given head.now self.now.options.0 room) source.entry.bytes.now)) bytes result }
+            (ended head.now.unique (forgets_asked count (given head.now self.now.options.0 room)
+            source.entry.bytes.now)) bytes result }
         ensures asker { IsAskedBy (context_of head.now) result }
     {
         match source.pairs(count) {
@@ -69,7 +72,8 @@ impl Session {
         room: usize,
         source: Flat<'a>,
     ) -> DecodedRequest<'a>
-        ensures told { IsRowTold self.now.page_size self.now.options.0 head.now room batch_forget_row source.entry.bytes.now result }
+        ensures told { IsRowTold self.now.page_size self.now.options.0 head.now room batch_forget_row
+            source.entry.bytes.now result }
         ensures asker { IsAskedBy (context_of head.now) result }
     {
         let mut source = source;
@@ -87,7 +91,8 @@ impl Session {
         room: usize,
         source: Flat<'a>,
     ) -> DecodedRequest<'a>
-        ensures told { IsRowTold self.now.page_size self.now.options.0 head.now room read_row source.entry.bytes.now result }
+        ensures told { IsRowTold self.now.page_size self.now.options.0 head.now room read_row
+            source.entry.bytes.now result }
         ensures asker { IsAskedBy (context_of head.now) result }
     {
         match read_with_room(room, source) {
@@ -104,7 +109,8 @@ impl Session {
         room: usize,
         source: Flat<'a>,
     ) -> DecodedRequest<'a>
-        ensures told { IsRowTold self.now.page_size self.now.options.0 head.now room (listing_row with_nodes) source.entry.bytes.now result }
+        ensures told { IsRowTold self.now.page_size self.now.options.0 head.now room (listing_row with_nodes)
+            source.entry.bytes.now result }
         ensures asker { IsAskedBy (context_of head.now) result }
     {
         match listing_meaning(room, source) {
@@ -121,7 +127,8 @@ impl Session {
         room: usize,
         source: Flat<'a>,
     ) -> DecodedRequest<'a>
-        ensures told { IsRowTold self.now.page_size self.now.options.0 head.now room init_row source.entry.bytes.now result }
+        ensures told { IsRowTold self.now.page_size self.now.options.0 head.now room init_row
+            source.entry.bytes.now result }
         ensures asker { IsAskedBy (context_of head.now) result }
     {
         match init_meaning(source) {
@@ -139,7 +146,8 @@ impl Session {
         room: usize,
         source: Flat<'a>,
     ) -> DecodedRequest<'a>
-        ensures told { IsRowTold self.now.page_size self.now.options.0 head.now room write_row source.entry.bytes.now result }
+        ensures told { IsRowTold self.now.page_size self.now.options.0 head.now room write_row
+            source.entry.bytes.now result }
         ensures asker { IsAskedBy (context_of head.now) result }
     {
         let len = source.bytes.len().saturating_sub(WRITE_IN_LEN);

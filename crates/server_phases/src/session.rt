@@ -4,7 +4,8 @@ ghost use Rattle.std.specs.Prelude.{◌≡◌, List, ℕ, length, drop, IsTrue, 
 ghost use Rattle.server_replies.specs.PageSizes.{is_page_size};
 ghost use Rattle.virtiofsd_fuse.specs.Grammar.{meaning, known_options};
 ghost use Rattle.virtiofsd_fuse.specs.Serving.{setting};
-ghost use Rattle.server_phases.specs.Asking.{IsDecoded, HasAsker, HasAskerByFront, IsRequestFront, IsToldByFront, front_tells, is_told};
+ghost use Rattle.server_phases.specs.Asking.{IsDecoded, HasAsker, HasAskerByFront, IsRequestFront};
+ghost use Rattle.server_phases.specs.Asking.{IsToldByFront, front_tells, is_told};
 
 use crate::asking::{AskedFront, DecodedRequest, ask_write_front, begins_a_write};
 use bitflags::Flags;
@@ -61,8 +62,8 @@ impl Session {
         self.page_size
     }
 
-    /// Tells what a request asks that has this room for its reply: its one call, or what it is served without one. Names and
-    /// values of the call stand in the request. It takes no memory.
+    /// Tells what a request asks that has this room for its reply: its one call, or what it is served without
+    /// one. Names and values of the call stand in the request. It takes no memory.
     pub fn ask<'a>(&self, request: &'a [u8], room: usize) -> DecodedRequest<'a>
         ensures told { IsDecoded (setting self.now.page_size self.now.options.0 room)
             (meaning self.now.options.0 request.now room) (drop 80 request.now) result }
@@ -75,13 +76,20 @@ impl Session {
         }
     }
 
-    /// The same by the first bytes of a request that has `len` bytes in all: the data of a WRITE, behind the first 80
-    /// (`REQUEST_FRONT`), stays where it stands. If they don't tell it, all bytes of the request are wanted. A WRITE's `size`
-    /// is what its record tells, `len` how many bytes of data the request has: they may differ.
+    /// The same by the first bytes of a request that has `len` bytes in all: the data of a WRITE, behind the
+    /// first 80 (`REQUEST_FRONT`), stays where it stands. If they don't tell it, all bytes of the request are
+    /// wanted. A WRITE's `size` is what its record tells, `len` how many bytes of data the request has: they
+    /// may differ.
     pub fn ask_front<'a>(&self, front: &'a [u8], len: usize, room: usize) -> AskedFront<'a>
-        ensures told { (request : List ℕ) → len ≡ length request → IsRequestFront front.now request
-            → IsToldByFront (setting self.now.page_size self.now.options.0 room) (meaning self.now.options.0 request room) (drop 80 request) result }
-        ensures asker { (request : List ℕ) → len ≡ length request → IsRequestFront front.now request → HasAskerByFront request result }
+        ensures told { (request : List ℕ)
+            → len ≡ length request
+            → IsRequestFront front.now request
+            → IsToldByFront (setting self.now.page_size self.now.options.0 room)
+            (meaning self.now.options.0 request room) (drop 80 request) result }
+        ensures asker { (request : List ℕ)
+            → len ≡ length request
+            → IsRequestFront front.now request
+            → HasAskerByFront request result }
         ensures more { is_told result ≡ front_tells front.now len }
     {
         if front.len() == len {

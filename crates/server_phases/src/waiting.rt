@@ -40,7 +40,8 @@ pub enum Awaits {
     Written,
     /// A place in a file.
     Offset,
-    /// The options that are asked for, of those that both sides have; the client reads `readahead` bytes ahead.
+    /// The options that are asked for, of those that both sides have; the client reads `readahead` bytes
+    /// ahead.
     Wish { capable: u64, readahead: u32 },
     /// The entries of a directory in `size` bytes, each with its node or without.
     Entries { with_nodes: bool, size: u32 },

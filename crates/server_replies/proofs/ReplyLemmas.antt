@@ -31,14 +31,16 @@ pub sent_fits : (room : ℕ) (bytes : List ℕ) → length bytes ≤ room → wh
 sent_fits room bytes h = rw (le-ltb room (length bytes) h) refl
 
 -- the reply to an answer that says an error
-pub failure_told : (silent : Bool) (unique errno : ℕ) (answer : FileAnswer) → answer ≡ Failed errno → told_bytes silent unique answer ≡ error_bytes unique errno
+pub failure_told : (silent : Bool) (unique errno : ℕ) (answer : FileAnswer) → answer ≡ Failed errno →
+    told_bytes silent unique answer ≡ error_bytes unique errno
 failure_told silent unique errno answer e = rw e refl
 
 none_long : 2 ^ 32 ≤ 16 → ⊥
 none_long h = omega (arith, h)
 
 -- data whose length no header tells
-pub told_long : (room : ℕ) (silent : Bool) (unique : ℕ) (answer : FileAnswer) → room < 2 ^ 32 → 2 ^ 32 ≤ 16 + length (told_data silent answer)
+pub told_long :
+    (room : ℕ) (silent : Bool) (unique : ℕ) (answer : FileAnswer) → room < 2 ^ 32 → 2 ^ 32 ≤ 16 + length (told_data silent answer)
     → whole_or_none room (told_bytes silent unique answer) ≡ Err EncodeMessage
 told_long room false unique (Bytes bytes) r h =
     let long : 2 ^ 32 ≤ 16 + length bytes = h in
@@ -47,13 +49,15 @@ told_long room true unique (Bytes bytes) r h = absurd (none_long h)
 told_long room silent unique answer r h = absurd (none_long h)
 
 -- a header and a record behind it
-pub record_put : (unique len : ℕ) (front back body : List ℕ) → front ≡ spelled (out_header (record { len = len; error = pos 0; unique = unique })) → back ≡ body → len ≡ 16 + length body
+pub record_put : (unique len : ℕ) (front back body : List ℕ)
+    → front ≡ spelled (out_header (record { len = len; error = pos 0; unique = unique })) → back ≡ body → len ≡ 16 + length body
     → front ++ back ≡ reply_bytes unique body
 unfolding reply_bytes
 record_put unique len front back body a b c = rw (a, b, c) refl
 
 -- a header, over the front of what was written
-pub data_put : (unique len n : ℕ) (w0 w1 header : List ℕ) → header ≡ spelled (out_header (record { len = len; error = pos 0; unique = unique }))
+pub data_put :
+    (unique len n : ℕ) (w0 w1 header : List ℕ) → header ≡ spelled (out_header (record { len = len; error = pos 0; unique = unique }))
     → w1 ≡ header ++ drop (length header) w0 → len ≡ 16 + n → 16 + n ≡ length w0 → w1 ≡ reply_bytes unique (drop 16 w0)
 unfolding reply_bytes
 data_put unique len n w0 w1 header a b c d =

@@ -1,5 +1,6 @@
 -- Entries of a directory as READDIR and READDIRPLUS reply with them, and which go in (linux/fuse.h).
-use Rattle.std.specs.Prelude.{ℕ, ◌+◌, ◌-◌, ◌*◌, ◌/◌, ◌%◌, ◌^◌, Bool, ◌||◌, nat_lt, nat_le, List, [], ◌∷◌, ◌++◌, length, replicate, Option, Some, None, Result, Ok, Err, if◌then◌else◌}
+use Rattle.std.specs.Prelude.{ℕ, ◌+◌, ◌-◌, ◌*◌, ◌/◌, ◌%◌, ◌^◌, Bool, ◌||◌, nat_lt, nat_le, List, [], ◌∷◌}
+use Rattle.std.specs.Prelude.{◌++◌, length, replicate, Option, Some, None, Result, Ok, Err, if◌then◌else◌}
 use Rattle.std.specs.Str.{bytes_eq}
 use Rattle.vm_values.specs.Fields.{spelled}
 use Rattle.fuse_wire.specs.Records.{entry_out, dirent}
@@ -26,7 +27,9 @@ entry_len with_nodes name_len = (if with_nodes then 128 else 0) + dirent_len nam
 
 -- struct fuse_dirent, the name, and zeros up to a multiple of 8
 unfoldable pub dirent_bytes : Listed → List ℕ
-dirent_bytes d = spelled (dirent (dirent_of d)) ++ d.name ++ replicate (dirent_len (length d.name) - (24 + length d.name)) 0
+dirent_bytes d =
+    spelled (dirent (dirent_of d)) ++ d.name
+    ++ replicate (dirent_len (length d.name) - (24 + length d.name)) 0
 
 -- struct fuse_entry_out, in READDIRPLUS
 unfoldable pub node_bytes : Entry ℕ → List ℕ
@@ -82,7 +85,8 @@ no_node d =
       entry_timeout = record { seconds = 0; nanos = 0 };
     }
 
--- what comes of one entry: what is left of the size after it, or the end of the list, by an error if there is one
+-- what comes of one entry: what is left of the size after it, or the end of the list, by an error if there is
+-- one
 abbrev pub AfterEntry : Type 0
 AfterEntry = Result ℕ (Option ℕ)
 

@@ -1,30 +1,36 @@
 -- Replies whole, by the answers that are told (linux/fuse.h).
-use Rattle.std.specs.Prelude.{◌≡◌, ℕ, ◌+◌, ◌-◌, ◌/◌, ◌^◌, ◌%◌, Bool, ◌&&◌, nat_lt, List, [], ◌++◌, length, replicate, Option, Some, None, Result, Ok, Err, if◌then◌else◌, pos, neg_ℤ}
+use Rattle.std.specs.Prelude.{◌≡◌, ℕ, ◌+◌, ◌-◌, ◌/◌, ◌^◌, ◌%◌, Bool, ◌&&◌, nat_lt, List, [], ◌++◌, length}
+use Rattle.std.specs.Prelude.{replicate, Option, Some, None, Result, Ok, Err, if◌then◌else◌, pos, neg_ℤ}
 use Rattle.vm_values.specs.Fields.{spelled}
 use Rattle.fuse_base.specs.Stats.{kstatfs_from}
 use Rattle.fuse_wire.specs.declared.replies.InitOut.{InitOut}
-use Rattle.fuse_wire.specs.Records.{out_header, entry_out, attr_out, open_out, getxattr_out, statfs_out, write_out, lseek_out, init_out}
+use Rattle.fuse_wire.specs.Records.{out_header, entry_out, attr_out, open_out, getxattr_out, statfs_out}
+use Rattle.fuse_wire.specs.Records.{write_out, lseek_out, init_out}
 use Rattle.fuse_fs.specs.Answers.{entry_out_of}
 use Rattle.fuse_fs.specs.Replies.{attr_out_of, open_out_of, getxattr_out_of, write_out_of, lseek_out_of}
-use Rattle.fuse_fs.specs.Calls.{FileAnswer, Failed, HasEntry, HasAttr, Opened, Created, Bytes, Count, Stats, Wrote, Offset}
+use Rattle.fuse_fs.specs.Calls.{FileAnswer, Failed, HasEntry, HasAttr, Opened, Created, Bytes, Count, Stats}
+use Rattle.fuse_fs.specs.Calls.{Wrote, Offset}
 use Rattle.server_segments.specs.declared.error.Error.{Error}
 use Rattle.server_segments.specs.ReaderAndWriterView.{WriterView}
 use Rattle.server_segments.specs.declared.error.Error.TheVariants.{EncodeMessage}
 
 -- struct fuse_out_header and what follows it
 unfoldable pub reply_bytes : (unique : ℕ) → List ℕ → List ℕ
-reply_bytes unique bytes = spelled (out_header (record { len = 16 + length bytes; error = pos 0; unique = unique })) ++ bytes
+reply_bytes unique bytes =
+    spelled (out_header (record { len = 16 + length bytes; error = pos 0; unique = unique })) ++ bytes
 
 -- struct fuse_out_header of an error, whose number goes out as its negative
 unfoldable pub error_bytes : (unique errno : ℕ) → List ℕ
-error_bytes unique errno = spelled (out_header (record { len = 16; error = neg_ℤ (pos errno); unique = unique }))
+error_bytes unique errno =
+    spelled (out_header (record { len = 16; error = neg_ℤ (pos errno); unique = unique }))
 
 -- what follows the header, by the answer
 abbrev pub body_bytes : FileAnswer → List ℕ
 body_bytes (HasEntry e) = spelled (entry_out (entry_out_of e))
 body_bytes (HasAttr attr timeout) = spelled (attr_out (attr_out_of attr timeout))
 body_bytes (Opened handle options) = spelled (open_out (open_out_of handle options))
-body_bytes (Created e handle options) = spelled (entry_out (entry_out_of e)) ++ spelled (open_out (open_out_of handle options))
+body_bytes (Created e handle options) =
+    spelled (entry_out (entry_out_of e)) ++ spelled (open_out (open_out_of handle options))
 body_bytes (Bytes bytes) = bytes
 body_bytes (Count n) = spelled (getxattr_out (getxattr_out_of n))
 body_bytes (Stats st) = spelled (statfs_out (record { st = kstatfs_from st }))
@@ -64,8 +70,8 @@ init_record readahead options max_background congestion max_write gran max_pages
 unfoldable pub versions_bytes : List ℕ
 versions_bytes = spelled (init_out (init_record 0 0 0 0 0 0 0))
 
--- struct fuse_init_out: 65535 requests in the background, throttled from 49149 on, writes of at most 2^20 bytes, times to the
--- nanosecond, and as many pages as 2^20 bytes take
+-- struct fuse_init_out: 65535 requests in the background, throttled from 49149 on, writes of at most 2^20
+-- bytes, times to the nanosecond, and as many pages as 2^20 bytes take
 unfoldable pub started_bytes : (page_size readahead options : ℕ) → List ℕ
 started_bytes page_size readahead options =
     spelled (init_out (init_record readahead options 65535 49149 (2 ^ 20) 1 ((2 ^ 20 - 1) / page_size + 1)))
@@ -75,7 +81,8 @@ abbrev pub data_reply : ℕ → Result ℕ ℕ → List ℕ → List ℕ
 data_reply unique (Ok n) bytes = reply_bytes unique bytes
 data_reply unique (Err errno) bytes = error_bytes unique errno
 
--- as many bytes of entries, or the error that is the reply; in READDIRPLUS an error after the first entry ends the list
+-- as many bytes of entries, or the error that is the reply; in READDIRPLUS an error after the first entry
+-- ends the list
 abbrev pub listing_answer : (len : ℕ) → (with_nodes : Bool) → Option ℕ → Result ℕ ℕ
 listing_answer len with_nodes None = Ok len
 listing_answer len with_nodes (Some errno) = if with_nodes && nat_lt 0 len then Ok len else Err errno
@@ -87,7 +94,8 @@ data_header unique (Err errno) = error_bytes unique errno
 
 -- the reply to a listing, by the entries that went in and the error that ended it
 abbrev pub listing_bytes : ℕ → (with_nodes : Bool) → List ℕ → Option ℕ → List ℕ
-listing_bytes unique with_nodes bytes error = data_reply unique (listing_answer (length bytes) with_nodes error) bytes
+listing_bytes unique with_nodes bytes error =
+    data_reply unique (listing_answer (length bytes) with_nodes error) bytes
 
 -- a writer's answer with what it wrote, and the reply that it is to be: whole, or not at all
 abbrev pub with_written : Result ℕ Error → List ℕ → Result (List ℕ) Error
@@ -98,7 +106,9 @@ with_written (Err e) written = Err e
 abbrev pub whole_or_none : (room : ℕ) → List ℕ → Result (List ℕ) Error
 whole_or_none room bytes = if nat_lt room (length bytes) then Err EncodeMessage else Ok bytes
 
--- what an answer leaves in its writer: a reply of that length, in the room that there was; after an error nothing has changed
+-- what an answer leaves in its writer: a reply of that length, in the room that there was; after an error
+-- nothing has changed
 abbrev pub LeavesWriter : Result ℕ Error → (old new : WriterView) → Type 0
-LeavesWriter (Ok n) old new = (n ≡ length new.written) × (length new.written + new.free ≡ length old.written + old.free)
+LeavesWriter (Ok n) old new =
+    (n ≡ length new.written) × (length new.written + new.free ≡ length old.written + old.free)
 LeavesWriter (Err e) old new = new ≡ old

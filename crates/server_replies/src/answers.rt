@@ -3,7 +3,8 @@
 ghost use Rattle.std.specs.Prelude.{◌≡◌, ◌+◌, ◌<◌, ◌^◌, ◌++◌, [], length, Ok, false};
 ghost use Rattle.vm_values.specs.Fields.{spelled};
 ghost use Rattle.fuse_wire.specs.Records.{entry_out, open_out};
-ghost use Rattle.server_replies.specs.WholeReplies.{with_written, whole_or_none, told_bytes, told_data, LeavesWriter};
+ghost use Rattle.server_replies.specs.WholeReplies.{with_written, whole_or_none, told_bytes, told_data};
+ghost use Rattle.server_replies.specs.WholeReplies.{LeavesWriter};
 ghost use Rattle.server_segments.specs.Errors.{lacks_memory};
 
 use crate::fronts::{Front, MOST_DATA_LEN};
@@ -14,12 +15,14 @@ use fuse_wire::{Attr, EntryOut, Errno, Kstatfs, OpenOptions, OpenOut, StatVfs, S
 use server_segments::{Error, Writer};
 use vm_values::ByteValued;
 
-/// An answer as the client is told of a good one: the front of its reply, and the data behind it (linux/fuse.h).
+/// An answer as the client is told of a good one: the front of its reply, and the data behind it
+/// (linux/fuse.h).
 pub trait AsFront: GoodAnswer + Drop {
     /// Front and data. The data of a reply whose length has no 32 bits can't be told.
     fn parts(&self, unique: u64) -> (Front, &[u8])
         ensures data { result.1.now ≡ told_data Self.silent (Self.said (Ok self.now)) }
-        ensures told { 16 + length result.1.now < 2 ^ 32 → result.0 ++ result.1.now ≡ told_bytes Self.silent unique (Self.said (Ok self.now)) };
+        ensures told { 16 + length result.1.now < 2 ^ 32
+            → result.0 ++ result.1.now ≡ told_bytes Self.silent unique (Self.said (Ok self.now)) };
 
     /// The front of an answer without data, which is its reply.
     final fn front(&self, unique: u64) -> Front
@@ -31,8 +34,8 @@ pub trait AsFront: GoodAnswer + Drop {
     }
 }
 
-/// Replies with an answer: header and record, or the error, whole or not at all. Answers the reply's length in bytes, 0
-/// if there is none, and `EncodeMessage` if it has no room.
+/// Replies with an answer: header and record, or the error, whole or not at all. Answers the reply's length
+/// in bytes, 0 if there is none, and `EncodeMessage` if it has no room.
 #[inline(always)]
 pub fn reply_answer<A: AsFront>(
     w: &mut Writer,
@@ -41,7 +44,8 @@ pub fn reply_answer<A: AsFront>(
 ) -> Result<usize, Error>
     requires fresh { w.old.written ≡ [] }
     requires room { w.old.free < 2 ^ 32 }
-    ensures sent { with_written result w.new.written ≡ whole_or_none w.old.free (told_bytes A.silent unique (A.said answer)) }
+    ensures sent { with_written result w.new.written
+        ≡ whole_or_none w.old.free (told_bytes A.silent unique (A.said answer)) }
     ensures writer { LeavesWriter result w.old w.new }
     ensures memory { lacks_memory result ≡ false }
 {

@@ -5,7 +5,8 @@ ghost use Rattle.vm_values.specs.Fields.{spelled};
 ghost use Rattle.fuse_wire.specs.Records.{dirent};
 ghost use Rattle.fuse_fs.specs.Replies.{dirent_of};
 ghost use Rattle.fuse_fs.specs.Answers.{listed, numbered};
-ghost use Rattle.server_replies.specs.Entries.{dirent_len, dirent_bytes, node_bytes, fit_of, is_dot, no_node, after_entry};
+ghost use Rattle.server_replies.specs.Entries.{dirent_len, dirent_bytes, node_bytes, fit_of, is_dot, no_node};
+ghost use Rattle.server_replies.specs.Entries.{after_entry};
 ghost use Rattle.server_replies.specs.WholeReplies.{listing_bytes, listing_answer};
 
 use crate::replies::{OUT_HEADER_LEN, append, reply_data};
@@ -65,9 +66,9 @@ fn write_entry(w: &mut Writer, node: &[u8], entry: &DirEntry<'_>)
     append(w, &[0; 8][..zeros]);
 }
 
-/// Puts an entry in, if it has room, and answers how many bytes are left of the size then. Else it writes nothing
-/// and answers how the list ends: EOVERFLOW if the name has 2^32 bytes or more, no errno if the entry has more
-/// bytes than are left of the size, EIO if it has more than the writer has room for.
+/// Puts an entry in, if it has room, and answers how many bytes are left of the size then. Else it writes
+/// nothing and answers how the list ends: EOVERFLOW if the name has 2^32 bytes or more, no errno if the entry
+/// has more bytes than are left of the size, EIO if it has more than the writer has room for.
 #[tactic(auto, unfolding(crate::specs::Entries::fit_of))]
 pub fn put_entry(
     w: &mut Writer,
@@ -76,10 +77,13 @@ pub fn put_entry(
     left: usize,
 ) -> Result<usize, Option<Errno>>
     requires { length node.now ≤ 128 }
-    ensures outcome { result ≡ after_entry (fit_of (length entry.now.name.now) (length node.now + dirent_len (length entry.now.name.now)) left w.old.free)
+    ensures outcome { result ≡ after_entry (fit_of (length entry.now.name.now)
+        (length node.now + dirent_len (length entry.now.name.now)) left w.old.free)
         left (length node.now + dirent_len (length entry.now.name.now)) }
-    ensures written { OnOk result (w.new.written ≡ w.old.written ++ (node.now ++ dirent_bytes (listed entry.now))) }
-    ensures free { OnOk result (w.new.free + (length node.now + dirent_len (length entry.now.name.now)) ≡ w.old.free) }
+    ensures written { OnOk result
+        (w.new.written ≡ w.old.written ++ (node.now ++ dirent_bytes (listed entry.now))) }
+    ensures free { OnOk result (w.new.free + (length node.now + dirent_len (length entry.now.name.now))
+        ≡ w.old.free) }
     ensures same { OnErr result (w.new ≡ w.old) }
     ensures room { length w.new.written + w.new.free ≡ length w.old.written + w.old.free }
 {

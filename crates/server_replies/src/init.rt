@@ -32,7 +32,8 @@ fn init_bytes(reply: &InitOut) -> [u8; 64]
     bytes
 }
 
-/// The answer to a client of a later version: `struct fuse_init_out`, of which only the versions say something.
+/// The answer to a client of a later version: `struct fuse_init_out`, of which only the versions say
+/// something.
 #[tactic(auto, unfolding(crate::specs::WholeReplies::versions_bytes))]
 pub fn versions() -> [u8; 64]
     ensures { result ≡ versions_bytes }

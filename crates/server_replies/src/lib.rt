@@ -1,4 +1,5 @@
-//! FUSE replies: answers of a file system, entries of a directory and what INIT agrees on, whole or not at all.
+//! FUSE replies: answers of a file system, entries of a directory and what INIT agrees on, whole or not at
+//! all.
 #![tactic(auto)]
 
 pub mod answers;

@@ -4,7 +4,8 @@ ghost use Rattle.std.specs.Prelude.{◌≡◌, ◌+◌, ◌<◌, ◌≤◌, ◌^
 ghost use Rattle.std.specs.Result.{ForOk};
 ghost use Rattle.vm_values.specs.Fields.{spelled};
 ghost use Rattle.fuse_wire.specs.Records.{out_header};
-ghost use Rattle.server_replies.specs.WholeReplies.{reply_bytes, error_bytes, data_header, data_reply, with_written, whole_or_none, LeavesWriter};
+ghost use Rattle.server_replies.specs.WholeReplies.{reply_bytes, error_bytes, data_header, data_reply};
+ghost use Rattle.server_replies.specs.WholeReplies.{with_written, whole_or_none, LeavesWriter};
 ghost use Rattle.server_segments.specs.Errors.{lacks_memory};
 
 use crate::fronts::Front;
@@ -45,8 +46,8 @@ pub fn append(w: &mut Writer, bytes: &[u8])
     w.write_all(bytes).unwrap();
 }
 
-/// Writes a reply, its front and the bytes behind it, whole or not at all. Answers its length in bytes, or `EncodeMessage` if it
-/// has no room.
+/// Writes a reply, its front and the bytes behind it, whole or not at all. Answers its length in bytes, or
+/// `EncodeMessage` if it has no room.
 #[inline(always)]
 #[tactic(auto, using(crate::proofs::ReplyLemmas::sent_long, crate::proofs::ReplyLemmas::sent_fits))]
 pub(crate) fn send(w: &mut Writer, front: &[u8], behind: &[u8]) -> Result<usize, Error>
@@ -67,7 +68,8 @@ pub(crate) fn send(w: &mut Writer, front: &[u8], behind: &[u8]) -> Result<usize,
     Ok(front.len() + behind.len())
 }
 
-/// Writes a reply that is a front alone, whole or not at all. Answers its length in bytes, or `EncodeMessage` if it has no room.
+/// Writes a reply that is a front alone, whole or not at all. Answers its length in bytes, or `EncodeMessage`
+/// if it has no room.
 #[inline(always)]
 pub fn reply_front(w: &mut Writer, front: &Front) -> Result<usize, Error>
     requires fresh { w.old.written ≡ [] }
@@ -78,8 +80,8 @@ pub fn reply_front(w: &mut Writer, front: &Front) -> Result<usize, Error>
     send(w, front.bytes(), &[])
 }
 
-/// Writes an error: a header with the error's number made negative. Answers 16, or `EncodeMessage` if it has no
-/// room.
+/// Writes an error: a header with the error's number made negative. Answers 16, or `EncodeMessage` if it has
+/// no room.
 pub fn reply_error(w: &mut Writer, unique: u64, error: Errno) -> Result<usize, Error>
     requires fresh { w.old.written ≡ [] }
     ensures sent { with_written result w.new.written ≡ whole_or_none w.old.free (error_bytes unique error) }
@@ -89,8 +91,8 @@ pub fn reply_error(w: &mut Writer, unique: u64, error: Errno) -> Result<usize, E
     reply_front(w, &Front::error(unique, error))
 }
 
-/// The header of the reply to a READ that had this answer, for who has put the data elsewhere; an error's reply is no
-/// more.
+/// The header of the reply to a READ that had this answer, for who has put the data elsewhere; an error's
+/// reply is no more.
 pub fn data_header(unique: u64, answer: Result<usize, Errno>) -> [u8; OUT_HEADER_LEN]
     requires { ForOk answer (λ n. 16 + n < 2 ^ 32) }
     ensures { result ≡ data_header unique answer }

@@ -1,5 +1,6 @@
 -- Pairs of BATCH_FORGET, one after another.
-use Rattle.std.proofs.Common.{◌≡◌, ℕ, zero, suc, ◌+◌, ◌*◌, ◌<◌, ◌≤◌, true, List, [], ◌∷◌, ◌++◌, length, drop, take, Ok, Err, refl, sym, ap, ◌∙◌, arith, append_assoc, append-nil, ⊎_elim}
+use Rattle.std.proofs.Common.{◌≡◌, ℕ, zero, suc, ◌+◌, ◌*◌, ◌<◌, ◌≤◌, true, List, [], ◌∷◌, ◌++◌, length, drop, take, Ok, Err, refl, sym, ap}
+use Rattle.std.proofs.Common.{◌∙◌, arith, append_assoc, append-nil, ⊎_elim}
 use Rattle.std.proofs.lemmas.Bool.{cases_lt, lt-ltb, le-ltb}
 use Rattle.std.specs.Prelude.{◌/◌}
 use Rattle.std.proofs.lemmas.List.{length-drop, length-take-le, take-take, drop-take}
@@ -15,24 +16,28 @@ use Rattle.server_requests.specs.Fronts.{forget_pair, has_pairs}
 abbrev pub behind : {A : Type 0} → List A → Read (List A) → Read (List A)
 behind done r = and_then r (λ x. Ok (done ++ x.0, x.1))
 
-pub pair_read : (bytes more : List ℕ) (r : ForgetOne) → Ok (r, more) ≡ reading_of forget_one bytes → forget_pair bytes ≡ Ok ((r.nodeid, r.nlookup), more)
+pub pair_read : (bytes more : List ℕ) (r : ForgetOne) → Ok (r, more) ≡ reading_of forget_one bytes →
+    forget_pair bytes ≡ Ok ((r.nodeid, r.nlookup), more)
 pair_read bytes more r h = rw (← h) refl
 
 pub pair_short : (bytes : List ℕ) (e : Error) → Err (Faults e) ≡ reading_of forget_one bytes → forget_pair bytes ≡ Err (Faults e)
 pair_short bytes e h = rw (← h) refl
 
-behind_one : {A : Type 0} (done : List A) (x : A) (r : Read (List A)) → behind done (and_then r (λ y. Ok (x ∷ y.0, y.1))) ≡ behind (done ++ x ∷ []) r
+behind_one :
+    {A : Type 0} (done : List A) (x : A) (r : Read (List A)) → behind done (and_then r (λ y. Ok (x ∷ y.0, y.1))) ≡ behind (done ++ x ∷ []) r
 behind_one done x (Ok y) = ap (λ (all : List _). Ok (all, y.1)) (sym (append_assoc done (x ∷ []) y.0))
 behind_one done x (Err e) = refl
 
 -- one more
 pub many_next : (left n : ℕ) (whole : Read (List (ℕ × ℕ))) (done : List (ℕ × ℕ)) (x : ℕ × ℕ) (bytes more : List ℕ) → left ≡ suc n
-    → whole ≡ behind done (many left forget_pair bytes) → forget_pair bytes ≡ Ok (x, more) → whole ≡ behind (done ++ x ∷ []) (many n forget_pair more)
+    → whole ≡ behind done (many left forget_pair bytes) → forget_pair bytes ≡ Ok (x, more)
+    → whole ≡ behind (done ++ x ∷ []) (many n forget_pair more)
 unfolding many
 many_next left n whole done x bytes more e w h = w ∙ rw (e, h) (behind_one done x (many n forget_pair more))
 
 -- the end, or one that is short
-pub many_end : (left : ℕ) (whole : Read (List (ℕ × ℕ))) (done : List (ℕ × ℕ)) (bytes : List ℕ) → left ≡ 0 → whole ≡ behind done (many left forget_pair bytes) → Ok (done, bytes) ≡ whole
+pub many_end : (left : ℕ) (whole : Read (List (ℕ × ℕ))) (done : List (ℕ × ℕ)) (bytes : List ℕ) → left ≡ 0 →
+    whole ≡ behind done (many left forget_pair bytes) → Ok (done, bytes) ≡ whole
 unfolding many
 many_end left whole done bytes e w = sym (w ∙ rw (e, append-nil done) refl)
 
@@ -86,10 +91,12 @@ pairs_kept zero bytes = refl
 pairs_kept (suc n) bytes =
     let front : take 16 (take (suc n * 16) bytes) ≡ take 16 bytes = take-take 16 (suc n * 16) bytes (omega arith) in
     let more : suc n * 16 ≡ 16 + n * 16 = omega arith in
-    let rest : drop 16 (take (suc n * 16) bytes) ≡ take (n * 16) (drop 16 bytes) = ap (λ k. drop 16 (take k bytes)) more ∙ drop-take 16 (n * 16) bytes in
+    let rest : drop 16 (take (suc n * 16) bytes) ≡ take (n * 16) (drop 16 bytes) =
+    ap (λ k. drop 16 (take k bytes)) more ∙ drop-take 16 (n * 16) bytes in
     rw (front, rest, pairs_kept n (drop 16 bytes)) refl
 
-pub pairs_read : (n : ℕ) (bytes : List ℕ) → n * 16 ≤ length bytes → value_of (many n forget_pair bytes) ≡ Ok (pairs_in (take (n * 16) bytes))
+pub pairs_read :
+    (n : ℕ) (bytes : List ℕ) → n * 16 ≤ length bytes → value_of (many n forget_pair bytes) ≡ Ok (pairs_in (take (n * 16) bytes))
 pairs_read n bytes h =
     let all = many_there n bytes h in
     let long : length (take (n * 16) bytes) ≡ n * 16 = length-take-le (n * 16) bytes h in

@@ -1,5 +1,6 @@
 -- Bytes that are a name, and bytes that aren't.
-use Rattle.std.proofs.Common.{◌≡◌, ◌≢◌, ℕ, suc, ◌+◌, ◌-◌, ◌<◌, ◌≤◌, List, [], ◌∷◌, ◌++◌, length, take, drop, Result, Ok, Err, Some, None, Bool, true, false, not, refl}
+use Rattle.std.proofs.Common.{◌≡◌, ◌≢◌, ℕ, suc, ◌+◌, ◌-◌, ◌<◌, ◌≤◌, List, [], ◌∷◌, ◌++◌, length, take, drop, Result, Ok, Err, Some, None}
+use Rattle.std.proofs.Common.{Bool, true, false, not, refl}
 use Rattle.std.proofs.Common.{sym, ap, ◌∙◌, arith, cond, length-append}
 use Rattle.std.specs.Prelude.{position, ◌==◌, nat_le, IfOk}
 use Rattle.std.specs.List.{prefix_len}
@@ -7,10 +8,12 @@ use Rattle.std.proofs.Math.Dec.{ltb}
 use Rattle.std.proofs.lemmas.Bool.{lt-ltb, le-ltb}
 use Rattle.std.proofs.lemmas.Bool.Decides.{nat_tests}
 use Rattle.std.proofs.lemmas.List.{take_at, take_all, length-drop}
-use Rattle.server_segments.specs.declared.error.Error.TheVariants.{InvalidCString, DecodeMessage, InvalidHeaderLength, InvalidXattrSize, MissingParameter}
+use Rattle.server_segments.specs.declared.error.Error.TheVariants.{InvalidCString, DecodeMessage, InvalidHeaderLength, InvalidXattrSize}
+use Rattle.server_segments.specs.declared.error.Error.TheVariants.{MissingParameter}
 use Rattle.server_segments.specs.declared.error.Error.{Error}
 use Rattle.fuse_in.specs.Shapes.{RecordShape}
-use Rattle.server_requests.specs.Reading.{Read, ReadFailure, Faults, and_then, at_zero, before_zero, last_name, two_names, name_and_value, front_name, value_of, reading_of}
+use Rattle.server_requests.specs.Reading.{Read, ReadFailure, Faults, and_then, at_zero, before_zero, last_name, two_names, name_and_value}
+use Rattle.server_requests.specs.Reading.{front_name, value_of, reading_of}
 use Rattle.vm_values.specs.Bits.{has_bit}
 use Rattle.fuse_in.specs.declared.nodes.SetxattrIn.{SetxattrIn}
 use Rattle.fuse_in.specs.declared.nodes.SetxattrInCompat.{SetxattrInCompat}
@@ -33,20 +36,25 @@ abbrev not_zero : ℕ → Bool
 not_zero x = not (x == 0)
 
 step_some : (t : Bool) (b : ℕ) (bs : List ℕ) → (prefix_len not_zero bs < length bs → at_zero bs ≡ Some
-    (take (prefix_len not_zero bs) bs, drop (prefix_len not_zero bs + 1) bs)) → cond (not t) (1 + prefix_len not_zero bs) 0 < length (b ∷ bs)
-    → cond t (Some ([], bs)) (before_zero b (at_zero bs)) ≡ Some (take (cond (not t) (1 + prefix_len not_zero bs) 0) (b ∷ bs), drop (cond (not t) (1 + prefix_len not_zero bs) 0 + 1) (b ∷ bs))
+    (take (prefix_len not_zero bs) bs, drop (prefix_len not_zero bs + 1) bs))
+    → cond (not t) (1 + prefix_len not_zero bs) 0 < length (b ∷ bs)
+    → cond t (Some ([], bs)) (before_zero b (at_zero bs))
+    ≡ Some (take (cond (not t) (1 + prefix_len not_zero bs) 0) (b ∷ bs), drop (cond (not t) (1 + prefix_len not_zero bs) 0 + 1) (b ∷ bs))
 step_some true b bs ih h = refl
 step_some false b bs ih h =
     let more : (1 + prefix_len not_zero bs) + 1 ≡ suc (prefix_len not_zero bs + 1) = omega arith in
     let one : 1 + prefix_len not_zero bs ≡ suc (prefix_len not_zero bs) = omega arith in
-    ap (before_zero b) (ih (omega (arith, h))) ∙ ap (λ k. Some (take k (b ∷ bs), drop (suc (prefix_len not_zero bs + 1)) (b ∷ bs))) (sym one) ∙ ap
+    ap (before_zero b) (ih (omega (arith, h)))
+    ∙ ap (λ k. Some (take k (b ∷ bs), drop (suc (prefix_len not_zero bs + 1)) (b ∷ bs))) (sym one) ∙ ap
     (λ k. Some (take (1 + prefix_len not_zero bs) (b ∷ bs), drop k (b ∷ bs))) (sym more)
 
-zero_some : (bs : List ℕ) → prefix_len not_zero bs < length bs → at_zero bs ≡ Some (take (prefix_len not_zero bs) bs, drop (prefix_len not_zero bs + 1) bs)
+zero_some : (bs : List ℕ) → prefix_len not_zero bs < length bs →
+    at_zero bs ≡ Some (take (prefix_len not_zero bs) bs, drop (prefix_len not_zero bs + 1) bs)
 zero_some [] h = absurd (omega (arith, h))
 zero_some (b ∷ bs) h = step_some (b == 0) b bs (zero_some bs) h
 
-step_none : (t : Bool) (b : ℕ) (bs : List ℕ) → (length bs ≤ prefix_len not_zero bs → at_zero bs ≡ None) → length (b ∷ bs) ≤ cond (not t) (1 + prefix_len not_zero bs) 0
+step_none : (t : Bool) (b : ℕ) (bs : List ℕ) → (length bs ≤ prefix_len not_zero bs → at_zero bs ≡ None)
+    → length (b ∷ bs) ≤ cond (not t) (1 + prefix_len not_zero bs) 0
     → cond t (Some ([], bs)) (before_zero b (at_zero bs)) ≡ None
 step_none true b bs ih h = absurd (omega (arith, h))
 step_none false b bs ih h = ap (before_zero b) (ih (omega (arith, h)))
@@ -71,9 +79,11 @@ at_some bs i e =
     zero_some bs h ∙ ap (λ k. Some (take k bs, drop (k + 1) bs)) p.1
 
 -- what is left is all that is left
-pub at_split : (bs : List ℕ) (i : ℕ) → position (λ b. b == 0) bs ≡ Some i → at_zero bs ≡ Some (take i bs, take (length bs - (i + 1)) (drop (i + 1) bs))
+pub at_split :
+    (bs : List ℕ) (i : ℕ) → position (λ b. b == 0) bs ≡ Some i → at_zero bs ≡ Some (take i bs, take (length bs - (i + 1)) (drop (i + 1) bs))
 at_split bs i e =
-    let all : take (length bs - (i + 1)) (drop (i + 1) bs) ≡ drop (i + 1) bs = take_all (length bs - (i + 1)) (drop (i + 1) bs) (rw (length-drop (i + 1) bs) (omega arith)) in
+    let all : take (length bs - (i + 1)) (drop (i + 1) bs) ≡ drop (i + 1) bs =
+    take_all (length bs - (i + 1)) (drop (i + 1) bs) (rw (length-drop (i + 1) bs) (omega arith)) in
     at_some bs i e ∙ ap (λ (d : List ℕ). Some (take i bs, d)) (sym all)
 
 pub at_none : (bs : List ℕ) → position (λ b. b == 0) bs ≡ None → at_zero bs ≡ None
@@ -82,12 +92,14 @@ at_none bs e =
     let h : length bs ≤ prefix_len not_zero bs = grind (arith, nat_tests, p) in
     zero_none bs h
 
-last_part : (name : List ℕ) (t : Bool) → value_of (and_then {A = Unit {0} × List ℕ} {B = List ℕ × List ℕ} (cond t (Ok (tt, [])) (Err (Faults InvalidCString)))
+last_part : (name : List ℕ) (t : Bool) →
+    value_of (and_then {A = Unit {0} × List ℕ} {B = List ℕ × List ℕ} (cond t (Ok (tt, [])) (Err (Faults InvalidCString)))
     (λ z. Ok (name, z.1))) ≡ cond t (Ok name) (Err (Faults InvalidCString))
 last_part name true = refl
 last_part name false = refl
 
-name_of : (bs name more : List ℕ) → at_zero bs ≡ Some (name, more) → value_of (last_name bs) ≡ cond (length more == 0) (Ok name) (Err (Faults InvalidCString))
+name_of : (bs name more : List ℕ) → at_zero bs ≡ Some (name, more) →
+    value_of (last_name bs) ≡ cond (length more == 0) (Ok name) (Err (Faults InvalidCString))
 unfolding last_name
 name_of bs name more e = rw e (last_part name (length more == 0))
 
@@ -96,7 +108,8 @@ named bs i e h =
     let none : length (drop (i + 1) bs) ≡ 0 = simp length-drop (omega (arith, h)) in
     name_of bs (take i bs) (drop (i + 1) bs) (at_some bs i e) ∙ rw none refl
 
-pub unnamed : (bs : List ℕ) (i : ℕ) → position (λ b. b == 0) bs ≡ Some i → i + 1 ≢ length bs → i < length bs → value_of (last_name bs) ≡ Err (Faults InvalidCString)
+pub unnamed : (bs : List ℕ) (i : ℕ) → position (λ b. b == 0) bs ≡ Some i → i + 1 ≢ length bs → i < length bs →
+    value_of (last_name bs) ≡ Err (Faults InvalidCString)
 unnamed bs i e h l =
     let some : (length (drop (i + 1) bs) == 0) ≡ false = (let d = length-drop (i + 1) bs in grind (arith, nat_tests, d)) in
     name_of bs (take i bs) (drop (i + 1) bs) (at_some bs i e) ∙ rw some refl
@@ -109,10 +122,12 @@ first_named : (bs old more : List ℕ) → at_zero bs ≡ Some (old, more) → v
 unfolding two_names
 first_named bs old more e = rw e (second old (last_name more))
 
-pub both_named : (bs old more new : List ℕ) → at_zero bs ≡ Some (old, more) → Ok new ≡ value_of (last_name more) → value_of (two_names bs) ≡ Ok (old, new)
+pub both_named : (bs old more new : List ℕ) → at_zero bs ≡ Some (old, more) → Ok new ≡ value_of (last_name more) →
+    value_of (two_names bs) ≡ Ok (old, new)
 both_named bs old more new e h = first_named bs old more e ∙ ap (second_of old) (sym h)
 
-pub second_unnamed : (bs old more : List ℕ) (r : Error) → at_zero bs ≡ Some (old, more) → Err (Faults r) ≡ value_of (last_name more) → value_of (two_names bs) ≡ Err (Faults r)
+pub second_unnamed : (bs old more : List ℕ) (r : Error) → at_zero bs ≡ Some (old, more) → Err (Faults r) ≡ value_of (last_name more) →
+    value_of (two_names bs) ≡ Err (Faults r)
 second_unnamed bs old more r e h = first_named bs old more e ∙ ap (second_of old) (sym h)
 
 pub first_missing : (bs : List ℕ) → at_zero bs ≡ None → value_of (two_names bs) ≡ Err (Faults MissingParameter)
@@ -139,7 +154,8 @@ front_endless bs z e =
     rw (test, e) refl
 
 -- a name and its value
-pub valued : (size : ℕ) (bs name value : List ℕ) → at_zero bs ≡ Some (name, value) → size ≡ length value → value_of (name_and_value size bs) ≡ Ok (name, value)
+pub valued : (size : ℕ) (bs name value : List ℕ) → at_zero bs ≡ Some (name, value) → size ≡ length value →
+    value_of (name_and_value size bs) ≡ Ok (name, value)
 unfolding name_and_value
 valued size bs name value e h =
     let same : (size == length value) ≡ true = grind (arith, nat_tests, h) in
@@ -157,7 +173,8 @@ unfolding name_and_value
 value_unnamed size bs e = rw e refl
 
 -- as many bytes as the header's length leaves
-pub counted_front : (len k : ℕ) (all front more : List ℕ) → 40 + k ≤ len → all ≡ front ++ more → length front ≡ len - (40 + k) → value_of (counted len k all) ≡ Ok front
+pub counted_front : (len k : ℕ) (all front more : List ℕ) → 40 + k ≤ len → all ≡ front ++ more → length front ≡ len - (40 + k) →
+    value_of (counted len k all) ≡ Ok front
 unfolding counted
 counted_front len k all front more h e l =
     let test : nat_le (40 + k) len ≡ true = grind (arith, nat_tests) in
@@ -166,12 +183,14 @@ counted_front len k all front more h e l =
     rw (test, e, le-ltb (length (front ++ more)) (len - 40 - k) enough, take_at front more (len - 40 - k) count) refl
 
 -- the same of what was read, by its items
-pub counted_by : {B : Type 0} (items : B → List ℕ) (len k n : ℕ) (all more : List ℕ) (result : Result B Error) → 40 + k ≤ len → n ≡ len - (40 + k)
+pub counted_by :
+    {B : Type 0} (items : B → List ℕ) (len k n : ℕ) (all more : List ℕ) (result : Result B Error) → 40 + k ≤ len → n ≡ len - (40 + k)
     → IfOk result (λ b. (all ≡ items b ++ more) × (length (items b) ≡ n)) → IfOk result (λ b. Ok (items b) ≡ value_of (counted len k all))
 counted_by items len k n all more (Ok b) h e p = sym (counted_front len k all (items b) more h p.0 (p.1 ∙ e))
 counted_by items len k n all more (Err f) h e p = tt
 
-pub counted_short : (len k : ℕ) (all : List ℕ) → 40 + k ≤ len → length all < len - (40 + k) → value_of (counted len k all) ≡ Err (Faults DecodeMessage)
+pub counted_short :
+    (len k : ℕ) (all : List ℕ) → 40 + k ≤ len → length all < len - (40 + k) → value_of (counted len k all) ≡ Err (Faults DecodeMessage)
 unfolding counted
 counted_short len k all h l =
     let test : nat_le (40 + k) len ≡ true = grind (arith, nat_tests) in
@@ -189,17 +208,20 @@ with_value : {R : Type 0} → (r : R) (x : Read (List ℕ)) → value_of (and_th
 with_value r (Ok b) = refl
 with_value r (Err e) = refl
 
-pub with_both : {R : Type 0} → (s : RecordShape R) (k len : ℕ) (all more bytes : List ℕ) (r : R) → Ok (r, more) ≡ reading_of s all → Ok bytes ≡ value_of (counted len k more)
+pub with_both : {R : Type 0} → (s : RecordShape R) (k len : ℕ) (all more bytes : List ℕ) (r : R) → Ok (r, more) ≡ reading_of s all
+    → Ok bytes ≡ value_of (counted len k more)
     → Ok (r, bytes) ≡ value_of (with_bytes s k len all)
 unfolding with_bytes
 with_both s k len all more bytes r e h = sym (rw (← e) (with_value r (counted len k more) ∙ ap (paired r) (sym h)))
 
-pub with_few : {R : Type 0} → (s : RecordShape R) (k len : ℕ) (all more : List ℕ) (r : R) (f : Error) → Ok (r, more) ≡ reading_of s all → Err (Faults f) ≡ value_of (counted len k more)
+pub with_few : {R : Type 0} → (s : RecordShape R) (k len : ℕ) (all more : List ℕ) (r : R) (f : Error) → Ok (r, more) ≡ reading_of s all
+    → Err (Faults f) ≡ value_of (counted len k more)
     → Err (Faults f) ≡ value_of (with_bytes s k len all)
 unfolding with_bytes
 with_few s k len all more r f e h = sym (rw (← e) (with_value r (counted len k more) ∙ ap (paired r) (sym h)))
 
-pub with_short : {R : Type 0} → (s : RecordShape R) (k len : ℕ) (all : List ℕ) (f : Error) → Err (Faults f) ≡ reading_of s all → Err (Faults f) ≡ value_of (with_bytes s k len all)
+pub with_short : {R : Type 0} → (s : RecordShape R) (k len : ℕ) (all : List ℕ) (f : Error) → Err (Faults f) ≡ reading_of s all →
+    Err (Faults f) ≡ value_of (with_bytes s k len all)
 unfolding with_bytes
 with_short s k len all f e = sym (rw (← e) refl)
 
@@ -207,23 +229,28 @@ abbrev flagless : Result (SetxattrInCompat × List ℕ) ReadFailure → Result (
 flagless (Ok x) = Ok (without_flags x.0, x.1)
 flagless (Err r) = Err r
 
-flagless_by : (x : Read (SetxattrInCompat × List ℕ)) → value_of (and_then x (λ y. Ok ((without_flags y.0.0, y.0.1), y.1))) ≡ flagless (value_of x)
+flagless_by :
+    (x : Read (SetxattrInCompat × List ℕ)) → value_of (and_then x (λ y. Ok ((without_flags y.0.0, y.0.1), y.1))) ≡ flagless (value_of x)
 flagless_by (Ok y) = refl
 flagless_by (Err r) = refl
 
 -- the record of SETXATTR by its length
-pub setxattr_long : (options len : ℕ) (all : List ℕ) → has_bit options 29 ≡ true → setxattr_front options len all ≡ with_bytes setxattr_in 16 len all
+pub setxattr_long :
+    (options len : ℕ) (all : List ℕ) → has_bit options 29 ≡ true → setxattr_front options len all ≡ with_bytes setxattr_in 16 len all
 unfolding setxattr_front
 setxattr_long options len all e = rw e refl
 
-pub setxattr_compat : (options len : ℕ) (all : List ℕ) → has_bit options 29 ≡ false → value_of (setxattr_front options len all) ≡ flagless (value_of (with_bytes setxattr_in_compat 8 len all))
+pub setxattr_compat : (options len : ℕ) (all : List ℕ) → has_bit options 29 ≡ false →
+    value_of (setxattr_front options len all) ≡ flagless (value_of (with_bytes setxattr_in_compat 8 len all))
 unfolding setxattr_front
 setxattr_compat options len all e = rw e (flagless_by (with_bytes setxattr_in_compat 8 len all))
 
-pub setxattr_without : (options len : ℕ) (all bytes : List ℕ) (r : SetxattrInCompat) → has_bit options 29 ≡ false → Ok (r, bytes) ≡ value_of (with_bytes setxattr_in_compat 8 len all)
+pub setxattr_without : (options len : ℕ) (all bytes : List ℕ) (r : SetxattrInCompat) → has_bit options 29 ≡ false
+    → Ok (r, bytes) ≡ value_of (with_bytes setxattr_in_compat 8 len all)
     → Ok (without_flags r, bytes) ≡ value_of (setxattr_front options len all)
 setxattr_without options len all bytes r e h = sym (setxattr_compat options len all e ∙ ap flagless (sym h))
 
-pub setxattr_short : (options len : ℕ) (all : List ℕ) (f : Error) → has_bit options 29 ≡ false → Err (Faults f) ≡ value_of (with_bytes setxattr_in_compat 8 len all)
+pub setxattr_short : (options len : ℕ) (all : List ℕ) (f : Error) → has_bit options 29 ≡ false
+    → Err (Faults f) ≡ value_of (with_bytes setxattr_in_compat 8 len all)
     → Err (Faults f) ≡ value_of (setxattr_front options len all)
 setxattr_short options len all f e h = sym (setxattr_compat options len all e ∙ ap flagless (sym h))

@@ -1,5 +1,6 @@
 -- Records are read from the bytes that spell them.
-use Rattle.std.proofs.Common.{◌≡◌, ℕ, zero, suc, ◌+◌, ◌*◌, ◌<◌, ◌≤◌, ◌^◌, List, [], ◌∷◌, ◌++◌, length, drop, slice_index, Ok, Err, refl, sym, ap, ◌∙◌, arith, length-append}
+use Rattle.std.proofs.Common.{◌≡◌, ℕ, zero, suc, ◌+◌, ◌*◌, ◌<◌, ◌≤◌, ◌^◌, List, [], ◌∷◌, ◌++◌, length, drop, slice_index, Ok, Err, refl}
+use Rattle.std.proofs.Common.{sym, ap, ◌∙◌, arith, length-append}
 use Rattle.std.specs.List.{flat_map}
 use Rattle.std.specs.Int.{w32, to_le_bytes, from_le_bytes}
 use Rattle.std.proofs.lemmas.Bool.{lt-ltb, le-ltb}
@@ -7,15 +8,18 @@ use Rattle.std.proofs.lemmas.List.{take_at, drop_at}
 use Rattle.std.proofs.lemmas.Nat.{from_le_bytes-to_le_bytes_2, from_le_bytes-to_le_bytes_4, from_le_bytes-to_le_bytes_8}
 use Rattle.vm_values.specs.Fields.{Field, field_bytes, Fits, AllFit, spelled}
 use Rattle.vm_values.specs.UniqueProof.{then_is}
-use Rattle.fuse_in.specs.Shapes.{RecordPart, u16, u32, u64, u32s, Said, size_of, numbers, said, MakesOf, size, made, AllSaid, field_of, fields_of, made_of, RecordShape, fields_by}
+use Rattle.fuse_in.specs.Shapes.{RecordPart, u16, u32, u64, u32s, Said, size_of, numbers, said, MakesOf, size, made, AllSaid, field_of}
+use Rattle.fuse_in.specs.Shapes.{fields_of, made_of, RecordShape, fields_by}
 use Rattle.server_segments.specs.declared.error.Error.TheVariants.{DecodeMessage}
 use Rattle.server_requests.specs.Reading.{Faults, reading_of}
 
 length_numbers : (xs : List ℕ) → length (flat_map (to_le_bytes w32) xs) ≡ length xs * 4
 length_numbers [] = refl
-length_numbers (x ∷ xs) = length-append (to_le_bytes w32 x) (flat_map (to_le_bytes w32) xs) ∙ ap (λ n. 4 + n) (length_numbers xs) ∙ omega arith
+length_numbers (x ∷ xs) =
+    length-append (to_le_bytes w32 x) (flat_map (to_le_bytes w32) xs) ∙ ap (λ n. 4 + n) (length_numbers xs) ∙ omega arith
 
-numbers_said : (k : ℕ) (xs : List ℕ) → length xs ≡ k → ((j : ℕ) → j < k → slice_index xs j < 2 ^ 32) → numbers k (flat_map (to_le_bytes w32) xs) ≡ xs
+numbers_said :
+    (k : ℕ) (xs : List ℕ) → length xs ≡ k → ((j : ℕ) → j < k → slice_index xs j < 2 ^ 32) → numbers k (flat_map (to_le_bytes w32) xs) ≡ xs
 unfolding numbers
 numbers_said zero [] l f = refl
 numbers_said zero (x ∷ xs) l f = absurd (omega (arith, l))
@@ -50,7 +54,8 @@ length_spelled (p ∷ ps) xs h =
     ∙ ap (λ n. n + length (spelled (fields_of ps xs.1))) (length_part p xs.0 h.0)
     ∙ ap (λ n. size_of p + n) (length_spelled ps xs.1 h.1)
 
-made_is : {R : Type 0} → (ps : List RecordPart) (make : MakesOf ps R) (xs : AllSaid ps) → AllFit (fields_of ps xs) → made ps make (spelled (fields_of ps xs)) ≡ made_of ps make xs
+made_is : {R : Type 0} → (ps : List RecordPart) (make : MakesOf ps R) (xs : AllSaid ps) → AllFit (fields_of ps xs) →
+    made ps make (spelled (fields_of ps xs)) ≡ made_of ps make xs
 made_is [] make xs h = refl
 made_is (p ∷ ps) make xs h =
     let f = field_bytes (field_of p xs.0) in
@@ -73,7 +78,8 @@ read_front s fields n law x all more e h =
     let enough : size s.parts ≤ length (b ++ more) = rw (length-append b more) (omega (arith, l)) in
     let same : made s.parts s.make b ≡ x = made_is s.parts s.make (s.says x) fit ∙ law.1 x in
     let all_is : all ≡ b ++ more = e ∙ ap (λ f. spelled f ++ more) (sym (law.0 x)) in
-    rw (all_is, le-ltb (length (b ++ more)) (size s.parts) enough, take_at b more (size s.parts) l, drop_at b more (size s.parts) l, same) refl
+    rw (all_is, le-ltb (length (b ++ more)) (size s.parts) enough, take_at b more (size s.parts) l, drop_at b more (size s.parts) l, same)
+    refl
 
 -- too few bytes are no record
 pub read_short : {R : Type 0} → (s : RecordShape R) (fields : R → List Field) (n : ℕ)

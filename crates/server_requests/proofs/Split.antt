@@ -15,7 +15,8 @@ split_is ns n l s =
     rw (lt-ltb (first ns) n l, whole) refl
 
 -- only those allocate
-pub split_memory : {B : Type 0} (result : Result B Error) (ns : List ℕ) (n m : ℕ) → IfErr result (λ e. (e ≡ OutOfMemory) × (first ns < n)) → n ≤ sum ns → n ≡ m
+pub split_memory : {B : Type 0} (result : Result B Error) (ns : List ℕ) (n m : ℕ) → IfErr result (λ e. (e ≡ OutOfMemory) × (first ns < n))
+    → n ≤ sum ns → n ≡ m
     → is_split m ns ≡ false → IfErr result (λ e. is_memory e ≡ false)
 split_memory (Ok b) ns n m p s e h = tt
 split_memory (Err f) ns n m p s e h = let split = split_is ns n p.1 s in absurd (cc)

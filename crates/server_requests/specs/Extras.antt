@@ -1,13 +1,19 @@
--- The extensions after the names of a request that makes a node (struct fuse_ext_header, fuse_secctx and fuse_supp_groups of linux/fuse.h).
-use Rattle.std.specs.Prelude.{ℕ, zero, suc, ◌-◌, Bool, true, false, not, ◌&&◌, ◌||◌, ◌==◌, nat_le, nat_lt, List, [], ◌∷◌, length, Option, Some, None, Ok, Err, Result, if◌then◌else◌, is_none}
+-- The extensions after the names of a request that makes a node (struct fuse_ext_header, fuse_secctx and
+-- fuse_supp_groups of linux/fuse.h).
+use Rattle.std.specs.Prelude.{ℕ, zero, suc, ◌-◌, Bool, true, false, not, ◌&&◌, ◌||◌, ◌==◌, nat_le, nat_lt}
+use Rattle.std.specs.Prelude.{List, [], ◌∷◌, length, Option, Some, None, Ok, Err, Result, if◌then◌else◌}
+use Rattle.std.specs.Prelude.{is_none}
 use Rattle.vm_values.specs.Bits.{has_bit}
 use Rattle.fuse_in.specs.Shapes.{RecordShape, u32, ◌&◌, end}
 use Rattle.fuse_wire.specs.Records.{ext_header, secctx, supp_groups}
 use Rattle.fuse_fs.specs.Calls.{SecurityContext, Extra, NewLink}
-use Rattle.server_segments.specs.declared.error.Error.TheVariants.{DecodeMessage, MissingParameter, MissingExtension, InvalidHeaderLength, InvalidCString}
+use Rattle.server_segments.specs.declared.error.Error.TheVariants.{DecodeMessage, MissingParameter}
+use Rattle.server_segments.specs.declared.error.Error.TheVariants.{MissingExtension, InvalidHeaderLength}
+use Rattle.server_segments.specs.declared.error.Error.TheVariants.{InvalidCString}
 use Rattle.fuse_values.specs.Values.{received_extra}
 use Rattle.server_requests.specs.declared.extensions.SoFar.{SoFar}
-use Rattle.server_requests.specs.Reading.{ReadFailure, Faults, Reading, and_then, ◌>>=◌, ◌>>◌, give, refuse, needs, rest, exactly, within, name_or, front_name, reading_of}
+use Rattle.server_requests.specs.Reading.{ReadFailure, Faults, Reading, and_then, ◌>>=◌, ◌>>◌, give, refuse}
+use Rattle.server_requests.specs.Reading.{needs, rest, exactly, within, name_or, front_name, reading_of}
 
 -- FUSE_SECURITY_CTX (bit 32 of the options) is agreed
 abbrev pub takes_security : ℕ → Bool
@@ -29,14 +35,17 @@ nothing_sent = record { was_sent = false; security = None; group = None }
 
 -- what has come, where it stands
 abbrev pub sent_of : SoFar → SentParts
-sent_of s = let parts = received_extra s.received in record { was_sent = s.was_sent; security = parts.security; group = parts.group }
+sent_of s =
+    let parts = received_extra s.received in
+    record { was_sent = s.was_sent; security = parts.security; group = parts.group }
 
 -- a context that isn't empty: its name and its label
 unfoldable pub security_context : Reading SecurityContext
 security_context =
     reading_of secctx >>= λ head. needs (not (head.size == 0)) (Faults DecodeMessage) >> rest >>= λ more.
     needs (not (length more == 0)) (Faults MissingParameter) >> within more (
-    name_or DecodeMessage >>= λ name. exactly head.size >>= λ label. give (record { name = name; label = label }))
+    name_or DecodeMessage
+    >>= λ name. exactly head.size >>= λ label. give (record { name = name; label = label }))
 
 -- a group's number
 abbrev pub group_number : RecordShape ℕ
@@ -44,7 +53,9 @@ group_number = record { parts = u32 ∷ []; make = λ n. n; says = λ n. n & end
 
 -- one group
 unfoldable pub one_group : Reading ℕ
-one_group = reading_of supp_groups >>= λ head. needs (head.nr_groups == 1) (Faults DecodeMessage) >> reading_of group_number
+one_group =
+    reading_of supp_groups
+    >>= λ head. needs (head.nr_groups == 1) (Faults DecodeMessage) >> reading_of group_number
 
 -- a context, of which kind 0 is empty
 abbrev pub security_part : ℕ → SentParts → ℕ → Reading SentParts
@@ -57,7 +68,8 @@ security_part options sent kind =
 abbrev pub group_part : ℕ → SentParts → Reading SentParts
 group_part options sent =
     needs (takes_group options && is_none sent.group) (Faults DecodeMessage)
-    >> one_group >>= λ group. give (record { was_sent = sent.was_sent; security = sent.security; group = Some group })
+    >> one_group
+    >>= λ group. give (record { was_sent = sent.was_sent; security = sent.security; group = Some group })
 
 -- what an extension's body says, by its kind
 unfoldable pub part : ℕ → SentParts → ℕ → Reading SentParts
@@ -69,14 +81,16 @@ part options sent kind =
 -- one extension; what its body has besides is ignored
 unfoldable pub extension : ℕ → SentParts → Reading SentParts
 extension options sent =
-    reading_of ext_header >>= λ head. needs (nat_le 8 head.size) (Faults InvalidHeaderLength) >> exactly (head.size - 8) >>= λ body.
+    reading_of ext_header
+    >>= λ head. needs (nat_le 8 head.size) (Faults InvalidHeaderLength) >> exactly (head.size - 8) >>= λ body.
     within body (part options sent head.ext_type)
 
 -- one after the other until the bytes end; there are no more of them than bytes
 unfoldable pub extensions : ℕ → ℕ → SentParts → List ℕ → Result SentParts ReadFailure
 extensions options n sent [] = Ok sent
 extensions options zero sent (b ∷ bytes) = Ok sent
-extensions options (suc n) sent (b ∷ bytes) = and_then (extension options sent (b ∷ bytes)) (λ x. extensions options n x.0 x.1)
+extensions options (suc n) sent (b ∷ bytes) =
+    and_then (extension options sent (b ∷ bytes)) (λ x. extensions options n x.0 x.1)
 
 -- the parts as they came, without the mark that one was sent
 abbrev pub parts_of : SentParts → Extra
@@ -101,10 +115,13 @@ extra options = λ bytes. and_then (extra_in options bytes) (λ x. Ok (x, []))
 
 -- a name of a node that is made, and what comes with it
 unfoldable pub new_name : ℕ → Reading (List ℕ × Extra)
-new_name options = front_name >>= λ name. extra options >>= λ more. needs name.1 (Faults InvalidCString) >> give (name.0, more)
+new_name options =
+    front_name >>= λ name. extra options
+    >>= λ more. needs name.1 (Faults InvalidCString) >> give (name.0, more)
 
 -- the name of a symbolic link, what it leads to, and what comes with it
 unfoldable pub new_link : ℕ → Reading NewLink
 new_link options =
-    front_name >>= λ name. front_name >>= λ link. extra options >>= λ more. needs (name.1 && link.1) (Faults InvalidCString)
+    front_name >>= λ name. front_name
+    >>= λ link. extra options >>= λ more. needs (name.1 && link.1) (Faults InvalidCString)
     >> give (record { name = name.0; link = link.0; extra = more })

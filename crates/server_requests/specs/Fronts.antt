@@ -1,5 +1,6 @@
 -- What requests begin with after their header, by the records and bytes that stand there (linux/fuse.h).
-use Rattle.std.specs.Prelude.{ℕ, ◌+◌, ◌-◌, Bool, false, ◌&&◌, nat_le, nat_lt, sum, List, length, Ok, Err, if◌then◌else◌}
+use Rattle.std.specs.Prelude.{ℕ, ◌+◌, ◌-◌, Bool, false, ◌&&◌, nat_le, nat_lt, sum, List, length, Ok, Err}
+use Rattle.std.specs.Prelude.{if◌then◌else◌}
 use Rattle.vm_values.specs.Bits.{has_bit}
 use Rattle.fuse_in.specs.declared.session.InitInCompat.{InitInCompat}
 use Rattle.fuse_in.specs.declared.nodes.SetxattrIn.{SetxattrIn}
@@ -9,7 +10,8 @@ use Rattle.fuse_fs.specs.Lengths.{first, past}
 use Rattle.fuse_in.specs.Records.{init_in_ext, setxattr_in, setxattr_in_compat}
 use Rattle.fuse_wire.specs.Records.{forget_one}
 use Rattle.server_segments.specs.declared.error.Error.TheVariants.{InvalidHeaderLength}
-use Rattle.server_requests.specs.Reading.{Faults, Read, Reading, ◌>>=◌, ◌>>◌, give, needs, exactly, reading_of}
+use Rattle.server_requests.specs.Reading.{Faults, Read, Reading, ◌>>=◌, ◌>>◌, give, needs, exactly}
+use Rattle.server_requests.specs.Reading.{reading_of}
 
 -- as many bytes as the header's length leaves after k bytes of record
 unfoldable pub counted : (len k : ℕ) → Reading (List ℕ)
@@ -19,7 +21,8 @@ counted len k = needs (nat_le (40 + k) len) (Faults InvalidHeaderLength) >> exac
 abbrev pub is_split : (n : ℕ) → (segments : List ℕ) → Bool
 is_split n segments = nat_lt (first segments) n && nat_le n (sum segments)
 
--- the same of the bytes that the header's length leaves after k bytes of record, by the segments behind the header
+-- the same of the bytes that the header's length leaves after k bytes of record, by the segments behind the
+-- header
 abbrev pub counted_split : (len k : ℕ) → (segments : List ℕ) → Bool
 counted_split len k segments = is_split (len - 40 - k) (past k segments)
 
@@ -35,7 +38,8 @@ setxattr_len options = if has_bit options 29 then 16 else 8
 abbrev pub without_flags : SetxattrInCompat → SetxattrIn
 without_flags r = record { size = r.size; flags = r.flags; setxattr_flags = 0; padding = 0 }
 
--- the record of SETXATTR, whose length FUSE_SETXATTR_EXT (bit 29 of the options) decides, and the bytes after it
+-- the record of SETXATTR, whose length FUSE_SETXATTR_EXT (bit 29 of the options) decides, and the bytes after
+-- it
 unfoldable pub setxattr_front : (options len : ℕ) → Reading (SetxattrIn × List ℕ)
 setxattr_front options len =
     if has_bit options 29 then with_bytes setxattr_in 16 len
@@ -50,6 +54,7 @@ abbrev pub has_pairs : Read (List (ℕ × ℕ)) → Bool
 has_pairs (Ok x) = nat_lt 0 (length x.0)
 has_pairs (Err r) = false
 
--- the upper half of the client's options, read only if FUSE_INIT_EXT (bit 30 of `flags`) says that it stands there
+-- the upper half of the client's options, read only if FUSE_INIT_EXT (bit 30 of `flags`) says that it stands
+-- there
 abbrev pub flags2_of : InitInCompat → Reading ℕ
 flags2_of r = if has_bit r.flags 30 then (reading_of init_in_ext >>= λ more. give more.flags2) else give 0

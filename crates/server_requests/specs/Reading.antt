@@ -1,8 +1,10 @@
 -- Reading a request from its front, with the first refusal that is met.
-use Rattle.std.specs.Prelude.{ℕ, zero, suc, Bool, ◌==◌, nat_lt, List, [], ◌∷◌, length, take, drop, Option, Some, None, Result, Ok, Err, if◌then◌else◌, option_map, true, false}
+use Rattle.std.specs.Prelude.{ℕ, zero, suc, Bool, ◌==◌, nat_lt, List, [], ◌∷◌, length, take, drop, Option}
+use Rattle.std.specs.Prelude.{Some, None, Result, Ok, Err, if◌then◌else◌, option_map, true, false}
 use Rattle.fuse_in.specs.Shapes.{RecordShape, size, made}
 use Rattle.server_segments.specs.declared.error.Error.{Error}
-use Rattle.server_segments.specs.declared.error.Error.TheVariants.{DecodeMessage, InvalidCString, InvalidXattrSize, MissingParameter}
+use Rattle.server_segments.specs.declared.error.Error.TheVariants.{DecodeMessage, InvalidCString}
+use Rattle.server_segments.specs.declared.error.Error.TheVariants.{InvalidXattrSize, MissingParameter}
 
 -- why a request isn't read to its end: a fault, or an error number that is the reply
 pub data ReadFailure : Type 0 where
@@ -18,7 +20,8 @@ abbrev pub Reading : Type 0 → Type 0
 Reading X = List ℕ → Read X
 
 -- goes on with what was read, or stays refused
-abbrev pub and_then : {A B : Type 0} → Result A ReadFailure → (A → Result B ReadFailure) → Result B ReadFailure
+abbrev pub and_then :
+    {A B : Type 0} → Result A ReadFailure → (A → Result B ReadFailure) → Result B ReadFailure
 and_then (Ok x) f = f x
 and_then (Err r) f = Err r
 
@@ -50,7 +53,8 @@ rest = λ bytes. Ok (bytes, [])
 
 -- n bytes
 abbrev pub exactly : ℕ → Reading (List ℕ)
-exactly n = λ bytes. if nat_lt (length bytes) n then Err (Faults DecodeMessage) else Ok (take n bytes, drop n bytes)
+exactly n =
+    λ bytes. if nat_lt (length bytes) n then Err (Faults DecodeMessage) else Ok (take n bytes, drop n bytes)
 
 -- n of them, one after another
 unfoldable pub many : {A : Type 0} → ℕ → Reading A → Reading (List A)
@@ -85,7 +89,9 @@ name_or e = λ bytes. ended_or e (at_zero bytes)
 
 -- all that is left is one name, which ends with its only zero byte
 unfoldable pub last_name : Reading (List ℕ)
-last_name = name_or InvalidCString >>= λ name. rest >>= λ more. needs (length more == 0) (Faults InvalidCString) >> give name
+last_name =
+    name_or InvalidCString
+    >>= λ name. rest >>= λ more. needs (length more == 0) (Faults InvalidCString) >> give name
 
 -- if no zero byte is met, all bytes are the name
 abbrev pub name_by : List ℕ → Option (List ℕ × List ℕ) → Read (List ℕ × Bool)
@@ -94,7 +100,8 @@ name_by bytes (Some split) = Ok ((split.0, true), split.1)
 
 -- a name up to its zero byte, or all bytes if there is none, and whether it has its zero byte
 unfoldable pub front_name : Reading (List ℕ × Bool)
-front_name = λ bytes. if length bytes == 0 then Err (Faults MissingParameter) else name_by bytes (at_zero bytes)
+front_name =
+    λ bytes. if length bytes == 0 then Err (Faults MissingParameter) else name_by bytes (at_zero bytes)
 
 -- all that is left is two names, the first of which ends with the first zero byte
 unfoldable pub two_names : Reading (List ℕ × List ℕ)
@@ -103,7 +110,8 @@ two_names = name_or MissingParameter >>= λ old. last_name >>= λ new. give (old
 -- a name, and all that is left is its value, of this size
 unfoldable pub name_and_value : (size : ℕ) → Reading (List ℕ × List ℕ)
 name_and_value size =
-    name_or MissingParameter >>= λ name. rest >>= λ value. needs (size == length value) (Faults (InvalidXattrSize (size, length value)))
+    name_or MissingParameter >>= λ name. rest
+    >>= λ value. needs (size == length value) (Faults (InvalidXattrSize (size, length value)))
     >> give (name, value)
 
 -- what was read, whatever is left

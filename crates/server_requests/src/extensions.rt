@@ -1,11 +1,13 @@
 //! The extensions after the names of a request that makes a node.
 
-ghost use Rattle.std.specs.Prelude.{◌≡◌, ◌+◌, ◌<◌, ◌&&◌, ◌||◌, not, nat_le, length, is_none, Ok, Err, IfOk, IfErr, false};
+ghost use Rattle.std.specs.Prelude.{◌≡◌, ◌+◌, ◌<◌, ◌&&◌, ◌||◌, not, nat_le, length, is_none, Ok, Err, IfOk};
+ghost use Rattle.std.specs.Prelude.{IfErr, false};
 ghost use Rattle.fuse_fs.specs.Answers.{extra_of, security_of};
 ghost use Rattle.server_requests.specs.Reading.{Faults, outcome, reading_of, value_of};
 ghost use Rattle.fuse_values.specs.Values.{label_of, received_extra};
 ghost use Rattle.server_requests.specs.Extras.{takes_security, takes_group, sent_of, nothing_sent};
-ghost use Rattle.server_requests.specs.Extras.{security_context, one_group, part, extension, extensions, extra_in};
+ghost use Rattle.server_requests.specs.Extras.{security_context, one_group, part, extension, extensions};
+ghost use Rattle.server_requests.specs.Extras.{extra_in};
 ghost use Rattle.server_requests.specs.Extras.{security_part, group_part};
 ghost use Rattle.server_segments.specs.Errors.{is_memory};
 
@@ -57,7 +59,8 @@ fn takes_group(options: FsOptions) -> bool
 // The record in front.
 fn front_record<T: InRecord>(bytes: &[u8]) -> Result<WithRest<'_, T>, Error>
     ensures reads { IfOk result (λ x. Ok (x.record, x.rest.now) ≡ reading_of T.shape bytes.now) }
-    ensures fault { IfErr result (λ e. (Err (Faults e) ≡ reading_of T.shape bytes.now) × (is_memory e ≡ false)) }
+    ensures fault { IfErr result (λ e. (Err (Faults e) ≡ reading_of T.shape bytes.now)
+        × (is_memory e ≡ false)) }
     ensures len { IfOk result (λ x. length x.rest.now + T.SIZE ≡ length bytes.now) }
 {
     if bytes.len() < T::SIZE {
@@ -145,7 +148,8 @@ fn security_part<'a>(
     kind: u32,
     bytes: &'a [u8],
 ) -> Result<SoFar<'a>, Error>
-    ensures reads { outcome sent_of result ≡ value_of (security_part options.0 (sent_of sent.entry) kind bytes.now) }
+    ensures reads { outcome sent_of result
+        ≡ value_of (security_part options.0 (sent_of sent.entry) kind bytes.now) }
     ensures fault { IfErr result (λ e. is_memory e ≡ false) }
 {
     if !may_be_context(options, sent.was_sent, kind) {
@@ -190,7 +194,8 @@ fn group_part<'a>(options: FsOptions, sent: SoFar<'a>, bytes: &'a [u8]) -> Resul
     }
 }
 
-/// The kind of the extension that holds a group (`FUSE_EXT_GROUPS`); those below it are kept for security contexts.
+/// The kind of the extension that holds a group (`FUSE_EXT_GROUPS`); those below it are kept for security
+/// contexts.
 const EXT_GROUPS: u32 = 32;
 
 // What has come with an extension of a kind.
@@ -224,8 +229,10 @@ fn extension<'a>(
     sent: SoFar<'a>,
     bytes: &'a [u8],
 ) -> Result<ParseProgress<'a>, Error>
-    ensures reads { IfOk result (λ x. Ok (sent_of x.sent, x.rest.now) ≡ extension options.0 (sent_of sent.entry) bytes.now) }
-    ensures fault { IfErr result (λ e. (Err (Faults e) ≡ extension options.0 (sent_of sent.entry) bytes.now) × (is_memory e ≡ false)) }
+    ensures reads { IfOk result
+        (λ x. Ok (sent_of x.sent, x.rest.now) ≡ extension options.0 (sent_of sent.entry) bytes.now) }
+    ensures fault { IfErr result (λ e. (Err (Faults e) ≡ extension options.0 (sent_of sent.entry) bytes.now)
+        × (is_memory e ≡ false)) }
     ensures shorter { IfOk result (λ x. length x.rest.now < length bytes.now) }
 {
     match front_record::<ExtHeader>(bytes) {
@@ -289,9 +296,10 @@ fn lacks_context(options: FsOptions, was_sent: bool) -> bool
     takes_security(options) && !was_sent
 }
 
-/// The extensions that these bytes are (`struct fuse_ext_header` and what follows it, again and again), where they
-/// stand; none if no kind of them is agreed. `InvalidHeaderLength`, `DecodeMessage` or `MissingParameter` if they
-/// are malformed, `MissingExtension` if a security context was agreed and none is sent.
+/// The extensions that these bytes are (`struct fuse_ext_header` and what follows it, again and again), where
+/// they stand; none if no kind of them is agreed. `InvalidHeaderLength`, `DecodeMessage` or
+/// `MissingParameter` if they are malformed, `MissingExtension` if a security context was agreed and none is
+/// sent.
 #[tactic(auto, using(crate::proofs::ExtraLemmas::extra_ignored))]
 pub(crate) fn received_extensions<'a>(
     options: FsOptions,
@@ -342,7 +350,8 @@ fn owned_label(alloc: Global, label: Label<'_>) -> Result<SecContext, Error>
 /// What has come as a file system gets it: a label in memory of its own. The error is `OutOfMemory`.
 pub fn owned_extensions(alloc: Global, received: Received<'_>) -> Result<Extensions, Error>
     ensures ok { IfOk result (λ ext. extra_of ext ≡ received_extra received.entry) }
-    ensures err { IfErr result (λ e. (e ≡ Error.OutOfMemory) × (is_none (received_extra received.entry).security ≡ false)) }
+    ensures err { IfErr result (λ e. (e ≡ Error.OutOfMemory)
+        × (is_none (received_extra received.entry).security ≡ false)) }
 {
     let sup_gid = match received.sup_gid {
         Some(group) => Some(GuestGid::from(group)),

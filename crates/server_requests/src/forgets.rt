@@ -15,16 +15,20 @@ use std::alloc::Global;
 /// How many bytes `struct fuse_forget_one` has.
 pub(crate) const FORGET_ONE_LEN: usize = 16;
 
-/// The next `count` pairs of a node and how many times less it is held (`struct fuse_forget_one`, 16 bytes each), or
-/// `DecodeMessage` if they are not all there. The memory for all of them is had first, where they are there.
+/// The next `count` pairs of a node and how many times less it is held (`struct fuse_forget_one`, 16 bytes
+/// each), or `DecodeMessage` if they are not all there. The memory for all of them is had first, where they
+/// are there.
 pub fn read_pairs<I: FileNumber>(
     alloc: Global,
     r: &mut Reader<'_>,
     count: u32,
 ) -> Result<Vec<(I, u64)>, Error>
-    ensures ok { IfOk result (λ pairs. Ok (pair_numbers I.number pairs.items, r.new.left) ≡ many count forget_pair r.old.left) }
-    ensures err { IfErr result (λ e. is_memory e ≡ false → Err (Faults e) ≡ many count forget_pair r.old.left) }
-    ensures memory { has_pairs (many count forget_pair r.old.left) ≡ false → IfErr result (λ e. is_memory e ≡ false) }
+    ensures ok { IfOk result
+        (λ pairs. Ok (pair_numbers I.number pairs.items, r.new.left) ≡ many count forget_pair r.old.left) }
+    ensures err { IfErr result (λ e. is_memory e ≡ false
+        → Err (Faults e) ≡ many count forget_pair r.old.left) }
+    ensures memory { has_pairs (many count forget_pair r.old.left) ≡ false
+        → IfErr result (λ e. is_memory e ≡ false) }
 {
     if r.available_bytes() < count as usize * FORGET_ONE_LEN {
         return Err(Error::DecodeMessage);

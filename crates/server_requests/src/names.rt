@@ -1,10 +1,12 @@
 //! Names in requests.
 
-ghost use Rattle.std.specs.Prelude.{◌≡◌, ◌-◌, ◌<◌, ◌≤◌, position, ◌==◌, length, ◌++◌, Ok, Err, Some, None, IfOk, IfErr};
+ghost use Rattle.std.specs.Prelude.{◌≡◌, ◌-◌, ◌<◌, ◌≤◌, position, ◌==◌, length, ◌++◌, Ok, Err, Some, None};
+ghost use Rattle.std.specs.Prelude.{IfOk, IfErr};
 ghost use Rattle.std.specs.Prelude.{IfSome, IfNone, false};
 ghost use Rattle.std.specs.Cow.{cow_slice_items};
 ghost use Rattle.fuse_fs.specs.Lengths.{first, past};
-ghost use Rattle.server_requests.specs.Reading.{Faults, value_of, at_zero, last_name, two_names, name_and_value, front_name};
+ghost use Rattle.server_requests.specs.Reading.{Faults, value_of, at_zero, last_name, two_names};
+ghost use Rattle.server_requests.specs.Reading.{name_and_value, front_name};
 ghost use Rattle.server_requests.specs.Fronts.{counted, is_split};
 ghost use Rattle.server_segments.specs.Errors.{is_memory};
 
@@ -40,7 +42,8 @@ fn read_owned(alloc: Global, r: &mut Reader<'_>, n: usize) -> Result<Vec<u8>, Er
 #[inline(always)]
 fn read_bytes<'a>(alloc: Global, r: &mut Reader<'a>, n: usize) -> Result<RequestBytes<'a>, Error>
     requires { n ≤ length r.old.left }
-    ensures ok { IfOk result (λ b. (r.old.left ≡ cow_slice_items b ++ r.new.left) × (length (cow_slice_items b) ≡ n)) }
+    ensures ok { IfOk result (λ b. (r.old.left ≡ cow_slice_items b ++ r.new.left)
+        × (length (cow_slice_items b) ≡ n)) }
     ensures err { IfErr result (λ e. (e ≡ Error.OutOfMemory) × (first r.old.segments < n)) }
 {
     if let Some(bytes) = r.read_in_place(n) {
@@ -49,9 +52,9 @@ fn read_bytes<'a>(alloc: Global, r: &mut Reader<'a>, n: usize) -> Result<Request
     Ok(CowSlice::Owned(read_owned(alloc, r, n)?))
 }
 
-/// As many bytes as the header's length, `len`, leaves after the header, 40 bytes, and `fixed` bytes of record.
-/// `InvalidHeaderLength` if it doesn't reach so far, `DecodeMessage` if fewer bytes are there, and `OutOfMemory`
-/// only if they stand in several segments.
+/// As many bytes as the header's length, `len`, leaves after the header, 40 bytes, and `fixed` bytes of
+/// record. `InvalidHeaderLength` if it doesn't reach so far, `DecodeMessage` if fewer bytes are there, and
+/// `OutOfMemory` only if they stand in several segments.
 #[inline(always)]
 pub(crate) fn read_counted<'a>(
     alloc: Global,
@@ -60,9 +63,12 @@ pub(crate) fn read_counted<'a>(
     r: &mut Reader<'a>,
 ) -> Result<RequestBytes<'a>, Error>
     requires { fixed ≤ 256 }
-    ensures bytes { IfOk result (λ bytes. Ok (cow_slice_items bytes) ≡ value_of (counted len fixed r.old.left)) }
-    ensures fault { IfErr result (λ e. is_memory e ≡ false → Err (Faults e) ≡ value_of (counted len fixed r.old.left)) }
-    ensures in_place { is_split (len - 40 - fixed) r.old.segments ≡ false → IfErr result (λ e. is_memory e ≡ false) }
+    ensures bytes { IfOk result
+        (λ bytes. Ok (cow_slice_items bytes) ≡ value_of (counted len fixed r.old.left)) }
+    ensures fault { IfErr result (λ e. is_memory e ≡ false
+        → Err (Faults e) ≡ value_of (counted len fixed r.old.left)) }
+    ensures in_place { is_split (len - 40 - fixed) r.old.segments ≡ false
+        → IfErr result (λ e. is_memory e ≡ false) }
     ensures segments { past 0 r.old.segments ≡ r.old.segments }
 {
     let left = r.available_bytes();
@@ -91,7 +97,8 @@ pub(crate) fn first_name(bytes: &[u8]) -> Option<(&[u8], &[u8])>
 #[tactic(auto, using(crate::proofs::NameLemmas::named, crate::proofs::NameLemmas::unnamed, crate::proofs::NameLemmas::endless))]
 pub fn last_name(bytes: &[u8]) -> Result<&[u8], Error>
     ensures ok { IfOk result (λ name. Ok name.now ≡ value_of (last_name bytes.now)) }
-    ensures err { IfErr result (λ e. (Err (Faults e) ≡ value_of (last_name bytes.now)) × (is_memory e ≡ false)) }
+    ensures err { IfErr result (λ e. (Err (Faults e) ≡ value_of (last_name bytes.now))
+        × (is_memory e ≡ false)) }
 {
     match zero_at(bytes) {
         Some(end) => {
@@ -105,12 +112,13 @@ pub fn last_name(bytes: &[u8]) -> Result<&[u8], Error>
     }
 }
 
-/// The two names that these bytes are, each with a zero byte behind it: `MissingParameter` if the first isn't ended,
-/// `InvalidCString` if the second isn't, or more follows.
+/// The two names that these bytes are, each with a zero byte behind it: `MissingParameter` if the first isn't
+/// ended, `InvalidCString` if the second isn't, or more follows.
 #[tactic(auto, using(crate::proofs::NameLemmas::both_named, crate::proofs::NameLemmas::second_unnamed, crate::proofs::NameLemmas::first_missing))]
 pub fn two_names(bytes: &[u8]) -> Result<(&[u8], &[u8]), Error>
     ensures ok { IfOk result (λ p. Ok (p.0.now, p.1.now) ≡ value_of (two_names bytes.now)) }
-    ensures err { IfErr result (λ e. (Err (Faults e) ≡ value_of (two_names bytes.now)) × (is_memory e ≡ false)) }
+    ensures err { IfErr result (λ e. (Err (Faults e) ≡ value_of (two_names bytes.now))
+        × (is_memory e ≡ false)) }
 {
     match first_name(bytes) {
         Some((old, rest)) => match last_name(rest) {
@@ -121,12 +129,13 @@ pub fn two_names(bytes: &[u8]) -> Result<(&[u8], &[u8]), Error>
     }
 }
 
-/// The name and, behind its zero byte, the value that these bytes are. `MissingParameter` if the name isn't ended;
-/// the value has `size` bytes, else `InvalidXattrSize` tells both lengths.
+/// The name and, behind its zero byte, the value that these bytes are. `MissingParameter` if the name isn't
+/// ended; the value has `size` bytes, else `InvalidXattrSize` tells both lengths.
 #[tactic(auto, using(crate::proofs::NameLemmas::valued, crate::proofs::NameLemmas::value_sized, crate::proofs::NameLemmas::value_unnamed))]
 pub fn name_and_value(bytes: &[u8], size: u32) -> Result<(&[u8], &[u8]), Error>
     ensures ok { IfOk result (λ p. Ok (p.0.now, p.1.now) ≡ value_of (name_and_value size bytes.now)) }
-    ensures err { IfErr result (λ e. (Err (Faults e) ≡ value_of (name_and_value size bytes.now)) × (is_memory e ≡ false)) }
+    ensures err { IfErr result (λ e. (Err (Faults e) ≡ value_of (name_and_value size bytes.now))
+        × (is_memory e ≡ false)) }
 {
     match first_name(bytes) {
         Some((name, value)) => {

@@ -32,14 +32,16 @@ pub struct LinkParts<'a> {
     pub received: Received<'a>,
 }
 
-/// What these bytes say of a node that is made: its name, a zero byte, and extensions if they are agreed. Refused,
-/// in this order: `MissingParameter` if there is no byte; `InvalidHeaderLength`, `DecodeMessage` or
-/// `MissingParameter` if the extensions are malformed, and `MissingExtension` if a security context was agreed
-/// and none is sent; `InvalidCString` if the name has no zero byte.
+/// What these bytes say of a node that is made: its name, a zero byte, and extensions if they are agreed.
+/// Refused, in this order: `MissingParameter` if there is no byte; `InvalidHeaderLength`, `DecodeMessage` or
+/// `MissingParameter` if the extensions are malformed, and `MissingExtension` if a security context was
+/// agreed and none is sent; `InvalidCString` if the name has no zero byte.
 #[tactic(auto, using(crate::proofs::ExtraLemmas::new_name_cases))]
 pub fn new_name<'a>(options: FsOptions, bytes: &'a [u8]) -> Result<NewName<'a>, Error>
-    ensures reads { IfOk result (λ x. Ok (x.name.now, received_extra x.received) ≡ value_of (new_name options.0 bytes.now)) }
-    ensures fault { IfErr result (λ e. (Err (Faults e) ≡ value_of (new_name options.0 bytes.now)) × (is_memory e ≡ false)) }
+    ensures reads { IfOk result
+        (λ x. Ok (x.name.now, received_extra x.received) ≡ value_of (new_name options.0 bytes.now)) }
+    ensures fault { IfErr result (λ e. (Err (Faults e) ≡ value_of (new_name options.0 bytes.now))
+        × (is_memory e ≡ false)) }
 {
     match front_name(bytes) {
         Ok(front) => match received_extensions(options, front.rest) {
@@ -66,15 +68,17 @@ fn both_end(first: bool, second: bool) -> bool
     first && second
 }
 
-/// What these bytes say of a symbolic link that is made: its name and what it leads to, each with a zero byte behind
-/// it, and extensions if they are agreed. Refused, in this order: `MissingParameter` if no byte is left for one
-/// of the two; what is wrong with the extensions, as `new_name` has it; `InvalidCString` if one of the two has no
-/// zero byte.
+/// What these bytes say of a symbolic link that is made: its name and what it leads to, each with a zero byte
+/// behind it, and extensions if they are agreed. Refused, in this order: `MissingParameter` if no byte is
+/// left for one of the two; what is wrong with the extensions, as `new_name` has it; `InvalidCString` if one
+/// of the two has no zero byte.
 #[tactic(auto, using(crate::proofs::ExtraLemmas::new_link_cases))]
 pub fn new_link<'a>(options: FsOptions, bytes: &'a [u8]) -> Result<LinkParts<'a>, Error>
     ensures reads { IfOk result
-        (λ x. Ok (record { name = x.name.now; link = x.link.now; extra = received_extra x.received }) ≡ value_of (new_link options.0 bytes.now)) }
-    ensures fault { IfErr result (λ e. (Err (Faults e) ≡ value_of (new_link options.0 bytes.now)) × (is_memory e ≡ false)) }
+        (λ x. Ok (record { name = x.name.now; link = x.link.now; extra = received_extra x.received })
+        ≡ value_of (new_link options.0 bytes.now)) }
+    ensures fault { IfErr result (λ e. (Err (Faults e) ≡ value_of (new_link options.0 bytes.now))
+        × (is_memory e ≡ false)) }
 {
     match front_name(bytes) {
         Ok(front) => match front_name(front.rest) {

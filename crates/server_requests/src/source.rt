@@ -1,9 +1,11 @@
 //! From where requests are read: the bytes behind a header, and what of them is lent.
 
-ghost use Rattle.std.specs.Prelude.{◌≡◌, ◌-◌, ◌≤◌, ◌*◌, ◌&&◌, ℕ, Bool, true, false, List, [], length, Ok, Err, IfOk, IfErr, OnOk};
+ghost use Rattle.std.specs.Prelude.{◌≡◌, ◌-◌, ◌≤◌, ◌*◌, ◌&&◌, ℕ, Bool, true, false, List, [], length, Ok};
+ghost use Rattle.std.specs.Prelude.{Err, IfOk, IfErr, OnOk};
 ghost use Rattle.fuse_values.specs.Values.{pairs_in};
 ghost use Rattle.server_requests.specs.Reading.{Faults, many, reading_of, read_result, value_of};
-ghost use Rattle.server_requests.specs.Fronts.{counted, counted_split, flags2_of, forget_pair, is_split, setxattr_front, setxattr_len, with_bytes};
+ghost use Rattle.server_requests.specs.Fronts.{counted, counted_split, flags2_of, forget_pair, is_split};
+ghost use Rattle.server_requests.specs.Fronts.{setxattr_front, setxattr_len, with_bytes};
 ghost use Rattle.fuse_fs.specs.Lengths.{past};
 ghost use Rattle.server_segments.specs.Errors.{is_memory};
 
@@ -37,14 +39,16 @@ pub trait Source<'a> {
         ensures fault { IfErr result (λ e. e ≡ Error.DecodeMessage) }
         ensures segments { OnOk result (segments self.new ≡ past T.SIZE (segments self.old)) };
 
-    /// As many bytes as the header's length, `len`, leaves after the header, 40 bytes, and `fixed` bytes of record.
-    /// `InvalidHeaderLength` if it doesn't reach so far, `DecodeMessage` if fewer bytes are there, and `OutOfMemory` only
-    /// if they stand in several segments.
+    /// As many bytes as the header's length, `len`, leaves after the header, 40 bytes, and `fixed` bytes of
+    /// record. `InvalidHeaderLength` if it doesn't reach so far, `DecodeMessage` if fewer bytes are there,
+    /// and `OutOfMemory` only if they stand in several segments.
     fn counted(self, len: u32, fixed: u32) -> Result<&'a [u8], Error>
         requires { fixed ≤ 256 }
         ensures bytes { IfOk result (λ bytes. Ok bytes.now ≡ value_of (counted len fixed (left self))) }
-        ensures fault { IfErr result (λ e. is_memory e ≡ false → Err (Faults e) ≡ value_of (counted len fixed (left self))) }
-        ensures in_place { (splits && is_split (len - 40 - fixed) (segments self)) ≡ false → IfErr result (λ e. is_memory e ≡ false) }
+        ensures fault { IfErr result (λ e. is_memory e ≡ false
+            → Err (Faults e) ≡ value_of (counted len fixed (left self))) }
+        ensures in_place { (splits && is_split (len - 40 - fixed) (segments self)) ≡ false
+            → IfErr result (λ e. is_memory e ≡ false) }
         ensures segments { past 0 (segments self) ≡ segments self };
 }
 
@@ -87,13 +91,15 @@ impl<'a> Source<'a> for Flat<'a> {
 }
 
 impl<'a> Flat<'a> {
-    /// The bytes of the next `count` pairs of BATCH_FORGET (`struct fuse_forget_one`, 16 bytes each), or `DecodeMessage` if
-    /// they are not all there.
+    /// The bytes of the next `count` pairs of BATCH_FORGET (`struct fuse_forget_one`, 16 bytes each), or
+    /// `DecodeMessage` if they are not all there.
     #[tactic(auto, using(crate::proofs::ForgetLemmas::pairs_cut, crate::proofs::ForgetLemmas::pairs_read))]
     pub fn pairs(self, count: u32) -> Result<&'a [u8], Error>
-        ensures bytes { IfOk result (λ bytes. Ok (pairs_in bytes.now) ≡ value_of (many count forget_pair self.entry.bytes.now)) }
+        ensures bytes { IfOk result
+            (λ bytes. Ok (pairs_in bytes.now) ≡ value_of (many count forget_pair self.entry.bytes.now)) }
         ensures whole { IfOk result (λ bytes. length bytes.now ≡ 16 * count) }
-        ensures fault { IfErr result (λ e. Err (Faults e) ≡ value_of (many count forget_pair self.entry.bytes.now)) }
+        ensures fault { IfErr result
+            (λ e. Err (Faults e) ≡ value_of (many count forget_pair self.entry.bytes.now)) }
     {
         let bytes = self.bytes;
         let len = count as usize * FORGET_ONE_LEN;
@@ -105,7 +111,8 @@ impl<'a> Flat<'a> {
     }
 }
 
-/// The bytes that are left of a request, in segments. Where bytes that are lent stand in several, they are copied to `held`.
+/// The bytes that are left of a request, in segments. Where bytes that are lent stand in several, they are
+/// copied to `held`.
 #[derive(Drop)]
 pub struct Segments<'a, 'r: 'a> {
     pub alloc: Global,
@@ -143,8 +150,9 @@ impl<'a, 'r: 'a> Source<'a> for Segments<'a, 'r> {
     }
 }
 
-/// The high 32 bits of the options that the client has, where INIT's record goes on with them (FUSE_INIT_EXT in `flags`
-/// of `struct fuse_init_in`); else 0, and no byte is read. `DecodeMessage` if the 48 bytes more aren't all there.
+/// The high 32 bits of the options that the client has, where INIT's record goes on with them (FUSE_INIT_EXT
+/// in `flags` of `struct fuse_init_in`); else 0, and no byte is read. `DecodeMessage` if the 48 bytes more
+/// aren't all there.
 pub fn flags2<'a, S: Source<'a>>(request: &InitInCompat, source: &mut S) -> Result<u32, Error>
     ensures reads { read_result result (S.left source.new) ≡ flags2_of request.now (S.left source.old) }
     ensures fault { IfErr result (λ e. e ≡ Error.DecodeMessage) }
@@ -167,16 +175,19 @@ pub struct RecordAndBytes<'a, T> {
     pub bytes: &'a [u8],
 }
 
-/// A record, and as many bytes as the header's length, `len`, leaves after it. `DecodeMessage` if the record or
-/// these bytes aren't all there, `InvalidHeaderLength` if `len` ends before the record does, and `OutOfMemory` only
-/// where the bytes stand in several segments.
+/// A record, and as many bytes as the header's length, `len`, leaves after it. `DecodeMessage` if the record
+/// or these bytes aren't all there, `InvalidHeaderLength` if `len` ends before the record does, and
+/// `OutOfMemory` only where the bytes stand in several segments.
 pub fn record_and_bytes<'a, T: InRecord, S: Source<'a> + Drop>(
     source: S,
     len: u32,
 ) -> Result<RecordAndBytes<'a, T>, Error>
-    ensures reads { IfOk result (λ x. Ok (x.record, x.bytes.now) ≡ value_of (with_bytes T.shape T.SIZE len (S.left source))) }
-    ensures fault { IfErr result (λ e. is_memory e ≡ false → Err (Faults e) ≡ value_of (with_bytes T.shape T.SIZE len (S.left source))) }
-    ensures in_place { (S.splits && counted_split len T.SIZE (S.segments source)) ≡ false → IfErr result (λ e. is_memory e ≡ false) }
+    ensures reads { IfOk result
+        (λ x. Ok (x.record, x.bytes.now) ≡ value_of (with_bytes T.shape T.SIZE len (S.left source))) }
+    ensures fault { IfErr result (λ e. is_memory e ≡ false
+        → Err (Faults e) ≡ value_of (with_bytes T.shape T.SIZE len (S.left source))) }
+    ensures in_place { (S.splits && counted_split len T.SIZE (S.segments source)) ≡ false
+        → IfErr result (λ e. is_memory e ≡ false) }
 {
     let mut source = source;
     match source.record() {
@@ -188,17 +199,20 @@ pub fn record_and_bytes<'a, T: InRecord, S: Source<'a> + Drop>(
     }
 }
 
-/// The record of SETXATTR (`struct fuse_setxattr_in`: 16 bytes with `SETXATTR_EXT`, else 8), and the bytes after it:
-/// `DecodeMessage`, `InvalidHeaderLength` or `OutOfMemory`, as `record_and_bytes` has them.
+/// The record of SETXATTR (`struct fuse_setxattr_in`: 16 bytes with `SETXATTR_EXT`, else 8), and the bytes
+/// after it: `DecodeMessage`, `InvalidHeaderLength` or `OutOfMemory`, as `record_and_bytes` has them.
 #[tactic(auto, using(crate::proofs::NameLemmas::setxattr_long))]
 pub fn setxattr_and_bytes<'a, S: Source<'a> + Drop>(
     source: S,
     options: FsOptions,
     len: u32,
 ) -> Result<RecordAndBytes<'a, SetxattrIn>, Error>
-    ensures reads { IfOk result (λ x. Ok (x.record, x.bytes.now) ≡ value_of (setxattr_front options.0 len (S.left source))) }
-    ensures fault { IfErr result (λ e. is_memory e ≡ false → Err (Faults e) ≡ value_of (setxattr_front options.0 len (S.left source))) }
-    ensures in_place { (S.splits && counted_split len (setxattr_len options.0) (S.segments source)) ≡ false → IfErr result (λ e. is_memory e ≡ false) }
+    ensures reads { IfOk result
+        (λ x. Ok (x.record, x.bytes.now) ≡ value_of (setxattr_front options.0 len (S.left source))) }
+    ensures fault { IfErr result (λ e. is_memory e ≡ false
+        → Err (Faults e) ≡ value_of (setxattr_front options.0 len (S.left source))) }
+    ensures in_place { (S.splits && counted_split len (setxattr_len options.0) (S.segments source)) ≡ false
+        → IfErr result (λ e. is_memory e ≡ false) }
 {
     if has_setxattr_ext(options) {
         return record_and_bytes(source, len);

@@ -5,10 +5,12 @@ use Rattle.std.proofs.Math.Seq.{take-add}
 
 -- what is put at a place, with what stays behind it
 pub placed : (at : ℕ) (xs ys : List ℕ) → take at xs ++ (ys ++ drop (length ys) (drop at xs)) ≡ take at xs ++ ys ++ drop (at + length ys) xs
-placed at xs ys = sym (append_assoc (take at xs) ys (drop (length ys) (drop at xs))) ∙ ap (λ s. (take at xs ++ ys) ++ s) (drop-drop (length ys) at xs)
+placed at xs ys =
+    sym (append_assoc (take at xs) ys (drop (length ys) (drop at xs))) ∙ ap (λ s. (take at xs ++ ys) ++ s) (drop-drop (length ys) at xs)
 
 -- a buffer that was filled so far takes one part more
-pub filled_more : (room left : List ℕ) (done n : ℕ) (now part : List ℕ) → done ≤ length room → done ≤ length left → now ≡ take done left ++ drop done room → part ≡ take n (drop done left) →
+pub filled_more : (room left : List ℕ) (done n : ℕ) (now part : List ℕ) → done ≤ length room → done ≤ length left →
+    now ≡ take done left ++ drop done room → part ≡ take n (drop done left) →
     take done now ++ part ++ drop (done + n) now ≡ take (done + n) left ++ drop (done + n) room
 filled_more room left done n now part hr hl e p =
     let t : length (take done left) ≡ done = length-take-le done left hl in

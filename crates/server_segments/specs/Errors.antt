@@ -1,8 +1,12 @@
 -- The faults by their numbers.
 use Rattle.std.specs.Prelude.{ℕ, Bool, true, false, Result, Ok, Err}
 use Rattle.server_segments.specs.declared.error.Error.{Error}
-use Rattle.server_segments.specs.declared.error.Error.TheVariants.{DecodeMessage, EncodeMessage, FlushMessage, MissingParameter, MissingExtension}
-use Rattle.server_segments.specs.declared.error.Error.TheVariants.{InvalidHeaderLength, InvalidCString, InvalidCString2, InvalidXattrSize, DescriptorChainOverflow, SplitOutOfBounds, IoError, OutOfMemory}
+use Rattle.server_segments.specs.declared.error.Error.TheVariants.{DecodeMessage, EncodeMessage, FlushMessage}
+use Rattle.server_segments.specs.declared.error.Error.TheVariants.{MissingParameter, MissingExtension}
+use Rattle.server_segments.specs.declared.error.Error.TheVariants.{InvalidHeaderLength, InvalidCString}
+use Rattle.server_segments.specs.declared.error.Error.TheVariants.{InvalidCString2, InvalidXattrSize}
+use Rattle.server_segments.specs.declared.error.Error.TheVariants.{DescriptorChainOverflow, SplitOutOfBounds}
+use Rattle.server_segments.specs.declared.error.Error.TheVariants.{IoError, OutOfMemory}
 
 -- the number that tells a fault apart
 abbrev pub error_number : Error → ℕ

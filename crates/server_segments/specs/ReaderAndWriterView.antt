@@ -8,8 +8,8 @@ pub record ReaderView : Type 0 where
   pub segments : List ℕ
   pub read : ℕ
 
--- the bytes that were written, how many more there is room for, the lengths of all segments, written ones too; and how many
--- segments and bytes a writer may have that is joined on
+-- the bytes that were written, how many more there is room for, the lengths of all segments, written ones
+-- too; and how many segments and bytes a writer may have that is joined on
 pub record WriterView : Type 0 where
   pub written : List ℕ
   pub free : ℕ

@@ -1,6 +1,7 @@
 //! What a request is read from (virtiofsd's `Reader`).
 
-ghost use Rattle.std.specs.Prelude.{◌≡◌, ◌+◌, ◌<◌, ◌≤◌, ◌^◌, min, sum, [], ◌∷◌, ◌++◌, length, take, drop, cond, nat_le};
+ghost use Rattle.std.specs.Prelude.{◌≡◌, ◌+◌, ◌<◌, ◌≤◌, ◌^◌, min, sum, [], ◌∷◌, ◌++◌, length, take, drop};
+ghost use Rattle.std.specs.Prelude.{cond, nat_le};
 ghost use Rattle.std.specs.Prelude.{Some, IsOk, IfOk, OnOk, IfErr, OnErr, IfSome, OnSome, IfNone, option_map};
 ghost use Rattle.std.specs.Io.{ReadsAtMost};
 ghost use Rattle.std.specs.Io.KnownBytes.{Consumes, ReadConsumes};
@@ -50,7 +51,8 @@ impl<'a> Model for Reader<'a> {
 // A segment that isn't empty, if one is left: this one, or the next one of those behind it.
 fn next_filled<'a>(segment: &'a [u8], later: &mut VecDeque<&'a [u8]>) -> &'a [u8]
     ensures all { all_of result.now later.new.items ≡ all_of segment.now later.old.items }
-    ensures segments { filled (length result.now ∷ segment_lengths later.new.items) ≡ filled (length segment.now ∷ segment_lengths later.old.items) }
+    ensures segments { filled (length result.now ∷ segment_lengths later.new.items)
+        ≡ filled (length segment.now ∷ segment_lengths later.old.items) }
     ensures end { length result.now ≡ 0 → later.new.items ≡ [] }
 {
     let mut current = segment;
@@ -63,8 +65,8 @@ fn next_filled<'a>(segment: &'a [u8], later: &mut VecDeque<&'a [u8]>) -> &'a [u8
     current
 }
 
-// Takes the first bytes off a queue of segments, as a queue of their own; with what is left of the segment where they
-// end.
+// Takes the first bytes off a queue of segments, as a queue of their own; with what is left of the segment
+// where they end.
 #[tactic(auto, using(crate::proofs::Cutting::nothing_past))]
 fn take_front<'a>(
     alloc: Global,
@@ -74,9 +76,11 @@ fn take_front<'a>(
     requires { offset ≤ length (joined queue.old.items) }
     ensures front { IfOk result (λ p. joined p.0.items ≡ take offset (joined queue.old.items)) }
     ensures rest { IfOk result (λ p. all_of p.1.now queue.new.items ≡ drop offset (joined queue.old.items)) }
-    ensures before { IfOk result (λ p. filled (segment_lengths p.0.items) ≡ up_to offset (filled (segment_lengths queue.old.items))) }
+    ensures before { IfOk result
+        (λ p. filled (segment_lengths p.0.items) ≡ up_to offset (filled (segment_lengths queue.old.items))) }
     ensures behind { IfOk result
-        (λ p. filled (length p.1.now ∷ segment_lengths queue.new.items) ≡ past offset (filled (segment_lengths queue.old.items))) }
+        (λ p. filled (length p.1.now ∷ segment_lengths queue.new.items)
+        ≡ past offset (filled (segment_lengths queue.old.items))) }
     ensures err { IfErr result (λ e. (e ≡ Error.OutOfMemory) × (queue.new ≡ queue.old)) }
 {
     let Ok(mut front) = VecDeque::with_capacity(alloc, queue.len()) else {
@@ -116,13 +120,16 @@ fn write_at(buf: &mut [u8], at: usize, bytes: &[u8])
 }
 
 impl<'a> Reader<'a> {
-    /// A reader of these segments, one after another. `DescriptorChainOverflow` if their lengths' sum doesn't fit
-    /// usize.
+    /// A reader of these segments, one after another. `DescriptorChainOverflow` if their lengths' sum doesn't
+    /// fit usize.
     pub fn new(segments: Vec<&'a [u8]>) -> Result<Reader<'a>, Error>
         ensures ok { IfOk result
-            (λ r. (r.left ≡ joined segments.entry.items) × (r.segments ≡ filled (segment_lengths segments.entry.items)) × (r.read ≡ 0)) }
+            (λ r. (r.left ≡ joined segments.entry.items)
+            × (r.segments ≡ filled (segment_lengths segments.entry.items))
+            × (r.read ≡ 0)) }
         ensures fits { OnOk result (length (joined segments.entry.items) < 2 ^ 64) }
-        ensures err { IfErr result (λ e. (e ≡ Error.DescriptorChainOverflow) × (2 ^ 64 ≤ length (joined segments.entry.items))) }
+        ensures err { IfErr result (λ e. (e ≡ Error.DescriptorChainOverflow)
+            × (2 ^ 64 ≤ length (joined segments.entry.items))) }
     {
         let mut total: usize = 0;
         for segment in &segments {
@@ -152,7 +159,8 @@ impl<'a> Reader<'a> {
     fn over(segment: &'a [u8], later: VecDeque<&'a [u8]>, left: usize) -> Reader<'a>
         requires { left ≡ length (all_of segment.now later.items) }
         ensures left { result.left ≡ all_of segment.entry.now later.entry.items }
-        ensures segments { result.segments ≡ filled (length segment.entry.now ∷ segment_lengths later.entry.items) }
+        ensures segments { result.segments
+            ≡ filled (length segment.entry.now ∷ segment_lengths later.entry.items) }
         ensures read { result.read ≡ 0 }
     {
         let mut later = later;
@@ -168,7 +176,8 @@ impl<'a> Reader<'a> {
     /// How many bytes are left.
     pub fn available_bytes(&self) -> usize
         ensures left { result ≡ length self.now.left }
-        ensures segments { (sum self.now.segments ≡ length self.now.left) × (filled self.now.segments ≡ self.now.segments) }
+        ensures segments { (sum self.now.segments ≡ length self.now.left)
+            × (filled self.now.segments ≡ self.now.segments) }
     {
         self.left
     }
@@ -209,7 +218,9 @@ impl<'a> Reader<'a> {
     /// The next bytes where they stand, if the first segment has as many; else nothing is read.
     #[inline(always)]
     pub fn read_in_place(&mut self, n: usize) -> Option<&'a [u8]>
-        ensures some { IfSome result (λ b. (self.old.left ≡ b.now ++ self.new.left) × (length b.now ≡ n) × (n ≤ first self.old.segments)) }
+        ensures some { IfSome result (λ b. (self.old.left ≡ b.now ++ self.new.left)
+            × (length b.now ≡ n)
+            × (n ≤ first self.old.segments)) }
         ensures segments { OnSome result (self.new.segments ≡ past n self.old.segments) }
         ensures read { OnSome result (self.new.read ≡ self.old.read + n) }
         ensures none { IfNone result ((first self.old.segments < n) × (self.new ≡ self.old)) }
@@ -242,15 +253,19 @@ impl<'a> Reader<'a> {
         count
     }
 
-    /// The value that the next bytes spell. Where there are too few, they are used up, and that is `IoError` of kind
-    /// `UnexpectedEof`.
+    /// The value that the next bytes spell. Where there are too few, they are used up, and that is `IoError`
+    /// of kind `UnexpectedEof`.
     #[inline(always)]
     pub fn read_obj<T: ByteValued>(&mut self) -> Result<T, Error>
-        ensures ok { IfOk result (λ x. (self.old.left ≡ spelled (T.fields x) ++ self.new.left) × AllFit (T.fields x)
+        ensures ok { IfOk result (λ x. (self.old.left ≡ spelled (T.fields x) ++ self.new.left)
+            × AllFit (T.fields x)
             × (self.new.read ≡ self.old.read + T.SIZE)) }
         ensures segments { OnOk result (self.new.segments ≡ past T.SIZE self.old.segments) }
-        ensures err { IfErr result (λ e. (e ≡ Error.IoError ErrorKind.UnexpectedEof) × (length self.old.left < T.SIZE) × (self.new.left ≡ [])
-            × (self.new.segments ≡ past (length self.old.left) self.old.segments) × (self.new.read ≡ self.old.read + length self.old.left)) }
+        ensures err { IfErr result (λ e. (e ≡ Error.IoError ErrorKind.UnexpectedEof)
+            × (length self.old.left < T.SIZE)
+            × (self.new.left ≡ [])
+            × (self.new.segments ≡ past (length self.old.left) self.old.segments)
+            × (self.new.read ≡ self.old.read + length self.old.left)) }
     {
         let segment = self.segment();
         if T::SIZE <= segment.len() {
@@ -265,9 +280,9 @@ impl<'a> Reader<'a> {
         Ok(T::get_bytes(&buffer[..T::SIZE]))
     }
 
-    /// Lends the front of the first segment that isn't empty, cut to `count` bytes, to one call of a file, and answers
-    /// how many it wrote; without a call 0, if nothing is left or `count` is 0. An errno is the file's own, and uses
-    /// up nothing.
+    /// Lends the front of the first segment that isn't empty, cut to `count` bytes, to one call of a file,
+    /// and answers how many it wrote; without a call 0, if nothing is left or `count` is 0. An errno is the
+    /// file's own, and uses up nothing.
     pub fn write_to_file_at<F: PositionedFile>(
         &mut self,
         file: &mut F,
@@ -275,7 +290,8 @@ impl<'a> Reader<'a> {
         off: u64,
         flags: Option<WritevFlags>,
     ) -> Result<usize, Errno>
-        ensures once { WritesOnce F.write_gives file.old self.old.left self.old.segments count off (option_map (λ f. f.0) flags) result file.new }
+        ensures once { WritesOnce F.write_gives file.old self.old.left self.old.segments count off
+            (option_map (λ f. f.0) flags) result file.new }
         ensures left { self.new.left ≡ drop (moved result) self.old.left }
         ensures segments { self.new.segments ≡ past (moved result) self.old.segments }
         ensures read { self.new.read ≡ self.old.read + moved result }
@@ -295,16 +311,19 @@ impl<'a> Reader<'a> {
         }
     }
 
-    /// Splits what is left at a place, in bytes: what stands behind it goes to a reader of its own, with no byte read.
-    /// `SplitOutOfBounds` if the place is past the end, else `OutOfMemory`. A refusal changes nothing.
+    /// Splits what is left at a place, in bytes: what stands behind it goes to a reader of its own, with no
+    /// byte read. `SplitOutOfBounds` if the place is past the end, else `OutOfMemory`. A refusal changes
+    /// nothing.
     #[tactic(auto, using(crate::proofs::Cutting::take_past, crate::proofs::Cutting::drop_past))]
     pub fn split_at(&mut self, alloc: Global, offset: usize) -> Result<Reader<'a>, Error>
-        ensures left { OnOk result ((offset ≤ length self.old.left) × (self.new.left ≡ take offset self.old.left)) }
+        ensures left { OnOk result ((offset ≤ length self.old.left)
+            × (self.new.left ≡ take offset self.old.left)) }
         ensures segments { OnOk result (self.new.segments ≡ up_to offset self.old.segments) }
         ensures read { self.new.read ≡ self.old.read }
         ensures other { IfOk result (λ r. (r.left ≡ drop offset self.old.left) × (r.read ≡ 0)) }
         ensures behind { IfOk result (λ r. r.segments ≡ past offset self.old.segments) }
-        ensures err { IfErr result (λ e. (e ≡ cond (nat_le offset (length self.old.left)) Error.OutOfMemory (Error.SplitOutOfBounds offset))
+        ensures err { IfErr result (λ e. (e
+            ≡ cond (nat_le offset (length self.old.left)) Error.OutOfMemory (Error.SplitOutOfBounds offset))
             × (self.new ≡ self.old)) }
     {
         if self.left < offset {
@@ -344,8 +363,11 @@ impl<'a> Read for Reader<'a> {
         ensures bytes { OnOk result (Consumes (Some self.old.left) (Some self.new.left) buf.new) }
         ensures segments { OnOk result (self.new.segments ≡ past (length buf.old) self.old.segments) }
         ensures read { OnOk result (self.new.read ≡ self.old.read + length buf.old) }
-        ensures err { IfErr result (λ e. (error_kind e ≡ ErrorKind.UnexpectedEof) × (length self.old.left < length buf.old) × (self.new.left ≡ [])
-            × (self.new.segments ≡ past (length self.old.left) self.old.segments) × (self.new.read ≡ self.old.read + length self.old.left)) }
+        ensures err { IfErr result (λ e. (error_kind e ≡ ErrorKind.UnexpectedEof)
+            × (length self.old.left < length buf.old)
+            × (self.new.left ≡ [])
+            × (self.new.segments ≡ past (length self.old.left) self.old.segments)
+            × (self.new.read ≡ self.old.read + length self.old.left)) }
     {
         if self.fill(buf) < buf.len() {
             return Err(io::Error::from(ErrorKind::UnexpectedEof));

@@ -1,7 +1,9 @@
 //! What a reply is written to (virtiofsd's `Writer`).
 
-ghost use Rattle.std.specs.Prelude.{◌≡◌, ℕ, ◌+◌, ◌<◌, ◌≤◌, ◌^◌, min, sum, List, [], ◌∷◌, ◌++◌, length, take, drop};
-ghost use Rattle.std.specs.Prelude.{cond, nat_lt, nat_le, Some, IsOk, IfOk, OnOk, OnErr, IfErr, IfSome, IfNone, vec_len};
+ghost use Rattle.std.specs.Prelude.{◌≡◌, ℕ, ◌+◌, ◌<◌, ◌≤◌, ◌^◌, min, sum, List, [], ◌∷◌, ◌++◌, length, take};
+ghost use Rattle.std.specs.Prelude.{drop};
+ghost use Rattle.std.specs.Prelude.{cond, nat_lt, nat_le, Some, IsOk, IfOk, OnOk, OnErr, IfErr, IfSome};
+ghost use Rattle.std.specs.Prelude.{IfNone, vec_len};
 ghost use Rattle.std.specs.Prelude.{vec_capacity};
 ghost use Rattle.smallvec.specs.SmallVec.{small_vec_len, HasRoomFor};
 ghost use Rattle.std.specs.Io.{WritesAtMost};
@@ -87,7 +89,8 @@ fn behind(segments: &[usize], from: SegmentPlace, n: usize) -> SegmentPlace
     requires segment { from.segment ≤ length segments.now }
     requires fits { from.used + n < 2 ^ 64 }
     ensures after { from.segment ≤ result.segment }
-    ensures before { bytes_before segments.now result.segment result.used ≡ bytes_before segments.now from.segment from.used + n }
+    ensures before { bytes_before segments.now result.segment result.used
+        ≡ bytes_before segments.now from.segment from.used + n }
     ensures inside { IsIn segments.now result.segment result.used }
 {
     let mut segment = from.segment;
@@ -180,7 +183,10 @@ fn append_once<F: PositionedFile>(
     off: u64,
 ) -> Result<usize, Errno>
     requires { vec_len bytes.old + most ≤ vec_capacity bytes.old }
-    ensures part { (part : List ℕ) × (bytes.new.items ≡ bytes.old.items ++ part) × (moved result ≡ length part) × (length part ≤ most)
+    ensures part { (part : List ℕ)
+        × (bytes.new.items ≡ bytes.old.items ++ part)
+        × (moved result ≡ length part)
+        × (length part ≤ most)
         × F.read_gives file.old most off (read_answer result part) file.new }
     ensures len { vec_len bytes.new ≡ vec_len bytes.old + moved result }
     ensures most { moved result ≤ most }
@@ -193,14 +199,15 @@ fn append_once<F: PositionedFile>(
 }
 
 impl Writer {
-    /// A writer with segments of these lengths, in bytes. `DescriptorChainOverflow` if their sum doesn't fit usize,
-    /// else `OutOfMemory`.
+    /// A writer with segments of these lengths, in bytes. `DescriptorChainOverflow` if their sum doesn't fit
+    /// usize, else `OutOfMemory`.
     pub fn new(alloc: Global, lengths: &[usize]) -> Result<Writer, Error>
         ensures written { IfOk result (λ w. w.written ≡ []) }
         ensures room { IfOk result (λ w. (w.free ≡ sum lengths.now) × (w.segments ≡ filled lengths.now)) }
         ensures rejoin { IfOk result (λ w. (w.rejoin ≡ 0) × (w.spare ≡ 0)) }
         ensures fits { OnOk result (sum lengths.now < 2 ^ 64) }
-        ensures err { IfErr result (λ e. e ≡ cond (nat_lt (sum lengths.now) (2 ^ 64)) Error.OutOfMemory Error.DescriptorChainOverflow) }
+        ensures err { IfErr result (λ e. e
+            ≡ cond (nat_lt (sum lengths.now) (2 ^ 64)) Error.OutOfMemory Error.DescriptorChainOverflow) }
     {
         let Some(room) = total(lengths) else {
             return Err(Error::DescriptorChainOverflow);
@@ -209,8 +216,8 @@ impl Writer {
         Writer::over(alloc, room, segments)
     }
 
-    /// A writer with one segment of this length in bytes; with none if that is 0. `OutOfMemory` is its only error, if the allocator
-    /// refuses it.
+    /// A writer with one segment of this length in bytes; with none if that is 0. `OutOfMemory` is its only
+    /// error, if the allocator refuses it.
     pub fn of_length(alloc: Global, size: usize) -> Result<Writer, Error>
         ensures written { IfOk result (λ w. w.written ≡ []) }
         ensures room { IfOk result (λ w. (w.free ≡ size) × (w.segments ≡ filled (size ∷ []))) }
@@ -268,7 +275,8 @@ impl Writer {
     /// How many bytes more there is room for.
     pub fn available_bytes(&self) -> usize
         ensures free { result ≡ self.now.free }
-        ensures segments { (sum self.now.segments ≡ length self.now.written + self.now.free) × (filled self.now.segments ≡ self.now.segments) }
+        ensures segments { (sum self.now.segments ≡ length self.now.written + self.now.free)
+            × (filled self.now.segments ≡ self.now.segments) }
     {
         self.room - self.bytes.len()
     }
@@ -351,12 +359,15 @@ impl Writer {
         n
     }
 
-    /// Writes the value's bytes. Where they have no room, what there is is used up, nothing more can be written, and
-    /// that is `IoError` of kind `WriteZero`.
+    /// Writes the value's bytes. Where they have no room, what there is is used up, nothing more can be
+    /// written, and that is `IoError` of kind `WriteZero`.
     pub fn write_obj<T: ByteValued>(&mut self, value: T) -> Result<(), Error>
         ensures fits { AllFit (T.fields value) }
-        ensures ok { OnOk result ((self.new.written ≡ self.old.written ++ spelled (T.fields value)) × (self.new.free + T.SIZE ≡ self.old.free)) }
-        ensures err { IfErr result (λ e. (e ≡ Error.IoError ErrorKind.WriteZero) × (self.old.free < T.SIZE) × (self.new.free ≡ 0)
+        ensures ok { OnOk result ((self.new.written ≡ self.old.written ++ spelled (T.fields value))
+            × (self.new.free + T.SIZE ≡ self.old.free)) }
+        ensures err { IfErr result (λ e. (e ≡ Error.IoError ErrorKind.WriteZero)
+            × (self.old.free < T.SIZE)
+            × (self.new.free ≡ 0)
             × (self.new.written ≡ self.old.written ++ take self.old.free (spelled (T.fields value)))) }
         ensures segments { self.new.segments ≡ self.old.segments }
         ensures rejoin { self.new.rejoin ≡ self.old.rejoin }
@@ -370,16 +381,24 @@ impl Writer {
         Ok(())
     }
 
-    /// Splits the room that is free at a place, in bytes: what stands behind it goes to a writer of its own, with no
-    /// byte written. `SplitOutOfBounds` if the place is past the end, else `OutOfMemory`. A refusal changes nothing.
+    /// Splits the room that is free at a place, in bytes: what stands behind it goes to a writer of its own,
+    /// with no byte written. `SplitOutOfBounds` if the place is past the end, else `OutOfMemory`. A refusal
+    /// changes nothing.
     pub fn split_at(&mut self, alloc: Global, offset: usize) -> Result<Writer, Error>
         ensures written { self.new.written ≡ self.old.written }
         ensures free { OnOk result ((offset ≤ self.old.free) × (self.new.free ≡ offset)) }
-        ensures segments { OnOk result (self.new.segments ≡ up_to (length self.old.written + offset) self.old.segments) }
-        ensures other { IfOk result (λ w. (w.written ≡ []) × (w.free + offset ≡ self.old.free) × (w.rejoin ≡ 0) × (w.spare ≡ 0)) }
-        ensures behind { IfOk result (λ w. w.segments ≡ past (length self.old.written + offset) self.old.segments) }
-        ensures rejoin { IfOk result (λ w. (self.new.rejoin ≡ length w.segments) × (self.new.spare ≡ w.free)) }
-        ensures err { IfErr result (λ e. (e ≡ cond (nat_le offset self.old.free) Error.OutOfMemory (Error.SplitOutOfBounds offset))
+        ensures segments { OnOk result
+            (self.new.segments ≡ up_to (length self.old.written + offset) self.old.segments) }
+        ensures other { IfOk result (λ w. (w.written ≡ [])
+            × (w.free + offset ≡ self.old.free)
+            × (w.rejoin ≡ 0)
+            × (w.spare ≡ 0)) }
+        ensures behind { IfOk result
+            (λ w. w.segments ≡ past (length self.old.written + offset) self.old.segments) }
+        ensures rejoin { IfOk result (λ w. (self.new.rejoin ≡ length w.segments)
+            × (self.new.spare ≡ w.free)) }
+        ensures err { IfErr result
+            (λ e. (e ≡ cond (nat_le offset self.old.free) Error.OutOfMemory (Error.SplitOutOfBounds offset))
             × (self.new ≡ self.old)) }
     {
         let free = self.room - self.bytes.len();
@@ -401,8 +420,8 @@ impl Writer {
         Ok(other)
     }
 
-    /// Joins on the first bytes of a writer that a split handed out; its other room is free again. It brings no more
-    /// segments and bytes than the split handed out.
+    /// Joins on the first bytes of a writer that a split handed out; its other room is free again. It brings
+    /// no more segments and bytes than the split handed out.
     pub fn rejoin(&mut self, other: Writer, count: usize)
         requires full { self.old.free ≡ 0 }
         requires count { count ≤ length other.written }
@@ -428,9 +447,9 @@ impl Writer {
         self.spare = 0;
     }
 
-    /// Writes what one call of a file reads into the first segment that has room, at most `count` bytes, and answers
-    /// how many; no call is made, and it answers 0, if there is no room or `count` is 0. An errno is the file's own,
-    /// and uses up nothing.
+    /// Writes what one call of a file reads into the first segment that has room, at most `count` bytes, and
+    /// answers how many; no call is made, and it answers 0, if there is no room or `count` is 0. An errno is
+    /// the file's own, and uses up nothing.
     #[inline(always)]
     pub fn read_from_file_at<F: PositionedFile>(
         &mut self,
@@ -438,7 +457,9 @@ impl Writer {
         count: usize,
         off: u64,
     ) -> Result<usize, Errno>
-        ensures once { (bytes : List ℕ) × (self.new.written ≡ self.old.written ++ bytes) × (self.old.free ≡ self.new.free + length bytes)
+        ensures once { (bytes : List ℕ)
+            × (self.new.written ≡ self.old.written ++ bytes)
+            × (self.old.free ≡ self.new.free + length bytes)
             × ReadsOnce F.read_gives file.old (min count (first (rooms self.old))) off bytes result file.new }
         ensures segments { self.new.segments ≡ self.old.segments }
         ensures rejoin { self.new.rejoin ≡ self.old.rejoin }
@@ -462,7 +483,8 @@ impl Write for Writer {
         ensures bound { WritesAtMost result buf.now }
         ensures bytes { WriteAppends (Some self.old.written) (Some self.new.written) result buf.now }
         ensures ok { IsOk result }
-        ensures count { IfOk result (λ n. (n ≡ min (length buf.now) self.old.free) × (self.new.free + n ≡ self.old.free)) }
+        ensures count { IfOk result (λ n. (n ≡ min (length buf.now) self.old.free)
+            × (self.new.free + n ≡ self.old.free)) }
         ensures segments { self.new.segments ≡ self.old.segments }
         ensures rejoin { self.new.rejoin ≡ self.old.rejoin }
         ensures spare { self.new.spare ≡ self.old.spare }
@@ -474,7 +496,9 @@ impl Write for Writer {
     fn write_all(&mut self, buf: &[u8]) -> io::Result<()>
         ensures bytes { OnOk result (Appends (Some self.old.written) (Some self.new.written) buf.now) }
         ensures free { OnOk result (self.new.free + length buf.now ≡ self.old.free) }
-        ensures err { IfErr result (λ e. (error_kind e ≡ ErrorKind.WriteZero) × (self.old.free < length buf.now) × (self.new.free ≡ 0)
+        ensures err { IfErr result (λ e. (error_kind e ≡ ErrorKind.WriteZero)
+            × (self.old.free < length buf.now)
+            × (self.new.free ≡ 0)
             × (self.new.written ≡ self.old.written ++ take self.old.free buf.now)) }
         ensures segments { self.new.segments ≡ self.old.segments }
         ensures rejoin { self.new.rejoin ≡ self.old.rejoin }

@@ -69,7 +69,8 @@ impl ZeroCopyWriter for ZcWriter {
 
     ghost puts_none = { λ z. sym (append-nil z.writer.written) };
 
-    ghost puts_more = { λ a b c xs ys first second. second ∙ ap (λ front. front ++ ys) first ∙ append_assoc a.writer.written xs ys };
+    ghost puts_more = { λ a b c xs ys first second. second ∙ ap (λ front. front ++ ys) first
+        ∙ append_assoc a.writer.written xs ys };
 
     fn available_bytes(&self) -> usize {
         self.writer.available_bytes()
@@ -82,10 +83,13 @@ impl ZeroCopyWriter for ZcWriter {
         count: usize,
         off: u64,
     ) -> Result<usize, Errno>
-        ensures puts { (bytes : List ℕ) × (self.new.writer.written ≡ self.old.writer.written ++ bytes)
+        ensures puts { (bytes : List ℕ)
+            × (self.new.writer.written ≡ self.old.writer.written ++ bytes)
             × (self.old.writer.free ≡ self.new.writer.free + length bytes)
-            × (rooms self.new.writer ≡ past (length bytes) (rooms self.old.writer)) × (sum (rooms self.old.writer) ≡ self.old.writer.free)
-            × ReadsSegments F.read_gives file.old (up_to count (rooms self.old.writer)) off bytes result file.new }
+            × (rooms self.new.writer ≡ past (length bytes) (rooms self.old.writer))
+            × (sum (rooms self.old.writer) ≡ self.old.writer.free)
+            × ReadsSegments F.read_gives file.old (up_to count (rooms self.old.writer)) off bytes
+            result file.new }
         ensures segments { self.new.writer.segments ≡ self.old.writer.segments }
         ensures rejoin { self.new.writer.rejoin ≡ self.old.writer.rejoin }
         ensures spare { self.new.writer.spare ≡ self.old.writer.spare }

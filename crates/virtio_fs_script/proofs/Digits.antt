@@ -8,7 +8,8 @@ use Rattle.std.proofs.Math.Nat.{mul-le-mul_left}
 pub grows : (radix n : ℕ) (digits : List ℕ) → 1 ≤ radix → n ≤ digits_value_after radix n digits
 grows radix n [] h = omega arith
 grows radix n (c ∷ cs) h =
-    let more : n * radix + digit_value c ≤ digits_value_after radix (n * radix + digit_value c) cs = grows radix (n * radix + digit_value c) cs h in
+    let more : n * radix + digit_value c ≤ digits_value_after radix (n * radix + digit_value c) cs =
+    grows radix (n * radix + digit_value c) cs h in
     let least : n * 1 ≤ n * radix = mul-le-mul_left n h in
     omega arith
 

@@ -43,7 +43,8 @@ fn fits(off: u64, count: usize) -> bool
     off <= MOST_FILE_BYTES as u64 && count <= MOST_FILE_BYTES - off as usize
 }
 
-// The file, kept in place. It never gets shorter, so the bytes behind its end are the zeros that they were at first.
+// The file, kept in place. It never gets shorter, so the bytes behind its end are the zeros that they were at
+// first.
 #[derive(Drop)]
 struct SmallFile {
     bytes: [u8; MOST_FILE_BYTES],
@@ -142,8 +143,8 @@ impl DirectoryIterator for RootEntries {
     }
 }
 
-/// Root 1 with the file `a`, which is node 2. Calls of the kinds that it has something of its own to do for stand in
-/// the log.
+/// Root 1 with the file `a`, which is node 2. Calls of the kinds that it has something of its own to do for
+/// stand in the log.
 #[derive(Drop)]
 pub(crate) struct LoggingFiles<'a> {
     log: &'a Cell<FirstCalls>,

@@ -37,8 +37,8 @@ fn alone(alloc: Global, command: Command) -> Result<Vec<Command>, AllocError>
 }
 
 impl<'a> GuestMachine<'a> {
-    /// A guest without memory, whose device has these queues and an IOMMU that is off and maps nothing. What the
-    /// device's file system is asked is logged.
+    /// A guest without memory, whose device has these queues and an IOMMU that is off and maps nothing. What
+    /// the device's file system is asked is logged.
     pub fn new(
         alloc: Global,
         log: &'a Cell<FirstCalls>,
@@ -72,8 +72,8 @@ impl<'a> GuestMachine<'a> {
         Ok(answers.pop().unwrap())
     }
 
-    /// The guest as it goes on on another host; and how many bytes its device's record has. An IOMMU that is on is off
-    /// on the way. A machine stays if an allocation fails.
+    /// The guest as it goes on on another host; and how many bytes its device's record has. An IOMMU that is
+    /// on is off on the way. A machine stays if an allocation fails.
     pub fn moved(self) -> Result<(GuestMachine<'a>, usize), Halt> {
         let GuestMachine {
             alloc,

@@ -9,7 +9,8 @@ ghost use Rattle.virtio_fs_script.specs.Number.{is_hexadecimal, radix_of, digits
 fn parse_digits(radix: u32, digits: &[u8]) -> Option<u64>
     requires low { 2 ≤ radix }
     requires high { radix ≤ 36 }
-    ensures { SomeIff result (IsNumeral radix digits.now × (digits_value radix digits.now < 2 ^ 64)) (digits_value radix digits.now) }
+    ensures { SomeIff result (IsNumeral radix digits.now
+        × (digits_value radix digits.now < 2 ^ 64)) (digits_value radix digits.now) }
 {
     if digits.is_empty() {
         return None;
@@ -35,7 +36,8 @@ fn has_hexadecimal_prefix(word: &[u8]) -> bool
 /// The number that a word writes, in decimal digits or behind `0x` in hexadecimal ones, if it fits.
 pub fn parse_number(word: &[u8]) -> Option<u64>
     ensures { let radix = radix_of word.now in let digits = digits_of word.now in
-        SomeIff result (IsNumeral radix digits × (digits_value radix digits < 2 ^ 64)) (digits_value radix digits) }
+        SomeIff result (IsNumeral radix digits
+        × (digits_value radix digits < 2 ^ 64)) (digits_value radix digits) }
 {
     if has_hexadecimal_prefix(word) {
         parse_digits(16, &word[2..])

@@ -92,7 +92,8 @@ fn run_and_tell<R: Read, W: Write>(
     }
 }
 
-/// Reads a script, runs it, and prints what its lines print; answers why it ended early, if it did, which is printed too.
+/// Reads a script, runs it, and prints what its lines print; answers why it ended early, if it did, which is
+/// printed too.
 pub fn play_script<R: Read, W: Write>(
     alloc: Global,
     reader: &mut R,

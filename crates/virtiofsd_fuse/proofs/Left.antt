@@ -31,10 +31,12 @@ or_none true b e = absurd (cc)
 or_none false b e = refl
 
 -- memory is taken for what the call that is asked for owns
-pub owned_none : (m : Meaning) (split : Bool) (unique : ℕ) (made call : FileCall) → m ≡ Asks (One unique call) → made ≡ call → (meaning_owns m || split) ≡ false → owns_memory made ≡ false
+pub owned_none : (m : Meaning) (split : Bool) (unique : ℕ) (made call : FileCall) → m ≡ Asks (One unique call) → made ≡ call →
+    (meaning_owns m || split) ≡ false → owns_memory made ≡ false
 owned_none m split unique made call e f none = ap owns_memory f ∙ sym (ap meaning_owns e) ∙ or_none (meaning_owns m) split none
 
 -- a request that takes no memory takes none behind its header
-pub takes_none : (options room : ℕ) (r : ReaderView) (h : InHeader) (segments more : List ℕ) → Ok (h, more) ≡ reading_of in_header r.left → segments ≡ past 40 r.segments
+pub takes_none : (options room : ℕ) (r : ReaderView) (h : InHeader) (segments more : List ℕ) → Ok (h, more) ≡ reading_of in_header r.left
+    → segments ≡ past 40 r.segments
     → may_take_memory options r room ≡ false → body_takes_memory (given h options room) segments more ≡ false
 takes_none options room r h segments more e s p = rw s (rw (← e) at p)

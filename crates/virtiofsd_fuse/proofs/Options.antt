@@ -17,4 +17,5 @@ known_twice bits = and_assoc known_options bits known_options ∙ ap (bit_and bi
 -- and so are some of them
 pub some_known : (a b : ℕ) → bit_and a known_options ≡ a → bit_and (bit_and a b) known_options ≡ bit_and a b
 some_known a b known =
-    and_assoc known_options a b ∙ ap (bit_and a) (and_comm b known_options) ∙ sym (and_assoc b a known_options) ∙ ap (λ x. bit_and x b) known
+    and_assoc known_options a b ∙ ap (bit_and a) (and_comm b known_options) ∙ sym (and_assoc b a known_options)
+    ∙ ap (λ x. bit_and x b) known

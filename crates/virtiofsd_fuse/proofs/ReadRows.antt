@@ -31,12 +31,14 @@ record_makes_none Made h = absurd (cc)
 record_makes_none _ h = refl
 
 -- a call that is handed no memory of its own
-pub call_read : (splits takes : Bool) (h : InHeader) (call : made.FileCall) (c : FileCall) (m : Meaning) → m ≡ Asks (One h.unique c) → call_of [] call ≡ c
+pub call_read : (splits takes : Bool) (h : InHeader) (call : made.FileCall) (c : FileCall) (m : Meaning) → m ≡ Asks (One h.unique c)
+    → call_of [] call ≡ c
     → is_made (shape_of c) ≡ false → CallSays h c → Reads splits takes h (value.Call call) m
 call_read splits takes h call c m e f s says = (rw f e, rw f says, λ none. rw f (owns_none c says.0 s))
 
 -- a call that makes a node
-pub made_read : (splits split : Bool) (h : InHeader) (call : made.FileCall) (c : FileCall) (m : Meaning) → m ≡ Asks (One h.unique c) → call_of [] call ≡ c
+pub made_read : (splits split : Bool) (h : InHeader) (call : made.FileCall) (c : FileCall) (m : Meaning) → m ≡ Asks (One h.unique c)
+    → call_of [] call ≡ c
     → CallSays h c → Reads splits (meaning_owns m || split) h (value.Call call) m
 made_read splits split h call c m e f says = (rw f e, rw f says, λ none. owned_none m split h.unique (call_of [] call) c e f none)
 

@@ -13,4 +13,5 @@ ServerPrepared may before after = may before.fs after.fs × KeepsSession before 
 
 -- its file system is carried over as it may be, with its answer
 abbrev pub ServerCarried : {F : Type 0} → Carries F → Carries (Server F)
-ServerCarried may before had failed has after = may before.fs had failed has after.fs × KeepsSession before after
+ServerCarried may before had failed has after =
+    may before.fs had failed has after.fs × KeepsSession before after

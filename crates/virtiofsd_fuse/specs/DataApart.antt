@@ -15,7 +15,8 @@ is_write _ = false
 
 -- the header of a WRITE, if a request begins with one (linux/fuse.h, struct fuse_in_header)
 abbrev pub write_header : Reading InHeader
-write_header = reading_of in_header >>= λ h. needs (is_write (opcode_of h.opcode)) (Faults DecodeMessage) >> give h
+write_header =
+    reading_of in_header >>= λ h. needs (is_write (opcode_of h.opcode)) (Faults DecodeMessage) >> give h
 
 -- whether a request begins with one
 abbrev pub begins_a_write : (request : List ℕ) → Bool

@@ -1,18 +1,23 @@
 -- Requests worked out.
-use Rattle.std.specs.Prelude.{◌≡◌, ℕ, true, false, ◌+◌, ◌-◌, ◌^◌, List, [], ◌∷◌, ◌++◌, replicate, Some, None, pos, refl, length}
+use Rattle.std.specs.Prelude.{◌≡◌, ℕ, true, false, ◌+◌, ◌-◌, ◌^◌, List, [], ◌∷◌, ◌++◌, replicate, Some, None}
+use Rattle.std.specs.Prelude.{pos, refl, length}
 use Rattle.std.specs.Int.{w16, w32, w64, to_le_bytes}
 use Rattle.vm_values.specs.Fields.{field_bytes}
 use Rattle.fuse_fs.specs.declared.answers.Context.{Context}
 use Rattle.fuse_fs.specs.declared.answers.Entry.{Entry}
-use Rattle.fuse_fs.specs.Calls.{FileAnswer, Lookup, Forget, Getattr, Mkdir, Create, Release, Rename, Wants, Listed, Readdir, Entries, HasEntry, Created, Done}
-use Rattle.server_segments.specs.declared.error.Error.TheVariants.{DecodeMessage, EncodeMessage, InvalidHeaderLength, InvalidXattrSize, MissingExtension}
+use Rattle.fuse_fs.specs.Calls.{FileAnswer, Lookup, Forget, Getattr, Mkdir, Create, Release, Rename, Wants}
+use Rattle.fuse_fs.specs.Calls.{Listed, Readdir, Entries, HasEntry, Created, Done}
+use Rattle.server_segments.specs.declared.error.Error.TheVariants.{DecodeMessage, EncodeMessage}
+use Rattle.server_segments.specs.declared.error.Error.TheVariants.{InvalidHeaderLength, InvalidXattrSize}
+use Rattle.server_segments.specs.declared.error.Error.TheVariants.{MissingExtension}
 use Rattle.server_requests.specs.Reading.{reading_of, last_name, two_names, name_and_value, front_name}
 use Rattle.server_requests.specs.Extras.{one_group, part, extension, extensions, extra_in, new_name}
 use Rattle.virtiofsd_fuse.specs.Grammar.{meaning, meant, row, IsFault, Asks, One}
 use Rattle.server_requests.specs.Fronts.{counted, with_bytes, setxattr_front}
 use Rattle.server_replies.specs.WholeReplies.{error_bytes, reply_bytes, versions_bytes, started_bytes}
 use Rattle.virtiofsd_fuse.specs.Listings.{list_entries}
-use Rattle.server_replies.specs.Entries.{entry_len, fit_of, GoesIn, IsWrong, dirent_bytes, node_bytes, no_node}
+use Rattle.server_replies.specs.Entries.{entry_len, fit_of, GoesIn, IsWrong, dirent_bytes, node_bytes}
+use Rattle.server_replies.specs.Entries.{no_node}
 use Rattle.virtiofsd_fuse.specs.Serving.{ServedMessage, served, setting}
 
 -- who asks: nobody in particular
@@ -45,7 +50,8 @@ answer_header len error unique = le32 len ++ le32 error ++ le64 unique
 
 -- INIT of a version, with a readahead and options
 abbrev init : (major minor readahead flags : ℕ) → List ℕ
-init major minor readahead flags = in_header_bytes 56 26 1 0 ++ le32 major ++ le32 minor ++ le32 readahead ++ le32 flags
+init major minor readahead flags =
+    in_header_bytes 56 26 1 0 ++ le32 major ++ le32 minor ++ le32 readahead ++ le32 flags
 
 -- a request served in a room without options, by the answers to its calls
 abbrev serve : List ℕ → (room : ℕ) → List FileAnswer → ServedMessage
@@ -57,17 +63,20 @@ unfolding meaning meant reading_of row
 forget_means = refl
 
 -- LOOKUP of `a` in the root
-lookup_means : meaning 0 (in_header_bytes 42 1 1 1 ++ 97 ∷ 0 ∷ []) 143 ≡ Asks (One 1 (Lookup nobody 1 (97 ∷ [])))
+lookup_means :
+    meaning 0 (in_header_bytes 42 1 1 1 ++ 97 ∷ 0 ∷ []) 143 ≡ Asks (One 1 (Lookup nobody 1 (97 ∷ [])))
 unfolding meaning meant reading_of row counted last_name
 lookup_means = refl
 
 -- GETATTR of node 5 by its open file 9
-getattr_means : meaning 0 (in_header_bytes 56 3 2 5 ++ le32 1 ++ le32 0 ++ le64 9) 0 ≡ Asks (One 2 (Getattr nobody 5 (Some 9)))
+getattr_means : meaning 0 (in_header_bytes 56 3 2 5 ++ le32 1 ++ le32 0 ++ le64 9) 0
+    ≡ Asks (One 2 (Getattr nobody 5 (Some 9)))
 unfolding meaning meant reading_of row
 getattr_means = refl
 
 -- RELEASE of file 9 with a flush: who holds the lock counts
-release_means : meaning 0 (in_header_bytes 64 18 2 5 ++ le64 9 ++ le32 2 ++ le32 1 ++ le64 7) 0 ≡ Asks (One 2 (Release nobody 5 2 9 true false (Some 7)))
+release_means : meaning 0 (in_header_bytes 64 18 2 5 ++ le64 9 ++ le32 2 ++ le32 1 ++ le64 7) 0
+    ≡ Asks (One 2 (Release nobody 5 2 9 true false (Some 7)))
 unfolding meaning meant reading_of row
 release_means = refl
 
@@ -86,10 +95,12 @@ later_cut : (serve (init 8 0 0 0) 79 []).fault ≡ Some EncodeMessage
 unfolding meaning meant reading_of row reply_bytes versions_bytes field_bytes
 later_cut = refl
 
--- struct fuse_init_out of a client with the readahead 0x20000 and option 1 agreed: 65535 requests, 49149, 2^20 bytes, 256 pages
+-- struct fuse_init_out of a client with the readahead 0x20000 and option 1 agreed: 65535 requests, 49149,
+-- 2^20 bytes, 256 pages
 abbrev told_options : List ℕ
 told_options =
-    le32 7 ++ le32 38 ++ le32 0x20000 ++ le32 1 ++ le16 65535 ++ le16 49149 ++ le32 (2 ^ 20) ++ le32 1 ++ le16 256 ++ zeros 34
+    le32 7 ++ le32 38 ++ le32 0x20000 ++ le32 1 ++ le16 65535 ++ le16 49149 ++ le32 (2 ^ 20) ++ le32 1
+    ++ le16 256 ++ zeros 34
 
 -- INIT of version 7.38 with one option, of which the file system asks for none
 start_means : (serve (init 7 38 0x20000 1) 80 (Wants 0 ∷ [])).reply ≡ answer_header 80 0 1 ++ told_options
@@ -97,22 +108,27 @@ unfolding meaning meant reading_of row reply_bytes started_bytes field_bytes
 start_means = refl
 
 -- RENAME of `a` to `b` in node 3
-rename_means : meaning 0 (in_header_bytes 52 12 1 1 ++ le64 3 ++ 97 ∷ 0 ∷ 98 ∷ 0 ∷ []) 0 ≡ Asks (One 1 (Rename nobody 1 (97 ∷ []) 3 (98 ∷ []) 0))
+rename_means : meaning 0 (in_header_bytes 52 12 1 1 ++ le64 3 ++ 97 ∷ 0 ∷ 98 ∷ 0 ∷ []) 0
+    ≡ Asks (One 1 (Rename nobody 1 (97 ∷ []) 3 (98 ∷ []) 0))
 unfolding meaning meant reading_of row counted with_bytes two_names last_name
 rename_means = refl
 
 -- SETXATTR whose value has one byte less than it tells
-setxattr_means : meaning 0 (in_header_bytes 54 21 1 1 ++ le32 3 ++ le32 0 ++ 117 ∷ 46 ∷ 97 ∷ 0 ∷ 1 ∷ 2 ∷ []) 0 ≡ IsFault (InvalidXattrSize (3, 2))
+setxattr_means : meaning 0 (in_header_bytes 54 21 1 1 ++ le32 3 ++ le32 0 ++ 117 ∷ 46 ∷ 97 ∷ 0 ∷ 1 ∷ 2 ∷ []) 0
+    ≡ IsFault (InvalidXattrSize (3, 2))
 unfolding meaning meant reading_of row counted with_bytes setxattr_front name_and_value
 setxattr_means = refl
 
 -- MKDIR of `d` with an extension of this length, which holds the group 1000
 abbrev mkdir : (size : ℕ) → List ℕ
-mkdir size = in_header_bytes 66 9 1 1 ++ le32 511 ++ le32 18 ++ 100 ∷ 0 ∷ le32 size ++ le32 32 ++ le32 1 ++ le32 1000
+mkdir size =
+    in_header_bytes 66 9 1 1 ++ le32 511 ++ le32 18 ++ 100 ∷ 0 ∷ le32 size ++ le32 32 ++ le32 1 ++ le32 1000
 
 -- where groups are agreed
-mkdir_means : meaning (2 ^ 34) (mkdir 16) 0 ≡ Asks (One 1 (Mkdir nobody 1 (100 ∷ []) 511 18 (record { security = None; group = Some 1000 })))
-unfolding meaning meant reading_of row counted with_bytes front_name new_name extra_in extensions extension part one_group
+mkdir_means : meaning (2 ^ 34) (mkdir 16) 0
+    ≡ Asks (One 1 (Mkdir nobody 1 (100 ∷ []) 511 18 (record { security = None; group = Some 1000 })))
+unfolding meaning meant reading_of row counted with_bytes front_name new_name extra_in extensions extension
+    part one_group
 mkdir_means = refl
 
 -- an extension that is longer than what is left
@@ -127,11 +143,13 @@ mkdir_short = refl
 
 -- where security contexts are agreed too
 mkdir_missing : meaning (2 ^ 34 + 2 ^ 32) (mkdir 16) 0 ≡ IsFault MissingExtension
-unfolding meaning meant reading_of row counted with_bytes front_name new_name extra_in extensions extension part one_group
+unfolding meaning meant reading_of row counted with_bytes front_name new_name extra_in extensions extension
+    part one_group
 mkdir_missing = refl
 
 -- BATCH_FORGET of more pairs than 2^20 bytes hold is answered -12
-forgets_means : (serve (in_header_bytes 48 42 2 0 ++ le32 65537 ++ le32 0) 16 []).reply ≡ answer_header 16 (2 ^ 32 - 12) 2
+forgets_means :
+    (serve (in_header_bytes 48 42 2 0 ++ le32 65537 ++ le32 0) 16 []).reply ≡ answer_header 16 (2 ^ 32 - 12) 2
 unfolding meaning meant reading_of row error_bytes field_bytes
 forgets_means = refl
 
@@ -158,7 +176,8 @@ unfolding meaning meant reading_of row reply_bytes field_bytes list_entries fit_
 one_listed = refl
 
 -- one byte less of room is the error -5
-no_room_listed : (serve (list_root 28 64) 79 (Entries (itself ∷ named_a ∷ []) ∷ [])).reply ≡ answer_header 16 (2 ^ 32 - 5) 2
+no_room_listed : (serve (list_root 28 64) 79 (Entries (itself ∷ named_a ∷ []) ∷ [])).reply
+    ≡ answer_header 16 (2 ^ 32 - 5) 2
 unfolding meaning meant reading_of row error_bytes field_bytes list_entries fit_of dirent_bytes
 no_room_listed = refl
 
@@ -167,19 +186,26 @@ abbrev node_of_a : Entry ℕ
 node_of_a = record (no_node named_a) { inode = 2 }
 
 -- READDIRPLUS: `.` fills the list without a look-up, and the node of `a`, which was looked up, is taken back
-plus_means : (serve (list_root 44 160) 176 (Entries (itself ∷ named_a ∷ []) ∷ HasEntry node_of_a ∷ Done ∷ [])).calls
+plus_means :
+    (serve (list_root 44 160) 176 (Entries (itself ∷ named_a ∷ []) ∷ HasEntry node_of_a ∷ Done ∷ [])).calls
     ≡ Readdir nobody 1 0 160 0 ∷ Lookup nobody 1 (97 ∷ []) ∷ Forget nobody 2 1 ∷ []
 unfolding meaning meant reading_of row reply_bytes field_bytes list_entries fit_of dirent_bytes node_bytes
 plus_means = refl
 
 -- a LOOKUP that found `a`, in a room of a byte too few: the entry is given back
 lookup_given_back : serve (in_header_bytes 42 1 1 1 ++ 97 ∷ 0 ∷ []) 143 (HasEntry node_of_a ∷ Done ∷ [])
-    ≡ record { calls = Lookup nobody 1 (97 ∷ []) ∷ Forget nobody 2 1 ∷ []; options = 0; reply = []; fault = Some EncodeMessage }
+    ≡ record {
+      calls = Lookup nobody 1 (97 ∷ []) ∷ Forget nobody 2 1 ∷ [];
+      options = 0;
+      reply = [];
+      fault = Some EncodeMessage;
+    }
 unfolding meaning meant reading_of row counted last_name reply_bytes field_bytes
 lookup_given_back = refl
 
 -- with that byte it is told, and nothing is given back
-lookup_told : (serve (in_header_bytes 42 1 1 1 ++ 97 ∷ 0 ∷ []) 144 (HasEntry node_of_a ∷ [])).calls ≡ Lookup nobody 1 (97 ∷ []) ∷ []
+lookup_told : (serve (in_header_bytes 42 1 1 1 ++ 97 ∷ 0 ∷ []) 144 (HasEntry node_of_a ∷ [])).calls
+    ≡ Lookup nobody 1 (97 ∷ []) ∷ []
 unfolding meaning meant reading_of row counted last_name reply_bytes field_bytes
 lookup_told = refl
 
@@ -189,7 +215,8 @@ create = in_header_bytes 58 35 1 1 ++ le32 2 ++ le32 420 ++ le32 18 ++ zeros 4 +
 
 -- in a room of a byte too few the entry is given back, and the file that was opened stays open
 created_given_back : (serve create 159 (Created node_of_a (Some 9) 0 ∷ Done ∷ [])).calls
-    ≡ Create nobody 1 (99 ∷ []) 420 false 2 18 (record { security = None; group = None }) ∷ Forget nobody 2 1 ∷ []
+    ≡ Create nobody 1 (99 ∷ []) 420 false 2 18 (record { security = None; group = None })
+    ∷ Forget nobody 2 1 ∷ []
 unfolding meaning meant reading_of row counted with_bytes front_name new_name extra_in reply_bytes field_bytes
 created_given_back = refl
 

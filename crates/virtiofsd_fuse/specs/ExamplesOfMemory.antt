@@ -63,6 +63,8 @@ unfolding reading_of past row counted with_bytes front_name new_name extra_in ex
 context_empty = refl
 
 -- one with the name `s` and the label `x`
-context_given : may_take_memory (2 ^ 32) (in_segments (69 ∷ []) (mkdir 69 (le32 19 ++ le32 1 ++ le32 1 ++ le32 0 ++ 115 ∷ 0 ∷ 120 ∷ []))) 0 ≡ true
-unfolding reading_of past row counted with_bytes front_name new_name extra_in extensions extension part security_context
+context_given : may_take_memory (2 ^ 32)
+    (in_segments (69 ∷ []) (mkdir 69 (le32 19 ++ le32 1 ++ le32 1 ++ le32 0 ++ 115 ∷ 0 ∷ 120 ∷ []))) 0 ≡ true
+unfolding reading_of past row counted with_bytes front_name new_name extra_in extensions extension part
+    security_context
 context_given = refl

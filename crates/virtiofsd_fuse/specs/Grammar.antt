@@ -1,25 +1,36 @@
--- What a request means, by the options that client and server agreed on, its bytes and the length of its room (linux/fuse.h).
-use Rattle.std.specs.Prelude.{ℕ, ◌+◌, ◌-◌, ◌*◌, ◌^◌, nat_le, nat_lt, List, Option, Some, None, Result, Ok, Err, if◌then◌else◌, bit_and}
+-- What a request means, by the options that client and server agreed on, its bytes and the length of its room
+-- (linux/fuse.h).
+use Rattle.std.specs.Prelude.{ℕ, ◌+◌, ◌-◌, ◌*◌, ◌^◌, nat_le, nat_lt, List, Option, Some, None, Result, Ok}
+use Rattle.std.specs.Prelude.{Err, if◌then◌else◌, bit_and}
 use Rattle.std.specs.Prelude.{Bool, true, false}
 use Rattle.fuse_in.specs.declared.session.InHeader.{InHeader}
 use Rattle.fuse_in.specs.declared.session.InitInCompat.{InitInCompat}
 use Rattle.fuse_in.specs.declared.files.ReadIn.{ReadIn}
 use Rattle.fuse_in.specs.Shapes.{RecordShape}
-use Rattle.fuse_in.specs.Records.{in_header, forget_in, getattr_in, setattr_in, open_in, read_in, release_in, fsync_in, flush_in, access_in, fallocate_in}
-use Rattle.fuse_in.specs.Records.{lseek_in, copyfilerange_in, init_in_compat, link_in, rename_in, rename2_in, getxattr_in}
+use Rattle.fuse_in.specs.Records.{in_header, forget_in, getattr_in, setattr_in, open_in, read_in, release_in}
+use Rattle.fuse_in.specs.Records.{fsync_in, flush_in, access_in, fallocate_in}
+use Rattle.fuse_in.specs.Records.{lseek_in, copyfilerange_in, init_in_compat, link_in, rename_in, rename2_in}
+use Rattle.fuse_in.specs.Records.{getxattr_in}
 use Rattle.fuse_in.specs.Records.{batch_forget_in, write_in, mknod_in, mkdir_in, create_in}
 use Rattle.fuse_wire.specs.declared.opcodes.Opcode.{Opcode}
 use Rattle.fuse_wire.specs.declared.opcodes.Opcode.TheVariants as op
 use Rattle.fuse_wire.specs.Opcodes.{opcode_of}
 use Rattle.server_requests.specs.Extras.{new_name, new_link}
-use Rattle.fuse_fs.specs.Calls.{FileCall, Extra, Destroy, Getlk, Setlk, Setlkw, Bmap, Ioctl, Poll, NotifyReply, TmpFile}
+use Rattle.fuse_fs.specs.Calls.{FileCall, Extra, Destroy, Getlk, Setlk, Setlkw, Bmap, Ioctl, Poll}
+use Rattle.fuse_fs.specs.Calls.{NotifyReply, TmpFile}
 use Rattle.server_segments.specs.declared.error.Error.{Error}
 use Rattle.server_segments.specs.declared.error.Error.TheVariants.{DecodeMessage, EncodeMessage}
-use Rattle.server_requests.specs.Reading.{ReadFailure, Faults, Sends, Reading, ◌>>=◌, ◌>>◌, give, refuse, needs, reading_of, within, last_name, two_names, name_and_value, rest, many}
-use Rattle.server_calls.specs.Requests.{lookup_call, forget_call, getattr_call, setattr_call, readlink_call, unlink_call, rmdir_call, open_call, statfs_call, release_call}
-use Rattle.server_calls.specs.Requests.{fsync_call, fsyncdir_call, removexattr_call, flush_call, opendir_call, releasedir_call, access_call, fallocate_call, lseek_call}
-use Rattle.server_calls.specs.Requests.{copy_file_range_call, syncfs_call, read_call, link_call, rename_call, rename2_call, setxattr_call, getxattr_call, listxattr_call}
-use Rattle.server_calls.specs.Requests.{write_call, batch_forget_call, symlink_call, mknod_call, mkdir_call, create_call}
+use Rattle.server_requests.specs.Reading.{ReadFailure, Faults, Sends, Reading, ◌>>=◌, ◌>>◌, give, refuse}
+use Rattle.server_requests.specs.Reading.{needs, reading_of, within, last_name, two_names, name_and_value}
+use Rattle.server_requests.specs.Reading.{rest, many}
+use Rattle.server_calls.specs.Requests.{lookup_call, forget_call, getattr_call, setattr_call, readlink_call}
+use Rattle.server_calls.specs.Requests.{unlink_call, rmdir_call, open_call, statfs_call, release_call}
+use Rattle.server_calls.specs.Requests.{fsync_call, fsyncdir_call, removexattr_call, flush_call, opendir_call}
+use Rattle.server_calls.specs.Requests.{releasedir_call, access_call, fallocate_call, lseek_call}
+use Rattle.server_calls.specs.Requests.{copy_file_range_call, syncfs_call, read_call, link_call, rename_call}
+use Rattle.server_calls.specs.Requests.{rename2_call, setxattr_call, getxattr_call, listxattr_call}
+use Rattle.server_calls.specs.Requests.{write_call, batch_forget_call, symlink_call, mknod_call, mkdir_call}
+use Rattle.server_calls.specs.Requests.{create_call}
 use Rattle.server_requests.specs.Fronts.{counted, with_bytes, setxattr_front, forget_pair, flags2_of}
 use Rattle.server_replies.specs.WholeReplies.{versions_bytes}
 unfoldable pub use Rattle.server_replies.specs.WholeReplies.{reply_bytes, error_bytes}
@@ -78,7 +89,8 @@ started g r flags2 =
     if nat_lt r.major 7 then refuse (Sends EPROTO)
     else if nat_lt 7 r.major then give (Replies (reply_bytes g.header.unique versions_bytes))
     else if nat_lt r.minor 27 then refuse (Sends EPROTO)
-    else give (Asks (Starts g.header.unique (bit_and (flags2 * 2 ^ 32 + r.flags) known_options) r.max_readahead))
+    else give (Asks (Starts g.header.unique (bit_and (flags2 * 2 ^ 32 + r.flags) known_options)
+    r.max_readahead))
 
 -- the rows of the grammar by their shape, each of which asks one call; one record
 abbrev pub record_row : {R : Type 0} → RecordShape R → (InHeader → R → FileCall) → Given → Reading Meaning
@@ -90,28 +102,35 @@ header_row call g = one g (call g.header)
 
 -- one name
 abbrev pub name_row : (InHeader → List ℕ → FileCall) → Given → Reading Meaning
-name_row call g = counted g.header.len 0 >>= λ bytes. within bytes last_name >>= λ name. one g (call g.header name)
+name_row call g =
+    counted g.header.len 0 >>= λ bytes. within bytes last_name >>= λ name. one g (call g.header name)
 
 -- a record, and bytes that are read in a way that it may decide
-abbrev pub bytes_row : {R A : Type 0} → (Given → Reading (R × List ℕ)) → (Given → R → Reading A) → (InHeader → R → A → FileCall)
+abbrev pub bytes_row :
+    {R A : Type 0} → (Given → Reading (R × List ℕ)) → (Given → R → Reading A) → (InHeader → R → A → FileCall)
     → Given → Reading Meaning
 bytes_row front parts call g = front g >>= λ x. within x.1 (parts g x.0) >>= λ y. one g (call g.header x.0 y)
 
 -- a record of k bytes, and one name
-abbrev pub record_name_row : {R : Type 0} → RecordShape R → (k : ℕ) → (InHeader → R → List ℕ → FileCall) → Given → Reading Meaning
+abbrev pub record_name_row :
+    {R : Type 0} → RecordShape R → (k : ℕ) → (InHeader → R → List ℕ → FileCall) → Given → Reading Meaning
 record_name_row s k call = bytes_row (λ g. with_bytes s k g.header.len) (λ g r. last_name) call
 
 -- a record of k bytes, and two names
-abbrev pub two_names_row : {R : Type 0} → RecordShape R → (k : ℕ) → (InHeader → R → List ℕ × List ℕ → FileCall) → Given → Reading Meaning
+abbrev pub two_names_row : {R : Type 0} → RecordShape R → (k : ℕ) →
+    (InHeader → R → List ℕ × List ℕ → FileCall) → Given → Reading Meaning
 two_names_row s k call = bytes_row (λ g. with_bytes s k g.header.len) (λ g r. two_names) call
 
 -- a record of k bytes, and the name of a node that is made
-abbrev pub new_name_row : {R : Type 0} → RecordShape R → (k : ℕ) → (InHeader → R → List ℕ × Extra → FileCall) → Given → Reading Meaning
+abbrev pub new_name_row : {R : Type 0} → RecordShape R → (k : ℕ) →
+    (InHeader → R → List ℕ × Extra → FileCall) → Given → Reading Meaning
 new_name_row s k call = bytes_row (λ g. with_bytes s k g.header.len) (λ g r. new_name g.options) call
 
 -- SYMLINK: two names
 abbrev pub symlink_row : Given → Reading Meaning
-symlink_row g = counted g.header.len 0 >>= λ bytes. within bytes (new_link g.options) >>= λ x. one g (symlink_call g.header x)
+symlink_row g =
+    counted g.header.len 0
+    >>= λ bytes. within bytes (new_link g.options) >>= λ x. one g (symlink_call g.header x)
 
 -- a value or a list of names has at most 2^20 bytes
 abbrev pub at_most_a_mebibyte : ℕ → Reading (Unit {0})
@@ -119,15 +138,19 @@ at_most_a_mebibyte n = needs (nat_le n (2 ^ 20)) (Sends ENOMEM)
 
 -- GETXATTR: struct fuse_getxattr_in and the attribute's name
 abbrev pub getxattr_row : Given → Reading Meaning
-getxattr_row = bytes_row (λ g. with_bytes getxattr_in 8 g.header.len) (λ g r. at_most_a_mebibyte r.size >> last_name) getxattr_call
+getxattr_row =
+    bytes_row (λ g. with_bytes getxattr_in 8 g.header.len) (λ g r. at_most_a_mebibyte r.size >> last_name)
+    getxattr_call
 
 -- LISTXATTR: struct fuse_getxattr_in
 abbrev pub listxattr_row : Given → Reading Meaning
-listxattr_row g = reading_of getxattr_in >>= λ r. at_most_a_mebibyte r.size >> one g (listxattr_call g.header r)
+listxattr_row g =
+    reading_of getxattr_in >>= λ r. at_most_a_mebibyte r.size >> one g (listxattr_call g.header r)
 
 -- SETXATTR: the attribute's name and its value
 abbrev pub setxattr_row : Given → Reading Meaning
-setxattr_row = bytes_row (λ g. setxattr_front g.options g.header.len) (λ g r. name_and_value r.size) setxattr_call
+setxattr_row =
+    bytes_row (λ g. setxattr_front g.options g.header.len) (λ g r. name_and_value r.size) setxattr_call
 
 -- a READ is a fault where its room has no place for the header of the reply
 abbrev pub read_asked : Given → ReadIn → Reading Meaning
@@ -141,11 +164,12 @@ read_row g = reading_of read_in >>= λ r. read_asked g r
 abbrev pub write_row : Given → Reading Meaning
 write_row g = reading_of write_in >>= λ r. rest >>= λ bytes. one g (write_call g.header r bytes)
 
--- READDIR and READDIRPLUS ask for at most 2^20 bytes, and room for as many as they ask for; without a place for the header of the
--- reply they are faults
+-- READDIR and READDIRPLUS ask for at most 2^20 bytes, and room for as many as they ask for; without a place
+-- for the header of the reply they are faults
 abbrev pub listing_asked : Bool → ReadIn → Given → Reading Meaning
 listing_asked with_nodes r g =
-    at_most_a_mebibyte r.size >> needs (nat_le r.size g.room) (Sends ENOMEM) >> needs (nat_le 16 g.room) (Faults EncodeMessage)
+    at_most_a_mebibyte r.size >> needs (nat_le r.size g.room) (Sends ENOMEM)
+    >> needs (nat_le 16 g.room) (Faults EncodeMessage)
     >> give (Asks (Lists g.header.unique (listing_of with_nodes g.header r)))
 
 -- READDIR and READDIRPLUS: struct fuse_read_in
@@ -154,7 +178,9 @@ listing_row with_nodes g = reading_of read_in >>= λ r. listing_asked with_nodes
 
 -- as many pairs as a BATCH_FORGET says
 abbrev pub forgets_asked : ℕ → Given → Reading Meaning
-forgets_asked count g = at_most_a_mebibyte (count * 16) >> many count forget_pair >>= λ pairs. one g (batch_forget_call g.header pairs)
+forgets_asked count g =
+    at_most_a_mebibyte (count * 16) >> many count forget_pair
+    >>= λ pairs. one g (batch_forget_call g.header pairs)
 
 -- BATCH_FORGET: struct fuse_batch_forget_in, and that many of struct fuse_forget_one
 abbrev pub batch_forget_row : Given → Reading Meaning

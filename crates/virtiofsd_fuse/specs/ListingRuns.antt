@@ -5,20 +5,24 @@ use Rattle.server_replies.specs.Entries.{AfterEntry}
 use Rattle.virtiofsd_fuse.specs.Listings.{ListRequest, list_entries}
 use Rattle.virtiofsd_fuse.specs.Serving.{May}
 
--- from one state of the file system to another, entries are listed behind what was written; error: what ended the list, if
--- an error did
-pub record ListRun {F : Type 0} (may : May F) (l : ListRequest) (ds : List Listed) (left room : ℕ) (before : F)
+-- from one state of the file system to another, entries are listed behind what was written; error: what ended
+-- the list, if an error did
+pub record ListRun {F : Type 0} (may : May F) (l : ListRequest) (ds : List Listed) (left room : ℕ)
+    (before : F)
     (written final : List ℕ) (error : Option ℕ) (after : F) : Type 0 where
   pub steps : List (FileCall × FileAnswer)
   pub run : FileRun may before steps after
   pub bytes : List ℕ
-  pub gives : list_entries l ds left room (map (λ step. step.1) steps) ≡ record { calls = map (λ step. step.0) steps; bytes = bytes; error = error }
+  pub gives : list_entries l ds left room (map (λ step. step.1) steps)
+      ≡ record { calls = map (λ step. step.0) steps; bytes = bytes; error = error }
   pub all : final ≡ written ++ bytes
 
 -- one entry is listed, whatever entries come after it: they go on from there, or the list ends with it
-abbrev pub EntryRun : {F : Type 0} → May F → ListRequest → Listed → (left room : ℕ) → F → List ℕ → AfterEntry → (room : ℕ) → F → List ℕ → Type 0
+abbrev pub EntryRun : {F : Type 0} → May F → ListRequest → Listed → (left room : ℕ) → F → List ℕ →
+    AfterEntry → (room : ℕ) → F → List ℕ → Type 0
 EntryRun {F} may l d left room before written (Ok left_after) room_after after written_after =
     (ds : List Listed) (final : List ℕ) (error : Option ℕ) (end : F)
-    → ListRun may l ds left_after room_after after written_after final error end → ListRun may l (d ∷ ds) left room before written final error end
+    → ListRun may l ds left_after room_after after written_after final error end
+    → ListRun may l (d ∷ ds) left room before written final error end
 EntryRun may l d left room before written (Err error) room_after after written_after =
     (ds : List Listed) → ListRun may l (d ∷ ds) left room before written written_after error after

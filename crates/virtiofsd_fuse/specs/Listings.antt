@@ -1,12 +1,15 @@
--- READDIR and READDIRPLUS: which entries of a directory go into the reply, and which calls come with them (linux/fuse.h).
-use Rattle.std.specs.Prelude.{ℕ, ◌-◌, Bool, true, false, not, List, [], ◌∷◌, ◌++◌, length, Option, Some, None, if◌then◌else◌}
+-- READDIR and READDIRPLUS: which entries of a directory go into the reply, and which calls come with them
+-- (linux/fuse.h).
+use Rattle.std.specs.Prelude.{ℕ, ◌-◌, Bool, true, false, not, List, [], ◌∷◌, ◌++◌, length, Option, Some, None}
+use Rattle.std.specs.Prelude.{if◌then◌else◌}
 use Rattle.fuse_in.specs.declared.session.InHeader.{InHeader}
 use Rattle.fuse_in.specs.declared.files.ReadIn.{ReadIn}
 use Rattle.fuse_fs.specs.declared.answers.Context.{Context}
 use Rattle.fuse_fs.specs.declared.answers.Entry.{Entry}
 use Rattle.fuse_fs.specs.Answers.{context_of}
 use Rattle.fuse_fs.specs.Calls.{FileCall, FileAnswer, Listed, Lookup, Forget, Readdir, HasEntry, Failed}
-use Rattle.server_replies.specs.Entries.{entry_len, entry_bytes, Fit, GoesIn, IsFull, IsWrong, fit_of, is_dot, no_node}
+use Rattle.server_replies.specs.Entries.{entry_len, entry_bytes, Fit, GoesIn, IsFull, IsWrong, fit_of, is_dot}
+use Rattle.server_replies.specs.Entries.{no_node}
 
 -- which entries are asked for, and whether each comes with its node
 pub record ListRequest : Type 0 where
@@ -20,13 +23,21 @@ pub record ListRequest : Type 0 where
 -- READDIR, and with nodes READDIRPLUS
 abbrev pub listing_of : (with_nodes : Bool) → InHeader → ReadIn → ListRequest
 listing_of with_nodes h r =
-    record { context = context_of h; node = h.nodeid; handle = r.fh; size = r.size; offset = r.offset; with_nodes = with_nodes }
+    record {
+      context = context_of h;
+      node = h.nodeid;
+      handle = r.fh;
+      size = r.size;
+      offset = r.offset;
+      with_nodes = with_nodes;
+    }
 
 -- the call that opens it
 abbrev pub readdir_call : ListRequest → FileCall
 readdir_call l = Readdir l.context l.node l.handle l.size l.offset
 
--- what listing gives: the calls after READDIR, the bytes of the entries that went in, and the error that ended it, if one did
+-- what listing gives: the calls after READDIR, the bytes of the entries that went in, and the error that
+-- ended it, if one did
 pub record ListingResult : Type 0 where
   pub calls : List FileCall
   pub bytes : List ℕ
@@ -36,7 +47,8 @@ pub record ListingResult : Type 0 where
 abbrev pub nothing_more : List FileCall → Option ℕ → ListingResult
 nothing_more calls error = record { calls = calls; bytes = []; error = error }
 
--- an entry at the front; undo: the call that takes its node back, if it has one and doesn't go in; next: the entries after it
+-- an entry at the front; undo: the call that takes its node back, if it has one and doesn't go in; next: the
+-- entries after it
 abbrev pub placed : Fit → List ℕ → List FileCall → ListingResult → ListingResult
 placed GoesIn bytes undo next = record { calls = next.calls; bytes = bytes ++ next.bytes; error = next.error }
 placed IsFull bytes undo next = nothing_more undo None
@@ -55,14 +67,17 @@ abbrev pub Next : Type 0
 Next = (left room : ℕ) → List FileAnswer → ListingResult
 
 -- an entry that has its node, or needs none
-abbrev pub with_entry : Bool → Listed → Entry ℕ → List FileCall → Next → (left room : ℕ) → List FileAnswer → ListingResult
+abbrev pub with_entry :
+    Bool → Listed → Entry ℕ → List FileCall → Next → (left room : ℕ) → List FileAnswer → ListingResult
 with_entry with_nodes d e undo next left room answers =
     let len = entry_len with_nodes (length d.name) in
-    placed (fit_of (length d.name) len left room) (entry_bytes with_nodes e d) undo (next (left - len) (room - len) answers)
+    placed (fit_of (length d.name) len left room) (entry_bytes with_nodes e d) undo
+    (next (left - len) (room - len) answers)
 
 -- an entry that is looked up; a failed lookup is an error
 abbrev pub looked_up : ListRequest → Listed → Next → (left room : ℕ) → List FileAnswer → ListingResult
-looked_up l d next left room (HasEntry e ∷ answers) = with_entry true d e (undo_call l.context e.inode ∷ []) next left room answers
+looked_up l d next left room (HasEntry e ∷ answers) =
+    with_entry true d e (undo_call l.context e.inode ∷ []) next left room answers
 looked_up l d next left room (Failed errno ∷ answers) = nothing_more [] (Some errno)
 looked_up l d next left room _ = nothing_more [] None
 
@@ -70,7 +85,8 @@ looked_up l d next left room _ = nothing_more [] None
 abbrev pub list_entry : ListRequest → Listed → Next → (left room : ℕ) → List FileAnswer → ListingResult
 list_entry l d next left room answers =
     if not l.with_nodes then with_entry false d (no_node d) [] next left room answers
-    else if is_dot d.name then with_entry true d (no_node d) (undo_call l.context 0 ∷ []) next left room answers
+    else if is_dot d.name then with_entry true d (no_node d) (undo_call l.context 0 ∷ []) next left
+    room answers
     else after_call (Lookup l.context l.node d.name) (looked_up l d next left room answers)
 
 -- the entries in their order

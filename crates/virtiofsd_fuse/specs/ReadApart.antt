@@ -19,8 +19,10 @@ abbrev pub is_read : Option Opcode → Bool
 is_read (Some op.Read) = true
 is_read _ = false
 
--- the READ that the first bytes of a request are: a header of one, which says no length that is too great, and its record
+-- the READ that the first bytes of a request are: a header of one, which says no length that is too great,
+-- and its record
 abbrev pub read_request : Reading ReadRequest
 read_request =
-    reading_of in_header >>= λ h. needs (nat_le h.len 0x101000 && is_read (opcode_of h.opcode)) (Faults DecodeMessage)
+    reading_of in_header
+    >>= λ h. needs (nat_le h.len 0x101000 && is_read (opcode_of h.opcode)) (Faults DecodeMessage)
     >> reading_of read_in >>= λ r. give (record { header = h; «record» = r })

@@ -1,5 +1,6 @@
 -- What is read of a request by its row of the grammar.
-use Rattle.std.specs.Prelude.{◌≡◌, ◌≤◌, ◌-◌, ◌^◌, ℕ, Bool, true, false, ◌&&◌, List, [], Result, Ok, Err, bit_and}
+use Rattle.std.specs.Prelude.{◌≡◌, ◌≤◌, ◌-◌, ◌^◌, ℕ, Bool, true, false, ◌&&◌, List, [], Result, Ok, Err}
+use Rattle.std.specs.Prelude.{bit_and}
 use Rattle.fuse_in.specs.declared.session.InHeader.{InHeader}
 use Rattle.fuse_in.specs.declared.files.ReadIn.{ReadIn}
 use Rattle.fuse_values.specs.Values.{call_of}
@@ -11,7 +12,8 @@ use Rattle.server_segments.specs.declared.error.Error.{Error}
 use Rattle.server_segments.specs.Errors.{is_memory}
 use Rattle.server_replies.specs.WholeReplies.{error_bytes, reply_bytes, versions_bytes}
 use Rattle.server_requests.specs.Reading.{Reading}
-use Rattle.virtiofsd_fuse.specs.Grammar.{Meaning, IsFault, Replies, IsSilent, Asks, One, Starts, Lists, Given, given, ended, forgets_asked, known_options}
+use Rattle.virtiofsd_fuse.specs.Grammar.{Meaning, IsFault, Replies, IsSilent, Asks, One, Starts, Lists, Given}
+use Rattle.virtiofsd_fuse.specs.Grammar.{given, ended, forgets_asked, known_options}
 use Rattle.virtiofsd_fuse.specs.Listings.{listing_of}
 use Rattle.virtiofsd_fuse.specs.declared.meanings.RequestMeaning.{RequestMeaning}
 use Rattle.virtiofsd_fuse.specs.declared.meanings.RequestMeaning.TheVariants as value
@@ -32,18 +34,24 @@ is_single op.Readdir = false
 is_single op.Readdirplus = false
 is_single _ = true
 
--- what is told of a request with this meaning; splits: it may stand in several segments; takes: memory may be taken for it
+-- what is told of a request with this meaning; splits: it may stand in several segments; takes: memory may be
+-- taken for it
 abbrev pub Reads : (splits takes : Bool) → InHeader → RequestMeaning → Meaning → Type 0
 Reads splits takes h (value.Call call) m =
-    (m ≡ Asks (One h.unique (call_of [] call))) × CallSays h (call_of [] call) × (takes ≡ false → owns_memory (call_of [] call) ≡ false)
+    (m ≡ Asks (One h.unique (call_of [] call)))
+    × CallSays h (call_of [] call)
+    × (takes ≡ false → owns_memory (call_of [] call) ≡ false)
 Reads splits takes h (value.Error errno) m = m ≡ Replies (error_bytes h.unique errno)
 Reads splits takes h value.Silence m = m ≡ IsSilent
-Reads splits takes h (value.Fault e) m = (is_memory e ≡ false → m ≡ IsFault e) × ((splits && takes) ≡ false → is_memory e ≡ false)
+Reads splits takes h (value.Fault e) m =
+    (is_memory e ≡ false → m ≡ IsFault e) × ((splits && takes) ≡ false → is_memory e ≡ false)
 
 -- the same of a row that reads these bytes after the header, whatever the room is
-abbrev pub RowReads : (splits : Bool) → (takes : Given → Bool) → InHeader → (options : ℕ) → (Given → Reading Meaning) → (bytes : List ℕ) → RequestMeaning → Type 0
+abbrev pub RowReads : (splits : Bool) → (takes : Given → Bool) → InHeader → (options : ℕ) →
+    (Given → Reading Meaning) → (bytes : List ℕ) → RequestMeaning → Type 0
 RowReads splits takes h options row bytes told =
-    (room : ℕ) → Reads splits (takes (given h options room)) h told (ended h.unique (row (given h options room) bytes))
+    (room : ℕ) →
+    Reads splits (takes (given h options room)) h told (ended h.unique (row (given h options room) bytes))
 
 -- what is told of a READ with this meaning in this room: its record, or the fault
 abbrev pub ReadIsRead : InHeader → (room : ℕ) → Result ReadIn Error → Meaning → Type 0
@@ -52,19 +60,22 @@ ReadIsRead h room (Err e) m = (m ≡ IsFault e) × (is_memory e ≡ false)
 
 -- the same of a listing
 abbrev pub ListingIsRead : (with_nodes : Bool) → InHeader → (room : ℕ) → ListingMeaning → Meaning → Type 0
-ListingIsRead with_nodes h room (listing.List r) m = (m ≡ Asks (Lists h.unique (listing_of with_nodes h r))) × (16 ≤ room) × (r.size ≤ 2 ^ 20)
+ListingIsRead with_nodes h room (listing.List r) m =
+    (m ≡ Asks (Lists h.unique (listing_of with_nodes h r))) × (16 ≤ room) × (r.size ≤ 2 ^ 20)
 ListingIsRead with_nodes h room (listing.Error errno) m = m ≡ Replies (error_bytes h.unique errno)
 ListingIsRead with_nodes h room (listing.Fault e) m = (m ≡ IsFault e) × (is_memory e ≡ false)
 
 -- and of an INIT
 abbrev pub InitIsRead : InHeader → InitMeaning → Meaning → Type 0
-InitIsRead h (init.Start capable readahead) m = (m ≡ Asks (Starts h.unique capable.0 readahead)) × (bit_and capable.0 known_options ≡ capable.0)
+InitIsRead h (init.Start capable readahead) m =
+    (m ≡ Asks (Starts h.unique capable.0 readahead)) × (bit_and capable.0 known_options ≡ capable.0)
 InitIsRead h init.Versions m = m ≡ Replies (reply_bytes h.unique versions_bytes)
 InitIsRead h (init.Error errno) m = m ≡ Replies (error_bytes h.unique errno)
 InitIsRead h (init.Fault e) m = (m ≡ IsFault e) × (is_memory e ≡ false)
 
 -- and of a BATCH_FORGET, whose pairs are still to be read from the rest
 abbrev pub ForgetsAreRead : Given → ForgetsMeaning → (rest : List ℕ) → Meaning → Type 0
-ForgetsAreRead g (forgets.Pairs count) rest m = (m ≡ ended g.header.unique (forgets_asked count g rest)) × (count ≤ 65536)
+ForgetsAreRead g (forgets.Pairs count) rest m =
+    (m ≡ ended g.header.unique (forgets_asked count g rest)) × (count ≤ 65536)
 ForgetsAreRead g (forgets.Error errno) rest m = m ≡ Replies (error_bytes g.header.unique errno)
 ForgetsAreRead g (forgets.Fault e) rest m = (m ≡ IsFault e) × (is_memory e ≡ false)

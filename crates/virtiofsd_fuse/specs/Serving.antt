@@ -1,5 +1,6 @@
 -- What the server does for a meaning: its calls, given the answers so far, and its reply.
-use Rattle.std.specs.Prelude.{◌≡◌, ℕ, ◌-◌, Bool, false, nat_lt, List, [], ◌∷◌, map, length, Option, Some, None, Result, Ok, Err, if◌then◌else◌, bit_and, bit_or, MatchBool}
+use Rattle.std.specs.Prelude.{◌≡◌, ℕ, ◌-◌, Bool, false, nat_lt, List, [], ◌∷◌, map, length, Option, Some}
+use Rattle.std.specs.Prelude.{None, Result, Ok, Err, if◌then◌else◌, bit_and, bit_or, MatchBool}
 use Rattle.fuse_wire.specs.declared.opcodes.Opcode.{Opcode}
 use Rattle.fuse_fs.specs.Calls.{FileCall, FileAnswer, FileRun, Init, Failed, Done}
 use Rattle.fuse_fs.specs.Calls.{Entries, Wants}
@@ -9,13 +10,16 @@ use Rattle.fuse_in.specs.declared.session.InHeader.{InHeader}
 use Rattle.virtiofsd_fuse.specs.declared.server.Server.{Server}
 use Rattle.server_requests.specs.Reading.{Reading}
 use Rattle.virtiofsd_fuse.specs.Listings.{ListRequest, ListingResult, list_entries, readdir_call}
-use Rattle.virtiofsd_fuse.specs.Grammar.{Meaning, IsFault, Replies, IsSilent, Asks, FileCommand, One, Starts, Lists, Given, given, ended, row, default_options}
+use Rattle.virtiofsd_fuse.specs.Grammar.{Meaning, IsFault, Replies, IsSilent, Asks, FileCommand, One, Starts}
+use Rattle.virtiofsd_fuse.specs.Grammar.{Lists, Given, given, ended, row, default_options}
 use Rattle.server_segments.specs.ReaderAndWriterView.{WriterView}
-use Rattle.server_replies.specs.WholeReplies.{reply_bytes, error_bytes, started_bytes, told_bytes, listing_bytes, LeavesWriter}
+use Rattle.server_replies.specs.WholeReplies.{reply_bytes, error_bytes, started_bytes, told_bytes}
+use Rattle.server_replies.specs.WholeReplies.{listing_bytes, LeavesWriter}
 use Rattle.server_calls.specs.Requests.{is_silent, options_after, given_back}
 pub use Rattle.server_segments.specs.Errors.{is_memory, lacks_memory}
 
--- what serving gives so far: the calls, the last of which may wait for its answer, the options after, the reply, and the fault if there is one
+-- what serving gives so far: the calls, the last of which may wait for its answer, the options after, the
+-- reply, and the fault if there is one
 pub record ServedMessage : Type 0 where
   pub calls : List FileCall
   pub options : ℕ
@@ -64,12 +68,15 @@ setting page_size options room = record { page_size = page_size; options = optio
 
 -- the calls of a listing that went so, and its reply
 abbrev pub list_ended : Setting → ℕ → ListRequest → ListingResult → ServedMessage
-list_ended s unique l w = replied s.room (readdir_call l ∷ w.calls) s.options (listing_bytes unique l.with_nodes w.bytes w.error)
+list_ended s unique l w =
+    replied s.room (readdir_call l ∷ w.calls) s.options (listing_bytes unique l.with_nodes w.bytes w.error)
 
 -- the same by the answers, of which the first is the list of entries
 abbrev pub list_answered : Setting → ℕ → ListRequest → FileAnswer → List FileAnswer → ServedMessage
-list_answered s unique l (Entries ds) answers = list_ended s unique l (list_entries l ds l.size (s.room - 16) answers)
-list_answered s unique l (Failed errno) answers = replied s.room (readdir_call l ∷ []) s.options (error_bytes unique errno)
+list_answered s unique l (Entries ds) answers =
+    list_ended s unique l (list_entries l ds l.size (s.room - 16) answers)
+list_answered s unique l (Failed errno) answers =
+    replied s.room (readdir_call l ∷ []) s.options (error_bytes unique errno)
 list_answered s unique l _ answers = no_reply (readdir_call l ∷ []) s.options None
 
 -- the calls after a reply: where it is longer than the room, those that undo what it tells of
@@ -102,7 +109,8 @@ served s (Asks command) answers = commanded s command answers
 
 -- what an answer of the server says, after these calls
 abbrev pub served_of : List FileCall → (options : ℕ) → Result ℕ Error → (written : List ℕ) → ServedMessage
-served_of calls options (Ok n) written = record { calls = calls; options = options; reply = written; fault = None }
+served_of calls options (Ok n) written =
+    record { calls = calls; options = options; reply = written; fault = None }
 served_of calls options (Err fault) written = no_reply calls options (Some fault)
 
 -- what a file system may answer: its state before, the call, the answer, its state after
@@ -113,28 +121,34 @@ May F = F → FileCall → FileAnswer → F → Type 0
 abbrev pub all_done : List FileCall → List (FileCall × FileAnswer)
 all_done calls = map (λ call. (call, Done)) calls
 
--- a request served whole: calls, each with its answer, along which the file system's state moves, and what comes of them
+-- a request served whole: calls, each with its answer, along which the file system's state moves, and what
+-- comes of them
 pub record Serves {F : Type 0} (may : May F) (s : Setting) (m : Meaning) (before : F)
     (result : Result ℕ Error) (written : List ℕ) (options : ℕ) (after : F) : Type 0 where
   pub steps : List (FileCall × FileAnswer)
   pub run : FileRun may before steps after
-  pub gives : served s m (map (λ step. step.1) steps) ≡ served_of (map (λ step. step.0) steps) options result written
+  pub gives :
+      served s m (map (λ step. step.1) steps) ≡ served_of (map (λ step. step.0) steps) options result written
 
 -- a request is served, or an allocation fails and nothing has changed
 abbrev pub Handles : {F : Type 0} → May F → Setting → Meaning → F → Result ℕ Error → List ℕ → ℕ → F → Type 0
 Handles may s m before result written options after =
-    MatchBool (lacks_memory result) ((options ≡ s.options) × (after ≡ before)) (Serves may s m before result written options after)
+    MatchBool (lacks_memory result) ((options ≡ s.options)
+    × (after ≡ before)) (Serves may s m before result written options after)
 
 -- the same of a server, from one state to another
-abbrev pub ServerHandles : {F : Type 0} → May F → Server F → (room : ℕ) → Meaning → Result ℕ Error → List ℕ → Server F → Type 0
+abbrev pub ServerHandles :
+    {F : Type 0} → May F → Server F → (room : ℕ) → Meaning → Result ℕ Error → List ℕ → Server F → Type 0
 ServerHandles may before room m result written after =
-    Handles may (setting before.page_size before.options.0 room) m before.fs result written after.options.0 after.fs
+    Handles may (setting before.page_size before.options.0 room) m before.fs result written
+    after.options.0 after.fs
 
 -- and of a row of the grammar, which reads these bytes after the header
 abbrev pub RowHandles : {F : Type 0} → May F → Server F → (room : ℕ) → InHeader → (Given → Reading Meaning)
     → List ℕ → Result ℕ Error → List ℕ → Server F → Type 0
 RowHandles may before room head row bytes result written after =
-    ServerHandles may before room (ended head.unique (row (given head before.options.0 room) bytes)) result written after
+    ServerHandles may before room (ended head.unique (row (given head before.options.0 room) bytes)) result
+    written after
 
 -- and of the row of an opcode
 abbrev pub OpcodeHandles : {F : Type 0} → May F → Server F → (room : ℕ) → InHeader → Opcode
@@ -143,6 +157,9 @@ OpcodeHandles may before room head opcode bytes result written after =
     RowHandles may before room head (λ g. row g opcode) bytes result written after
 
 -- what a row leaves besides: its writer, and the page size; an allocation fails only if the row makes one
-abbrev pub Leaves : {F : Type 0} → (takes : Bool) → Result ℕ Error → (old new : WriterView) → (before after : Server F) → Type 0
+abbrev pub Leaves : {F : Type 0} → (takes : Bool) → Result ℕ Error → (old new : WriterView) →
+    (before after : Server F) → Type 0
 Leaves takes result old new before after =
-    LeavesWriter result old new × (takes ≡ false → lacks_memory result ≡ false) × (after.page_size ≡ before.page_size)
+    LeavesWriter result old new
+    × (takes ≡ false → lacks_memory result ≡ false)
+    × (after.page_size ≡ before.page_size)

@@ -25,13 +25,17 @@ row_owns g row bytes = meaning_owns (ended g.header.unique (row g bytes))
 abbrev pub opcode_owns : Given → Opcode → List ℕ → Bool
 opcode_owns g opcode bytes = row_owns g (λ x. row x opcode) bytes
 
--- whether memory is taken behind the header: for what is handed over, or for names, or a name and a value, that don't stand in one segment
+-- whether memory is taken behind the header: for what is handed over, or for names, or a name and a value,
+-- that don't stand in one segment
 abbrev pub takes_memory : Given → Opcode → (segments bytes : List ℕ) → Bool
 takes_memory g op.BatchForget segments bytes = opcode_owns g op.BatchForget bytes
-takes_memory g op.Symlink segments bytes = opcode_owns g op.Symlink bytes || counted_split g.header.len 0 segments
-takes_memory g op.Mknod segments bytes = opcode_owns g op.Mknod bytes || counted_split g.header.len 16 segments
+takes_memory g op.Symlink segments bytes =
+    opcode_owns g op.Symlink bytes || counted_split g.header.len 0 segments
+takes_memory g op.Mknod segments bytes =
+    opcode_owns g op.Mknod bytes || counted_split g.header.len 16 segments
 takes_memory g op.Mkdir segments bytes = opcode_owns g op.Mkdir bytes || counted_split g.header.len 8 segments
-takes_memory g op.Create segments bytes = opcode_owns g op.Create bytes || counted_split g.header.len 16 segments
+takes_memory g op.Create segments bytes =
+    opcode_owns g op.Create bytes || counted_split g.header.len 16 segments
 takes_memory g op.Lookup segments bytes = counted_split g.header.len 0 segments
 takes_memory g op.Unlink segments bytes = counted_split g.header.len 0 segments
 takes_memory g op.Rmdir segments bytes = counted_split g.header.len 0 segments
@@ -50,13 +54,16 @@ row_takes_memory g (Some opcode) segments bytes = takes_memory g opcode segments
 
 -- nor does a request whose length is too great
 abbrev pub body_takes_memory : Given → (segments bytes : List ℕ) → Bool
-body_takes_memory g segments bytes = nat_le g.header.len 0x101000 && row_takes_memory g (opcode_of g.header.opcode) segments bytes
+body_takes_memory g segments bytes =
+    nat_le g.header.len 0x101000 && row_takes_memory g (opcode_of g.header.opcode) segments bytes
 
 -- nor one that is shorter than its header
-abbrev pub header_takes_memory : (options room : ℕ) → (segments : List ℕ) → Result (InHeader × List ℕ) ReadFailure → Bool
+abbrev pub header_takes_memory :
+    (options room : ℕ) → (segments : List ℕ) → Result (InHeader × List ℕ) ReadFailure → Bool
 header_takes_memory options room segments (Err r) = false
 header_takes_memory options room segments (Ok x) = body_takes_memory (given x.0 options room) segments x.1
 
 -- whether a request may take memory
 abbrev pub may_take_memory : (options : ℕ) → (request : ReaderView) → (room : ℕ) → Bool
-may_take_memory options request room = header_takes_memory options room (past 40 request.segments) (reading_of in_header request.left)
+may_take_memory options request room =
+    header_takes_memory options room (past 40 request.segments) (reading_of in_header request.left)

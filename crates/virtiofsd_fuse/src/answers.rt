@@ -17,7 +17,8 @@ use server_segments::{Error, Writer};
 impl<F: FileSystem> Server<F> {
     // Gives a node back, if there is one.
     fn give_back(&mut self, context: Context, node: Option<F::Inode>)
-        ensures run { FileRun F.may self.old.fs (all_done (give_back context (option_map F.Inode.number node))) self.new.fs }
+        ensures run { FileRun F.may self.old.fs
+            (all_done (give_back context (option_map F.Inode.number node))) self.new.fs }
         ensures options { self.new.options ≡ self.old.options }
         ensures page_size { self.new.page_size ≡ self.old.page_size }
     {
@@ -27,8 +28,8 @@ impl<F: FileSystem> Server<F> {
         }
     }
 
-    /// Replies with an answer that may have an entry. If the reply has no room, the entry is given back, and the
-    /// answer is `EncodeMessage`.
+    /// Replies with an answer that may have an entry. If the reply has no room, the entry is given back, and
+    /// the answer is `EncodeMessage`.
     pub(crate) fn reply_entry<A: AsFront + EntryAnswer<F::Inode>>(
         &mut self,
         context: Context,
@@ -38,9 +39,11 @@ impl<F: FileSystem> Server<F> {
     ) -> Result<usize, Error>
         requires fresh { w.old.written ≡ [] }
         requires room { w.old.free < 2 ^ 32 }
-        ensures sent { with_written result w.new.written ≡ whole_or_none w.old.free (told_bytes A.silent unique (A.said answer)) }
+        ensures sent { with_written result w.new.written
+            ≡ whole_or_none w.old.free (told_bytes A.silent unique (A.said answer)) }
         ensures back { FileRun F.may self.old.fs
-            (all_done (undone w.old.free (told_bytes A.silent unique (A.said answer)) (give_back context (entry_node (A.said answer)))))
+            (all_done (undone w.old.free (told_bytes A.silent unique (A.said answer))
+            (give_back context (entry_node (A.said answer)))))
             self.new.fs }
         ensures writer { LeavesWriter result w.old w.new }
         ensures memory { lacks_memory result ≡ false }

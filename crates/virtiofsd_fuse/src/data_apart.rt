@@ -12,8 +12,9 @@ use server_requests::records::read_record;
 use server_segments::Reader;
 use std::alloc::Global;
 
-/// How many bytes of a request stand before its data, in bytes: all that a READ has, and what stands before the data of a
-/// WRITE (linux/fuse.h: `struct fuse_in_header`, and `struct fuse_read_in` or `struct fuse_write_in`).
+/// How many bytes of a request stand before its data, in bytes: all that a READ has, and what stands before
+/// the data of a WRITE (linux/fuse.h: `struct fuse_in_header`, and `struct fuse_read_in` or `struct
+/// fuse_write_in`).
 pub const REQUEST_FRONT: usize = 80;
 
 /// How many bytes of a reply stand before its data, in bytes: `struct fuse_out_header` (linux/fuse.h).
@@ -27,8 +28,8 @@ fn is_write(header: &InHeader) -> bool
     matches!(opcode_of(header.opcode), Some(Opcode::Write))
 }
 
-/// Whether what follows the first `REQUEST_FRONT` bytes of a request, which begins so, is data that is written: whether
-/// its header is that of a WRITE.
+/// Whether what follows the first `REQUEST_FRONT` bytes of a request, which begins so, is data that is
+/// written: whether its header is that of a WRITE.
 #[inline(always)]
 pub fn writes_data(alloc: Global, front: &[u8]) -> bool
     ensures { result ≡ begins_a_write front.now }

@@ -32,8 +32,10 @@ impl<F: FileSystem> Server<F> {
         requires fresh { w.old.written ≡ [] }
         requires room { w.old.free < 2 ^ 32 }
         requires few { count ≤ 65536 }
-        ensures handles { RowHandles F.may self.old w.old.free head.now (forgets_asked count) r.old.left result w.new.written self.new }
-        ensures rest { Leaves (row_owns (given head.now self.old.options.0 w.old.free) (forgets_asked count) r.old.left) result w.old w.new self.old self.new }
+        ensures handles { RowHandles F.may self.old w.old.free head.now (forgets_asked count) r.old.left
+            result w.new.written self.new }
+        ensures rest { Leaves (row_owns (given head.now self.old.options.0 w.old.free) (forgets_asked count)
+            r.old.left) result w.old w.new self.old self.new }
     {
         match read_pairs(alloc, r, count) {
             Ok(pairs) => {
@@ -54,8 +56,10 @@ impl<F: FileSystem> Server<F> {
     ) -> Result<usize, Error>
         requires fresh { w.old.written ≡ [] }
         requires room { w.old.free < 2 ^ 32 }
-        ensures handles { RowHandles F.may self.old w.old.free head.now batch_forget_row source.entry.reader.left result w.new.written self.new }
-        ensures rest { Leaves (row_owns (given head.now self.old.options.0 w.old.free) batch_forget_row source.entry.reader.left) result w.old w.new self.old self.new }
+        ensures handles { RowHandles F.may self.old w.old.free head.now batch_forget_row
+            source.entry.reader.left result w.new.written self.new }
+        ensures rest { Leaves (row_owns (given head.now self.old.options.0 w.old.free) batch_forget_row
+            source.entry.reader.left) result w.old w.new self.old self.new }
     {
         let mut source = source;
         match forgets_meaning(&mut source) {

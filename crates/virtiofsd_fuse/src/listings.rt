@@ -1,10 +1,12 @@
 //! READDIR and READDIRPLUS: entries of a directory go straight into the reply.
 
-ghost use Rattle.std.specs.Prelude.{◌≡◌, ◌+◌, ◌<◌, ◌≤◌, ◌^◌, Bool, true, false, List, ℕ, [], ◌++◌, length, OnOk, OnErr};
+ghost use Rattle.std.specs.Prelude.{◌≡◌, ◌+◌, ◌<◌, ◌≤◌, ◌^◌, Bool, true, false, List, ℕ, [], ◌++◌, length};
+ghost use Rattle.std.specs.Prelude.{OnOk, OnErr};
 ghost use Rattle.fuse_in.specs.declared.files.ReadIn.{ReadIn};
 ghost use Rattle.fuse_fs.specs.Answers.{listed, numbered, context_of};
 ghost use Rattle.fuse_fs.specs.Calls.{Done};
-ghost use Rattle.server_replies.specs.Entries.{dirent_bytes, node_bytes, entry_len, fit_of, is_dot, after_entry};
+ghost use Rattle.server_replies.specs.Entries.{dirent_bytes, node_bytes, entry_len, fit_of, is_dot};
+ghost use Rattle.server_replies.specs.Entries.{after_entry};
 ghost use Rattle.virtiofsd_fuse.specs.Listings.{listing_of, undo_call};
 ghost use Rattle.virtiofsd_fuse.specs.ListingRuns.{ListRun, EntryRun};
 ghost use Rattle.virtiofsd_fuse.specs.Grammar.{Asks, Lists, listing_row};
@@ -32,13 +34,16 @@ impl<F: FileSystem> Server<F> {
         left: usize,
         w: &mut Writer,
     ) -> Result<usize, Option<Errno>>
-        ensures outcome { result ≡ after_entry (fit_of (length entry.now.name.now) (entry_len true (length entry.now.name.now)) left w.old.free)
+        ensures outcome { result ≡ after_entry (fit_of (length entry.now.name.now)
+            (entry_len true (length entry.now.name.now)) left w.old.free)
             left (entry_len true (length entry.now.name.now)) }
-        ensures written { OnOk result (w.new.written ≡ w.old.written ++ (node_bytes (numbered F.Inode.number node) ++ dirent_bytes (listed entry.now))) }
+        ensures written { OnOk result (w.new.written ≡ w.old.written
+            ++ (node_bytes (numbered F.Inode.number node) ++ dirent_bytes (listed entry.now))) }
         ensures free { OnOk result (w.new.free + entry_len true (length entry.now.name.now) ≡ w.old.free) }
         ensures same { OnErr result (w.new ≡ w.old) }
         ensures kept { OnOk result (self.new.fs ≡ self.old.fs) }
-        ensures undone { OnErr result (F.may self.old.fs (undo_call (context_of head.now) (F.Inode.number node.inode)) Done self.new.fs) }
+        ensures undone { OnErr result (F.may self.old.fs
+            (undo_call (context_of head.now) (F.Inode.number node.inode)) Done self.new.fs) }
         ensures room { length w.new.written + w.new.free ≡ length w.old.written + w.old.free }
         ensures options { self.new.options ≡ self.old.options }
         ensures page_size { self.new.page_size ≡ self.old.page_size }
@@ -63,7 +68,8 @@ impl<F: FileSystem> Server<F> {
     ) -> Result<usize, Option<Errno>>
         requires { is_dot entry.now.name.now ≡ false }
         ensures run { (request : ReadIn) → EntryRun F.may (listing_of true head.now request)
-            (listed entry.now) left w.old.free self.old.fs w.old.written result w.new.free self.new.fs w.new.written }
+            (listed entry.now) left w.old.free self.old.fs w.old.written result w.new.free self.new.fs
+            w.new.written }
         ensures room { length w.new.written + w.new.free ≡ length w.old.written + w.old.free }
         ensures options { self.new.options ≡ self.old.options }
         ensures page_size { self.new.page_size ≡ self.old.page_size }
@@ -85,7 +91,8 @@ impl<F: FileSystem> Server<F> {
         w: &mut Writer,
     ) -> Result<usize, Option<Errno>>
         ensures run { (request : ReadIn) → EntryRun F.may (listing_of with_nodes head.now request)
-            (listed entry.now) left w.old.free self.old.fs w.old.written result w.new.free self.new.fs w.new.written }
+            (listed entry.now) left w.old.free self.old.fs w.old.written result w.new.free self.new.fs
+            w.new.written }
         ensures room { length w.new.written + w.new.free ≡ length w.old.written + w.old.free }
         ensures options { self.new.options ≡ self.old.options }
         ensures page_size { self.new.page_size ≡ self.old.page_size }
@@ -109,7 +116,8 @@ impl<F: FileSystem> Server<F> {
         w: &mut Writer,
     ) -> Option<Errno>
         ensures run { (request : ReadIn) → ListRun F.may (listing_of with_nodes head.now request)
-            (F.DirIter.rest entries) size w.old.free self.old.fs w.old.written w.new.written result self.new.fs }
+            (F.DirIter.rest entries) size w.old.free self.old.fs w.old.written w.new.written result
+            self.new.fs }
         ensures room { length w.new.written + w.new.free ≡ length w.old.written + w.old.free }
         ensures options { self.new.options ≡ self.old.options }
         ensures page_size { self.new.page_size ≡ self.old.page_size }
@@ -136,7 +144,8 @@ impl<F: FileSystem> Server<F> {
         requires fresh { w.old.written ≡ [] }
         requires room { w.old.free < 2 ^ 32 }
         requires enough { 16 ≤ w.old.free }
-        ensures handles { ServerHandles F.may self.old w.old.free (Asks (Lists head.now.unique (listing_of with_nodes head.now request.now)))
+        ensures handles { ServerHandles F.may self.old w.old.free
+            (Asks (Lists head.now.unique (listing_of with_nodes head.now request.now)))
             result w.new.written self.new }
         ensures rest { Leaves false result w.old w.new self.old self.new }
     {
@@ -160,7 +169,8 @@ impl<F: FileSystem> Server<F> {
     ) -> Result<usize, Error>
         requires fresh { w.old.written ≡ [] }
         requires room { w.old.free < 2 ^ 32 }
-        ensures handles { RowHandles F.may self.old w.old.free head.now (listing_row with_nodes) source.entry.reader.left result w.new.written self.new }
+        ensures handles { RowHandles F.may self.old w.old.free head.now (listing_row with_nodes)
+            source.entry.reader.left result w.new.written self.new }
         ensures rest { Leaves false result w.old w.new self.old self.new }
     {
         let room = w.available_bytes();

@@ -1,8 +1,10 @@
-//! What requests mean, read once for both uses: `Server` performs the call, and who serves in two phases is told it.
+//! What requests mean, read once for both uses: `Server` performs the call, and who serves in two phases is
+//! told it.
 
 ghost use Rattle.std.specs.Prelude.{◌≡◌, ◌||◌, true, false};
 ghost use Rattle.server_requests.specs.Fronts.{counted_split, setxattr_len};
-ghost use Rattle.virtiofsd_fuse.specs.Grammar.{given, row, header_row, record_row, name_row, record_name_row, two_names_row, new_name_row};
+ghost use Rattle.virtiofsd_fuse.specs.Grammar.{given, row, header_row, record_row, name_row, record_name_row};
+ghost use Rattle.virtiofsd_fuse.specs.Grammar.{two_names_row, new_name_row};
 ghost use Rattle.virtiofsd_fuse.specs.Grammar.{symlink_row, getxattr_row, listxattr_row, setxattr_row};
 ghost use Rattle.virtiofsd_fuse.specs.RowMeanings.{RowReads, is_single};
 ghost use Rattle.virtiofsd_fuse.specs.WantOfMemory.{row_owns, takes_memory};
@@ -62,7 +64,8 @@ fn record_row<'a, R: RecordValue, S: Source<'a> + Drop>(
     options: FsOptions,
     source: S,
 ) -> RequestMeaning<'a>
-    ensures { RowReads S.splits (λ g. false) head.now options.0 (record_row R.Record.shape R.call) (S.left source) result }
+    ensures { RowReads S.splits (λ g. false) head.now options.0 (record_row R.Record.shape R.call)
+        (S.left source) result }
 {
     let mut source = source;
     match source.record() {
@@ -78,7 +81,8 @@ fn name_row<'a, R: NameValue, S: Source<'a> + Drop>(
     options: FsOptions,
     source: S,
 ) -> RequestMeaning<'a>
-    ensures { RowReads S.splits (λ g. counted_split g.header.len 0 (S.segments source)) head.now options.0 (name_row R.call) (S.left source) result }
+    ensures { RowReads S.splits (λ g. counted_split g.header.len 0 (S.segments source)) head.now options.0
+        (name_row R.call) (S.left source) result }
 {
     match source.counted(head.len, 0) {
         Ok(bytes) => match last_name(bytes) {
@@ -134,7 +138,8 @@ fn new_name_row<'a, R: NewNameValue, S: Source<'a> + Drop>(
     options: FsOptions,
     source: S,
 ) -> RequestMeaning<'a>
-    ensures { RowReads S.splits (λ g. row_owns g (new_name_row R.Record.shape R.Record.SIZE R.call) (S.left source)
+    ensures { RowReads S.splits
+        (λ g. row_owns g (new_name_row R.Record.shape R.Record.SIZE R.call) (S.left source)
         || counted_split g.header.len R.Record.SIZE (S.segments source))
         head.now options.0 (new_name_row R.Record.shape R.Record.SIZE R.call) (S.left source) result }
 {
@@ -180,7 +185,8 @@ fn getxattr_row<'a, S: Source<'a> + Drop>(
     options: FsOptions,
     source: S,
 ) -> RequestMeaning<'a>
-    ensures { RowReads S.splits (λ g. counted_split g.header.len 8 (S.segments source)) head.now options.0 (getxattr_row) (S.left source) result }
+    ensures { RowReads S.splits (λ g. counted_split g.header.len 8 (S.segments source)) head.now options.0
+        (getxattr_row) (S.left source) result }
 {
     match record_and_bytes::<GetxattrIn, S>(source, head.len) {
         Ok(front) => {
@@ -239,9 +245,11 @@ fn setxattr_row<'a, S: Source<'a> + Drop>(
     }
 }
 
-// A match over opcodes. A row: how requests of a shape are read, and their opcodes; and behind the rows other arms.
+// A match over opcodes. A row: how requests of a shape are read, and their opcodes; and behind the rows other
+// arms.
 macro_rules! by_shape {
-    ($opcode:expr, $head:ident, $options:ident, $source:ident, { $($row:ident: $($name:ident)+;)* } $($arm:tt)*) => {
+    ($opcode:expr, $head:ident, $options:ident, $source:ident,
+        { $($row:ident: $($name:ident)+;)* } $($arm:tt)*) => {
         match $opcode {
             $($(Opcode::$name => $row::<$name, S>($head, $options, $source),)+)*
             $($arm)*
@@ -249,8 +257,8 @@ macro_rules! by_shape {
     };
 }
 
-/// What a request means, by its opcode and what stands behind its header. The fault is `OutOfMemory` only if names, or a name and
-/// a value, stand in several segments, and memory for them is refused.
+/// What a request means, by its opcode and what stands behind its header. The fault is `OutOfMemory` only if
+/// names, or a name and a value, stand in several segments, and memory for them is refused.
 #[tactic(auto, unfolding(crate::specs::Grammar::row))]
 #[inline(always)]
 pub fn row_meaning<'a, S: Source<'a> + Drop>(
@@ -260,11 +268,13 @@ pub fn row_meaning<'a, S: Source<'a> + Drop>(
     source: S,
 ) -> RequestMeaning<'a>
     requires { is_single opcode ≡ true }
-    ensures { RowReads S.splits (λ g. takes_memory g opcode (S.segments source) (S.left source)) head.now options.0 (λ g. row g opcode) (S.left source) result }
+    ensures { RowReads S.splits (λ g. takes_memory g opcode (S.segments source) (S.left source)) head.now
+        options.0 (λ g. row g opcode) (S.left source) result }
 {
     by_shape!(opcode, head, options, source, {
         header_row: Readlink Statfs Getlk Setlk Setlkw Bmap Destroy Ioctl Poll NotifyReply Syncfs TmpFile;
-        record_row: Forget Getattr Setattr Open Release Fsync Flush Opendir Releasedir Fsyncdir Access Fallocate Lseek CopyFileRange;
+        record_row: Forget Getattr Setattr Open Release Fsync Flush Opendir Releasedir Fsyncdir Access
+            Fallocate Lseek CopyFileRange;
         name_row: Lookup Unlink Rmdir Removexattr;
         record_name_row: Link;
         two_names_row: Rename Rename2;

@@ -1,9 +1,11 @@
-//! What requests mean of which the room, a size, a version or a count decides something, read here for both uses: READ, READDIR,
-//! READDIRPLUS, INIT, and BATCH_FORGET but for its pairs, which each use reads by itself, as it does a WRITE.
+//! What requests mean of which the room, a size, a version or a count decides something, read here for both
+//! uses: READ, READDIR, READDIRPLUS, INIT, and BATCH_FORGET but for its pairs, which each use reads by
+//! itself, as it does a WRITE.
 
 ghost use Rattle.std.specs.Prelude.{ℕ, Bool, List};
 ghost use Rattle.fuse_in.specs.declared.session.InHeader.{InHeader};
-ghost use Rattle.virtiofsd_fuse.specs.Grammar.{Given, given, ended, read_row, listing_row, init_row, batch_forget_row, started};
+ghost use Rattle.virtiofsd_fuse.specs.Grammar.{Given, given, ended, read_row, listing_row, init_row};
+ghost use Rattle.virtiofsd_fuse.specs.Grammar.{batch_forget_row, started};
 ghost use Rattle.virtiofsd_fuse.specs.RowMeanings.{ReadIsRead, ListingIsRead, InitIsRead, ForgetsAreRead};
 
 use crate::forgets::MAX_FORGETS;
@@ -19,7 +21,8 @@ use server_segments::Error;
 /// What a READ asks for by its record, if its reply has room for a header; else the fault.
 #[inline(always)]
 pub fn read_with_room<'a, S: Source<'a> + Drop>(room: usize, source: S) -> Result<ReadIn, Error>
-    ensures { (h : InHeader) (options : ℕ) → ReadIsRead h room result (ended h.unique (read_row (given h options room) (S.left source))) }
+    ensures { (h : InHeader) (options : ℕ)
+        → ReadIsRead h room result (ended h.unique (read_row (given h options room) (S.left source))) }
 {
     let mut source = source;
     match source.record::<ReadIn>() {
@@ -47,7 +50,8 @@ pub enum ListingMeaning {
 /// What a READDIR or READDIRPLUS means in a room of so many bytes.
 pub fn listing_meaning<'a, S: Source<'a> + Drop>(room: usize, source: S) -> ListingMeaning
     ensures { (with_nodes : Bool) (h : InHeader) (options : ℕ)
-        → ListingIsRead with_nodes h room result (ended h.unique (listing_row with_nodes (given h options room) (S.left source))) }
+        → ListingIsRead with_nodes h room result
+        (ended h.unique (listing_row with_nodes (given h options room) (S.left source))) }
 {
     let mut source = source;
     match source.record::<ReadIn>() {
@@ -82,7 +86,8 @@ pub enum InitMeaning {
 
 // INIT, by its records: the versions first, and then what both sides can.
 fn started(request: &InitInCompat, flags2: u32) -> InitMeaning
-    ensures { (g : Given) (more : List ℕ) → InitIsRead g.header result (ended g.header.unique (started g request.now flags2 more)) }
+    ensures { (g : Given) (more : List ℕ)
+        → InitIsRead g.header result (ended g.header.unique (started g request.now flags2 more)) }
 {
     if request.major < KERNEL_VERSION {
         return InitMeaning::Error(Errno::EPROTO);
@@ -102,7 +107,8 @@ fn started(request: &InitInCompat, flags2: u32) -> InitMeaning
 
 /// What an INIT means.
 pub fn init_meaning<'a, S: Source<'a> + Drop>(source: S) -> InitMeaning
-    ensures { (h : InHeader) (options room : ℕ) → InitIsRead h result (ended h.unique (init_row (given h options room) (S.left source))) }
+    ensures { (h : InHeader) (options room : ℕ)
+        → InitIsRead h result (ended h.unique (init_row (given h options room) (S.left source))) }
 {
     let mut source = source;
     match source.record::<InitInCompat>() {
@@ -127,7 +133,8 @@ pub enum ForgetsMeaning {
 
 /// What a BATCH_FORGET means by its record, which alone is read.
 pub fn forgets_meaning<'a, S: Source<'a>>(source: &mut S) -> ForgetsMeaning
-    ensures { (h : InHeader) (options room : ℕ) → ForgetsAreRead (given h options room) result (S.left source.new)
+    ensures { (h : InHeader) (options room : ℕ)
+        → ForgetsAreRead (given h options room) result (S.left source.new)
         (ended h.unique (batch_forget_row (given h options room) (S.left source.old))) }
 {
     match source.record::<BatchForgetIn>() {

@@ -28,8 +28,8 @@ fn numbered_if<H: FileNumber>(handle: Option<u64>) -> Option<H>
     }
 }
 
-// A match over calls. A row of a call on a node: its fields besides, how its answer is received, the file system's method with what it
-// is given besides; and behind the rows other arms.
+// A match over calls. A row of a call on a node: its fields besides, how its answer is received, the file
+// system's method with what it is given besides; and behind the rows other arms.
 macro_rules! performed {
     ($server:ident, $unique:ident, $w:ident, $call:expr, {
         $($name:ident { $($field:ident),* } $received:ident $method:ident($($given:expr),*);)*
@@ -55,7 +55,8 @@ macro_rules! by_shape {
 }
 
 impl<F: FileSystem> Server<F> {
-    /// Performs the one call that a request asks. What the file system owns of it takes memory, before the call.
+    /// Performs the one call that a request asks. What the file system owns of it takes memory, before the
+    /// call.
     #[inline(always)]
     pub(crate) fn perform(
         &mut self,
@@ -67,15 +68,18 @@ impl<F: FileSystem> Server<F> {
         requires fresh { w.old.written ≡ [] }
         requires room { w.old.free < 2 ^ 32 }
         requires plain { is_plain (call_of [] call) ≡ true }
-        ensures handles { ServerHandles F.may self.old w.old.free (Asks (One unique (call_of [] call.entry))) result w.new.written self.new }
+        ensures handles { ServerHandles F.may self.old w.old.free (Asks (One unique (call_of [] call.entry)))
+            result w.new.written self.new }
         ensures rest { Leaves (owns_memory (call_of [] call.entry)) result w.old w.new self.old self.new }
     {
         by_shape!(call, {
             Lookup Unlink Rmdir Removexattr => self.perform_named(unique, call, w);
             Link Rename Setxattr Getxattr => self.perform_recorded(unique, call, w);
             Symlink Mknod Mkdir Create => self.perform_made(alloc, unique, call, w);
-            Readlink Statfs Syncfs Destroy Getlk Setlk Setlkw Bmap Ioctl Poll NotifyReply TmpFile => self.perform_header(unique, call, w);
-            Forget Getattr Setattr Access Listxattr Open Opendir Release Releasedir Fsync Fsyncdir Flush Fallocate Lseek CopyFileRange =>
+            Readlink Statfs Syncfs Destroy Getlk Setlk Setlkw Bmap Ioctl Poll NotifyReply TmpFile =>
+                self.perform_header(unique, call, w);
+            Forget Getattr Setattr Access Listxattr Open Opendir Release Releasedir Fsync Fsyncdir Flush
+                Fallocate Lseek CopyFileRange =>
                 self.perform_record(unique, call, w);
         })
     }
@@ -91,7 +95,8 @@ impl<F: FileSystem> Server<F> {
         requires fresh { w.old.written ≡ [] }
         requires room { w.old.free < 2 ^ 32 }
         requires shape { shape_of (call_of [] call) ≡ Header }
-        ensures handles { ServerHandles F.may self.old w.old.free (Asks (One unique (call_of [] call.entry))) result w.new.written self.new }
+        ensures handles { ServerHandles F.may self.old w.old.free (Asks (One unique (call_of [] call.entry)))
+            result w.new.written self.new }
         ensures rest { Leaves false result w.old w.new self.old self.new }
     {
         performed!(self, unique, w, call, {
@@ -125,7 +130,8 @@ impl<F: FileSystem> Server<F> {
         requires fresh { w.old.written ≡ [] }
         requires room { w.old.free < 2 ^ 32 }
         requires shape { is_record (shape_of (call_of [] call)) ≡ true }
-        ensures handles { ServerHandles F.may self.old w.old.free (Asks (One unique (call_of [] call.entry))) result w.new.written self.new }
+        ensures handles { ServerHandles F.may self.old w.old.free (Asks (One unique (call_of [] call.entry)))
+            result w.new.written self.new }
         ensures rest { Leaves false result w.old w.new self.old self.new }
     {
         performed!(self, unique, w, call, {
@@ -154,19 +160,24 @@ impl<F: FileSystem> Server<F> {
         requires fresh { w.old.written ≡ [] }
         requires room { w.old.free < 2 ^ 32 }
         requires shape { shape_of (call_of [] call) ≡ OnFile }
-        ensures handles { ServerHandles F.may self.old w.old.free (Asks (One unique (call_of [] call.entry))) result w.new.written self.new }
+        ensures handles { ServerHandles F.may self.old w.old.free (Asks (One unique (call_of [] call.entry)))
+            result w.new.written self.new }
         ensures rest { Leaves false result w.old w.new self.old self.new }
     {
         performed!(self, unique, w, call, {
-            Release { flags, handle, flush, unlock, owner } received release(flags, F::Handle::numbered(handle), flush, unlock, owner);
+            Release { flags, handle, flush, unlock, owner } received release(flags,
+                F::Handle::numbered(handle), flush, unlock, owner);
             Releasedir { flags, handle } received releasedir(flags, F::Handle::numbered(handle));
             Fsync { data_only, handle } received fsync(data_only, F::Handle::numbered(handle));
             Fsyncdir { data_only, handle } received fsyncdir(data_only, F::Handle::numbered(handle));
             Flush { handle, owner } received flush(F::Handle::numbered(handle), owner);
-            Fallocate { handle, mode, offset, len } received fallocate(F::Handle::numbered(handle), mode, offset, len);
-            Lseek { handle, offset, whence } received_offset lseek(F::Handle::numbered(handle), offset, whence);
+            Fallocate { handle, mode, offset, len } received fallocate(F::Handle::numbered(handle), mode,
+                offset, len);
+            Lseek { handle, offset, whence } received_offset lseek(F::Handle::numbered(handle),
+                offset, whence);
             CopyFileRange { handle, offset, node_out, handle_out, offset_out, len, flags } received_count
-                copyfilerange(F::Handle::numbered(handle), offset, F::Inode::numbered(node_out), F::Handle::numbered(handle_out), offset_out, len, flags);
+                copyfilerange(F::Handle::numbered(handle), offset, F::Inode::numbered(node_out),
+                    F::Handle::numbered(handle_out), offset_out, len, flags);
         }
         _ => unreachable!())
     }

@@ -16,8 +16,8 @@ use server_requests::extensions::owned_extensions;
 use server_segments::{Error, Writer};
 use std::alloc::Global;
 
-// A match over calls, of which the first may have an entry. A row: the call's fields besides who asks, how its answer is received, and the
-// file system's method with what it is given besides.
+// A match over calls, of which the first may have an entry. A row: the call's fields besides who asks, how
+// its answer is received, and the file system's method with what it is given besides.
 macro_rules! performed {
     ($server:ident, $unique:ident, $w:ident, $call:expr,
         entries { $($name:ident { $($field:ident),* } $received:ident $method:ident($($given:expr),*);)* }
@@ -65,7 +65,8 @@ impl<F: FileSystem> Server<F> {
         requires fresh { w.old.written ≡ [] }
         requires room { w.old.free < 2 ^ 32 }
         requires shape { shape_of (call_of [] call) ≡ Named }
-        ensures handles { ServerHandles F.may self.old w.old.free (Asks (One unique (call_of [] call.entry))) result w.new.written self.new }
+        ensures handles { ServerHandles F.may self.old w.old.free (Asks (One unique (call_of [] call.entry)))
+            result w.new.written self.new }
         ensures rest { Leaves false result w.old w.new self.old self.new }
     {
         performed!(self, unique, w, call, entries {
@@ -88,14 +89,18 @@ impl<F: FileSystem> Server<F> {
         requires fresh { w.old.written ≡ [] }
         requires room { w.old.free < 2 ^ 32 }
         requires shape { shape_of (call_of [] call) ≡ NamedRecord }
-        ensures handles { ServerHandles F.may self.old w.old.free (Asks (One unique (call_of [] call.entry))) result w.new.written self.new }
+        ensures handles { ServerHandles F.may self.old w.old.free (Asks (One unique (call_of [] call.entry)))
+            result w.new.written self.new }
         ensures rest { Leaves false result w.old w.new self.old self.new }
     {
         performed!(self, unique, w, call, entries {
-            Link { old_node, node, name } received_entry link(F::Inode::numbered(old_node), F::Inode::numbered(node), name);
+            Link { old_node, node, name } received_entry link(F::Inode::numbered(old_node),
+                F::Inode::numbered(node), name);
         } others {
-            Rename { node, old, new_dir, new, flags } received rename(F::Inode::numbered(node), old, F::Inode::numbered(new_dir), new, flags);
-            Setxattr { node, name, value, flags, extra } received setxattr(F::Inode::numbered(node), name, value, flags, extra);
+            Rename { node, old, new_dir, new, flags } received rename(F::Inode::numbered(node), old,
+                F::Inode::numbered(new_dir), new, flags);
+            Setxattr { node, name, value, flags, extra } received setxattr(F::Inode::numbered(node), name,
+                value, flags, extra);
             Getxattr { node, name, size } received_value getxattr(F::Inode::numbered(node), name, size);
         })
     }
@@ -112,14 +117,18 @@ impl<F: FileSystem> Server<F> {
         requires fresh { w.old.written ≡ [] }
         requires room { w.old.free < 2 ^ 32 }
         requires shape { shape_of (call_of [] call) ≡ Made }
-        ensures handles { ServerHandles F.may self.old w.old.free (Asks (One unique (call_of [] call.entry))) result w.new.written self.new }
+        ensures handles { ServerHandles F.may self.old w.old.free (Asks (One unique (call_of [] call.entry)))
+            result w.new.written self.new }
         ensures rest { Leaves (owns_memory (call_of [] call.entry)) result w.old w.new self.old self.new }
     {
         made!(self, alloc, unique, w, call, {
             Symlink { link, node, name } received_entry symlink(link, F::Inode::numbered(node), name);
-            Mknod { node, name, mode, rdev, umask } received_entry mknod(F::Inode::numbered(node), name, mode, rdev, umask);
-            Mkdir { node, name, mode, umask } received_entry mkdir(F::Inode::numbered(node), name, mode, umask);
-            Create { node, name, mode, kill, flags, umask } received_file create(F::Inode::numbered(node), name, mode, kill, flags, umask);
+            Mknod { node, name, mode, rdev, umask } received_entry mknod(F::Inode::numbered(node), name, mode,
+                rdev, umask);
+            Mkdir { node, name, mode, umask } received_entry mkdir(F::Inode::numbered(node), name,
+                mode, umask);
+            Create { node, name, mode, kill, flags, umask } received_file create(F::Inode::numbered(node),
+                name, mode, kill, flags, umask);
         })
     }
 }

@@ -1,6 +1,7 @@
 //! READ: bytes of a file go straight into the reply.
 
-ghost use Rattle.std.specs.Prelude.{◌≡◌, ℕ, ◌+◌, ◌-◌, ◌<◌, ◌≤◌, ◌^◌, List, [], ◌++◌, length, false, is_ok, is_some, IfSome, IsTrue, Ok, Some};
+ghost use Rattle.std.specs.Prelude.{◌≡◌, ℕ, ◌+◌, ◌-◌, ◌<◌, ◌≤◌, ◌^◌, List, [], ◌++◌, length, false, is_ok};
+ghost use Rattle.std.specs.Prelude.{is_some, IfSome, IsTrue, Ok, Some};
 ghost use Rattle.fuse_wire.specs.Opcodes.{opcode_of};
 ghost use Rattle.fuse_fs.specs.Transfers.{moved};
 ghost use Rattle.server_calls.specs.Requests.{read_call};
@@ -29,11 +30,13 @@ pub struct ReadRequest {
 }
 
 impl ReadRequest {
-    /// The READ that a request's bytes are; None if they are another request's, are cut short, or say a length that
-    /// is too great.
+    /// The READ that a request's bytes are; None if they are another request's, are cut short, or say a
+    /// length that is too great.
     pub fn of_bytes(alloc: Global, request: &[u8]) -> Option<ReadRequest>
         ensures some { is_some result ≡ is_ok (read_request request.now) }
-        ensures means { (options room : ℕ) → 16 ≤ room → IfSome result (λ q. meaning options request.now room ≡ read_meaning q room) }
+        ensures means { (options room : ℕ)
+            → 16 ≤ room
+            → IfSome result (λ q. meaning options request.now room ≡ read_meaning q room) }
     {
         let mut r = Reader::of_slice(alloc, request);
         let Ok(header) = read_record::<InHeader>(&mut r) else {
@@ -75,8 +78,8 @@ pub struct ReadReply {
 }
 
 impl<F: FileSystem> Server<F> {
-    /// Serves a READ of which the data goes to a writer, for a file system whose reads put nothing in if they fail.
-    /// The header of the reply is answered; with the data behind it, it is the reply.
+    /// Serves a READ of which the data goes to a writer, for a file system whose reads put nothing in if they
+    /// fail. The header of the reply is answered; with the data behind it, it is the reply.
     pub fn read_into<W: ZeroCopyWriter>(
         &mut self,
         request: &ReadRequest,
@@ -84,9 +87,12 @@ impl<F: FileSystem> Server<F> {
     ) -> ReadReply
         requires whole { IsTrue (F.reads_whole self.old.fs) }
         requires room { 16 + W.room writer.old < 2 ^ 32 }
-        ensures handles { (bytes : List ℕ) × W.Puts writer.old bytes writer.new × (W.room writer.old ≡ W.room writer.new + length bytes)
+        ensures handles { (bytes : List ℕ)
+            × W.Puts writer.old bytes writer.new
+            × (W.room writer.old ≡ W.room writer.new + length bytes)
             × (result.len ≡ 16 + length bytes)
-            × ServerHandles F.may self.old (16 + W.room writer.old) (read_meaning request.now (16 + W.room writer.old)) (Ok result.len)
+            × ServerHandles F.may self.old (16 + W.room writer.old)
+            (read_meaning request.now (16 + W.room writer.old)) (Ok result.len)
             (result.header ++ bytes) self.new }
         ensures page_size { self.new.page_size ≡ self.old.page_size }
     {
@@ -110,7 +116,8 @@ impl<F: FileSystem> Server<F> {
         requires fresh { w.old.written ≡ [] }
         requires room { w.old.free < 2 ^ 32 }
         requires enough { 16 ≤ w.old.free }
-        ensures handles { ServerHandles F.may self.old w.old.free (Asks (One head.now.unique (read_call head.now (w.old.free - 16) request.now)))
+        ensures handles { ServerHandles F.may self.old w.old.free
+            (Asks (One head.now.unique (read_call head.now (w.old.free - 16) request.now)))
             result w.new.written self.new }
         ensures rest { Leaves false result w.old w.new self.old self.new }
     {
@@ -134,7 +141,8 @@ impl<F: FileSystem> Server<F> {
     ) -> Result<usize, Error>
         requires fresh { w.old.written ≡ [] }
         requires room { w.old.free < 2 ^ 32 }
-        ensures handles { RowHandles F.may self.old w.old.free head.now read_row source.entry.reader.left result w.new.written self.new }
+        ensures handles { RowHandles F.may self.old w.old.free head.now read_row source.entry.reader.left
+            result w.new.written self.new }
         ensures rest { Leaves false result w.old w.new self.old self.new }
     {
         let room = w.available_bytes();

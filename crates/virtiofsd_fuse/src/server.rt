@@ -1,6 +1,7 @@
 //! The server: it reads a request, asks its file system, and writes the reply (virtiofsd's `Server`).
 
-ghost use Rattle.std.specs.Prelude.{◌≡◌, ◌+◌, ◌<◌, ◌≤◌, ◌^◌, true, false, [], length, IfOk, OnOk, OnErr, IsTrue, bit_and};
+ghost use Rattle.std.specs.Prelude.{◌≡◌, ◌+◌, ◌<◌, ◌≤◌, ◌^◌, true, false, [], length, IfOk, OnOk, OnErr};
+ghost use Rattle.std.specs.Prelude.{IsTrue, bit_and};
 ghost use Rattle.fuse_wire.specs.Opcodes.{opcode_of};
 ghost use Rattle.server_replies.specs.PageSizes.{is_page_size};
 ghost use Rattle.server_segments.specs.Errors.{lacks_memory};
@@ -20,7 +21,8 @@ use server_requests::source::Segments;
 use server_segments::{Error, Reader, Writer};
 use std::alloc::Global;
 
-/// The longest request, in bytes: 2^20 of data, and one page (virtiofsd's `MAX_BUFFER_SIZE` and `FUSE_BUFFER_HEADER_SIZE`).
+/// The longest request, in bytes: 2^20 of data, and one page (virtiofsd's `MAX_BUFFER_SIZE` and
+/// `FUSE_BUFFER_HEADER_SIZE`).
 pub const MAX_REQUEST_LEN: u32 = 0x101000;
 
 /// A server of one file system.
@@ -60,8 +62,8 @@ impl<F: FileSystem> Server<F> {
         }
     }
 
-    /// A server that goes on with the options that were agreed before; bits of no option are dropped. The guest's pages
-    /// have `page_size` bytes.
+    /// A server that goes on with the options that were agreed before; bits of no option are dropped. The
+    /// guest's pages have `page_size` bytes.
     pub fn resume(fs: F, page_size: u32, options: FsOptions) -> Server<F>
         requires { IsTrue (is_page_size page_size) }
         ensures fs { result.fs ≡ fs }
@@ -106,8 +108,9 @@ impl<F: FileSystem> Server<F> {
         &self.fs
     }
 
-    // Serves a request that asks one plain call, or none (`is_single`). It isn't inlined into `handle_message` as the others are: its
-    // code is long, and with it `handle_message` would not be inlined where a chain is served.
+    // Serves a request that asks one plain call, or none (`is_single`). It isn't inlined into
+    // `handle_message` as the others are: its code is long, and with it `handle_message` would not be inlined
+    // where a chain is served.
     #[inline(never)]
     fn serve_single(
         &mut self,
@@ -120,8 +123,10 @@ impl<F: FileSystem> Server<F> {
         requires fresh { w.old.written ≡ [] }
         requires room { w.old.free < 2 ^ 32 }
         requires single { is_single opcode ≡ true }
-        ensures handles { OpcodeHandles F.may self.old w.old.free head.now opcode source.entry.reader.left result w.new.written self.new }
-        ensures rest { Leaves (takes_memory (given head.now self.old.options.0 w.old.free) opcode source.entry.reader.segments source.entry.reader.left)
+        ensures handles { OpcodeHandles F.may self.old w.old.free head.now opcode source.entry.reader.left
+            result w.new.written self.new }
+        ensures rest { Leaves (takes_memory (given head.now self.old.options.0 w.old.free) opcode
+            source.entry.reader.segments source.entry.reader.left)
             result w.old w.new self.old self.new }
     {
         match row_meaning(opcode, head, self.options, source) {
@@ -145,8 +150,10 @@ impl<F: FileSystem> Server<F> {
     ) -> Result<usize, Error>
         requires fresh { w.old.written ≡ [] }
         requires room { w.old.free < 2 ^ 32 }
-        ensures handles { OpcodeHandles F.may self.old w.old.free head.now opcode r.entry.left result w.new.written self.new }
-        ensures rest { Leaves (takes_memory (given head.now self.old.options.0 w.old.free) opcode r.entry.segments r.entry.left)
+        ensures handles { OpcodeHandles F.may self.old w.old.free head.now opcode r.entry.left result
+            w.new.written self.new }
+        ensures rest { Leaves (takes_memory (given head.now self.old.options.0 w.old.free) opcode
+            r.entry.segments r.entry.left)
             result w.old w.new self.old self.new }
     {
         let mut held = Vec::new(alloc);
@@ -178,8 +185,10 @@ impl<F: FileSystem> Server<F> {
         requires fresh { w.old.written ≡ [] }
         requires room { w.old.free < 2 ^ 32 }
         ensures handles { ServerHandles F.may self.old w.old.free
-            (meant (given head.now self.old.options.0 w.old.free) r.entry.left) result w.new.written self.new }
-        ensures rest { Leaves (body_takes_memory (given head.now self.old.options.0 w.old.free) r.entry.segments r.entry.left)
+            (meant (given head.now self.old.options.0 w.old.free) r.entry.left) result
+            w.new.written self.new }
+        ensures rest { Leaves (body_takes_memory (given head.now self.old.options.0 w.old.free)
+            r.entry.segments r.entry.left)
             result w.old w.new self.old self.new }
     {
         if head.len > MAX_REQUEST_LEN {
@@ -191,9 +200,9 @@ impl<F: FileSystem> Server<F> {
         }
     }
 
-    /// Serves one request, which is what the reader has left: what its bytes mean, by calls of the file system that may
-    /// be answered so. Answers the reply's length; the reply stands in the writer, whose free bytes are its room. A
-    /// fault leaves the writer as it was. `OutOfMemory` comes before any call.
+    /// Serves one request, which is what the reader has left: what its bytes mean, by calls of the file
+    /// system that may be answered so. Answers the reply's length; the reply stands in the writer, whose free
+    /// bytes are its room. A fault leaves the writer as it was. `OutOfMemory` comes before any call.
     #[tactic(auto, using(crate::proofs::Left::left_length, crate::proofs::Left::left_room, crate::proofs::Left::left_same))]
     #[inline(always)]
     pub fn handle_message(
@@ -204,12 +213,14 @@ impl<F: FileSystem> Server<F> {
     ) -> Result<usize, Error>
         requires fresh { w.old.written ≡ [] }
         requires room { w.old.free < 2 ^ 32 }
-        ensures handles { ServerHandles F.may self.old w.old.free (meaning self.old.options.0 r.entry.left w.old.free) result w.new.written self.new }
+        ensures handles { ServerHandles F.may self.old w.old.free
+            (meaning self.old.options.0 r.entry.left w.old.free) result w.new.written self.new }
         ensures length { IfOk result (λ n. n ≡ length w.new.written) }
         ensures fits { OnOk result (length w.new.written ≤ w.old.free) }
         ensures free { OnOk result (length w.new.written + w.new.free ≡ w.old.free) }
         ensures same { OnErr result (w.new ≡ w.old) }
-        ensures memory { may_take_memory self.old.options.0 r.entry w.old.free ≡ false → lacks_memory result ≡ false }
+        ensures memory { may_take_memory self.old.options.0 r.entry w.old.free ≡ false
+            → lacks_memory result ≡ false }
         ensures page_size { self.new.page_size ≡ self.old.page_size }
     {
         match read_record(&mut r) {

@@ -49,7 +49,8 @@ impl<F: FileSystem> Server<F> {
         requires fresh { w.old.written ≡ [] }
         requires room { w.old.free < 2 ^ 32 }
         requires known { bit_and capable.0 known_options ≡ capable.0 }
-        ensures handles { ServerHandles F.may self.old w.old.free (Asks (Starts head.now.unique capable.0 readahead)) result w.new.written self.new }
+        ensures handles { ServerHandles F.may self.old w.old.free
+            (Asks (Starts head.now.unique capable.0 readahead)) result w.new.written self.new }
         ensures rest { Leaves false result w.old w.new self.old self.new }
     {
         match make_init_call(&mut self.fs, capable) {
@@ -72,7 +73,8 @@ impl<F: FileSystem> Server<F> {
     ) -> Result<usize, Error>
         requires fresh { w.old.written ≡ [] }
         requires room { w.old.free < 2 ^ 32 }
-        ensures handles { RowHandles F.may self.old w.old.free head.now init_row source.entry.reader.left result w.new.written self.new }
+        ensures handles { RowHandles F.may self.old w.old.free head.now init_row source.entry.reader.left
+            result w.new.written self.new }
         ensures rest { Leaves false result w.old w.new self.old self.new }
     {
         match init_meaning(source) {

@@ -22,7 +22,8 @@ impl<F: FileSystem> Server<F> {
     ) -> Result<usize, Error>
         requires fresh { w.old.written ≡ [] }
         requires room { w.old.free < 2 ^ 32 }
-        ensures handles { RowHandles F.may self.old w.old.free head.now write_row r.entry.left result w.new.written self.new }
+        ensures handles { RowHandles F.may self.old w.old.free head.now write_row r.entry.left result
+            w.new.written self.new }
         ensures rest { Leaves false result w.old w.new self.old self.new }
     {
         match read_record(&mut r) {

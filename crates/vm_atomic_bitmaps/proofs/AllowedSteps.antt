@@ -1,6 +1,7 @@
 -- Each step on the words keeps the rule, and a bitmap begins with it.
 use Rattle.std.proofs.Common.{◌≡◌, ◌≢◌, ◌⊎◌, ℕ, zero, suc, ◌+◌, ◌-◌, ◌*◌, ◌/◌, ◌%◌, ◌^◌, ◌<◌, ◌≤◌, arith}
-use Rattle.std.proofs.Common.{Bool, true, false, cond, eqb, List, [], ◌∷◌, length, get_or, set, replicate, refl, sym, ap, ◌∙◌, subst, inl, inr, ⊎_elim, bit_and, bit_or}
+use Rattle.std.proofs.Common.{Bool, true, false, cond, eqb, List, [], ◌∷◌, length, get_or, set, replicate, refl, sym, ap, ◌∙◌, subst, inl}
+use Rattle.std.proofs.Common.{inr, ⊎_elim, bit_and, bit_or}
 use Rattle.std.specs.Int.{bit_at, div_ceil}
 use Rattle.std.proofs.lemmas.List.{length-set, get_or-set_same, get_or-set_other, get_or-replicate, length-replicate}
 use Rattle.std.proofs.lemmas.Nat.Bits.{bit_at-lt, bit_at_or, bit_at_and, bit_at-zero}
@@ -13,8 +14,10 @@ use Rattle.atomic_table.proofs.Lists.{at_set, at_snoc}
 use Rattle.vm_atomic_bitmaps.specs.declared.counts.Tally.{Tally}
 use Rattle.vm_atomic_bitmaps.specs.declared.counts.PageCounts.{PageCounts}
 use Rattle.vm_bitmaps.specs.Words.{page_bit, bit_of}
-use Rattle.vm_atomic_bitmaps.specs.Counts.{no_tally, tally_of, each_tally, after_mark, after_clearing, after_read, picks, in_word, marked_by, cleared_by, read_by, first_pass, with_pages, IsWhole}
-use Rattle.vm_atomic_bitmaps.specs.Rule.{table_words, total_by, marks_at, on_at, off_at, Counted, weight, IsIdle, AddUp, PageAccount, KeepsRule, StandsAt}
+use Rattle.vm_atomic_bitmaps.specs.Counts.{no_tally, tally_of, each_tally, after_mark, after_clearing, after_read, picks, in_word}
+use Rattle.vm_atomic_bitmaps.specs.Counts.{marked_by, cleared_by, read_by, first_pass, with_pages, IsWhole}
+use Rattle.vm_atomic_bitmaps.specs.Rule.{table_words, total_by, marks_at, on_at, off_at, Counted, weight, IsIdle, AddUp, PageAccount}
+use Rattle.vm_atomic_bitmaps.specs.Rule.{KeepsRule, StandsAt}
 use Rattle.vm_atomic_bitmaps.specs.Steps.{NoneBeyond, Settles, SettlesWord, PassSeat, MarkStep, GatherStep, ClearStep, ReadStep}
 use Rattle.vm_atomic_bitmaps.proofs.PassTotals.{total_set, total_part, total_alone, at_each, at_past}
 
@@ -78,12 +81,15 @@ read_moves t b b' l e = record {
 
 pub counted_step : (len : ℕ) (words words' : List ℕ) (views : List PageCounts) (id : ℕ) (v w : PageCounts) → get_elem? views id ≡ some v
     → Counted len words views → ((p : ℕ) → len ≤ p → page_bit words' p ≡ 0)
-    → ((p : ℕ) → p < len → Moves (tally_of v.pages p) (tally_of w.pages p) (page_bit words p) (page_bit words' p)) → Counted len words' (set views id w)
+    → ((p : ℕ) → p < len → Moves (tally_of v.pages p) (tally_of w.pages p) (page_bit words p) (page_bit words' p))
+    → Counted len words' (set views id w)
 counted_step len words words' views id v w at_id c rest moves = record {
   rest = rest;
-  bits = λ p l. let m = moves p l in let x = m.sums in let s = total_set (on_at p) views id v w at_id in let t = total_set (off_at p) views id v w at_id in let b = c.bits p l in omega arith;
+  bits = λ p l. let m = moves p l in let x = m.sums in let s = total_set (on_at p) views id v w at_id in
+      let t = total_set (off_at p) views id v w at_id in let b = c.bits p l in omega arith;
   marks = λ p l. (forth p l, back p l);
-  bounded = λ p l j u e. ⊎_elim (λ (x : (j ≡ id) × (w ≡ u)). mine p l u x.1) (λ (x : (j ≢ id) × (get_elem? views j ≡ some u)). theirs p l j u x.1) (at_set views id j w u e);
+  bounded = λ p l j u e. ⊎_elim (λ (x : (j ≡ id) × (w ≡ u)). mine p l u x.1)
+      (λ (x : (j ≢ id) × (get_elem? views j ≡ some u)). theirs p l j u x.1) (at_set views id j w u e);
 }
   where
     forth : (p : ℕ) → p < len → 0 < total_by (marks_at p) (set views id w) → 0 < total_by (on_at p) (set views id w)
@@ -112,7 +118,9 @@ counted_step len words words' views id v w at_id c rest moves = record {
           | inr now ↦ omega arith
         ]
 
-    mine : (p : ℕ) → p < len → (u : PageCounts) → w ≡ u → ((tally_of u.pages p).held ≤ total_by (on_at p) (set views id w)) × ((tally_of u.pages p).seen ≤ total_by (off_at p) (set views id w))
+    mine : (p : ℕ) → p < len → (u : PageCounts) → w ≡ u
+        → ((tally_of u.pages p).held ≤ total_by (on_at p) (set views id w))
+        × ((tally_of u.pages p).seen ≤ total_by (off_at p) (set views id w))
     mine p l u e =
         let m = moves p l in
         let s = total_set (on_at p) views id v w at_id in
@@ -123,10 +131,12 @@ counted_step len words words' views id v w at_id c rest moves = record {
         let n = m.bounded (total_by (on_at p) views) (total_by (off_at p) views) (c.bits p l) r0 r1 in
         let n0 = n.0 in
         let n1 = n.1 in
-        subst (λ (x : PageCounts). ((tally_of x.pages p).held ≤ total_by (on_at p) (set views id w)) × ((tally_of x.pages p).seen ≤ total_by (off_at p) (set views id w))) e (omega arith, omega arith)
+        subst (λ (x : PageCounts). ((tally_of x.pages p).held ≤ total_by (on_at p) (set views id w))
+        × ((tally_of x.pages p).seen ≤ total_by (off_at p) (set views id w))) e (omega arith, omega arith)
 
     theirs : (p : ℕ) → p < len → (j : ℕ) (u : PageCounts) → get_elem? views j ≡ some u
-        → ((tally_of u.pages p).held ≤ total_by (on_at p) (set views id w)) × ((tally_of u.pages p).seen ≤ total_by (off_at p) (set views id w))
+        → ((tally_of u.pages p).held ≤ total_by (on_at p) (set views id w))
+        × ((tally_of u.pages p).seen ≤ total_by (off_at p) (set views id w))
     theirs p l j u e =
         let m = moves p l in
         let up = m.on in
@@ -138,7 +148,8 @@ counted_step len words words' views id v w at_id c rest moves = record {
         let r1 = r.1 in
         (omega arith, omega arith)
 
-pub shared_step : (views : List PageCounts) (id : ℕ) (v w : PageCounts) → get_elem? views id ≡ some v → w.parts ≡ v.parts → w.depth ≡ v.depth → 0 < v.parts
+pub shared_step : (views : List PageCounts) (id : ℕ) (v w : PageCounts) → get_elem? views id ≡ some v → w.parts ≡ v.parts
+    → w.depth ≡ v.depth → 0 < v.parts
     → AddUp views → AddUp (set views id w)
 shared_step views id v w at_id parts depth some_part c = record {
   unit = c.unit;
@@ -159,7 +170,8 @@ shared_step views id v w at_id parts depth some_part c = record {
 -- the bits after the word i becomes n
 pub bit_here : (words : List ℕ) (i n p : ℕ) → i < length words → p / 64 ≡ i → page_bit (set words i n) p ≡ bit_at n (p % 64)
 unfolding page_bit
-bit_here words i n p inside e = ap (λ (k : ℕ). bit_at k (p % 64)) (ap (λ (k : ℕ). get_or (set words i n) k 0) e ∙ get_or-set_same words i n 0 inside)
+bit_here words i n p inside e =
+    ap (λ (k : ℕ). bit_at k (p % 64)) (ap (λ (k : ℕ). get_or (set words i n) k 0) e ∙ get_or-set_same words i n 0 inside)
 
 pub bit_was : (words : List ℕ) (i p : ℕ) → p / 64 ≡ i → page_bit words p ≡ bit_at (get_or words i 0) (p % 64)
 unfolding page_bit
@@ -171,10 +183,12 @@ bit_else words i n p ne = ap (λ (k : ℕ). bit_at k (p % 64)) (get_or-set_other
 
 -- each kind of step, at one page
 mark_page : (words : List ℕ) (i mask p : ℕ) (t : Tally) → i < length words
-    → Moves t (cond (picks i mask 1 p) (after_mark (bit_at (get_or words i 0) (p % 64)) t) t) (page_bit words p) (page_bit (set words i (bit_or (get_or words i 0) mask)) p)
+    → Moves t (cond (picks i mask 1 p) (after_mark (bit_at (get_or words i 0) (p % 64)) t) t) (page_bit words p)
+    (page_bit (set words i (bit_or (get_or words i 0) mask)) p)
 mark_page words i mask p t inside =
     let n : ℕ = get_or words i 0 in
-    let P : Bool → Type 0 = λ c. Moves t (cond c (after_mark (bit_at n (p % 64)) t) t) (page_bit words p) (page_bit (set words i (bit_or n mask)) p) in
+    let P : Bool → Type 0 =
+    λ c. Moves t (cond c (after_mark (bit_at n (p % 64)) t) t) (page_bit words p) (page_bit (set words i (bit_or n mask)) p) in
     elim (cases_eq (p / 64) i) [
       | inl here ↦
           let was = bit_was words i p here in
@@ -182,23 +196,27 @@ mark_page words i mask p t inside =
           let both = bit_at_or n mask (p % 64) in
           let small = bit_at-lt n (p % 64) in
           let small' = bit_at-lt mask (p % 64) in
-          let word : picks i mask 1 p ≡ eqb (bit_at mask (p % 64)) 1 = ap (λ (c : Bool). cond c (eqb (bit_at mask (p % 64)) 1) false) (eq-eqb (p / 64) i here) in
+          let word : picks i mask 1 p ≡ eqb (bit_at mask (p % 64)) 1 =
+          ap (λ (c : Bool). cond c (eqb (bit_at mask (p % 64)) 1) false) (eq-eqb (p / 64) i here) in
           elim (cases_eq (bit_at mask (p % 64)) 1) [
             | inl hit ↦ subst P (sym (word ∙ eq-eqb (bit_at mask (p % 64)) 1 hit))
                 (subst (λ (x : ℕ). Moves t (after_mark x t) (page_bit words p) (page_bit (set words i (bit_or n mask)) p))
                 was (mark_moves t (page_bit words p) (page_bit (set words i (bit_or n mask)) p)
                 (omega arith) (omega arith)))
-            | inr miss ↦ subst P (sym (word ∙ ne_eqb (bit_at mask (p % 64)) 1 miss)) (still t (page_bit words p) (page_bit (set words i (bit_or n mask)) p) (omega arith))
+            | inr miss ↦ subst P (sym (word ∙ ne_eqb (bit_at mask (p % 64)) 1 miss))
+                (still t (page_bit words p) (page_bit (set words i (bit_or n mask)) p) (omega arith))
           ]
       | inr away ↦ subst P (sym (ap (λ (c : Bool). cond c (eqb (bit_at mask (p % 64)) 1) false) (ne_eqb (p / 64) i away)))
           (still t (page_bit words p) (page_bit (set words i (bit_or n mask)) p) (bit_else words i (bit_or n mask) p away))
     ]
 
 clear_page : (words : List ℕ) (i mask p : ℕ) (t : Tally) → i < length words
-    → Moves t (cond (picks i mask 0 p) (after_clearing (bit_at (get_or words i 0) (p % 64)) t) t) (page_bit words p) (page_bit (set words i (bit_and (get_or words i 0) mask)) p)
+    → Moves t (cond (picks i mask 0 p) (after_clearing (bit_at (get_or words i 0) (p % 64)) t) t) (page_bit words p)
+    (page_bit (set words i (bit_and (get_or words i 0) mask)) p)
 clear_page words i mask p t inside =
     let n : ℕ = get_or words i 0 in
-    let P : Bool → Type 0 = λ c. Moves t (cond c (after_clearing (bit_at n (p % 64)) t) t) (page_bit words p) (page_bit (set words i (bit_and n mask)) p) in
+    let P : Bool → Type 0 =
+    λ c. Moves t (cond c (after_clearing (bit_at n (p % 64)) t) t) (page_bit words p) (page_bit (set words i (bit_and n mask)) p) in
     elim (cases_eq (p / 64) i) [
       | inl here ↦
           let was = bit_was words i p here in
@@ -206,12 +224,14 @@ clear_page words i mask p t inside =
           let both = bit_at_and n mask (p % 64) in
           let small = bit_at-lt n (p % 64) in
           let small' = bit_at-lt mask (p % 64) in
-          let word : picks i mask 0 p ≡ eqb (bit_at mask (p % 64)) 0 = ap (λ (c : Bool). cond c (eqb (bit_at mask (p % 64)) 0) false) (eq-eqb (p / 64) i here) in
+          let word : picks i mask 0 p ≡ eqb (bit_at mask (p % 64)) 0 =
+          ap (λ (c : Bool). cond c (eqb (bit_at mask (p % 64)) 0) false) (eq-eqb (p / 64) i here) in
           elim (cases_eq (bit_at mask (p % 64)) 0) [
             | inl hit ↦ subst P (sym (word ∙ eq-eqb (bit_at mask (p % 64)) 0 hit))
                 (subst (λ (x : ℕ). Moves t (after_clearing x t) (page_bit words p) (page_bit (set words i (bit_and n mask)) p))
                 was (clear_moves t (page_bit words p) (page_bit (set words i (bit_and n mask)) p) (omega arith)))
-            | inr miss ↦ subst P (sym (word ∙ ne_eqb (bit_at mask (p % 64)) 0 miss)) (still t (page_bit words p) (page_bit (set words i (bit_and n mask)) p) (omega arith))
+            | inr miss ↦ subst P (sym (word ∙ ne_eqb (bit_at mask (p % 64)) 0 miss))
+                (still t (page_bit words p) (page_bit (set words i (bit_and n mask)) p) (omega arith))
           ]
       | inr away ↦ subst P (sym (ap (λ (c : Bool). cond c (eqb (bit_at mask (p % 64)) 0) false) (ne_eqb (p / 64) i away)))
           (still t (page_bit words p) (page_bit (set words i (bit_and n mask)) p) (bit_else words i (bit_and n mask) p away))
@@ -221,19 +241,23 @@ gather_page : (words : List ℕ) (i p : ℕ) (t : Tally) → i < length words
     → Moves t (cond (in_word i p) (after_clearing (bit_at (get_or words i 0) (p % 64)) t) t) (page_bit words p) (page_bit (set words i 0) p)
 gather_page words i p t inside =
     let n : ℕ = get_or words i 0 in
-    let P : Bool → Type 0 = λ c. Moves t (cond c (after_clearing (bit_at n (p % 64)) t) t) (page_bit words p) (page_bit (set words i 0) p) in
+    let P : Bool → Type 0 =
+    λ c. Moves t (cond c (after_clearing (bit_at n (p % 64)) t) t) (page_bit words p) (page_bit (set words i 0) p) in
     elim (cases_eq (p / 64) i) [
       | inl here ↦
           let was = bit_was words i p here in
           let now = bit_here words i 0 p inside here in
           let gone = bit_at-zero (p % 64) in
           subst P (sym (eq-eqb (p / 64) i here))
-          (subst (λ (x : ℕ). Moves t (after_clearing x t) (page_bit words p) (page_bit (set words i 0) p)) was (clear_moves t (page_bit words p) (page_bit (set words i 0) p) (omega arith)))
-      | inr away ↦ subst P (sym (ne_eqb (p / 64) i away)) (still t (page_bit words p) (page_bit (set words i 0) p) (bit_else words i 0 p away))
+          (subst (λ (x : ℕ). Moves t (after_clearing x t) (page_bit words p) (page_bit (set words i 0) p)) was
+          (clear_moves t (page_bit words p) (page_bit (set words i 0) p) (omega arith)))
+      | inr away ↦ subst P (sym (ne_eqb (p / 64) i away))
+          (still t (page_bit words p) (page_bit (set words i 0) p) (bit_else words i 0 p away))
     ]
 
 read_page : (words : List ℕ) (i p : ℕ) (t : Tally) → i < length words
-    → Moves t (cond (in_word i p) (after_read (bit_at (get_or words i 0) (p % 64)) t) t) (page_bit words p) (page_bit (set words i (get_or words i 0)) p)
+    → Moves t (cond (in_word i p) (after_read (bit_at (get_or words i 0) (p % 64)) t) t) (page_bit words p)
+    (page_bit (set words i (get_or words i 0)) p)
 read_page words i p t inside =
     let n : ℕ = get_or words i 0 in
     let b : ℕ = page_bit words p in
@@ -244,20 +268,23 @@ read_page words i p t inside =
           let was = bit_was words i p here in
           let now = bit_here words i n p inside here in
           let small = bit_at-lt n (p % 64) in
-          subst P (sym (eq-eqb (p / 64) i here)) (subst (λ (x : ℕ). Moves t (after_read x t) b b') was (read_moves t b b' (omega arith) (omega arith)))
+          subst P (sym (eq-eqb (p / 64) i here))
+          (subst (λ (x : ℕ). Moves t (after_read x t) b b') was (read_moves t b b' (omega arith) (omega arith)))
       | inr away ↦ subst P (sym (ne_eqb (p / 64) i away)) (still t b b' (bit_else words i n p away))
     ]
 
 -- the bits past the last page, after a step on the word i that leaves them clear
 pub rest_after : (len : ℕ) (words : List ℕ) (i n : ℕ) → i < length words → ((p : ℕ) → len ≤ p → page_bit words p ≡ 0)
-    → ((p : ℕ) → len ≤ p → p / 64 ≡ i → bit_at (get_or words i 0) (p % 64) ≡ 0 → bit_at n (p % 64) ≡ 0) → (p : ℕ) → len ≤ p → page_bit (set words i n) p ≡ 0
+    → ((p : ℕ) → len ≤ p → p / 64 ≡ i → bit_at (get_or words i 0) (p % 64) ≡ 0 → bit_at n (p % 64) ≡ 0) → (p : ℕ) → len ≤ p
+    → page_bit (set words i n) p ≡ 0
 rest_after len words i n inside was clear p l = elim (cases_eq (p / 64) i) [
   | inl here ↦ bit_here words i n p inside here ∙ clear p l here (sym (bit_was words i p here) ∙ was p l)
   | inr away ↦ bit_else words i n p away ∙ was p l
 ]
 
 -- a step on the word i, with what it leaves there and the pass's tallies afterwards
-rule_step : (len : ℕ) (s : State (Unit {0}) PageCounts) (id i n : ℕ) (v : PageCounts) (f : ℕ → Tally → Tally) → length v.pages ≡ len → 0 < v.parts → i < length s.words
+rule_step : (len : ℕ) (s : State (Unit {0}) PageCounts) (id i n : ℕ) (v : PageCounts) (f : ℕ → Tally → Tally) → length v.pages ≡ len
+    → 0 < v.parts → i < length s.words
     → get_elem? s.views id ≡ some v → PageAccount len s.words s.views
     → ((p : ℕ) → len ≤ p → p / 64 ≡ i → bit_at (get_or s.words i 0) (p % 64) ≡ 0 → bit_at n (p % 64) ≡ 0)
     → ((p : ℕ) → Moves (tally_of v.pages p) (f p (tally_of v.pages p)) (page_bit s.words p) (page_bit (set s.words i n) p))
@@ -265,12 +292,14 @@ rule_step : (len : ℕ) (s : State (Unit {0}) PageCounts) (id i n : ℕ) (v : Pa
 rule_step len s id i n v f long some_part inside at_id r clear moves = record {
   counted = counted_step len s.words (set s.words i n) s.views id v (with_pages v (each_tally f 0 v.pages)) at_id r.counted
       (rest_after len s.words i n inside r.counted.rest clear)
-      (λ p l. subst (λ (u : Tally). Moves (tally_of v.pages p) u (page_bit s.words p) (page_bit (set s.words i n) p)) (sym (at_each f v.pages p (omega arith))) (moves p));
+      (λ p l. subst (λ (u : Tally). Moves (tally_of v.pages p) u (page_bit s.words p) (page_bit (set s.words i n) p))
+      (sym (at_each f v.pages p (omega arith))) (moves p));
   shared = shared_step s.views id v (with_pages v (each_tally f 0 v.pages)) at_id refl refl some_part r.shared;
 }
 
 -- what a pass with all parts knows
-pub settles_all : (len : ℕ) (words : List ℕ) (views : List PageCounts) (id : ℕ) (v : PageCounts) → get_elem? views id ≡ some v → PageAccount len words views → IsWhole v
+pub settles_all : (len : ℕ) (words : List ℕ) (views : List PageCounts) (id : ℕ) (v : PageCounts) → get_elem? views id ≡ some v
+    → PageAccount len words views → IsWhole v
     → (p : ℕ) → p < len → Settles (tally_of v.pages p) (page_bit words p)
 settles_all len words views id v at_id r all p l =
     let a : total_by (on_at p) views ≡ on_at p v = alone (on_at p) (λ w idle. (idle p).1) in
@@ -281,8 +310,10 @@ settles_all len words views id v at_id r all p l =
     let bounded = r.counted.bounded p l id v at_id in
     let held = bounded.0 in
     let seen = bounded.1 in
-    let forth : (tally_of v.pages p).marked ≡ true → 0 < on_at p v = λ h. let n : marks_at p v ≡ 1 = ap bit_of h in let z = m.0 (omega arith) in omega arith in
-    let back : 0 < on_at p v → (tally_of v.pages p).marked ≡ true = λ h. let z = m.1 (omega arith) in is_true (tally_of v.pages p).marked (omega arith) in
+    let forth : (tally_of v.pages p).marked ≡ true → 0 < on_at p v =
+    λ h. let n : marks_at p v ≡ 1 = ap bit_of h in let z = m.0 (omega arith) in omega arith in
+    let back : 0 < on_at p v → (tally_of v.pages p).marked ≡ true =
+    λ h. let z = m.1 (omega arith) in is_true (tally_of v.pages p).marked (omega arith) in
     (omega arith, (forth, back), omega arith, omega arith)
   where
     is_true : (b : Bool) → 0 < bit_of b → b ≡ true
@@ -302,16 +333,19 @@ settles_all len words views id v at_id r all p l =
         ∙ ap (λ (n : ℕ). 2 ^ n) (let d = r.shared.fits id v at_id in omega arith)))
         (λ j u e z. zero_of u (r.shared.idle j u e (none_of u.parts (r.shared.unit - u.depth) z)))
 
-settles : (len : ℕ) (s : State (Unit {0}) PageCounts) (id : ℕ) (v : PageCounts) (i : ℕ) → length v.pages ≡ len → get_elem? s.views id ≡ some v → PageAccount len s.words s.views
+settles : (len : ℕ) (s : State (Unit {0}) PageCounts) (id : ℕ) (v : PageCounts) (i : ℕ) → length v.pages ≡ len
+    → get_elem? s.views id ≡ some v → PageAccount len s.words s.views
     → SettlesWord v i (get_or s.words i 0)
-settles len s id v i long at_id r all p l here = subst (Settles (tally_of v.pages p)) (bit_was s.words i p here) (settles_all len s.words s.views id v at_id r all p (omega arith))
+settles len s id v i long at_id r all p l here =
+    subst (Settles (tally_of v.pages p)) (bit_was s.words i p here) (settles_all len s.words s.views id v at_id r all p (omega arith))
 
 found_there : (l : List ℕ) (i : ℕ) → i < length l → get_elem? l i ≡ some (get_or l i 0)
 found_there [] i l = absurd (omega arith)
 found_there (x ∷ xs) zero l = refl
 found_there (x ∷ xs) (suc i) l = found_there xs i (omega arith)
 
-stands_at : (len : ℕ) (s : State (Unit {0}) PageCounts) (id : ℕ) (v : PageCounts) (i : ℕ) → length v.pages ≡ len → i < length s.words → get_elem? s.views id ≡ some v
+stands_at : (len : ℕ) (s : State (Unit {0}) PageCounts) (id : ℕ) (v : PageCounts) (i : ℕ) → length v.pages ≡ len → i < length s.words
+    → get_elem? s.views id ≡ some v
     → PageAccount len s.words s.views → StandsAt (length v.pages) i (get_or s.words i 0) v
 stands_at len s id v i long room at_id r = (
   s.words,
@@ -319,7 +353,8 @@ stands_at len s id v i long room at_id r = (
   (s.views, subst (λ (n : ℕ). PageAccount n s.words s.views) (sym long) r, (id, at_id)),
 )
 
-pub marks_allowed : (len slots id : ℕ) (me : PassSeat) (i mask : ℕ) → length me.0.pages ≡ len → 0 < me.0.parts → i < div_ceil len 64 → NoneBeyond len i mask
+pub marks_allowed :
+    (len slots id : ℕ) (me : PassSeat) (i mask : ℕ) → length me.0.pages ≡ len → 0 < me.0.parts → i < div_ceil len 64 → NoneBeyond len i mask
     → Allows (KeepsRule len) slots id me i (λ n. bit_or n mask) (MarkStep (step slots i mask 0 none) me)
 marks_allowed len slots id me i mask long some_part inside none_beyond s q _ at_id _ =
     let r = q.1 in
@@ -330,7 +365,8 @@ marks_allowed len slots id me i mask long some_part inside none_beyond s q _ at_
       tt,
       (
         length-set s.words i (bit_or n mask) ∙ q.0,
-        rule_step len s id i (bit_or n mask) me.0 (λ p t. cond (picks i mask 1 p) (after_mark (bit_at n (p % 64)) t) t) long some_part room at_id r
+        rule_step len s id i (bit_or n mask) me.0 (λ p t. cond (picks i mask 1 p) (after_mark (bit_at n (p % 64)) t) t) long some_part
+            room at_id r
             (λ p l here was. let both = bit_at_or n mask (p % 64) in let m = none_beyond p l here in omega arith)
             (λ p. mark_page s.words i mask p (tally_of me.0.pages p) room),
       ),
@@ -348,7 +384,8 @@ clears_allowed len slots id me i mask long some_part inside s q _ at_id _ =
       tt,
       (
         length-set s.words i (bit_and n mask) ∙ q.0,
-        rule_step len s id i (bit_and n mask) me.0 (λ p t. cond (picks i mask 0 p) (after_clearing (bit_at n (p % 64)) t) t) long some_part room at_id r
+        rule_step len s id i (bit_and n mask) me.0 (λ p t. cond (picks i mask 0 p) (after_clearing (bit_at n (p % 64)) t) t) long some_part
+            room at_id r
             (λ p l here was. let both = bit_at_and n mask (p % 64) in omega arith)
             (λ p. clear_page s.words i mask p (tally_of me.0.pages p) room),
       ),
@@ -370,7 +407,12 @@ gathers_allowed len slots id me i long some_part inside s q _ at_id _ =
             (λ p l here was. bit_at-zero (p % 64))
             (λ p. gather_page s.words i p (tally_of me.0.pages p) room),
       ),
-      (refl, settles len s id me.0 i long at_id r, λ p l here. sym (bit_was s.words i p here) ∙ r.counted.rest p (omega arith), stands_at len s id me.0 i long room at_id r),
+      (
+        refl,
+        settles len s id me.0 i long at_id r,
+        λ p l here. sym (bit_was s.words i p here) ∙ r.counted.rest p (omega arith),
+        stands_at len s id me.0 i long room at_id r,
+      ),
     )
 
 pub reads_allowed : (len slots id : ℕ) (me : PassSeat) (i : ℕ) → length me.0.pages ≡ len → 0 < me.0.parts → i < div_ceil len 64
@@ -388,18 +430,25 @@ reads_allowed len slots id me i long some_part inside s q _ at_id _ =
             (λ p l here was. was)
             (λ p. read_page s.words i p (tally_of me.0.pages p) room),
       ),
-      (refl, settles len s id me.0 i long at_id r, λ p l here. sym (bit_was s.words i p here) ∙ r.counted.rest p (omega arith), stands_at len s id me.0 i long room at_id r),
+      (
+        refl,
+        settles len s id me.0 i long at_id r,
+        λ p l here. sym (bit_was s.words i p here) ∙ r.counted.rest p (omega arith),
+        stands_at len s id me.0 i long room at_id r,
+      ),
     )
 
 -- clear words and the first pass
-pub begins : (len : ℕ) (words : List ℕ) → length words ≡ table_words len → ((i : ℕ) → get_or words i 0 ≡ 0) → KeepsRule len (opening words [] (first_pass len))
+pub begins : (len : ℕ) (words : List ℕ) → length words ≡ table_words len → ((i : ℕ) → get_or words i 0 ≡ 0) →
+    KeepsRule len (opening words [] (first_pass len))
 unfolding page_bit
 begins len words count clear = (
   count,
   record {
     counted = record {
       rest = λ p l. zero_bit p;
-      bits = λ p l. let z = zero_bit p in let t = first_at p in let a : on_at p (first_pass len) ≡ 0 = ap (λ (t : Tally). t.on) t in let b : off_at p (first_pass len)
+      bits = λ p l. let z = zero_bit p in let t = first_at p in let a : on_at p (first_pass len) ≡ 0 = ap (λ (t : Tally). t.on) t in
+          let b : off_at p (first_pass len)
           ≡ 0 = ap (λ (t : Tally). t.off) t in omega arith;
       marks = λ p l. let t = first_at p in
           let a : on_at p (first_pass len) ≡ 0 = ap (λ (t : Tally). t.on) t in
@@ -438,7 +487,8 @@ begins len words count clear = (
     ]
 
 -- words with the same bits
-pub rule_same : (len : ℕ) (words words' : List ℕ) (views : List PageCounts) → ((p : ℕ) → page_bit words' p ≡ page_bit words p) → PageAccount len words views → PageAccount len words' views
+pub rule_same : (len : ℕ) (words words' : List ℕ) (views : List PageCounts) → ((p : ℕ) → page_bit words' p ≡ page_bit words p) →
+    PageAccount len words views → PageAccount len words' views
 rule_same len words words' views same r = record {
   counted = record {
     rest = λ p l. same p ∙ r.counted.rest p l;

@@ -1,5 +1,6 @@
 -- Passes that are split, joined and met keep the rule.
-use Rattle.std.proofs.Common.{◌≡◌, ◌≢◌, ℕ, zero, suc, ◌+◌, ◌-◌, ◌*◌, ◌^◌, ◌<◌, ◌≤◌, max, Bool, true, false, cond, List, [], ◌∷◌, ◌++◌, length, set, refl, sym, ap, ◌∙◌, subst, inl, inr, ⊎_elim, arith}
+use Rattle.std.proofs.Common.{◌≡◌, ◌≢◌, ℕ, zero, suc, ◌+◌, ◌-◌, ◌*◌, ◌^◌, ◌<◌, ◌≤◌, max, Bool, true, false, cond, List, [], ◌∷◌, ◌++◌}
+use Rattle.std.proofs.Common.{length, set, refl, sym, ap, ◌∙◌, subst, inl, inr, ⊎_elim, arith}
 use Rattle.std.proofs.lemmas.Bool.{cases_lt}
 use Rattle.std.proofs.lemmas.Nat.{pow-add, pow_pos}
 use mathlib.Core.Option.{some, some-ne-none}
@@ -9,13 +10,17 @@ use Rattle.atomic_table.proofs.Lists.{at_set, at_snoc, set_again, set_here, set_
 use Rattle.vm_atomic_bitmaps.specs.declared.counts.Tally.{Tally}
 use Rattle.vm_atomic_bitmaps.specs.declared.counts.PageCounts.{PageCounts}
 use Rattle.vm_bitmaps.specs.Words.{bit_of}
-use Rattle.vm_atomic_bitmaps.specs.Counts.{no_tally, tally_of, both_of, only_seen, joined_with, clear_of, seen_of, spent, with_pages, kept_half, new_half, telling, both_passes, met_with}
+use Rattle.vm_atomic_bitmaps.specs.Counts.{no_tally, tally_of, both_of, only_seen, joined_with, clear_of, seen_of, spent, with_pages}
+use Rattle.vm_atomic_bitmaps.specs.Counts.{kept_half, new_half, telling, both_passes, met_with}
 use Rattle.vm_atomic_bitmaps.specs.Rule.{total_by, marks_at, on_at, off_at, Counted, weight, IsIdle, AddUp, KeepsRule}
-use Rattle.vm_atomic_bitmaps.proofs.PassTotals.{total_set, total_snoc, total_part, total_times, length-each_tally, at_each, at_past, each_same}
+use Rattle.vm_atomic_bitmaps.proofs.PassTotals.{total_set, total_snoc, total_part, total_times, length-each_tally, at_each, at_past}
+use Rattle.vm_atomic_bitmaps.proofs.PassTotals.{each_same}
 
 -- where the pass's pages stay, and a new one has counted nothing, and seen no more than it
-counted_fork : (len : ℕ) (words : List ℕ) (views : List PageCounts) (id : ℕ) (v v' u : PageCounts) → get_elem? views id ≡ some v → ((p : ℕ) → tally_of v'.pages p ≡ tally_of v.pages p)
-    → IsIdle u → ((p : ℕ) → ((tally_of u.pages p).held ≤ (tally_of v.pages p).held) × ((tally_of u.pages p).seen ≤ (tally_of v.pages p).seen)) →
+counted_fork : (len : ℕ) (words : List ℕ) (views : List PageCounts) (id : ℕ) (v v' u : PageCounts) → get_elem? views id ≡ some v
+    → ((p : ℕ) → tally_of v'.pages p ≡ tally_of v.pages p)
+    → IsIdle u → ((p : ℕ)
+    → ((tally_of u.pages p).held ≤ (tally_of v.pages p).held) × ((tally_of u.pages p).seen ≤ (tally_of v.pages p).seen)) →
     Counted len words views → Counted len words (set views id v' ++ u ∷ [])
 counted_fork len words views id v v' u at_id same idle less c = record {
   rest = c.rest;
@@ -28,16 +33,27 @@ counted_fork len words views id v v' u at_id same idle less c = record {
       (λ (old : get_elem? (set views id v') j ≡ some w). ⊎_elim
       (λ (z : (j ≡ id) × (v' ≡ w)). let r = c.bounded p l id v at_id in let r0 = r.0 in let r1 = r.1 in
       let it : tally_of w.pages p ≡ tally_of v.pages p = ap (λ (q : PageCounts). tally_of q.pages p) (sym z.1) ∙ same p in
-      subst (λ (t : Tally). (t.held ≤ total_by (on_at p) (set views id v' ++ u ∷ [])) × (t.seen ≤ total_by (off_at p) (set views id v' ++ u ∷ []))) (sym it) (omega arith, omega arith))
-      (λ (z : (j ≢ id) × (get_elem? views j ≡ some w)). let r = c.bounded p l j w z.1 in let r0 = r.0 in let r1 = r.1 in (omega arith, omega arith))
+      subst (λ (t : Tally). (t.held ≤ total_by (on_at p) (set views id v' ++ u ∷ []))
+      × (t.seen ≤ total_by (off_at p) (set views id v' ++ u ∷ []))) (sym it) (omega arith, omega arith))
+      (λ (z : (j ≢ id) × (get_elem? views j ≡ some w)). let r = c.bounded p l j w z.1 in
+      let r0 = r.0 in
+      let r1 = r.1 in
+      (omega arith, omega arith))
       (at_set views id j v' w old))
-      (λ (new : u ≡ w). let r = c.bounded p l id v at_id in let r0 = r.0 in let r1 = r.1 in let k = less p in let k0 = k.0 in let k1 = k.1 in
-      subst (λ (q : PageCounts). ((tally_of q.pages p).held ≤ total_by (on_at p) (set views id v' ++ u ∷ [])) × ((tally_of q.pages p).seen ≤ total_by (off_at p) (set views id v' ++ u ∷ [])))
+      (λ (new : u ≡ w). let r = c.bounded p l id v at_id in
+      let r0 = r.0 in
+      let r1 = r.1 in
+      let k = less p in
+      let k0 = k.0 in
+      let k1 = k.1 in
+      subst (λ (q : PageCounts). ((tally_of q.pages p).held ≤ total_by (on_at p) (set views id v' ++ u ∷ []))
+      × ((tally_of q.pages p).seen ≤ total_by (off_at p) (set views id v' ++ u ∷ [])))
       new (omega arith, omega arith))
       (at_snoc (set views id v') u w j e);
 }
   where
-    sums : (f : Tally → ℕ) (p : ℕ) → f (tally_of u.pages p) ≡ 0 → total_by (λ w. f (tally_of w.pages p)) (set views id v' ++ u ∷ []) ≡ total_by (λ w. f (tally_of w.pages p)) views
+    sums : (f : Tally → ℕ) (p : ℕ) → f (tally_of u.pages p) ≡ 0 →
+        total_by (λ w. f (tally_of w.pages p)) (set views id v' ++ u ∷ []) ≡ total_by (λ w. f (tally_of w.pages p)) views
     sums f p z =
         let a = total_snoc (λ w. f (tally_of w.pages p)) (set views id v') u in
         let b = total_set (λ w. f (tally_of w.pages p)) views id v v' at_id in
@@ -74,17 +90,20 @@ finer k m v h =
     assoc : (a b c : ℕ) → a * (b * c) ≡ a * b * c
     assoc a b c = omega arith
 
-finer_total : (k m : ℕ) (views : List PageCounts) → ((id : ℕ) (v : PageCounts) → get_elem? views id ≡ some v → v.depth ≤ k) → total_by (weight k) views ≡ 2 ^ k →
+finer_total : (k m : ℕ) (views : List PageCounts) → ((id : ℕ) (v : PageCounts) → get_elem? views id ≡ some v → v.depth ≤ k) →
+    total_by (weight k) views ≡ 2 ^ k →
     total_by (weight (k + m)) views ≡ 2 ^ (k + m)
 finer_total k m views fits whole =
-    total_times (2 ^ m) (weight k) (weight (k + m)) views (λ id v e. finer k m v (fits id v e)) ∙ ap (λ (n : ℕ). n * 2 ^ m) whole ∙ sym (pow-add 2 k m)
+    total_times (2 ^ m) (weight k) (weight (k + m)) views (λ id v e. finer k m v (fits id v e)) ∙ ap (λ (n : ℕ). n * 2 ^ m) whole
+    ∙ sym (pow-add 2 k m)
 
 pub halves_allowed : (len id : ℕ) (v : PageCounts) → 0 < v.parts → Splits (KeepsRule len) id v (kept_half v) (new_half v)
 halves_allowed len id v some_part s q at_id = let r = q.1 in (
   q.0,
   record {
     counted = counted_fork len s.words s.views id v (kept_half v) (new_half v) at_id (λ p. refl)
-        (λ p. let z = at_clear_of v.pages p in (ap (λ (t : Tally). bit_of t.marked) z, ap (λ (t : Tally). t.on) z, ap (λ (t : Tally). t.off) z))
+        (λ p. let z = at_clear_of v.pages p in
+        (ap (λ (t : Tally). bit_of t.marked) z, ap (λ (t : Tally). t.on) z, ap (λ (t : Tally). t.off) z))
         (λ p. let z = at_clear_of v.pages p in
         let h : (tally_of (clear_of v.pages) p).held ≡ 0 = ap (λ (t : Tally). t.held) z in
         let k : (tally_of (clear_of v.pages) p).seen ≡ 0 = ap (λ (t : Tally). t.seen) z in
@@ -137,7 +156,8 @@ tells_allowed len id v some_part s q at_id = let r = q.1 in (
     shared = record {
       unit = r.shared.unit;
       fits = λ j u e. ⊎_elim
-          (λ (old : get_elem? (set s.views id v) j ≡ some u). r.shared.fits j u (subst (λ (l : List PageCounts). get_elem? l j ≡ some u) (set_again s.views id v at_id) old))
+          (λ (old : get_elem? (set s.views id v) j ≡ some u).
+          r.shared.fits j u (subst (λ (l : List PageCounts). get_elem? l j ≡ some u) (set_again s.views id v at_id) old))
           (λ (new : telling v ≡ u). subst (λ (q : PageCounts). q.depth ≤ r.shared.unit) new (omega arith))
           (at_snoc (set s.views id v) (telling v) u j e);
       whole =
@@ -146,7 +166,8 @@ tells_allowed len id v some_part s q at_id = let r = q.1 in (
           let all = r.shared.whole in
           let none : weight r.shared.unit (telling v) ≡ 0 = omega arith in omega arith;
       idle = λ j u e none. ⊎_elim
-          (λ (old : get_elem? (set s.views id v) j ≡ some u). r.shared.idle j u (subst (λ (l : List PageCounts). get_elem? l j ≡ some u) (set_again s.views id v at_id) old) none)
+          (λ (old : get_elem? (set s.views id v) j ≡ some u).
+          r.shared.idle j u (subst (λ (l : List PageCounts). get_elem? l j ≡ some u) (set_again s.views id v at_id) old) none)
           (λ (new : telling v ≡ u). subst IsIdle new (idle_told v))
           (at_snoc (set s.views id v) (telling v) u j e);
     };
@@ -154,16 +175,20 @@ tells_allowed len id v some_part s q at_id = let r = q.1 in (
 )
   where
     idle_told : (v : PageCounts) → IsIdle (telling v)
-    idle_told v p = let z = at_seen_of v.pages p in (ap (λ (t : Tally). bit_of t.marked) z, ap (λ (t : Tally). t.on) z, ap (λ (t : Tally). t.off) z)
+    idle_told v p =
+        let z = at_seen_of v.pages p in (ap (λ (t : Tally). bit_of t.marked) z, ap (λ (t : Tally). t.on) z, ap (λ (t : Tally). t.off) z)
 
 -- two passes, of which the first takes in the other
-module _ (len : ℕ) (words : List ℕ) (views : List PageCounts) (id : ℕ) (v : PageCounts) (other : ℕ) (u : PageCounts) (long : length v.pages ≡ len) (at_id : get_elem? views id ≡ some v)
+module _ (len : ℕ) (words : List ℕ) (views : List PageCounts) (id : ℕ) (v : PageCounts) (other : ℕ) (u : PageCounts)
+    (long : length v.pages ≡ len) (at_id : get_elem? views id ≡ some v)
     (apart : ¬ (other ≡ id)) (at_other : get_elem? (set views id (both_passes v u)) other ≡ some u) where
   abbrev joint : List PageCounts
   joint = set (set views id (both_passes v u)) other spent
 
   was_other : get_elem? views other ≡ some u
-  was_other = ⊎_elim (λ (z : (other ≡ id) × (both_passes v u ≡ u)). absurd (apart z.0)) (λ (z : (other ≢ id) × (get_elem? views other ≡ some u)). z.1)
+  was_other =
+      ⊎_elim (λ (z : (other ≡ id) × (both_passes v u ≡ u)). absurd (apart z.0))
+      (λ (z : (other ≢ id) × (get_elem? views other ≡ some u)). z.1)
       (at_set views id other (both_passes v u) u at_other)
 
   joint_sum : (f : PageCounts → ℕ) → f spent ≡ 0 → total_by f joint + f u + f v ≡ total_by f views + f (both_passes v u)
@@ -175,10 +200,14 @@ module _ (len : ℕ) (words : List ℕ) (views : List PageCounts) (id : ℕ) (v 
   at_joint p l = at_each (λ p t. both_of t (tally_of u.pages p)) v.pages p (omega arith)
 
   ons : (p : ℕ) → p < len → total_by (on_at p) joint ≡ total_by (on_at p) views
-  ons p l = let a = joint_sum (on_at p) refl in let b : on_at p (both_passes v u) ≡ on_at p v + on_at p u = ap (λ (t : Tally). t.on) (at_joint p l) in omega arith
+  ons p l = let a = joint_sum (on_at p) refl in
+      let b : on_at p (both_passes v u) ≡ on_at p v + on_at p u = ap (λ (t : Tally). t.on) (at_joint p l) in
+      omega arith
 
   offs : (p : ℕ) → p < len → total_by (off_at p) joint ≡ total_by (off_at p) views
-  offs p l = let a = joint_sum (off_at p) refl in let b : off_at p (both_passes v u) ≡ off_at p v + off_at p u = ap (λ (t : Tally). t.off) (at_joint p l) in omega arith
+  offs p l = let a = joint_sum (off_at p) refl in
+      let b : off_at p (both_passes v u) ≡ off_at p v + off_at p u = ap (λ (t : Tally). t.off) (at_joint p l) in
+      omega arith
 
   either_of : (a b : Bool) → bit_of (cond a true b) ≡ max (bit_of a) (bit_of b)
   either_of true true = refl
@@ -187,14 +216,16 @@ module _ (len : ℕ) (words : List ℕ) (views : List PageCounts) (id : ℕ) (v 
   either_of false false = refl
 
   there : get_elem? joint id ≡ some (both_passes v u)
-  there = set_else (set views id (both_passes v u)) other id spent (λ e. apart (sym e)) ∙ set_here views id (both_passes v u) (within views id v at_id)
+  there = set_else (set views id (both_passes v u)) other id spent (λ e. apart (sym e))
+      ∙ set_here views id (both_passes v u) (within views id v at_id)
     where
       within : (l : List PageCounts) (i : ℕ) (x : PageCounts) → get_elem? l i ≡ some x → i < length l
       within [] i x e = absurd (some-ne-none x (sym e))
       within (y ∷ ys) zero x e = omega arith
       within (y ∷ ys) (suc i) x e = let r = within ys i x e in omega arith
 
-  fits_joint : (P : PageCounts → Type 0) → P spent → P (both_passes v u) → ((j : ℕ) (w : PageCounts) → get_elem? views j ≡ some w → P w) → (j : ℕ) (w : PageCounts) → get_elem? joint j ≡ some w → P w
+  fits_joint : (P : PageCounts → Type 0) → P spent → P (both_passes v u) → ((j : ℕ) (w : PageCounts) → get_elem? views j ≡ some w → P w) →
+      (j : ℕ) (w : PageCounts) → get_elem? joint j ≡ some w → P w
   fits_joint P gone mine theirs j w e = ⊎_elim
       (λ (z : (j ≡ other) × (spent ≡ w)). subst P z.1 gone)
       (λ (z : (j ≢ other) × (get_elem? (set views id (both_passes v u)) j ≡ some w)). ⊎_elim
@@ -226,15 +257,18 @@ module _ (len : ℕ) (words : List ℕ) (views : List PageCounts) (id : ℕ) (v 
         let b = c.bounded p l other u was_other in
         let b0 = b.0 in
         let b1 = b.1 in
-        fits_joint (λ w. ((tally_of w.pages p).held ≤ total_by (on_at p) joint) × ((tally_of w.pages p).seen ≤ total_by (off_at p) joint)) (omega arith, omega arith)
-        (subst (λ (t : Tally). (t.held ≤ total_by (on_at p) joint) × (t.seen ≤ total_by (off_at p) joint)) (sym (at_joint p l)) (omega arith, omega arith))
+        fits_joint (λ w. ((tally_of w.pages p).held ≤ total_by (on_at p) joint) × ((tally_of w.pages p).seen ≤ total_by (off_at p) joint))
+        (omega arith, omega arith)
+        (subst (λ (t : Tally). (t.held ≤ total_by (on_at p) joint) × (t.seen ≤ total_by (off_at p) joint)) (sym (at_joint p l))
+        (omega arith, omega arith))
         (λ j w e. let r = c.bounded p l j w e in let r0 = r.0 in let r1 = r.1 in (omega arith, omega arith));
   }
 
   shared_joint : 0 < v.parts → AddUp views → AddUp joint
   shared_joint some_part c = record {
     unit = c.unit + c.unit;
-    fits = fits_joint (λ w. w.depth ≤ c.unit + c.unit) (omega arith) (let a = c.fits id v at_id in let b = c.fits other u was_other in omega arith) (λ j w e. let r = c.fits j w e in omega arith);
+    fits = fits_joint (λ w. w.depth ≤ c.unit + c.unit) (omega arith) (let a = c.fits id v at_id in let b = c.fits other u was_other in
+        omega arith) (λ j w e. let r = c.fits j w e in omega arith);
     whole =
         let k = c.unit in
         let a = c.fits id v at_id in
@@ -242,12 +276,16 @@ module _ (len : ℕ) (words : List ℕ) (views : List PageCounts) (id : ℕ) (v 
         let none : weight (k + k) spent ≡ 0 = omega arith in
         let sum = joint_sum (weight (k + k)) none in
         let all = finer_total k k views c.fits c.whole in
-        let mine : (v.parts * 2 ^ u.depth) * 2 ^ (k + k - (v.depth + u.depth)) ≡ weight (k + k) v = times v.parts u.depth (k + k - (v.depth + u.depth)) (k + k - v.depth) (omega arith) in
-        let its : (u.parts * 2 ^ v.depth) * 2 ^ (k + k - (v.depth + u.depth)) ≡ weight (k + k) u = times u.parts v.depth (k + k - (v.depth + u.depth)) (k + k - u.depth) (omega arith) in
-        let both : weight (k + k) (both_passes v u) ≡ weight (k + k) v + weight (k + k) u = spread2 (v.parts * 2 ^ u.depth) (u.parts * 2 ^ v.depth) (2 ^ (k + k - (v.depth + u.depth)))
+        let mine : (v.parts * 2 ^ u.depth) * 2 ^ (k + k - (v.depth + u.depth)) ≡ weight (k + k) v =
+        times v.parts u.depth (k + k - (v.depth + u.depth)) (k + k - v.depth) (omega arith) in
+        let its : (u.parts * 2 ^ v.depth) * 2 ^ (k + k - (v.depth + u.depth)) ≡ weight (k + k) u =
+        times u.parts v.depth (k + k - (v.depth + u.depth)) (k + k - u.depth) (omega arith) in
+        let both : weight (k + k) (both_passes v u) ≡ weight (k + k) v + weight (k + k) u =
+        spread2 (v.parts * 2 ^ u.depth) (u.parts * 2 ^ v.depth) (2 ^ (k + k - (v.depth + u.depth)))
         ∙ (λ i. mine i + its i) in omega arith;
     idle = fits_joint (λ w. w.parts ≡ 0 → IsIdle w) (λ z p. (refl, refl, refl))
-        (λ z. absurd (let e : v.parts * 2 ^ u.depth + u.parts * 2 ^ v.depth ≡ 0 = z in let q = positive v.parts (2 ^ u.depth) some_part (pow_pos u.depth) in omega arith))
+        (λ z. absurd (let e : v.parts * 2 ^ u.depth + u.parts * 2 ^ v.depth ≡ 0 = z in
+        let q = positive v.parts (2 ^ u.depth) some_part (pow_pos u.depth) in omega arith))
         c.idle;
   }
     where
@@ -264,7 +302,8 @@ module _ (len : ℕ) (words : List ℕ) (views : List PageCounts) (id : ℕ) (v 
       positive (suc a) b h l = omega arith
       positive zero b h l = absurd (omega arith)
 
-pub joins_allowed : (len id : ℕ) (v : PageCounts) (other : ℕ) (u : PageCounts) → length v.pages ≡ len → 0 < v.parts → Joins (KeepsRule len) id v other u (both_passes v u) spent
+pub joins_allowed : (len id : ℕ) (v : PageCounts) (other : ℕ) (u : PageCounts) → length v.pages ≡ len → 0 < v.parts →
+    Joins (KeepsRule len) id v other u (both_passes v u) spent
 joins_allowed len id v other u long some_part s q at_id apart at_other = let r = q.1 in (
   q.0,
   record {
@@ -298,7 +337,15 @@ meets v u = λ i. record { pages = pages i; parts = parts i; depth = depth i }
     }
     one t w = let on : t.on + 0 ≡ t.on = omega arith in let off : t.off + 0 ≡ t.off = omega arith in
         let marks : t.mark_steps + 0 ≡ t.mark_steps = omega arith in let clears : t.clear_steps + 0 ≡ t.clear_steps = omega arith in
-        λ i. record { marked = kept t.marked i; on = on i; off = off i; held = max t.held w.held; seen = max t.seen w.seen; mark_steps = marks i; clear_steps = clears i }
+        λ i. record {
+          marked = kept t.marked i;
+          on = on i;
+          off = off i;
+          held = max t.held w.held;
+          seen = max t.seen w.seen;
+          mark_steps = marks i;
+          clear_steps = clears i;
+        }
 
     met : (p : ℕ) (t : Tally) → both_of t (tally_of (seen_of u.pages) p) ≡ record {
       marked = t.marked;

@@ -17,7 +17,8 @@ pub record SeatOf (n m : TableId) (v : PageCounts) (key len : ℕ) : Type 0 wher
   pub inside : (i : ℕ) → i < div_ceil len 64 → i < div_ceil key 64
 
 pub seat_of : (n m : TableId) (v : PageCounts) (size bytes len key : ℕ) (p : Pass) (b : SharedPages) → record { name = n; counts = v } ≡ p
-    → record { name = m; page_size = size; byte_size = bytes; len = len } ≡ b → key ≡ len → m.words ≡ table_words len → IsPassOf b p → SeatOf n m v key b.len
+    → record { name = m; page_size = size; byte_size = bytes; len = len } ≡ b → key ≡ len → m.words ≡ table_words len → IsPassOf b p
+    → SeatOf n m v key b.len
 seat_of n m v size bytes len key p b vp vb key_is words_is own =
     let same_len : len ≡ b.len = ap (λ (c : SharedPages). c.len) vb in
     let whole : key ≡ b.len = key_is ∙ same_len in record {
@@ -30,5 +31,7 @@ seat_of n m v size bytes len key p b vp vb key_is words_is own =
     }
 
 -- the pass stays this bitmap's where it counts as many pages
-pub own_after : (b : SharedPages) (old new : Pass) (pages : List Tally) → IsPassOf b old → new ≡ counting old pages → length pages ≡ length old.counts.pages → IsPassOf b new
-own_after b old new pages own step count = (ap (λ (p : Pass). p.name) step ∙ own.0, ap (λ (p : Pass). length p.counts.pages) step ∙ count ∙ own.1)
+pub own_after : (b : SharedPages) (old new : Pass) (pages : List Tally) → IsPassOf b old → new ≡ counting old pages →
+    length pages ≡ length old.counts.pages → IsPassOf b new
+own_after b old new pages own step count =
+    (ap (λ (p : Pass). p.name) step ∙ own.0, ap (λ (p : Pass). length p.counts.pages) step ∙ count ∙ own.1)

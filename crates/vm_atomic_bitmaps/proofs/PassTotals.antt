@@ -7,7 +7,8 @@ use Rattle.vm_atomic_bitmaps.specs.declared.counts.PageCounts.{PageCounts}
 use Rattle.vm_atomic_bitmaps.specs.Counts.{tally_of, each_tally, no_tally}
 use Rattle.vm_atomic_bitmaps.specs.Rule.{total_by}
 
-pub total_set : (f : PageCounts → ℕ) (l : List PageCounts) (i : ℕ) (v w : PageCounts) → get_elem? l i ≡ some v → total_by f (set l i w) + f v ≡ total_by f l + f w
+pub total_set : (f : PageCounts → ℕ) (l : List PageCounts) (i : ℕ) (v w : PageCounts) → get_elem? l i ≡ some v →
+    total_by f (set l i w) + f v ≡ total_by f l + f w
 total_set f [] i v w e = absurd (some-ne-none v (sym e))
 total_set f (x ∷ xs) zero v w e = let is : f x ≡ f v = ap f (some-injective x v e) in omega arith
 total_set f (x ∷ xs) (suc i) v w e = let r = total_set f xs i v w e in omega arith
@@ -16,7 +17,8 @@ pub total_snoc : (f : PageCounts → ℕ) (l : List PageCounts) (v : PageCounts)
 total_snoc f [] v = omega arith
 total_snoc f (x ∷ xs) v = let r = total_snoc f xs v in omega arith
 
-pub total_zero : (f : PageCounts → ℕ) (l : List PageCounts) → ((i : ℕ) (v : PageCounts) → get_elem? l i ≡ some v → f v ≡ 0) → total_by f l ≡ 0
+pub total_zero :
+    (f : PageCounts → ℕ) (l : List PageCounts) → ((i : ℕ) (v : PageCounts) → get_elem? l i ≡ some v → f v ≡ 0) → total_by f l ≡ 0
 total_zero f [] h = refl
 total_zero f (x ∷ xs) h = let one : f x ≡ 0 = h 0 x refl in let r = total_zero f xs (λ i v e. h (suc i) v e) in omega arith
 
@@ -28,7 +30,8 @@ total_part f (x ∷ xs) (suc i) v e = let r = total_part f xs i v e in omega ari
 spread : (a b c k : ℕ) → a ≡ b * k → (b + c) * k ≡ a + c * k
 spread a b c k e = omega (arith, e)
 
-pub total_times : (k : ℕ) (f g : PageCounts → ℕ) (l : List PageCounts) → ((i : ℕ) (v : PageCounts) → get_elem? l i ≡ some v → g v ≡ f v * k) → total_by g l ≡ total_by f l * k
+pub total_times : (k : ℕ) (f g : PageCounts → ℕ) (l : List PageCounts) →
+    ((i : ℕ) (v : PageCounts) → get_elem? l i ≡ some v → g v ≡ f v * k) → total_by g l ≡ total_by f l * k
 total_times k f g [] h = omega arith
 total_times k f g (x ∷ xs) h =
     let one : g x ≡ f x * k = h 0 x refl in
@@ -54,7 +57,8 @@ pub length-each_tally : (f : ℕ → Tally → Tally) (k : ℕ) (l : List Tally)
 length-each_tally f k [] = refl
 length-each_tally f k (t ∷ ts) = ap suc (length-each_tally f (suc k) ts)
 
-at_each_from : (f : ℕ → Tally → Tally) (k : ℕ) (l : List Tally) (p q : ℕ) → p < length l → q ≡ k + p → tally_of (each_tally f k l) p ≡ f q (tally_of l p)
+at_each_from : (f : ℕ → Tally → Tally) (k : ℕ) (l : List Tally) (p q : ℕ) → p < length l → q ≡ k + p →
+    tally_of (each_tally f k l) p ≡ f q (tally_of l p)
 at_each_from f k [] p q h e = absurd (omega arith)
 at_each_from f k (t ∷ ts) zero q h e = let is : k ≡ q = omega arith in ap (λ (n : ℕ). f n t) is
 at_each_from f k (t ∷ ts) (suc p) q h e = at_each_from f (suc k) ts p q (omega arith) (omega arith)
@@ -67,6 +71,7 @@ at_past [] p h = refl
 at_past (t ∷ ts) zero h = absurd (omega arith)
 at_past (t ∷ ts) (suc p) h = at_past ts p (omega arith)
 
-pub each_same : (f g : ℕ → Tally → Tally) → ((p : ℕ) (t : Tally) → f p t ≡ g p t) → (k : ℕ) (l : List Tally) → each_tally f k l ≡ each_tally g k l
+pub each_same :
+    (f g : ℕ → Tally → Tally) → ((p : ℕ) (t : Tally) → f p t ≡ g p t) → (k : ℕ) (l : List Tally) → each_tally f k l ≡ each_tally g k l
 each_same f g h k [] = refl
 each_same f g h k (t ∷ ts) = λ i. h k t i ∷ each_same f g h (suc k) ts i

@@ -1,5 +1,7 @@
--- What passes count of each page: whether they marked it, how often they set and cleared it, what they have seen, and how many steps of theirs met it.
-use Rattle.std.specs.Prelude.{◌≡◌, ℕ, suc, ◌+◌, ◌-◌, ◌*◌, ◌/◌, ◌%◌, ◌^◌, max, Bool, true, false, cond, nat_eq, List, [], ◌∷◌, slice_index_or, replicate}
+-- What passes count of each page: whether they marked it, how often they set and cleared it, what they have
+-- seen, and how many steps of theirs met it.
+use Rattle.std.specs.Prelude.{◌≡◌, ℕ, suc, ◌+◌, ◌-◌, ◌*◌, ◌/◌, ◌%◌, ◌^◌, max, Bool, true, false, cond, nat_eq}
+use Rattle.std.specs.Prelude.{List, [], ◌∷◌, slice_index_or, replicate}
 use Rattle.std.specs.Int.{bit_at}
 use Rattle.vm_atomic_bitmaps.specs.declared.counts.Tally.{Tally}
 use Rattle.vm_atomic_bitmaps.specs.declared.counts.PageCounts.{PageCounts}
@@ -17,17 +19,47 @@ abbrev pub each_tally : (ℕ → Tally → Tally) → (k : ℕ) → List Tally �
 each_tally f k [] = []
 each_tally f k (t ∷ ts) = f k t ∷ each_tally f (suc k) ts
 
--- the tally of a page that a mark met, whose bit was `was`: the mark stands, more marks than clears are known of, and the pass made one step more that marks it
+-- the tally of a page that a mark met, whose bit was `was`: the mark stands, more marks than clears are known
+-- of, and the pass made one step more that marks it
 abbrev pub after_mark : (was : ℕ) → Tally → Tally
-after_mark was t = record { marked = true; on = t.on + (1 - was); off = t.off; held = max t.held (t.seen + 1); seen = t.seen; mark_steps = t.mark_steps + 1; clear_steps = t.clear_steps }
+after_mark was t =
+    record {
+      marked = true;
+      on = t.on + (1 - was);
+      off = t.off;
+      held = max t.held (t.seen + 1);
+      seen = t.seen;
+      mark_steps = t.mark_steps + 1;
+      clear_steps = t.clear_steps;
+    }
 
--- the tally of a page that a gather or a clear met, whose bit was `was`: as many clears as marks are known of, and the pass made one step more that clears it
+-- the tally of a page that a gather or a clear met, whose bit was `was`: as many clears as marks are known
+-- of, and the pass made one step more that clears it
 abbrev pub after_clearing : (was : ℕ) → Tally → Tally
-after_clearing was t = record { marked = t.marked; on = t.on; off = t.off + was; held = t.held; seen = max t.held (t.seen + was); mark_steps = t.mark_steps; clear_steps = t.clear_steps + 1 }
+after_clearing was t =
+    record {
+      marked = t.marked;
+      on = t.on;
+      off = t.off + was;
+      held = t.held;
+      seen = max t.held (t.seen + was);
+      mark_steps = t.mark_steps;
+      clear_steps = t.clear_steps + 1;
+    }
 
--- the tally of a page that a read met, whose bit was `was`: as many marks as clears are known of, and `was` more
+-- the tally of a page that a read met, whose bit was `was`: as many marks as clears are known of, and `was`
+-- more
 abbrev pub after_read : (was : ℕ) → Tally → Tally
-after_read was t = record { marked = t.marked; on = t.on; off = t.off; held = max t.held (t.seen + was); seen = max t.seen (t.held - was); mark_steps = t.mark_steps; clear_steps = t.clear_steps }
+after_read was t =
+    record {
+      marked = t.marked;
+      on = t.on;
+      off = t.off;
+      held = max t.held (t.seen + was);
+      seen = max t.seen (t.held - was);
+      mark_steps = t.mark_steps;
+      clear_steps = t.clear_steps;
+    }
 
 -- page p lies in word i
 abbrev pub in_word : (i p : ℕ) → Bool
@@ -63,11 +95,21 @@ both_of t u = record {
 
 -- what a pass has seen of a page, without what it did
 abbrev pub only_seen : Tally → Tally
-only_seen t = record { marked = false; on = 0; off = 0; held = t.held; seen = t.seen; mark_steps = 0; clear_steps = 0 }
+only_seen t =
+    record { marked = false; on = 0; off = 0; held = t.held; seen = t.seen; mark_steps = 0; clear_steps = 0 }
 
 -- what a pass has counted of a page, with what another has seen of it
 abbrev pub met_of : Tally → Tally → Tally
-met_of t u = record { marked = t.marked; on = t.on; off = t.off; held = max t.held u.held; seen = max t.seen u.seen; mark_steps = t.mark_steps; clear_steps = t.clear_steps }
+met_of t u =
+    record {
+      marked = t.marked;
+      on = t.on;
+      off = t.off;
+      held = max t.held u.held;
+      seen = max t.seen u.seen;
+      mark_steps = t.mark_steps;
+      clear_steps = t.clear_steps;
+    }
 
 -- the tallies with those of another pass
 abbrev pub joined_with : List Tally → List Tally → List Tally
@@ -111,7 +153,12 @@ telling v = record { pages = seen_of v.pages; parts = 0; depth = 0 }
 
 -- both passes in one: what they counted, and their parts
 abbrev pub both_passes : PageCounts → PageCounts → PageCounts
-both_passes v w = record { pages = joined_with w.pages v.pages; parts = v.parts * 2 ^ w.depth + w.parts * 2 ^ v.depth; depth = v.depth + w.depth }
+both_passes v w =
+    record {
+      pages = joined_with w.pages v.pages;
+      parts = v.parts * 2 ^ w.depth + w.parts * 2 ^ v.depth;
+      depth = v.depth + w.depth;
+    }
 
 -- the pass has every part, so that no other has marked, set or cleared a page
 abbrev pub IsWhole : PageCounts → Type 0

@@ -28,14 +28,24 @@ off_at p v = (tally_of v.pages p).off
 -- what holds of each page
 pub record Counted (len : ℕ) (words : List ℕ) (views : List PageCounts) : Type 0 where
   -- no bit past the last page is set
-  pub rest : (p : ℕ) → len ≤ p → page_bit words p ≡ 0
+  pub rest : (p : ℕ)
+      → len ≤ p
+      → page_bit words p ≡ 0
   -- a page was set as often as it was cleared, and once more if it is set now
-  pub bits : (p : ℕ) → p < len → total_by (on_at p) views ≡ total_by (off_at p) views + page_bit words p
+  pub bits : (p : ℕ)
+      → p < len
+      → total_by (on_at p) views ≡ total_by (off_at p) views + page_bit words p
   -- some pass marked it exactly if some pass set it
-  pub marks : (p : ℕ) → p < len → (0 < total_by (marks_at p) views) ↔ (0 < total_by (on_at p) views)
+  pub marks : (p : ℕ)
+      → p < len
+      → (0 < total_by (marks_at p) views) ↔ (0 < total_by (on_at p) views)
   -- no pass has seen it set or cleared more often than all passes did that
-  pub bounded : (p : ℕ) → p < len → (id : ℕ) (v : PageCounts) → get_elem? views id ≡ some v
-      → ((tally_of v.pages p).held ≤ total_by (on_at p) views) × ((tally_of v.pages p).seen ≤ total_by (off_at p) views)
+  pub bounded : (p : ℕ)
+      → p < len
+      → (id : ℕ) (v : PageCounts)
+      → get_elem? views id ≡ some v
+      → ((tally_of v.pages p).held ≤ total_by (on_at p) views)
+      × ((tally_of v.pages p).seen ≤ total_by (off_at p) views)
 
 -- a pass's part, parts / 2 ^ depth of the whole, in units of which the whole has 2 ^ k
 abbrev pub weight : (k : ℕ) → PageCounts → ℕ
@@ -67,8 +77,10 @@ KeepsRule len s = (length s.words ≡ table_words len) × PageAccount len s.word
 
 -- the rule holds of the words and of all passes, of which this is one
 abbrev pub Stands : (len : ℕ) → List ℕ → PageCounts → Type 0
-Stands len words v = (views : List PageCounts) × PageAccount len words views × ((id : ℕ) × (get_elem? views id ≡ some v))
+Stands len words v =
+    (views : List PageCounts) × PageAccount len words views × ((id : ℕ) × (get_elem? views id ≡ some v))
 
--- at some moment the i-th word is `found`, and the rule holds of the words and of all passes, of which this is one
+-- at some moment the i-th word is `found`, and the rule holds of the words and of all passes, of which this
+-- is one
 abbrev pub StandsAt : (len i found : ℕ) → PageCounts → Type 0
 StandsAt len i found v = (words : List ℕ) × (get_elem? words i ≡ some found) × Stands len words v

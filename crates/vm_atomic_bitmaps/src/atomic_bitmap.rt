@@ -1,6 +1,7 @@
 //! A bitmap of pages whose words threads share without a lock: each call on one word is one atomic step.
 
-ghost use Rattle.std.specs.Prelude.{◌≡◌, ℕ, ◌<◌, ◌≤◌, IfOk, IfErr, IfSome, IsSome, vec_len, slice_index, length, true};
+ghost use Rattle.std.specs.Prelude.{◌≡◌, ℕ, ◌<◌, ◌≤◌, IfOk, IfErr, IfSome, IsSome, vec_len, slice_index};
+ghost use Rattle.std.specs.Prelude.{length, true};
 ghost use Rattle.std.specs.Int.{div_ceil};
 ghost use Rattle.std.specs.NonZero.{non_zero_usize_get};
 ghost use Rattle.std.specs.Mem.Slots.{slots_items, slots_len, IsFull};
@@ -8,7 +9,8 @@ ghost use mathlib.Core.Option.{some};
 ghost use lib.ListN.{get_elem?};
 ghost use Rattle.vm_bitmaps.specs.Pages.{pages_of};
 ghost use Rattle.vm_bitmaps.specs.Words.{page_bit};
-ghost use Rattle.vm_atomic_bitmaps.specs.Counts.{first_pass, marked_by, cleared_by, read_by, picks, in_word, kept_half, new_half, both_passes, met_with};
+ghost use Rattle.vm_atomic_bitmaps.specs.Counts.{first_pass, marked_by, cleared_by, read_by, picks, in_word};
+ghost use Rattle.vm_atomic_bitmaps.specs.Counts.{kept_half, new_half, both_passes, met_with};
 ghost use Rattle.vm_atomic_bitmaps.specs.Rule.{Stands, StandsAt};
 ghost use Rattle.vm_atomic_bitmaps.specs.Steps.{SettlesWord, SettlesAll, NoneBeyond};
 ghost use Rattle.vm_atomic_bitmaps.specs.Passes.{IsPassOf, counting};
@@ -21,8 +23,8 @@ use std::marker::Model;
 use std::num::NonZeroUsize;
 use vm_bitmaps::page_words::zeros;
 
-/// A mark for each page of some bytes (vm-memory's `AtomicBitmap`). Threads share it by `&`, each with a pass of its
-/// own. Page p is bit p mod 64 of word p / 64.
+/// A mark for each page of some bytes (vm-memory's `AtomicBitmap`). Threads share it by `&`, each with a pass
+/// of its own. Page p is bit p mod 64 of word p / 64.
 #[derive(Drop)]
 pub struct AtomicBitmap {
     pub(crate) page_size: usize,
@@ -56,7 +58,9 @@ fn copy_words(closed: &Closed<(), Global>, words: &mut [u64])
     requires full { IsFull closed.now.words }
     requires room { length words.old ≤ slots_len closed.now.words }
     ensures count { length words.new ≡ length words.old }
-    ensures same { (i : ℕ) → i < length words.new → get_elem? (slots_items closed.now.words) i ≡ some (slice_index words.new i) }
+    ensures same { (i : ℕ)
+        → i < length words.new
+        → get_elem? (slots_items closed.now.words) i ≡ some (slice_index words.new i) }
 {
     let mut i = 0;
     while i < words.len() {
@@ -66,8 +70,8 @@ fn copy_words(closed: &Closed<(), Global>, words: &mut [u64])
 }
 
 impl AtomicBitmap {
-    /// A clear bitmap for `byte_size` bytes in pages of `page_size` bytes, with its first pass, which has every part
-    /// (vm-memory's `AtomicBitmap::new`). AllocError if an allocation fails.
+    /// A clear bitmap for `byte_size` bytes in pages of `page_size` bytes, with its first pass, which has
+    /// every part (vm-memory's `AtomicBitmap::new`). AllocError if an allocation fails.
     pub fn new(
         alloc: Global,
         byte_size: usize,
@@ -121,7 +125,8 @@ impl AtomicBitmap {
         requires own { IsPassOf self.now pass.old }
         requires inside { word < div_ceil self.now.len 64 }
         requires past { NoneBeyond self.now.len word mask }
-        ensures pass { pass.new ≡ counting pass.old (marked_by (picks word mask 1) result pass.old.counts.pages) }
+        ensures pass { pass.new
+            ≡ counting pass.old (marked_by (picks word mask 1) result pass.old.counts.pages) }
         ensures word { SettlesWord pass.old.counts word result }
     {
         self.table
@@ -134,7 +139,8 @@ impl AtomicBitmap {
     pub(crate) fn clear_word(&self, pass: &mut BitmapPass, word: usize, mask: u64) -> u64
         requires own { IsPassOf self.now pass.old }
         requires inside { word < div_ceil self.now.len 64 }
-        ensures pass { pass.new ≡ counting pass.old (cleared_by (picks word mask 1) result pass.old.counts.pages) }
+        ensures pass { pass.new
+            ≡ counting pass.old (cleared_by (picks word mask 1) result pass.old.counts.pages) }
         ensures word { SettlesWord pass.old.counts word result }
     {
         self.table
@@ -142,9 +148,10 @@ impl AtomicBitmap {
             .fetch_and::<Clear>(&mut pass.seat, word, !mask)
     }
 
-    /// Takes the marks of a word, in one step, a swap: the word is 0 afterwards. Bit b is page 64 * word + b. At that step
-    /// each page's bit is how much more often it was set than cleared by the counts of all passes, of which this is one
-    /// (`StandsAt`): a part of the passes knows its own counts and those that it met.
+    /// Takes the marks of a word, in one step, a swap: the word is 0 afterwards. Bit b is page 64 * word + b.
+    /// At that step each page's bit is how much more often it was set than cleared by the counts of all
+    /// passes, of which this is one (`StandsAt`): a part of the passes knows its own counts and those that it
+    /// met.
     #[inline]
     pub fn gather(&self, pass: &mut BitmapPass, word: usize) -> u64
         requires own { IsPassOf self.now pass.old }
@@ -158,8 +165,9 @@ impl AtomicBitmap {
         self.table.shared.swap::<Gather>(&mut pass.seat, word, 0)
     }
 
-    /// Reads a word, in one step, a load. Bit b is page 64 * word + b. The pass has then seen each of its pages set or
-    /// cleared as often as its bit tells. At that step the bits are those of the counts of all passes, as for `gather`.
+    /// Reads a word, in one step, a load. Bit b is page 64 * word + b. The pass has then seen each of its
+    /// pages set or cleared as often as its bit tells. At that step the bits are those of the counts of all
+    /// passes, as for `gather`.
     #[inline]
     pub fn word(&self, pass: &mut BitmapPass, word: usize) -> u64
         requires own { IsPassOf self.now pass.old }
@@ -178,7 +186,8 @@ impl AtomicBitmap {
         requires { IsPassOf self.now pass.old }
         ensures some { IsSome result }
         ensures pass { pass.new ≡ record { name = pass.old.name; counts = kept_half pass.old.counts } }
-        ensures second { IfSome result (λ p. p ≡ record { name = pass.old.name; counts = new_half pass.old.counts }) }
+        ensures second { IfSome result
+            (λ p. p ≡ record { name = pass.old.name; counts = new_half pass.old.counts }) }
         ensures own { IsPassOf self.now pass.new }
         ensures own_second { IfSome result (λ p. IsPassOf self.now p) }
     {
@@ -190,7 +199,8 @@ impl AtomicBitmap {
     pub fn join_pass(&self, pass: &mut BitmapPass, other: BitmapPass)
         requires own { IsPassOf self.now pass.old }
         requires other { IsPassOf self.now other }
-        ensures pass { pass.new ≡ record { name = pass.old.name; counts = both_passes pass.old.counts other.counts } }
+        ensures pass { pass.new
+            ≡ record { name = pass.old.name; counts = both_passes pass.old.counts other.counts } }
         ensures own { IsPassOf self.now pass.new }
     {
         let BitmapPass { seat } = other;
@@ -212,8 +222,8 @@ impl AtomicBitmap {
         true
     }
 
-    /// Ends the sharing, and answers the words: page p is bit p mod 64 of word p / 64. An error, if an allocation
-    /// fails, hands bitmap and pass back as they were.
+    /// Ends the sharing, and answers the words: page p is bit p mod 64 of word p / 64. An error, if an
+    /// allocation fails, hands bitmap and pass back as they were.
     pub fn close(
         self,
         alloc: Global,

@@ -4,7 +4,8 @@ use crate::counts::PageCounts;
 use atomic_table::Seat;
 use std::marker::Model;
 
-/// A thread's pass of one `AtomicBitmap`. It has no bytes, and each step of the thread changes what it has counted.
+/// A thread's pass of one `AtomicBitmap`. It has no bytes, and each step of the thread changes what it has
+/// counted.
 #[derive(Drop)]
 pub struct BitmapPass {
     pub(crate) seat: Seat<(), PageCounts>,

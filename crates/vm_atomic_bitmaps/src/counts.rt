@@ -1,11 +1,13 @@
-//! What a pass counts, the rule that a bitmap keeps, and what each kind of step tells. No value of these types is made.
+//! What a pass counts, the rule that a bitmap keeps, and what each kind of step tells. No value of these
+//! types is made.
 
 use atomic_table::{Join, Play, Split, TableRule};
 use std::collections::LinkedList;
 
-/// What a pass has counted of one page: whether it marked it, how often it found it clear and set it (`on`), how often
-/// it found it set and cleared it (`off`), how often all passes did the one and the other as far as it has seen, and how
-/// many of its own steps were marks of it, and gathers or clears of it, whatever they found.
+/// What a pass has counted of one page: whether it marked it, how often it found it clear and set it (`on`),
+/// how often it found it set and cleared it (`off`), how often all passes did the one and the other as far as
+/// it has seen, and how many of its own steps were marks of it, and gathers or clears of it, whatever they
+/// found.
 pub struct Tally {
     pub marked: bool,
     pub on: u64,

@@ -1,11 +1,13 @@
 //! Runs of many pages: one step for each word that they lie in.
 
-ghost use Rattle.std.specs.Prelude.{◌≡◌, ℕ, ◌+◌, ◌*◌, ◌<◌, ◌≤◌, ◌/◌, IfOk, OnErr, vec_len, slice_set, length, true, false, min, max, nat_eq};
+ghost use Rattle.std.specs.Prelude.{◌≡◌, ℕ, ◌+◌, ◌*◌, ◌<◌, ◌≤◌, ◌/◌, IfOk, OnErr, vec_len, slice_set, length};
+ghost use Rattle.std.specs.Prelude.{true, false, min, max, nat_eq};
 ghost use Rattle.std.specs.Int.{div_ceil};
 ghost use Rattle.vm_bitmaps.specs.Words.{page_bit, bit_of};
 ghost use Rattle.vm_atomic_bitmaps.specs.Steps.{SettlesWord, SettlesAll, NoneBeyond};
 ghost use Rattle.vm_atomic_bitmaps.specs.Passes.{IsPassOf, counting, marks_page, clears_page, changes_page};
-ghost use Rattle.vm_atomic_bitmaps.specs.Passes.{ByMark, ByClearing, ByChange, ByGathering, HasRead, Changes, ChangesInWord, ChangesRun};
+ghost use Rattle.vm_atomic_bitmaps.specs.Passes.{ByMark, ByClearing, ByChange, ByGathering, HasRead, Changes};
+ghost use Rattle.vm_atomic_bitmaps.specs.Passes.{ChangesInWord, ChangesRun};
 
 use crate::atomic_bitmap::AtomicBitmap;
 use crate::bitmap_pass::BitmapPass;
@@ -52,7 +54,8 @@ impl AtomicBitmap {
         requires to { word ≤ last / 64 }
         requires within { last < self.now.len }
         ensures pass { pass.new ≡ counting pass.old pass.new.counts.pages }
-        ensures pages { ChangesInWord (ByChange change pass.old.counts) pass.old.counts.pages pass.new.counts.pages word first last }
+        ensures pages { ChangesInWord (ByChange change pass.old.counts) pass.old.counts.pages
+            pass.new.counts.pages word first last }
     {
         let (from, to) = bits_in_word(word, first, last);
         let bits = mask(from, to);
@@ -69,7 +72,8 @@ impl AtomicBitmap {
         requires ordered { first ≤ last }
         requires within { last < self.now.len }
         ensures pass { pass.new ≡ counting pass.old pass.new.counts.pages }
-        ensures pages { ChangesRun (ByChange change pass.old.counts) pass.old.counts.pages pass.new.counts.pages first (last + 1) }
+        ensures pages { ChangesRun (ByChange change pass.old.counts) pass.old.counts.pages
+            pass.new.counts.pages first (last + 1) }
     {
         let mut word = first / 64;
         while word <= last / 64 {
@@ -78,12 +82,14 @@ impl AtomicBitmap {
         }
     }
 
-    // Changes the pages of `len` bytes from `start` on, in one step for each word. Bytes past the end are ignored.
+    // Changes the pages of `len` bytes from `start` on, in one step for each word. Bytes past the end are
+    // ignored.
     #[inline(always)]
     fn change_addr_range(&self, pass: &mut BitmapPass, change: PageChange, start: usize, len: usize)
         requires { IsPassOf self.now pass.old }
         ensures pass { pass.new ≡ counting pass.old pass.new.counts.pages }
-        ensures pages { Changes (ByChange change pass.old.counts) (changes_page change self.now.page_size self.now.len start len)
+        ensures pages { Changes (ByChange change pass.old.counts)
+            (changes_page change self.now.page_size self.now.len start len)
             pass.old.counts.pages pass.new.counts.pages }
     {
         if len == 0 {
@@ -102,7 +108,8 @@ impl AtomicBitmap {
     pub fn set_bit(&self, pass: &mut BitmapPass, index: usize)
         requires { IsPassOf self.now pass.old }
         ensures pass { pass.new ≡ counting pass.old pass.new.counts.pages }
-        ensures pages { Changes (ByMark pass.old.counts) (nat_eq index) pass.old.counts.pages pass.new.counts.pages }
+        ensures pages { Changes (ByMark pass.old.counts) (nat_eq index) pass.old.counts.pages
+            pass.new.counts.pages }
         ensures own { IsPassOf self.now pass.new }
     {
         if index < self.len {
@@ -115,7 +122,8 @@ impl AtomicBitmap {
     pub fn reset_bit(&self, pass: &mut BitmapPass, index: usize)
         requires { IsPassOf self.now pass.old }
         ensures pass { pass.new ≡ counting pass.old pass.new.counts.pages }
-        ensures pages { Changes (ByClearing pass.old.counts) (nat_eq index) pass.old.counts.pages pass.new.counts.pages }
+        ensures pages { Changes (ByClearing pass.old.counts) (nat_eq index) pass.old.counts.pages
+            pass.new.counts.pages }
         ensures own { IsPassOf self.now pass.new }
     {
         if index < self.len {
@@ -123,26 +131,28 @@ impl AtomicBitmap {
         }
     }
 
-    /// Marks the pages of `len` bytes from `start` on, in one step for each word. Bytes past the end are ignored
-    /// (vm-memory's `AtomicBitmap::set_addr_range`).
+    /// Marks the pages of `len` bytes from `start` on, in one step for each word. Bytes past the end are
+    /// ignored (vm-memory's `AtomicBitmap::set_addr_range`).
     #[inline]
     pub fn set_addr_range(&self, pass: &mut BitmapPass, start: usize, len: usize)
         requires { IsPassOf self.now pass.old }
         ensures pass { pass.new ≡ counting pass.old pass.new.counts.pages }
-        ensures pages { Changes (ByMark pass.old.counts) (marks_page self.now.page_size self.now.len start len)
+        ensures pages { Changes (ByMark pass.old.counts)
+            (marks_page self.now.page_size self.now.len start len)
             pass.old.counts.pages pass.new.counts.pages }
         ensures own { IsPassOf self.now pass.new }
     {
         self.change_addr_range(pass, PageChange::Mark, start, len);
     }
 
-    /// Clears the pages of `len` bytes from `start` on, in one step for each word. Bytes past the end are ignored
-    /// (vm-memory's `AtomicBitmap::reset_addr_range`).
+    /// Clears the pages of `len` bytes from `start` on, in one step for each word. Bytes past the end are
+    /// ignored (vm-memory's `AtomicBitmap::reset_addr_range`).
     #[inline]
     pub fn reset_addr_range(&self, pass: &mut BitmapPass, start: usize, len: usize)
         requires { IsPassOf self.now pass.old }
         ensures pass { pass.new ≡ counting pass.old pass.new.counts.pages }
-        ensures pages { Changes (ByClearing pass.old.counts) (clears_page self.now.page_size self.now.len start len)
+        ensures pages { Changes (ByClearing pass.old.counts)
+            (clears_page self.now.page_size self.now.len start len)
             pass.old.counts.pages pass.new.counts.pages }
         ensures own { IsPassOf self.now pass.new }
     {
@@ -161,8 +171,8 @@ impl AtomicBitmap {
         (word >> (index % 64)) & 1 == 1
     }
 
-    /// Whether a page is marked, by one read of its word. One past the end is not, and no word is read (vm-memory's
-    /// `AtomicBitmap::is_bit_set`).
+    /// Whether a page is marked, by one read of its word. One past the end is not, and no word is read
+    /// (vm-memory's `AtomicBitmap::is_bit_set`).
     #[inline]
     pub fn is_bit_set(&self, pass: &mut BitmapPass, index: usize) -> bool
         requires { IsPassOf self.now pass.old }
@@ -177,7 +187,8 @@ impl AtomicBitmap {
     #[inline]
     pub fn is_addr_set(&self, pass: &mut BitmapPass, addr: usize) -> bool
         requires { IsPassOf self.now pass.old }
-        ensures read { addr / self.now.page_size < self.now.len → HasRead pass.old pass.new (addr / self.now.page_size) (bit_of result) }
+        ensures read { addr / self.now.page_size < self.now.len
+            → HasRead pass.old pass.new (addr / self.now.page_size) (bit_of result) }
         ensures past { self.now.len ≤ addr / self.now.page_size → (result ≡ false) × (pass.new ≡ pass.old) }
         ensures own { IsPassOf self.now pass.new }
     {
@@ -191,8 +202,12 @@ impl AtomicBitmap {
         requires inside { word < div_ceil self.now.len 64 }
         requires room { length words.old ≡ div_ceil self.now.len 64 }
         ensures pass { pass.new ≡ counting pass.old pass.new.counts.pages }
-        ensures words { (bits : ℕ) × (words.new ≡ slice_set words.old word bits) × NoneBeyond self.now.len word bits × SettlesWord pass.old.counts word bits }
-        ensures pages { ChangesRun (ByGathering words.new) pass.old.counts.pages pass.new.counts.pages (64 * word) (64 * word + 64) }
+        ensures words { (bits : ℕ)
+            × (words.new ≡ slice_set words.old word bits)
+            × NoneBeyond self.now.len word bits
+            × SettlesWord pass.old.counts word bits }
+        ensures pages { ChangesRun (ByGathering words.new) pass.old.counts.pages pass.new.counts.pages
+            (64 * word) (64 * word + 64) }
     {
         words[word] = self.gather(pass, word);
     }
@@ -205,7 +220,8 @@ impl AtomicBitmap {
         ensures pass { pass.new ≡ counting pass.old pass.new.counts.pages }
         ensures count { length words.new ≡ length words.old }
         ensures past { (p : ℕ) → self.now.len ≤ p → page_bit words.new p ≡ 0 }
-        ensures pages { ChangesRun (ByGathering words.new) pass.old.counts.pages pass.new.counts.pages 0 self.now.len }
+        ensures pages { ChangesRun (ByGathering words.new) pass.old.counts.pages pass.new.counts.pages 0
+            self.now.len }
         ensures whole { SettlesAll pass.old.counts words.new }
     {
         let mut i = 0;
@@ -227,7 +243,8 @@ impl AtomicBitmap {
         ensures pass { pass.new ≡ counting pass.old pass.new.counts.pages }
         ensures count { IfOk result (λ words. vec_len words ≡ div_ceil self.now.len 64) }
         ensures past { IfOk result (λ words. (p : ℕ) → self.now.len ≤ p → page_bit words.items p ≡ 0) }
-        ensures pages { IfOk result (λ words. Changes (ByGathering words.items) (λ p. true) pass.old.counts.pages pass.new.counts.pages) }
+        ensures pages { IfOk result (λ words. Changes (ByGathering words.items) (λ p. true)
+            pass.old.counts.pages pass.new.counts.pages) }
         ensures whole { IfOk result (λ words. SettlesAll pass.old.counts words.items) }
         ensures own { IsPassOf self.now pass.new }
     {
@@ -240,7 +257,8 @@ impl AtomicBitmap {
     fn clear_all(&self, pass: &mut BitmapPass)
         requires { IsPassOf self.now pass.old }
         ensures pass { pass.new ≡ counting pass.old pass.new.counts.pages }
-        ensures pages { ChangesRun (ByClearing pass.old.counts) pass.old.counts.pages pass.new.counts.pages 0 self.now.len }
+        ensures pages { ChangesRun (ByClearing pass.old.counts) pass.old.counts.pages pass.new.counts.pages 0
+            self.now.len }
     {
         let mut i = 0;
         while i < self.words() {
@@ -253,7 +271,8 @@ impl AtomicBitmap {
     pub fn reset(&self, pass: &mut BitmapPass)
         requires { IsPassOf self.now pass.old }
         ensures pass { pass.new ≡ counting pass.old pass.new.counts.pages }
-        ensures pages { Changes (ByClearing pass.old.counts) (λ p. true) pass.old.counts.pages pass.new.counts.pages }
+        ensures pages { Changes (ByClearing pass.old.counts) (λ p. true) pass.old.counts.pages
+            pass.new.counts.pages }
         ensures own { IsPassOf self.now pass.new }
     {
         self.clear_all(pass);

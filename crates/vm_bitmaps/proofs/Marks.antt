@@ -1,5 +1,6 @@
 -- writing the pages of a range byte by byte writes a run of pages
-use Rattle.std.proofs.Common.{◌≡◌, ℕ, ◌+◌, ◌*◌, ◌/◌, ◌^◌, ◌<◌, ◌≤◌, inl, inr, Bool, true, false, cond, ltb, List, [], length, get_or, set, refl, ap, sym, ◌∙◌, arith, zero, suc}
+use Rattle.std.proofs.Common.{◌≡◌, ℕ, ◌+◌, ◌*◌, ◌/◌, ◌^◌, ◌<◌, ◌≤◌, inl, inr, Bool, true, false, cond, ltb, List, [], length, get_or, set}
+use Rattle.std.proofs.Common.{refl, ap, sym, ◌∙◌, arith, zero, suc}
 use Rattle.std.proofs.lemmas.List.{set_past, length-set, get_or-set_same, get_or-set_other, ext_get_or, nil_from_length}
 use Rattle.std.proofs.lemmas.Nat.{div-mul-add, le-div, mul-le}
 use Rattle.std.proofs.Math.Nat.{div-mul-le_self}
@@ -14,12 +15,14 @@ unfoldable pub written_range : Bool → (top size : ℕ) → List Bool → (offs
 written_range v top size marks offset zero = marks
 written_range v top size marks offset (suc n) = written_range v top size (written_at v top size marks offset) (offset + 1) n
 
-pub marked_range-is : (n size : ℕ) (marks : List Bool) (offset : ℕ) → marked_range size marks offset n ≡ written_range true (2 ^ 64) size marks offset n
+pub marked_range-is :
+    (n size : ℕ) (marks : List Bool) (offset : ℕ) → marked_range size marks offset n ≡ written_range true (2 ^ 64) size marks offset n
 unfolding marked_range written_range
 marked_range-is zero size marks offset = refl
 marked_range-is (suc n) size marks offset = marked_range-is n size (marked_at size marks offset) (offset + 1)
 
-pub cleared_range-is : (n size : ℕ) (marks : List Bool) (offset : ℕ) → cleared_range size marks offset n ≡ written_range false (2 ^ 64) size marks offset n
+pub cleared_range-is :
+    (n size : ℕ) (marks : List Bool) (offset : ℕ) → cleared_range size marks offset n ≡ written_range false (2 ^ 64) size marks offset n
 unfolding cleared_range written_range
 cleared_range-is zero size marks offset = refl
 cleared_range-is (suc n) size marks offset = cleared_range-is n size (cleared_at size marks offset) (offset + 1)
@@ -70,7 +73,8 @@ range_beyond (suc n) v top s m o h g =
     range_beyond n v top s (written_at v top s m o) (o + 1) h (omega (arith, length-at v top s m o)) ∙ same
 
 -- a page that no byte of the range lies in
-kept_at : (v : Bool) (top s : ℕ) (m : List Bool) (o p : ℕ) (d : Bool) → (o < top → o / s ≡ p → ⊥) → get_or (written_at v top s m o) p d ≡ get_or m p d
+kept_at : (v : Bool) (top s : ℕ) (m : List Bool) (o p : ℕ) (d : Bool) → (o < top → o / s ≡ p → ⊥) →
+    get_or (written_at v top s m o) p d ≡ get_or m p d
 kept_at v top s m o p d none = elim (cases_lt o top) [
   | inl l ↦ ap (λ m'. get_or m' p d) (at_below v top s m o l) ∙ get_or-set_other m (o / s) p v d (λ e. none l (sym e))
   | inr g ↦ ap (λ m'. get_or m' p d) (at_past v top s m o g)
@@ -85,7 +89,8 @@ kept (suc n) v top s m o p d none =
     kept_at v top s m o p d (λ l e. none o (omega arith) (omega arith) l e)
 
 -- a page once written stays so
-stays_at : (v : Bool) (top s : ℕ) (m : List Bool) (o p : ℕ) (d : Bool) → p < length m → get_or m p d ≡ v → get_or (written_at v top s m o) p d ≡ v
+stays_at :
+    (v : Bool) (top s : ℕ) (m : List Bool) (o p : ℕ) (d : Bool) → p < length m → get_or m p d ≡ v → get_or (written_at v top s m o) p d ≡ v
 stays_at v top s m o p d w e = elim (cases_eq (o / s) p) [
   | inl same ↦ elim (cases_lt o top) [
     | inl l ↦ ap (λ m'. get_or m' p d) (at_below v top s m o l ∙ ap (λ i. set m i v) same) ∙ get_or-set_same m p v d w
@@ -94,7 +99,8 @@ stays_at v top s m o p d w e = elim (cases_eq (o / s) p) [
   | inr ne ↦ kept_at v top s m o p d (λ l f. ne f) ∙ e
 ]
 
-stays : (n : ℕ) (v : Bool) (top s : ℕ) (m : List Bool) (o p : ℕ) (d : Bool) → p < length m → get_or m p d ≡ v → get_or (written_range v top s m o n) p d ≡ v
+stays : (n : ℕ) (v : Bool) (top s : ℕ) (m : List Bool) (o p : ℕ) (d : Bool) → p < length m → get_or m p d ≡ v →
+    get_or (written_range v top s m o n) p d ≡ v
 unfolding written_range
 stays zero v top s m o p d w e = e
 stays (suc n) v top s m o p d w e =
@@ -154,9 +160,11 @@ run_is v top s m new o n final h le fits below last count inside before after =
     let k = length-range n v top s m o in
     ext_get_or false new (written_range v top s m o n) (omega arith) (λ p w.
     elim (cases_lt p (o / s)) [
-      | inl low ↦ before p (omega arith) low ∙ sym (kept n v top s m o p false (λ b bl bh bt e. let g = div-le-div o b s h bl in absurd (omega arith)))
+      | inl low ↦ before p (omega arith) low
+          ∙ sym (kept n v top s m o p false (λ b bl bh bt e. let g = div-le-div o b s h bl in absurd (omega arith)))
       | inr from ↦ elim (cases_lt (final / s) p) [
-        | inl high ↦ after p (omega arith) high ∙ sym (kept n v top s m o p false (λ b bl bh bt e. let g = div-le-div b final s h (last b bh bt) in absurd (omega arith)))
+        | inl high ↦ after p (omega arith) high
+            ∙ sym (kept n v top s m o p false (λ b bl bh bt e. let g = div-le-div b final s h (last b bh bt) in absurd (omega arith)))
         | inr to ↦
             let b = byte_of o final s p h le from to in
             inside p (omega arith) from to ∙ sym (hit n v top s m o p false b.0 b.1 (omega arith) (omega arith) b.3 (omega arith))

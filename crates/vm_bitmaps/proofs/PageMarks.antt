@@ -1,5 +1,6 @@
 -- the marks that words stand for
-use Rattle.std.proofs.Common.{◌≡◌, ℕ, ◌+◌, ◌-◌, ◌*◌, ◌/◌, ◌%◌, ◌^◌, ◌<◌, ◌≤◌, inl, inr, Bool, true, false, cond, eqb, List, length, get_or, replicate, refl, ap, sym}
+use Rattle.std.proofs.Common.{◌≡◌, ℕ, ◌+◌, ◌-◌, ◌*◌, ◌/◌, ◌%◌, ◌^◌, ◌<◌, ◌≤◌, inl, inr, Bool, true, false, cond, eqb, List, length, get_or}
+use Rattle.std.proofs.Common.{replicate, refl, ap, sym}
 use Rattle.std.proofs.Common.{◌∙◌, arith, zero, suc, min, bit_and, subst}
 use Rattle.std.specs.Int.{bit_at, div_ceil}
 use Rattle.std.proofs.lemmas.List.{ext_get_or, length-replicate, get_or-replicate, get_or_past, get_or_read}
@@ -67,8 +68,10 @@ run_words v top s n o c last old new h some below has e run =
     run_is v top s (marks_of n old) (marks_of n new) o c (min (o + c) top - 1) h (omega arith) (omega arith) (omega arith)
     (λ b l t. omega arith) (omega arith)
     (λ p l from to. get_or-marks_of n new p false (omega arith) ∙ ap (λ b. eqb b 1) (run.inside p from (omega arith)) ∙ eqb-bit_of v)
-    (λ p l low. get_or-marks_of n new p false (omega arith) ∙ ap (λ b. eqb b 1) (run.below p low) ∙ sym (get_or-marks_of n old p false (omega arith)))
-    (λ p l high. get_or-marks_of n new p false (omega arith) ∙ ap (λ b. eqb b 1) (run.above p (omega arith)) ∙ sym (get_or-marks_of n old p false (omega arith)))
+    (λ p l low. get_or-marks_of n new p false (omega arith) ∙ ap (λ b. eqb b 1) (run.below p low)
+    ∙ sym (get_or-marks_of n old p false (omega arith)))
+    (λ p l high. get_or-marks_of n new p false (omega arith) ∙ ap (λ b. eqb b 1) (run.above p (omega arith))
+    ∙ sym (get_or-marks_of n old p false (omega arith)))
 
 -- words of zeros
 pub get_or-zeros : (k i : ℕ) → get_or {A = ℕ} (replicate k 0) i 0 ≡ 0
@@ -86,7 +89,8 @@ marks_of-zeros n k =
     let count = length-marks_of n (replicate k 0) in
     let clear = length-replicate n false in
     ext_get_or false (marks_of n (replicate k 0)) (replicate n false) (omega arith) (λ p l.
-    get_or-marks_of n (replicate k 0) p false (omega arith) ∙ ap (λ b. eqb b 1) (page_bit-zeros k p) ∙ sym (get_or-replicate n p false false (omega arith)))
+    get_or-marks_of n (replicate k 0) p false (omega arith) ∙ ap (λ b. eqb b 1) (page_bit-zeros k p)
+    ∙ sym (get_or-replicate n p false false (omega arith)))
 
 pub clean_zeros : (n k : ℕ) → k ≡ div_ceil n 64 → IsClean n (replicate k 0)
 clean_zeros n k e = record {
@@ -122,7 +126,8 @@ bit_at-word_from marks first (suc k) j l = elim (cases_eq j k) [
       ap (λ i. bit_at (bit_of (mark_of marks (first + k))) i) low ∙ bit_at-bit_of (mark_of marks (first + k)) ∙
       ap (λ i. bit_of (mark_of marks (first + i))) (sym top)
   | inr other ↦
-      bit_at_cat_low (bit_of (mark_of marks (first + k))) k (word_from marks first k) j (omega arith) ∙ bit_at-word_from marks first k j (omega arith)
+      bit_at_cat_low (bit_of (mark_of marks (first + k))) k (word_from marks first k) j (omega arith)
+      ∙ bit_at-word_from marks first k j (omega arith)
 ]
 
 -- bit j of word i tells the page 64 * i + j
@@ -133,9 +138,11 @@ page_bit-at words i j l =
     let bit : (64 * i + j) % 64 ≡ j = omega arith in
     ap (λ k. bit_at (get_or words k 0) ((64 * i + j) % 64)) word ∙ ap (λ k. bit_at (get_or words i 0) k) bit
 
-word_from-is : (n : ℕ) (words : List ℕ) (i : ℕ) → IsClean n words → get_or words i 0 < 2 ^ 64 → word_from (marks_of n words) (64 * i) 64 ≡ get_or words i 0
+word_from-is : (n : ℕ) (words : List ℕ) (i : ℕ) → IsClean n words → get_or words i 0 < 2 ^ 64 →
+    word_from (marks_of n words) (64 * i) 64 ≡ get_or words i 0
 word_from-is n words i clean fits =
-    same_from_bits_below 64 (word_from (marks_of n words) (64 * i) 64) (get_or words i 0) (word_from-lt (marks_of n words) (64 * i) 64) fits (λ j l.
+    same_from_bits_below 64 (word_from (marks_of n words) (64 * i) 64) (get_or words i 0) (word_from-lt (marks_of n words) (64 * i) 64)
+    fits (λ j l.
     bit_at-word_from (marks_of n words) (64 * i) 64 j l ∙ sym (page_bit-is n words (64 * i + j) clean) ∙ page_bit-at words i j l)
 
 pub words_of-is : (n : ℕ) (words : List ℕ) → IsClean n words → ((i : ℕ) → get_or words i 0 < 2 ^ 64) → words ≡ words_of (marks_of n words)
@@ -144,7 +151,8 @@ words_of-is n words clean fits =
     let total = length-map-range_with_len (λ i. word_from (marks_of n words) (64 * i) 64) 0 (div_ceil (length (marks_of n words)) 64) in
     let count : length words ≡ div_ceil n 64 = clean.count in
     ext_get_or 0 words (words_of (marks_of n words)) (count ∙ sym same ∙ sym total) (λ i l.
-    sym (get_or-map-range_with_len (λ i. word_from (marks_of n words) (64 * i) 64) 0 (div_ceil (length (marks_of n words)) 64) i i 0 (omega arith) (omega arith) ∙
+    sym (get_or-map-range_with_len (λ i. word_from (marks_of n words) (64 * i) 64) 0 (div_ceil (length (marks_of n words)) 64) i i 0
+    (omega arith) (omega arith) ∙
     word_from-is n words i clean (fits i)))
 
 -- the pages after a write to some bytes
@@ -163,12 +171,14 @@ none_written false p start len e = same_set p (cleared_range p.page_size p.marks
 
 -- even the first page is past the end
 pub past_written : (mark : Bool) (p : PageSet) (size bytes n : ℕ) (words : List ℕ) (start len : ℕ) →
-    record { page_size = size; byte_size = bytes; marks = marks_of n words } ≡ p → 0 < size → n ≤ start / size → p ≡ set_after mark p start len
+    record { page_size = size; byte_size = bytes; marks = marks_of n words } ≡ p → 0 < size → n ≤ start / size →
+    p ≡ set_after mark p start len
 past_written mark p size bytes n words start len view h g =
     let count = length-marks_of n words in
     let P : PageSet → Type 0 = λ q. q ≡ set_after mark q start len in
     subst P view (same_set (record { page_size = size; byte_size = bytes; marks = marks_of n words }) _
-    (sym (chosen_range-is mark size (marks_of n words) start len ∙ range_beyond len mark (2 ^ 64) size (marks_of n words) start h (omega arith))))
+    (sym (chosen_range-is mark size (marks_of n words) start len
+    ∙ range_beyond len mark (2 ^ 64) size (marks_of n words) start h (omega arith))))
 
 -- some page is written
 pub some_written : (mark : Bool) (p : PageSet) (size bytes n : ℕ) (old new : List ℕ) (start len last : ℕ) →
@@ -178,7 +188,8 @@ pub some_written : (mark : Bool) (p : PageSet) (size bytes n : ℕ) (old new : L
 some_written mark p size bytes n old new start len last view h some below has e run =
     let P : PageSet → Type 0 = λ q. record { page_size = size; byte_size = bytes; marks = marks_of n new } ≡ set_after mark q start len in
     let marks : marks_of n new ≡ cond mark (marked_range size (marks_of n old) start len) (cleared_range size (marks_of n old) start len) =
-    run_words mark (2 ^ 64) size n start len last old new h some below has e run ∙ sym (chosen_range-is mark size (marks_of n old) start len) in
+    run_words mark (2 ^ 64) size n start len last old new h some below has e run
+    ∙ sym (chosen_range-is mark size (marks_of n old) start len) in
     subst P view (ap (λ (m : List Bool). let q : PageSet = record { page_size = size; byte_size = bytes; marks = m } in q) marks)
 
 -- no page is marked any more
@@ -186,7 +197,8 @@ pub cleared_set : (size bytes n : ℕ) (old new : List ℕ) (count : ℕ) (p : P
     record { page_size = size; byte_size = bytes; marks = marks_of n old } ≡ p → n ≡ pages_of size bytes → new ≡ replicate count 0 →
     record { page_size = size; byte_size = bytes; marks = marks_of n new } ≡ record p { marks = clear_pages p.page_size p.byte_size }
 cleared_set size bytes n old new count p view is e =
-    let P : PageSet → Type 0 = λ q. record { page_size = size; byte_size = bytes; marks = marks_of n new } ≡ record q { marks = clear_pages q.page_size q.byte_size } in
+    let P : PageSet → Type 0 = λ q. record { page_size = size; byte_size = bytes; marks = marks_of n new }
+    ≡ record q { marks = clear_pages q.page_size q.byte_size } in
     let marks : marks_of n new ≡ clear_pages size bytes = ap (marks_of n) e ∙ marks_of-zeros n count ∙ ap (λ k. replicate k false) is in
     subst P view (ap (λ (m : List Bool). let q : PageSet = record { page_size = size; byte_size = bytes; marks = m } in q) marks)
 

@@ -1,5 +1,6 @@
 -- words with a summary
-use Rattle.std.proofs.Common.{◌≡◌, ◌≢◌, ℕ, ◌+◌, ◌-◌, ◌*◌, ◌/◌, ◌%◌, ◌^◌, ◌<◌, ◌≤◌, inl, inr, Bool, true, false, cond, eqb, ltb, List, length, get_or, replicate, refl}
+use Rattle.std.proofs.Common.{◌≡◌, ◌≢◌, ℕ, ◌+◌, ◌-◌, ◌*◌, ◌/◌, ◌%◌, ◌^◌, ◌<◌, ◌≤◌, inl, inr, Bool, true, false, cond, eqb, ltb, List}
+use Rattle.std.proofs.Common.{length, get_or, replicate, refl}
 use Rattle.std.proofs.Common.{ap, sym, subst, ◌∙◌, arith, Option, Some, None}
 use Rattle.std.specs.Int.{bit_at, div_ceil}
 use Rattle.std.proofs.Math.Nat.{div-div-eq-div-mul}
@@ -30,12 +31,14 @@ word_some words p w at e = elim (cases_lt 0 (get_or words w 0)) [
 -- a word whose bits are 0
 word_none : (words : List ℕ) (w : ℕ) → get_or words w 0 < 2 ^ 64 → ((p : ℕ) → p / 64 ≡ w → page_bit words p ≡ 0) → get_or words w 0 ≡ 0
 word_none words w fits none =
-    same_from_bits_below 64 (get_or words w 0) 0 fits (omega arith) (λ j l. sym (page_bit-at words w j l) ∙ none (64 * w + j) (omega arith) ∙ sym (bit_at-zero j))
+    same_from_bits_below 64 (get_or words w 0) 0 fits (omega arith)
+    (λ j l. sym (page_bit-at words w j l) ∙ none (64 * w + j) (omega arith) ∙ sym (bit_at-zero j))
 
 same_word : (old new : List ℕ) (w : ℕ) → get_or old w 0 < 2 ^ 64 → get_or new w 0 < 2 ^ 64 →
     ((p : ℕ) → p / 64 ≡ w → page_bit new p ≡ page_bit old p) → get_or new w 0 ≡ get_or old w 0
 same_word old new w fo fn same =
-    same_from_bits_below 64 (get_or new w 0) (get_or old w 0) fn fo (λ j l. sym (page_bit-at new w j l) ∙ same (64 * w + j) (omega arith) ∙ page_bit-at old w j l)
+    same_from_bits_below 64 (get_or new w 0) (get_or old w 0) fn fo
+    (λ j l. sym (page_bit-at new w j l) ∙ same (64 * w + j) (omega arith) ∙ page_bit-at old w j l)
 
 -- ---- what a summary tells
 
@@ -74,12 +77,16 @@ pub marked_summary : (old new before after : List ℕ) (first last : ℕ) → fi
 marked_summary old new before after first last order run fo fn len room told s = record {
   count = room ∙ s.count ∙ ap (λ n. div_ceil n 64) (sym len);
   tells = λ w. elim (cases_lt w (first / 64)) [
-    | inl low ↦ told.below w low ∙ tells_same old new before w (s.tells w) (same_word old new w (fo w) (fn w) (λ p at. run.below p (omega arith)))
+    | inl low ↦ told.below w low
+        ∙ tells_same old new before w (s.tells w) (same_word old new w (fo w) (fn w) (λ p at. run.below p (omega arith)))
     | inr from ↦ elim (cases_lt (last / 64) w) [
-      | inl high ↦ told.above w (omega arith) ∙ tells_same old new before w (s.tells w) (same_word old new w (fo w) (fn w) (λ p at. run.above p (omega arith)))
+      | inl high ↦ told.above w (omega arith)
+          ∙ tells_same old new before w (s.tells w) (same_word old new w (fo w) (fn w) (λ p at. run.above p (omega arith)))
       | inr to ↦ elim (cases_lt first (64 * w)) [
-        | inl past ↦ told.inside w from (omega arith) ∙ sym (told_one (get_or new w 0) (word_some new (64 * w) w (omega arith) (run.inside (64 * w) (omega arith) (omega arith))))
-        | inr here ↦ told.inside w from (omega arith) ∙ sym (told_one (get_or new w 0) (word_some new first w (omega arith) (run.inside first (omega arith) (omega arith))))
+        | inl past ↦ told.inside w from (omega arith)
+            ∙ sym (told_one (get_or new w 0) (word_some new (64 * w) w (omega arith) (run.inside (64 * w) (omega arith) (omega arith))))
+        | inr here ↦ told.inside w from (omega arith)
+            ∙ sym (told_one (get_or new w 0) (word_some new first w (omega arith) (run.inside first (omega arith) (omega arith))))
       ]
     ]
   ];
@@ -87,14 +94,16 @@ marked_summary old new before after first last order run fo fn len room told s =
 
 -- the summary after a run of pages was marked in a word that it tells of
 pub told_summary : (old new summary : List ℕ) (first last : ℕ) → first ≤ last → first / 64 ≡ last / 64 → 0 < get_or old (first / 64) 0 →
-    WritesRun old new first (last + 1) true → ((w : ℕ) → get_or old w 0 < 2 ^ 64) → ((w : ℕ) → get_or new w 0 < 2 ^ 64) → length new ≡ length old →
+    WritesRun old new first (last + 1) true → ((w : ℕ) → get_or old w 0 < 2 ^ 64) → ((w : ℕ) → get_or new w 0 < 2 ^ 64) →
+    length new ≡ length old →
     IsSummary old summary → IsSummary new summary
 told_summary old new summary first last order one some run fo fn len s = record {
   count = s.count ∙ ap (λ n. div_ceil n 64) (sym len);
   tells = λ w. elim (cases_eq w (first / 64)) [
     | inl is ↦
         let was : 0 < get_or old w 0 = subst (λ i. 0 < get_or old i 0) (sym is) some in
-        s.tells w ∙ told_one (get_or old w 0) was ∙ sym (told_one (get_or new w 0) (word_some new first w (sym is) (run.inside first (omega arith) (omega arith))))
+        s.tells w ∙ told_one (get_or old w 0) was
+        ∙ sym (told_one (get_or new w 0) (word_some new first w (sym is) (run.inside first (omega arith) (omega arith))))
     | inr ne ↦ tells_same old new summary w (s.tells w) (same_word old new w (fo w) (fn w) (λ p at. elim (cases_lt p first) [
       | inl low ↦ run.below p low
       | inr from ↦ run.above p (omega arith)
@@ -116,13 +125,16 @@ put_same false x e = e
 pub cleared_summary : (old new s0 s1 s2 s3 : List ℕ) (first last : ℕ) → first ≤ last → WritesRun old new first (last + 1) false →
     ((w : ℕ) → get_or old w 0 < 2 ^ 64) → ((w : ℕ) → get_or new w 0 < 2 ^ 64) → length new ≡ length old → length s3 ≡ length s0 →
     WritesRun s0 s1 (first / 64) (last / 64 + 1) false →
-    page_bit s2 (first / 64) ≡ cond (ltb 0 (get_or new (first / 64) 0)) 1 (page_bit s1 (first / 64)) → ((w : ℕ) → w ≢ first / 64 → page_bit s2 w ≡ page_bit s1 w) →
-    page_bit s3 (last / 64) ≡ cond (ltb 0 (get_or new (last / 64) 0)) 1 (page_bit s2 (last / 64)) → ((w : ℕ) → w ≢ last / 64 → page_bit s3 w ≡ page_bit s2 w) →
+    page_bit s2 (first / 64) ≡ cond (ltb 0 (get_or new (first / 64) 0)) 1 (page_bit s1 (first / 64)) →
+    ((w : ℕ) → w ≢ first / 64 → page_bit s2 w ≡ page_bit s1 w) →
+    page_bit s3 (last / 64) ≡ cond (ltb 0 (get_or new (last / 64) 0)) 1 (page_bit s2 (last / 64)) →
+    ((w : ℕ) → w ≢ last / 64 → page_bit s3 w ≡ page_bit s2 w) →
     IsSummary old s0 → IsSummary new s3
 cleared_summary old new s0 s1 s2 s3 first last order run fo fn len room none told2 others2 told3 others3 s =
     let head = first / 64 in
     let tail = last / 64 in
-    let at_head : Summarizes new s2 head = told2 ∙ put (ltb 0 (get_or new head 0)) (page_bit s1 head) (none.inside head (omega arith) (omega arith)) in
+    let at_head : Summarizes new s2 head =
+    told2 ∙ put (ltb 0 (get_or new head 0)) (page_bit s1 head) (none.inside head (omega arith) (omega arith)) in
     let at_tail : Summarizes new s3 tail = elim (cases_eq tail head) [
       | inl e ↦ told3 ∙ put_same (ltb 0 (get_or new tail 0)) (page_bit s2 tail) (subst (λ i. Summarizes new s2 i) (sym e) at_head)
       | inr ne ↦ told3 ∙ put (ltb 0 (get_or new tail 0)) (page_bit s2 tail) (others2 tail ne ∙ none.inside tail (omega arith) (omega arith))
@@ -160,30 +172,36 @@ zeros_summary n k e = record {
 shifted : (n a k : ℕ) → bit_at (n / 2 ^ a) k ≡ bit_at n (a + k)
 shifted n a k = ap (λ m. m % 2) (div-div-eq-div-mul n (2 ^ a) (2 ^ k) ∙ ap (λ m. n / m) (sym (pow-add 2 a k)))
 
-shifted_page : (words : List ℕ) (from k : ℕ) → from % 64 + k < 64 → bit_at (get_or words (from / 64) 0 / 2 ^ (from % 64)) k ≡ page_bit words (from + k)
+shifted_page :
+    (words : List ℕ) (from k : ℕ) → from % 64 + k < 64 → bit_at (get_or words (from / 64) 0 / 2 ^ (from % 64)) k ≡ page_bit words (from + k)
 unfolding page_bit
 shifted_page words from k l =
     let word : (from + k) / 64 ≡ from / 64 = omega arith in
     let bit : (from + k) % 64 ≡ from % 64 + k = omega arith in
-    shifted (get_or words (from / 64) 0) (from % 64) k ∙ ap (λ j. bit_at (get_or words (from / 64) 0) j) (sym bit) ∙ ap (λ j. bit_at (get_or words j 0) ((from + k) % 64)) (sym word)
+    shifted (get_or words (from / 64) 0) (from % 64) k ∙ ap (λ j. bit_at (get_or words (from / 64) 0) j) (sym bit)
+    ∙ ap (λ j. bit_at (get_or words j 0) ((from + k) % 64)) (sym word)
 
 -- nothing is left of the word of a page, from the page on
-pub rest_none : (words : List ℕ) (from rest : ℕ) → rest ≡ get_or words (from / 64) 0 / 2 ^ (from % 64) → rest ≡ 0 → IsFirstSet words from (64 * (from / 64) + 64) None
+pub rest_none : (words : List ℕ) (from rest : ℕ) → rest ≡ get_or words (from / 64) 0 / 2 ^ (from % 64) → rest ≡ 0 →
+    IsFirstSet words from (64 * (from / 64) + 64) None
 rest_none words from rest is none p low high =
     let same : from + (p - from) ≡ p = omega arith in
     let bit : bit_at rest (p - from) ≡ 0 = ap (λ m. bit_at m (p - from)) none ∙ bit_at-zero (p - from) in
     ap (page_bit words) (sym same) ∙ sym (shifted_page words from (p - from) (omega arith)) ∙ ap (λ m. bit_at m (p - from)) (sym is) ∙ bit
 
 -- where the lowest bit of what is left of a word stands
-pub rest_below : (words : List ℕ) (from rest t : ℕ) → get_or words (from / 64) 0 < 2 ^ 64 → rest ≡ get_or words (from / 64) 0 / 2 ^ (from % 64) → bit_at rest t ≡ 1 → from % 64 + t < 64
+pub rest_below : (words : List ℕ) (from rest t : ℕ) → get_or words (from / 64) 0 < 2 ^ 64 →
+    rest ≡ get_or words (from / 64) 0 / 2 ^ (from % 64) → bit_at rest t ≡ 1 → from % 64 + t < 64
 rest_below words from rest t fits is one = elim (cases_lt (from % 64 + t) 64) [
   | inl l ↦ l
   | inr g ↦
-      let none : bit_at rest t ≡ 0 = ap (λ m. bit_at m t) is ∙ shifted (get_or words (from / 64) 0) (from % 64) t ∙ bit_at_above (get_or words (from / 64) 0) 64 (from % 64 + t) fits g in
+      let none : bit_at rest t ≡ 0 = ap (λ m. bit_at m t) is ∙ shifted (get_or words (from / 64) 0) (from % 64) t
+      ∙ bit_at_above (get_or words (from / 64) 0) 64 (from % 64 + t) fits g in
       absurd (omega arith)
 ]
 
-pub rest_some : (words : List ℕ) (from rest t : ℕ) → get_or words (from / 64) 0 < 2 ^ 64 → rest ≡ get_or words (from / 64) 0 / 2 ^ (from % 64) → bit_at rest t ≡ 1 →
+pub rest_some : (words : List ℕ) (from rest t : ℕ) → get_or words (from / 64) 0 < 2 ^ 64 →
+    rest ≡ get_or words (from / 64) 0 / 2 ^ (from % 64) → bit_at rest t ≡ 1 →
     ((k : ℕ) → k < t → bit_at rest k ≡ 0) → IsFirstSet words from (64 * (from / 64) + 64) (Some (from + t))
 rest_some words from rest t fits is one lowest =
     let below = rest_below words from rest t fits is one in (
@@ -192,7 +210,8 @@ rest_some words from rest t fits is one lowest =
       sym (shifted_page words from t below) ∙ ap (λ m. bit_at m t) (sym is) ∙ one,
       λ q low high.
           let same : from + (q - from) ≡ q = omega arith in
-          ap (page_bit words) (sym same) ∙ sym (shifted_page words from (q - from) (omega arith)) ∙ ap (λ m. bit_at m (q - from)) (sym is) ∙ lowest (q - from) (omega arith),
+          ap (page_bit words) (sym same) ∙ sym (shifted_page words from (q - from) (omega arith)) ∙ ap (λ m. bit_at m (q - from)) (sym is)
+          ∙ lowest (q - from) (omega arith),
     )
 
 -- past the last word
@@ -239,7 +258,8 @@ next_some words summary from w (Some page) fits s here next first =
 -- ---- what a write leaves
 
 -- no bit past the last page is set after a run of pages is written
-pub written_clean : (n : ℕ) (items old new : List ℕ) (first last : ℕ) (mark : Bool) → IsClean n items → old ≡ items → WritesRun old new first (last + 1) mark →
+pub written_clean : (n : ℕ) (items old new : List ℕ) (first last : ℕ) (mark : Bool) → IsClean n items → old ≡ items →
+    WritesRun old new first (last + 1) mark →
     length new ≡ length old → last < n → IsClean n new
 written_clean n items old new first last mark clean is run len below = record {
   count = len ∙ ap length is ∙ clean.count;
@@ -249,7 +269,8 @@ written_clean n items old new first last mark clean is run len below = record {
 -- ---- words that are cleared one after another
 
 -- the next marked page is the next one whose bit is set
-pub next_marked_is : (n : ℕ) (words : List ℕ) (from : ℕ) (found : Option ℕ) → IsClean n words → IsNextSet words from found → IsNextMarked (marks_of n words) from found
+pub next_marked_is : (n : ℕ) (words : List ℕ) (from : ℕ) (found : Option ℕ) → IsClean n words → IsNextSet words from found →
+    IsNextMarked (marks_of n words) from found
 next_marked_is n words from None clean none = λ p low. mark_of-marks_of n words p clean ∙ ap (λ b. eqb b 1) (none p low)
 next_marked_is n words from (Some page) clean next = (
   next.0,

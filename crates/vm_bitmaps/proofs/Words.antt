@@ -1,10 +1,13 @@
 -- writing runs of pages in words
-use Rattle.std.proofs.Common.{◌≡◌, ℕ, zero, suc, ◌+◌, ◌-◌, ◌*◌, ◌/◌, ◌%◌, ◌^◌, ◌<◌, ◌≤◌, inl, inr, Bool, true, false, List, ◌++◌, length, get_or, set, take, drop}
+use Rattle.std.proofs.Common.{◌≡◌, ℕ, zero, suc, ◌+◌, ◌-◌, ◌*◌, ◌/◌, ◌%◌, ◌^◌, ◌<◌, ◌≤◌, inl, inr, Bool, true, false, List, ◌++◌, length}
+use Rattle.std.proofs.Common.{get_or, set, take, drop}
 use Rattle.std.proofs.Common.{replicate, ap, sym, ◌∙◌, arith, bit_and, bit_or, ◌≢◌}
 use Rattle.std.specs.Int.{bit_at, w64, bit_not}
 use Rattle.std.proofs.lemmas.Nat.{pow-add, pow_pos, shl_whole}
-use Rattle.std.proofs.lemmas.Nat.Bits.{ones_shr, bit_at_or, bit_at_and, bit_at_not, bit_at-lt, bit_at_above, bit_at_mask_inside, bit_at_mask_below, bit_at_mask_above, bit_at_ones, bit_at-zero}
-use Rattle.std.proofs.lemmas.List.{get_or-set_same, get_or-set_other, get_or-take, get_or-drop, get_or-append_right, get_or_append_left, get_or-replicate}
+use Rattle.std.proofs.lemmas.Nat.Bits.{ones_shr, bit_at_or, bit_at_and, bit_at_not, bit_at-lt, bit_at_above, bit_at_mask_inside}
+use Rattle.std.proofs.lemmas.Nat.Bits.{bit_at_mask_below, bit_at_mask_above, bit_at_ones, bit_at-zero}
+use Rattle.std.proofs.lemmas.List.{get_or-set_same, get_or-set_other, get_or-take, get_or-drop, get_or-append_right, get_or_append_left}
+use Rattle.std.proofs.lemmas.List.{get_or-replicate}
 use Rattle.std.proofs.lemmas.List.{length-replicate, length-append, length-take-le}
 use Rattle.std.proofs.lemmas.Bool.{cases_lt, cases_eq}
 use Rattle.vm_bitmaps.specs.Words.{page_bit, bit_of, WritesRun, WritesBits}
@@ -46,11 +49,13 @@ outside : (word run k : ℕ) → word < 2 ^ 64 → run < 2 ^ 64 → bit_at run k
 outside word run k fits runs none =
     let small : bit_at word k < 2 = bit_at-lt word k in
     elim (cases_lt k 64) [
-      | inl l ↦ let flip : bit_at (bit_not w64 run) k ≡ 1 - bit_at run k = bit_at_not w64 run k runs l in bit_at_and word (bit_not w64 run) k ∙ omega arith
+      | inl l ↦ let flip : bit_at (bit_not w64 run) k ≡ 1 - bit_at run k = bit_at_not w64 run k runs l in
+          bit_at_and word (bit_not w64 run) k ∙ omega arith
       | inr g ↦ let past : bit_at word k ≡ 0 = bit_at_above word 64 k fits g in bit_at_and word (bit_not w64 run) k ∙ omega arith
     ]
 
-pub clear_bits : (word from to run : ℕ) → word < 2 ^ 64 → run < 2 ^ 64 → from < to → to ≤ 64 → run ≡ 2 ^ to - 2 ^ from → WritesBits word (bit_and word (bit_not w64 run)) from to false
+pub clear_bits : (word from to run : ℕ) → word < 2 ^ 64 → run < 2 ^ 64 → from < to → to ≤ 64 → run ≡ 2 ^ to - 2 ^ from →
+    WritesBits word (bit_and word (bit_not w64 run)) from to false
 clear_bits word from to run fits runs l w e = record {
   inside = λ k low high.
       let one : bit_at run k ≡ 1 = ap (λ m. bit_at m k) e ∙ bit_at_mask_inside from to k low high in
@@ -63,7 +68,8 @@ clear_bits word from to run fits runs l w e = record {
 -- the bits of the one word that is written
 here : (words : List ℕ) (i word p : ℕ) → i < length words → p / 64 ≡ i → page_bit (set words i word) p ≡ bit_at word (p % 64)
 unfolding page_bit
-here words i word p l e = ap (λ j. bit_at (get_or (set words i word) j 0) (p % 64)) e ∙ ap (λ m. bit_at m (p % 64)) (get_or-set_same words i word 0 l)
+here words i word p l e =
+    ap (λ j. bit_at (get_or (set words i word) j 0) (p % 64)) e ∙ ap (λ m. bit_at m (p % 64)) (get_or-set_same words i word 0 l)
 
 elsewhere : (words : List ℕ) (i word p : ℕ) → p / 64 ≢ i → page_bit (set words i word) p ≡ page_bit words p
 unfolding page_bit
@@ -93,7 +99,8 @@ filled : (words : List ℕ) (from to word j : ℕ) → from ≤ j → j < to →
 filled words from to word j low high w =
     let n : length (take from words) ≡ from = length-take-le from words (omega arith) in
     let m : length (replicate (to - from) word) ≡ to - from = length-replicate (to - from) word in
-    let k : length (take from words ++ replicate (to - from) word) ≡ length (take from words) + length (replicate (to - from) word) = length-append (take from words) (replicate (to - from) word) in
+    let k : length (take from words ++ replicate (to - from) word) ≡ length (take from words) + length (replicate (to - from) word) =
+    length-append (take from words) (replicate (to - from) word) in
     get_or_append_left (take from words ++ replicate (to - from) word) (drop to words) 0 j (omega arith) ∙
     get_or-append_right (take from words) (replicate (to - from) word) from j 0 n low ∙
     get_or-replicate (to - from) (j - from) word 0 (omega arith)
@@ -103,7 +110,8 @@ kept_before : (words : List ℕ) (from to word j : ℕ) → j < from → from �
 kept_before words from to word j low o w =
     let n : length (take from words) ≡ from = length-take-le from words (omega arith) in
     let m : length (replicate (to - from) word) ≡ to - from = length-replicate (to - from) word in
-    let k : length (take from words ++ replicate (to - from) word) ≡ length (take from words) + length (replicate (to - from) word) = length-append (take from words) (replicate (to - from) word) in
+    let k : length (take from words ++ replicate (to - from) word) ≡ length (take from words) + length (replicate (to - from) word) =
+    length-append (take from words) (replicate (to - from) word) in
     get_or_append_left (take from words ++ replicate (to - from) word) (drop to words) 0 j (omega arith) ∙
     get_or_append_left (take from words) (replicate (to - from) word) 0 j (omega arith) ∙
     get_or-take from words j 0 low
@@ -113,7 +121,8 @@ kept_after : (words : List ℕ) (from to word j : ℕ) → to ≤ j → from ≤
 kept_after words from to word j high o w =
     let n : length (take from words) ≡ from = length-take-le from words (omega arith) in
     let m : length (replicate (to - from) word) ≡ to - from = length-replicate (to - from) word in
-    let k : length (take from words ++ replicate (to - from) word) ≡ length (take from words) + length (replicate (to - from) word) = length-append (take from words) (replicate (to - from) word) in
+    let k : length (take from words ++ replicate (to - from) word) ≡ length (take from words) + length (replicate (to - from) word) =
+    length-append (take from words) (replicate (to - from) word) in
     get_or-append_right (take from words ++ replicate (to - from) word) (drop to words) to j 0 (omega arith) high ∙
     get_or-drop to words (j - to) 0 ∙ ap (λ i. get_or words i 0) (omega arith)
 
@@ -122,7 +131,8 @@ pub whole_words : (words : List ℕ) (from to word : ℕ) (mark : Bool) → from
     WritesRun words (take from words ++ replicate (to - from) word ++ drop to words) (64 * from) (64 * to) mark
 unfolding page_bit
 whole_words words from to word mark o w bits = record {
-  inside = λ p low high. ap (λ m. bit_at m (p % 64)) (filled words from to word (p / 64) (omega arith) (omega arith) w) ∙ bits (p % 64) (omega arith);
+  inside = λ p low high. ap (λ m. bit_at m (p % 64)) (filled words from to word (p / 64) (omega arith) (omega arith) w)
+      ∙ bits (p % 64) (omega arith);
   below = λ p low. ap (λ m. bit_at m (p % 64)) (kept_before words from to word (p / 64) (omega arith) o w);
   above = λ p high. ap (λ m. bit_at m (p % 64)) (kept_after words from to word (p / 64) (omega arith) o w);
 }

@@ -9,6 +9,7 @@ KeepsIf Keeps (Some old) None = ⊥
 KeepsIf Keeps (Some old) (Some new) = Keeps old new
 
 -- a proof, which the trait cites: nothing in it has to be believed
-pub KeepsIf-same : {B : Type 0} (Keeps : B → B → Type 0) → ((b : B) → Keeps b b) → (o : Option B) → KeepsIf Keeps o o
+pub KeepsIf-same :
+    {B : Type 0} (Keeps : B → B → Type 0) → ((b : B) → Keeps b b) → (o : Option B) → KeepsIf Keeps o o
 KeepsIf-same Keeps same None = tt
 KeepsIf-same Keeps same (Some b) = same b

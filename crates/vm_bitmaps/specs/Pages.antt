@@ -1,10 +1,13 @@
 -- The dirty pages of a range of bytes: a truth value for each page (vm-memory, bitmap).
-use Rattle.std.specs.Prelude.{◌≡◌, ℕ, zero, suc, ◌+◌, ◌*◌, ◌/◌, ◌^◌, ◌<◌, ◌≤◌, Bool, true, false, nat_lt, if◌then◌else◌}
-use Rattle.std.specs.Prelude.{List, length, map, replicate, Option, Some, None, slice_set, slice_get, unwrap_or}
+use Rattle.std.specs.Prelude.{◌≡◌, ℕ, zero, suc, ◌+◌, ◌*◌, ◌/◌, ◌^◌, ◌<◌, ◌≤◌, Bool, true, false, nat_lt}
+use Rattle.std.specs.Prelude.{if◌then◌else◌}
+use Rattle.std.specs.Prelude.{List, length, map, replicate, Option, Some, None, slice_set, slice_get}
+use Rattle.std.specs.Prelude.{unwrap_or}
 use Rattle.std.specs.Int.{div_ceil}
 use Rattle.std.specs.List.{range_with_len}
 
--- the pages of byte_size bytes, each of page_size bytes but the last, which may be shorter, and whether each is marked
+-- the pages of byte_size bytes, each of page_size bytes but the last, which may be shorter, and whether each
+-- is marked
 pub record PageSet : Type 0 where
   pub page_size : ℕ
   pub byte_size : ℕ
@@ -47,11 +50,13 @@ mark_of marks p = unwrap_or (slice_get marks p) false
 -- the first marked page from one on, if there is one
 abbrev pub IsNextMarked : List Bool → (from : ℕ) → Option ℕ → Type 0
 IsNextMarked marks from None = (p : ℕ) → from ≤ p → mark_of marks p ≡ false
-IsNextMarked marks from (Some p) = (from ≤ p) × (mark_of marks p ≡ true) × ((q : ℕ) → from ≤ q → q < p → mark_of marks q ≡ false)
+IsNextMarked marks from (Some p) =
+    (from ≤ p) × (mark_of marks p ≡ true) × ((q : ℕ) → from ≤ q → q < p → mark_of marks q ≡ false)
 
 -- whether the page of a byte is marked
 abbrev pub is_marked : (size : ℕ) → List Bool → (offset : ℕ) → Bool
-is_marked size marks offset = if nat_lt offset (2 ^ 64) then unwrap_or (slice_get marks (offset / size)) false else false
+is_marked size marks offset =
+    if nat_lt offset (2 ^ 64) then unwrap_or (slice_get marks (offset / size)) false else false
 
 -- the lowest k bits of the word whose bit 0 tells the page first, and whose bit j the page first + j
 unfoldable pub word_from : List Bool → (first k : ℕ) → ℕ

@@ -15,9 +15,11 @@ pub record IsSummary (words summary : List ℕ) : Type 0 where
 -- the first page from one up to an end whose bit is set, if there is one
 abbrev pub IsFirstSet : List ℕ → (from end : ℕ) → Option ℕ → Type 0
 IsFirstSet words from end None = (p : ℕ) → from ≤ p → p < end → page_bit words p ≡ 0
-IsFirstSet words from end (Some p) = (from ≤ p) × (p < end) × (page_bit words p ≡ 1) × ((q : ℕ) → from ≤ q → q < p → page_bit words q ≡ 0)
+IsFirstSet words from end (Some p) =
+    (from ≤ p) × (p < end) × (page_bit words p ≡ 1) × ((q : ℕ) → from ≤ q → q < p → page_bit words q ≡ 0)
 
 -- the first page from one on whose bit is set, if there is one
 abbrev pub IsNextSet : List ℕ → (from : ℕ) → Option ℕ → Type 0
 IsNextSet words from None = (p : ℕ) → from ≤ p → page_bit words p ≡ 0
-IsNextSet words from (Some p) = (from ≤ p) × (page_bit words p ≡ 1) × ((q : ℕ) → from ≤ q → q < p → page_bit words q ≡ 0)
+IsNextSet words from (Some p) =
+    (from ≤ p) × (page_bit words p ≡ 1) × ((q : ℕ) → from ≤ q → q < p → page_bit words q ≡ 0)

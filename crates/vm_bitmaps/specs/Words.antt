@@ -1,5 +1,6 @@
 -- Pages as the bits of words: page p is bit p mod 64 of word p / 64.
-use Rattle.std.specs.Prelude.{◌≡◌, ℕ, ◌<◌, ◌≤◌, ◌/◌, ◌%◌, Bool, if◌then◌else◌, nat_eq, List, map, length, slice_index}
+use Rattle.std.specs.Prelude.{◌≡◌, ℕ, ◌<◌, ◌≤◌, ◌/◌, ◌%◌, Bool, if◌then◌else◌, nat_eq, List, map, length}
+use Rattle.std.specs.Prelude.{slice_index}
 use Rattle.std.specs.Int.{bit_at, div_ceil}
 use Rattle.std.specs.List.{range_with_len}
 

@@ -1,6 +1,7 @@
 //! What a set of dirty pages does (vm-memory's `Bitmap`, `NewBitmap`).
 
-ghost use Rattle.std.specs.Prelude.{◌≡◌, ℕ, ◌+◌, Bool, List, [], IfOk, false, replicate, option_map, unwrap_or, refl};
+ghost use Rattle.std.specs.Prelude.{◌≡◌, ℕ, ◌+◌, Bool, List, [], IfOk, false, replicate, option_map};
+ghost use Rattle.std.specs.Prelude.{unwrap_or, refl};
 ghost use Rattle.vm_bitmaps.specs.Pages.{marked_range, is_marked};
 ghost use Rattle.vm_bitmaps.specs.Keeps.{KeepsIf, KeepsIf-same};
 
@@ -22,7 +23,8 @@ pub trait Bitmap {
     fn mark_dirty(&mut self, offset: usize, len: usize)
         ensures size { page_size self.new ≡ page_size self.old }
         ensures base { base self.new ≡ base self.old }
-        ensures marks { marks self.new ≡ marked_range (page_size self.old) (marks self.old) (base self.old + offset) len }
+        ensures marks { marks self.new
+            ≡ marked_range (page_size self.old) (marks self.old) (base self.old + offset) len }
         ensures kept { Keeps self.old self.new };
 
     /// Whether the page of the byte at `offset` is marked.

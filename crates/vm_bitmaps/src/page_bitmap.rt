@@ -1,6 +1,7 @@
 //! The dirty pages of some bytes, as the bits of words.
 
-ghost use Rattle.std.specs.Prelude.{◌≡◌, ℕ, ◌+◌, ◌-◌, ◌^◌, ◌<◌, ◌/◌, IfOk, OnOk, OnErr, length, min, if◌then◌else◌, refl, vec_len};
+ghost use Rattle.std.specs.Prelude.{◌≡◌, ℕ, ◌+◌, ◌-◌, ◌^◌, ◌<◌, ◌/◌, IfOk, OnOk, OnErr, length, min};
+ghost use Rattle.std.specs.Prelude.{if◌then◌else◌, refl, vec_len};
 ghost use Rattle.std.specs.Int.{div_ceil};
 ghost use Rattle.std.specs.NonZero.{non_zero_usize_get};
 
@@ -37,7 +38,9 @@ impl Model for PageBitmap {
       marks = marks_of b.len b.words.items;
     } };
 
-    ghost invariant = { λ b. (0 < b.page_size) × (b.len ≡ pages_of b.page_size b.byte_size) × IsClean b.len b.words.items
+    ghost invariant = { λ b. (0 < b.page_size)
+        × (b.len ≡ pages_of b.page_size b.byte_size)
+        × IsClean b.len b.words.items
         × IsSummary b.words.items b.summary.items };
 }
 
@@ -65,7 +68,8 @@ pub fn last_page(page_size: usize, start: usize, len: usize) -> usize
 }
 
 impl PageBitmap {
-    ghost use Rattle.vm_bitmaps.specs.Pages.{IsNextMarked, clear_set, cleared_range, is_marked, mark_of, marked_range, pages_of, words_of};
+    ghost use Rattle.vm_bitmaps.specs.Pages.{IsNextMarked, clear_set, cleared_range, is_marked, mark_of};
+    ghost use Rattle.vm_bitmaps.specs.Pages.{marked_range, pages_of, words_of};
     ghost use Rattle.vm_bitmaps.specs.Words.{page_bit, bit_of};
 
     // Clear marks for `byte_size` bytes.
@@ -84,16 +88,16 @@ impl PageBitmap {
         })
     }
 
-    /// Clear marks for `byte_size` bytes in pages of `page_size` bytes (vm-memory's `AtomicBitmap::new`); AllocError
-    /// if an allocation fails.
+    /// Clear marks for `byte_size` bytes in pages of `page_size` bytes (vm-memory's `AtomicBitmap::new`);
+    /// AllocError if an allocation fails.
     pub fn new(alloc: Global, byte_size: usize, page_size: NonZeroUsize) -> Result<Self, AllocError>
         ensures { IfOk result (λ b. b ≡ clear_set (non_zero_usize_get page_size) byte_size) }
     {
         PageBitmap::made(alloc, byte_size, page_size.get())
     }
 
-    /// The same bytes, pages and marks once more, in memory of the allocator that this value was made with; AllocError
-    /// if that fails.
+    /// The same bytes, pages and marks once more, in memory of the allocator that this value was made with;
+    /// AllocError if that fails.
     pub fn try_clone(&self) -> Result<PageBitmap, AllocError>
         ensures { IfOk result (λ b. b ≡ self.now) }
     {
@@ -144,7 +148,8 @@ impl PageBitmap {
         self.is_bit_set(page_of(self.page_size, addr))
     }
 
-    /// The first marked page from the page number `from` on. Words without a mark are passed over 64 at a time.
+    /// The first marked page from the page number `from` on. Words without a mark are passed over 64 at a
+    /// time.
     pub fn next_marked(&self, from: usize) -> Option<usize>
         ensures { IsNextMarked self.now.marks from result }
     {
@@ -205,13 +210,14 @@ impl PageBitmap {
         clear_words(&mut self.words, &mut self.summary);
     }
 
-    /// The marks as words of 64 pages, which are all cleared. Page p is bit p mod 64 of word p / 64 (vm-memory's
-    /// `AtomicBitmap::get_and_reset`). The memory is of the allocator that this value was made with; where there is
-    /// none, that is AllocError, and nothing changes.
+    /// The marks as words of 64 pages, which are all cleared. Page p is bit p mod 64 of word p / 64
+    /// (vm-memory's `AtomicBitmap::get_and_reset`). The memory is of the allocator that this value was made
+    /// with; where there is none, that is AllocError, and nothing changes.
     pub fn get_and_reset(&mut self) -> Result<Vec<u64>, AllocError>
         ensures words { IfOk result (λ words. words.items ≡ words_of self.old.marks) }
         ensures count { IfOk result (λ words. vec_len words ≡ div_ceil (length self.old.marks) 64) }
-        ensures bits { IfOk result (λ words. (p : ℕ) → page_bit words.items p ≡ bit_of (mark_of self.old.marks p)) }
+        ensures bits { IfOk result (λ words. (p : ℕ)
+            → page_bit words.items p ≡ bit_of (mark_of self.old.marks p)) }
         ensures ok { OnOk result (self.new ≡ clear_set self.old.page_size self.old.byte_size) }
         ensures err { OnErr result (self.new ≡ self.old) }
     {

@@ -1,6 +1,7 @@
 //! Runs of pages in words: page p is bit p mod 64 of word p / 64.
 
-ghost use Rattle.std.specs.Prelude.{◌≡◌, ℕ, ◌+◌, ◌-◌, ◌*◌, ◌^◌, ◌++◌, ◌<◌, ◌≤◌, length, take, drop, replicate, slice_index, IfOk};
+ghost use Rattle.std.specs.Prelude.{◌≡◌, ℕ, ◌+◌, ◌-◌, ◌*◌, ◌^◌, ◌++◌, ◌<◌, ◌≤◌, length, take, drop};
+ghost use Rattle.std.specs.Prelude.{replicate, slice_index, IfOk};
 ghost use Rattle.vm_bitmaps.specs.Words.{WritesBits, WritesRun};
 
 use std::alloc::{AllocError, Global};

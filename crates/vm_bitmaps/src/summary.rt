@@ -1,6 +1,7 @@
 //! Words with a summary: bit w mod 64 of summary word w / 64 is set exactly if word w isn't 0.
 
-ghost use Rattle.std.specs.Prelude.{◌≡◌, ◌≢◌, ℕ, ◌+◌, ◌*◌, ◌/◌, ◌^◌, ◌<◌, ◌≤◌, nat_lt, true, false, length, slice_index, replicate, if◌then◌else◌};
+ghost use Rattle.std.specs.Prelude.{◌≡◌, ◌≢◌, ℕ, ◌+◌, ◌*◌, ◌/◌, ◌^◌, ◌<◌, ◌≤◌, nat_lt, true, false, length};
+ghost use Rattle.std.specs.Prelude.{slice_index, replicate, if◌then◌else◌};
 ghost use Rattle.std.specs.Int.{bit_at};
 ghost use Rattle.vm_bitmaps.specs.Summary.{IsFirstSet, IsNextSet, IsSummary};
 ghost use Rattle.vm_bitmaps.specs.Words.{WritesRun, page_bit};
@@ -83,7 +84,8 @@ fn tell_one(summary: &mut [u64], word: usize)
 fn tell(words: &[u64], summary: &mut [u64], word: usize)
     requires inside { word < length words.now }
     requires room { word < 64 * length summary.old }
-    ensures told { page_bit summary.new word ≡ (if nat_lt 0 (slice_index words.now word) then 1 else page_bit summary.old word) }
+    ensures told { page_bit summary.new word ≡ (if nat_lt 0 (slice_index words.now word) then 1
+        else page_bit summary.old word) }
     ensures others { (w : ℕ) → w ≢ word → page_bit summary.new w ≡ page_bit summary.old w }
 {
     if words[word] != 0 {

@@ -11,7 +11,8 @@ use Rattle.vm_iotlb.proofs.RunLemmas.{together_in, apart}
 none_some : (m : Mapping) → ◌≡◌ {A = Option Mapping} None (Some m) → ⊥
 none_some m e = cc
 
-fields_same : (a b c d e f : ℕ) (p q : Permissions) → a ≡ b → c ≡ d → e ≡ f → p ≡ q → ◌≡◌ {A = IotlbRange} (record { start = a; end = c; target = e; perm = p })
+fields_same : (a b c d e f : ℕ) (p q : Permissions) → a ≡ b → c ≡ d → e ≡ f → p ≡ q →
+    ◌≡◌ {A = IotlbRange} (record { start = a; end = c; target = e; perm = p })
     (record { start = b; end = d; target = f; perm = q })
 fields_same a b c d e f p q x y z w = rw (x, y, z, w) refl
 
@@ -36,18 +37,21 @@ ends_after r l s m are is same start =
           let left = table_inside r l (r.end - 1) (omega arith) (omega arith) in
           let right = table_inside s m (r.end - 1) (omega arith) (omega arith) in
           let this : Some (mapping_in r (r.end - 1)) ≡ Some (mapping_in s (r.end - 1)) = sym left ∙ same (r.end - 1) ∙ right in
-          let next : table_kept l r.end ≡ Some (mapping_in s r.end) = sym (table_out r l r.end (omega arith)) ∙ same r.end ∙ table_inside s m r.end (omega arith) low in
+          let next : table_kept l r.end ≡ Some (mapping_in s r.end) =
+          sym (table_out r l r.end (omega arith)) ∙ same r.end ∙ table_inside s m r.end (omega arith) low in
           let off = rw (this, next) at (apart r l (r.end - 1) r.end are last refl) in
           let on = rw last at (together_in s (r.end - 1) (omega arith)) in
           absurd (true≢false (sym on ∙ off))
       | inr high ↦ high
     ]
 
-tails_same : (r : IotlbRange) (l : List IotlbRange) (s : IotlbRange) (m : List IotlbRange) → AreRanges (r ∷ l) → AreRanges (s ∷ m) → AreSame (table_kept (r ∷ l)) (table_kept (s ∷ m)) →
+tails_same : (r : IotlbRange) (l : List IotlbRange) (s : IotlbRange) (m : List IotlbRange) → AreRanges (r ∷ l) → AreRanges (s ∷ m) →
+    AreSame (table_kept (r ∷ l)) (table_kept (s ∷ m)) →
     r.end ≡ s.end → AreSame (table_kept l) (table_kept m)
 tails_same r l s m are is same end = λ a.
     elim (cases_lt a r.end) [
-      | inl low ↦ table_before l r.end a are.2 (from_after r l are.1) low ∙ sym (table_before m s.end a is.2 (from_after s m is.1) (omega arith))
+      | inl low ↦ table_before l r.end a are.2 (from_after r l are.1) low
+          ∙ sym (table_before m s.end a is.2 (from_after s m is.1) (omega arith))
       | inr high ↦ sym (table_out r l a high) ∙ same a ∙ table_out s m a (omega arith)
     ]
 
@@ -72,8 +76,10 @@ heads_same r l s m are is same =
 pub canonical : (one other : List IotlbRange) → AreRanges one → AreRanges other → AreSame (table_kept one) (table_kept other) → one ≡ other
 unfolding table_kept
 canonical [] [] are is same = refl
-canonical [] (s ∷ m) are is same = absurd (none_some (mapping_in s s.start) (same s.start ∙ table_inside s m s.start (omega arith) (omega (arith, is.0.0))))
-canonical (r ∷ l) [] are is same = absurd (none_some (mapping_in r r.start) (sym (same r.start) ∙ table_inside r l r.start (omega arith) (omega (arith, are.0.0))))
+canonical [] (s ∷ m) are is same =
+    absurd (none_some (mapping_in s s.start) (same s.start ∙ table_inside s m s.start (omega arith) (omega (arith, is.0.0))))
+canonical (r ∷ l) [] are is same =
+    absurd (none_some (mapping_in r r.start) (sym (same r.start) ∙ table_inside r l r.start (omega arith) (omega (arith, are.0.0))))
 canonical (r ∷ l) (s ∷ m) are is same =
     let heads = heads_same r l s m are is same in
     let tails = canonical l m are.2 is.2 (tails_same r l s m are is same heads.1) in

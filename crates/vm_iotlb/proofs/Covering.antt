@@ -11,4 +11,5 @@ Cover (r ∷ rs) a e = a < e → (r.start ≤ a) × (a < r.end) × (r.target + (
 -- what the addresses from a up to e are mapped to, range by range
 abbrev pub pieces_in : List IotlbRange → ℕ → ℕ → List MappedRange
 pieces_in [] a e = []
-pieces_in (r ∷ rs) a e = if nat_lt a e then record { base = record { 0 = r.target + (a - r.start) }; length = min r.end e - a } ∷ pieces_in rs (min r.end e) e else []
+pieces_in (r ∷ rs) a e = if nat_lt a e then record { base = record { 0 = r.target + (a - r.start) }; length = min r.end e - a }
+    ∷ pieces_in rs (min r.end e) e else []

@@ -10,7 +10,8 @@ use Rattle.vm_iotlb.proofs.MapLemmas.{is_at_key, pair_at, put_apart, put_here, s
 use Rattle.vm_iotlb.proofs.ExchangeLemmas.{Part}
 
 -- the only range about an address
-pub one_about : (es : List (ℕ × IotlbRange)) (x : ℕ) (r s : IotlbRange) (k : ℕ) → AreKeyed es → AreRanges (values_of es) → range_at es r.start ≡ Some r → range_at es k ≡ Some s → r.start ≤ x →
+pub one_about : (es : List (ℕ × IotlbRange)) (x : ℕ) (r s : IotlbRange) (k : ℕ) → AreKeyed es → AreRanges (values_of es) →
+    range_at es r.start ≡ Some r → range_at es k ≡ Some s → r.start ≤ x →
     x < r.end → s.start ≤ x → x < s.end → r ≡ s
 one_about es x r s k keyed are one two low high from to =
     let is = is_at_key es k s keyed are two in
@@ -22,15 +23,28 @@ one_about es x r s k keyed are one two low high from to =
       ]
     ]
 
-pub old_part : (es : List (ℕ × IotlbRange)) (lo hi q : ℕ) (r : IotlbRange) → AreKeyed es → AreRanges (values_of es) → range_at es q ≡ Some r →
+pub old_part :
+    (es : List (ℕ × IotlbRange)) (lo hi q : ℕ) (r : IotlbRange) → AreKeyed es → AreRanges (values_of es) → range_at es q ≡ Some r →
     (r.end ≤ lo) ⊎ (hi ≤ r.start) → Part (range_at es) lo hi q r
 old_part es lo hi q r keyed are at out =
     let is = is_at_key es q r keyed are at in
-    record { whole = r; at = ap (range_at es) (sym is.0) ∙ at; key = is.0; some = is.1.0; low = omega arith; high = omega arith; target = omega arith; perm = refl; out = out; cut = inl refl }
+    record {
+      whole = r;
+      at = ap (range_at es) (sym is.0) ∙ at;
+      key = is.0;
+      some = is.1.0;
+      low = omega arith;
+      high = omega arith;
+      target = omega arith;
+      perm = refl;
+      out = out;
+      cut = inl refl;
+    }
 
 -- ---- the range behind
 
-pub tail_free : (es : List (ℕ × IotlbRange)) (e : ℕ) (after : Option IotlbRange) → AreKeyed es → AreRanges (values_of es) → HasAddress es e after → IsNoKey (range_at es) (part_from after e)
+pub tail_free : (es : List (ℕ × IotlbRange)) (e : ℕ) (after : Option IotlbRange) → AreKeyed es → AreRanges (values_of es) →
+    HasAddress es e after → IsNoKey (range_at es) (part_from after e)
 tail_free es e None keyed are has = tt
 tail_free es e (Some a) keyed are has =
     elim (cases_lt a.start e) [
@@ -38,7 +52,8 @@ tail_free es e (Some a) keyed are has =
           let test : nat_lt a.start e ≡ true = lt-ltb a.start e less in
           rw test (elim (range_at es e) as (λ o. range_at es e ≡ o → o ≡ None) [
             | None ↦ λ at. refl
-            | Some s ↦ λ at. let is = is_at_key es e s keyed are at in let pair = pair_at es a.start e a s keyed are has.2 at less in absurd (omega (arith, pair.0, is.0, has.1))
+            | Some s ↦ λ at. let is = is_at_key es e s keyed are at in let pair = pair_at es a.start e a s keyed are has.2 at less in
+                absurd (omega (arith, pair.0, is.0, has.1))
           ] refl)
       | inr more ↦ let test : nat_lt a.start e ≡ false = le-ltb a.start e more in rw test tt
     ]
@@ -47,13 +62,16 @@ pub tail_apart : (after : Option IotlbRange) (g : ℕ → Option IotlbRange) (e 
 tail_apart None g e q apart = refl
 tail_apart (Some a) g e q apart =
     elim (cases_lt a.start e) [
-      | inl less ↦ let test : nat_lt a.start e ≡ true = lt-ltb a.start e less in rw test (put_apart (record { start = e; end = a.end; target = a.target + (e - a.start); perm = a.perm }) g q apart)
+      | inl less ↦ let test : nat_lt a.start e ≡ true = lt-ltb a.start e less in
+          rw test (put_apart (record { start = e; end = a.end; target = a.target + (e - a.start); perm = a.perm }) g q apart)
       | inr more ↦ let test : nat_lt a.start e ≡ false = le-ltb a.start e more in rw test refl
     ]
 
-pub right_part : (es : List (ℕ × IotlbRange)) (lo e q : ℕ) (after : Option IotlbRange) (r : IotlbRange) → AreKeyed es → AreRanges (values_of es) → HasAddress es e after → e ≤ q →
+pub right_part : (es : List (ℕ × IotlbRange)) (lo e q : ℕ) (after : Option IotlbRange) (r : IotlbRange) → AreKeyed es →
+    AreRanges (values_of es) → HasAddress es e after → e ≤ q →
     put_at (part_from after e) (range_at es) q ≡ Some r → Part (range_at es) lo e q r
-right_part es lo e q None r keyed are has high at = let is = is_at_key es q r keyed are at in old_part es lo e q r keyed are at (inr (omega (arith, is.0)))
+right_part es lo e q None r keyed are has high at =
+    let is = is_at_key es q r keyed are at in old_part es lo e q r keyed are at (inr (omega (arith, is.0)))
 right_part es lo e q (Some a) r keyed are has high at =
     elim (cases_lt a.start e) [
       | inl less ↦
@@ -63,8 +81,21 @@ right_part es lo e q (Some a) r keyed are has high at =
           elim (cases_eq e q) [
             | inl same ↦
                 let one = some_one cut r (sym (put_here cut (range_at es) q same) ∙ here) in
-                rw (sym one) (record { whole = a; at = has.2; key = sym same; some = has.1; low = has.0; high = omega arith; target = refl; perm = refl; out = inr (omega arith); cut = inr refl })
-            | inr apart ↦ let old = sym (put_apart cut (range_at es) q apart) ∙ here in let is = is_at_key es q r keyed are old in old_part es lo e q r keyed are old (inr (omega (arith, is.0)))
+                rw (sym one) (record {
+                  whole = a;
+                  at = has.2;
+                  key = sym same;
+                  some = has.1;
+                  low = has.0;
+                  high = omega arith;
+                  target = refl;
+                  perm = refl;
+                  out = inr (omega arith);
+                  cut = inr refl;
+                })
+            | inr apart ↦ let old = sym (put_apart cut (range_at es) q apart) ∙ here in
+                let is = is_at_key es q r keyed are old in
+                old_part es lo e q r keyed are old (inr (omega (arith, is.0)))
           ]
       | inr more ↦
           let test : nat_lt a.start e ≡ false = le-ltb a.start e more in
@@ -77,7 +108,8 @@ right_part es lo e q (Some a) r keyed are has high at =
 abbrev pub MapsAs : (g : ℕ → Option IotlbRange) → (q a : ℕ) → IotlbRange → IotlbRange → Type 0
 MapsAs g q a s r = (g q ≡ Some r) × (r.start ≤ a) × (a < r.end) × (r.target + (a - r.start) ≡ s.target + (a - s.start)) × (r.perm ≡ s.perm)
 
-pub right_keep : (es : List (ℕ × IotlbRange)) (e a k : ℕ) (after : Option IotlbRange) (s : IotlbRange) → AreKeyed es → AreRanges (values_of es) → HasAddress es e after → e ≤ a →
+pub right_keep : (es : List (ℕ × IotlbRange)) (e a k : ℕ) (after : Option IotlbRange) (s : IotlbRange) → AreKeyed es →
+    AreRanges (values_of es) → HasAddress es e after → e ≤ a →
     range_at es k ≡ Some s → s.start ≤ a → a < s.end →
     (q : ℕ) × (r : IotlbRange) × (e ≤ q) × MapsAs (put_at (part_from after e) (range_at es)) q a s r
 right_keep es e a k after s keyed are has high at low under =
@@ -87,7 +119,8 @@ right_keep es e a k after s keyed are has high at low under =
       | inr most ↦ by after has most
     ]
   where
-    by : (after : Option IotlbRange) → HasAddress es e after → k ≤ e → (q : ℕ) × (r : IotlbRange) × (e ≤ q) × MapsAs (put_at (part_from after e) (range_at es)) q a s r
+    by : (after : Option IotlbRange) → HasAddress es e after → k ≤ e →
+        (q : ℕ) × (r : IotlbRange) × (e ≤ q) × MapsAs (put_at (part_from after e) (range_at es)) q a s r
     by None none most = absurd (omega (arith, none k s at most))
     by (Some r) one most =
         let is = is_at_key es k s keyed are at in
@@ -115,15 +148,19 @@ right_keep es e a k after s keyed are has high at low under =
 
 -- ---- the range before
 
-pub head_apart : (es : List (ℕ × IotlbRange)) (before : Option IotlbRange) (g : ℕ → Option IotlbRange) (s q : ℕ) → ReachesFrom es s before → s ≤ q → put_at (part_up_to before s) g q ≡ g q
+pub head_apart : (es : List (ℕ × IotlbRange)) (before : Option IotlbRange) (g : ℕ → Option IotlbRange) (s q : ℕ) → ReachesFrom es s before →
+    s ≤ q → put_at (part_up_to before s) g q ≡ g q
 head_apart es None g s q reaches high = refl
-head_apart es (Some b) g s q reaches high = put_apart (record { start = b.start; end = s; target = b.target; perm = b.perm }) g q (λ same. omega (arith, reaches.0))
+head_apart es (Some b) g s q reaches high =
+    put_apart (record { start = b.start; end = s; target = b.target; perm = b.perm }) g q (λ same. omega (arith, reaches.0))
 
-pub head_taken : (es : List (ℕ × IotlbRange)) (before : Option IotlbRange) (s : ℕ) → ReachesFrom es s before → IsKey (range_at es) (part_up_to before s)
+pub head_taken :
+    (es : List (ℕ × IotlbRange)) (before : Option IotlbRange) (s : ℕ) → ReachesFrom es s before → IsKey (range_at es) (part_up_to before s)
 head_taken es None s reaches = tt
 head_taken es (Some b) s reaches = some_is (range_at es b.start) b reaches.2
 
-pub left_part : (es : List (ℕ × IotlbRange)) (s hi q : ℕ) (before : Option IotlbRange) (g : ℕ → Option IotlbRange) (r : IotlbRange) → AreKeyed es → AreRanges (values_of es) → ReachesFrom es s before →
+pub left_part : (es : List (ℕ × IotlbRange)) (s hi q : ℕ) (before : Option IotlbRange) (g : ℕ → Option IotlbRange) (r : IotlbRange) →
+    AreKeyed es → AreRanges (values_of es) → ReachesFrom es s before →
     q < s → g q ≡ range_at es q →
     put_at (part_up_to before s) g q ≡ Some r → Part (range_at es) s hi q r
 left_part es s hi q None g r keyed are reaches low old at =
@@ -151,13 +188,16 @@ left_part es s hi q (Some b) g r keyed are reaches low old at =
           let is = is_at_key es q r keyed are this in
           old_part es s hi q r keyed are this (inl (elim (cases_lt q b.start) [
             | inl less ↦ let pair = pair_at es q b.start r b keyed are this reaches.2 less in omega (arith, pair.0, reaches.0)
-            | inr more ↦ let pair = pair_at es b.start q b r keyed are reaches.2 this (omega arith) in absurd (omega (arith, pair.0, is.0, reaches.1))
+            | inr more ↦ let pair = pair_at es b.start q b r keyed are reaches.2 this (omega arith) in
+                absurd (omega (arith, pair.0, is.0, reaches.1))
           ]))
     ]
 
-pub left_keep : (es : List (ℕ × IotlbRange)) (e a k : ℕ) (before : Option IotlbRange) (g : ℕ → Option IotlbRange) (s : IotlbRange) → AreKeyed es → AreRanges (values_of es) → ReachesFrom es e before →
+pub left_keep : (es : List (ℕ × IotlbRange)) (e a k : ℕ) (before : Option IotlbRange) (g : ℕ → Option IotlbRange) (s : IotlbRange) →
+    AreKeyed es → AreRanges (values_of es) → ReachesFrom es e before →
     a < e → ((q : ℕ) → q < e → g q ≡ range_at es q) →
-    range_at es k ≡ Some s → s.start ≤ a → a < s.end → (q : ℕ) × (r : IotlbRange) × (q < e) × MapsAs (put_at (part_up_to before e) g) q a s r
+    range_at es k ≡ Some s → s.start ≤ a → a < s.end →
+    (q : ℕ) × (r : IotlbRange) × (q < e) × MapsAs (put_at (part_up_to before e) g) q a s r
 left_keep es e a k None g s keyed are reaches below old at low under =
     let is = is_at_key es k s keyed are at in
     (k, s, omega (arith, is.0), (old k (omega (arith, is.0)) ∙ at, low, under, refl, refl))
@@ -166,18 +206,24 @@ left_keep es e a k (Some b) g s keyed are reaches below old at low under =
     let cut : IotlbRange = record { start = b.start; end = e; target = b.target; perm = b.perm } in
     elim (cases_eq b.start k) [
       | inl same ↦
-          let one = some_one b s (sym reaches.2 ∙ ap (range_at es) same ∙ at) in
-          (k, cut, omega (arith, is.0), (put_here cut g k same, omega (arith, is.0), below, rw (sym one) refl, ap (λ (x : IotlbRange). x.perm) one))
+          let one = some_one b s (sym reaches.2 ∙ ap (range_at es) same ∙ at) in (
+            k,
+            cut,
+            omega (arith, is.0),
+            (put_here cut g k same, omega (arith, is.0), below, rw (sym one) refl, ap (λ (x : IotlbRange). x.perm) one),
+          )
       | inr apart ↦ (k, s, omega (arith, is.0), (put_apart cut g k apart ∙ old k (omega (arith, is.0)) ∙ at, low, under, refl, refl))
     ]
 
 -- the range that has an address is a range
-pub has_range : (es : List (ℕ × IotlbRange)) (e : ℕ) (after : Option IotlbRange) → AreKeyed es → AreRanges (values_of es) → HasAddress es e after →
+pub has_range :
+    (es : List (ℕ × IotlbRange)) (e : ℕ) (after : Option IotlbRange) → AreKeyed es → AreRanges (values_of es) → HasAddress es e after →
     MatchOption after (Unit {0}) (λ r. IsRange r × (r.start ≤ e) × (e < r.end))
 has_range es e None keyed are has = tt
 has_range es e (Some a) keyed are has = ((is_at_key es a.start a keyed are has.2).1, has.0, has.1)
 
-pub reaches_range : (es : List (ℕ × IotlbRange)) (s : ℕ) (before : Option IotlbRange) → AreKeyed es → AreRanges (values_of es) → ReachesFrom es s before →
+pub reaches_range :
+    (es : List (ℕ × IotlbRange)) (s : ℕ) (before : Option IotlbRange) → AreKeyed es → AreRanges (values_of es) → ReachesFrom es s before →
     MatchOption before (Unit {0}) (λ b. IsRange b × (b.start ≤ s) × (s ≤ b.end))
 reaches_range es s None keyed are reaches = tt
 reaches_range es s (Some b) keyed are reaches = ((is_at_key es b.start b keyed are reaches.2).1, omega (arith, reaches.0), reaches.1)

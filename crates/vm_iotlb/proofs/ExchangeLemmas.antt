@@ -23,7 +23,8 @@ pub record Part (g : ℕ → Option IotlbRange) (lo hi q : ℕ) (r : IotlbRange)
   pub out : (r.end ≤ lo) ⊎ (hi ≤ r.start)
   pub cut : (r.start ≡ whole.start) ⊎ (r.start ≡ hi)
 
-parts_precede : (es : List (ℕ × IotlbRange)) (lo hi j k : ℕ) (r s : IotlbRange) → AreKeyed es → AreRanges (values_of es) → lo < hi → Part (range_at es) lo hi j r →
+parts_precede : (es : List (ℕ × IotlbRange)) (lo hi j k : ℕ) (r s : IotlbRange) → AreKeyed es → AreRanges (values_of es) → lo < hi →
+    Part (range_at es) lo hi j r →
     Part (range_at es) lo hi k s → j < k → Precedes r s
 parts_precede es lo hi j k r s keyed are span one two order =
     elim (cases_lt one.whole.start two.whole.start) [
@@ -50,22 +51,26 @@ parts_precede es lo hi j k r s keyed are span one two order =
       ]
     ]
 
-part_is : (es : List (ℕ × IotlbRange)) (lo hi q : ℕ) (r : IotlbRange) → AreKeyed es → AreRanges (values_of es) → Part (range_at es) lo hi q r → IsRange r
+part_is : (es : List (ℕ × IotlbRange)) (lo hi q : ℕ) (r : IotlbRange) → AreKeyed es → AreRanges (values_of es) →
+    Part (range_at es) lo hi q r → IsRange r
 part_is es lo hi q r keyed are part =
     let is = is_at_key es part.whole.start part.whole keyed are part.at in
     (part.some, omega (arith, part.high, is.1.1), omega (arith, part.high, part.low, part.some, part.target, is.1.2))
 
 -- a new range among the parts: nothing goes on in it, and it goes on in nothing
 abbrev pub Stands : (g : ℕ → Option IotlbRange) → (lo hi : ℕ) → IotlbRange → Type 0
-Stands g lo hi new = IsRange new × (new.start ≡ lo) × (new.end ≡ hi) × ((q : ℕ) (p : IotlbRange) → Part g lo hi q p → p.end ≡ lo → GoesOnIn p new → ⊥) ×
+Stands g lo hi new =
+    IsRange new × (new.start ≡ lo) × (new.end ≡ hi) × ((q : ℕ) (p : IotlbRange) → Part g lo hi q p → p.end ≡ lo → GoesOnIn p new → ⊥) ×
     ((q : ℕ) (p : IotlbRange) → Part g lo hi q p → p.start ≡ hi → GoesOnIn new p → ⊥)
 
 -- a range is new, or a part of one that was there
 abbrev pub IsEither : (g : ℕ → Option IotlbRange) → (lo hi : ℕ) → Option IotlbRange → ℕ → IotlbRange → Type 0
 IsEither g lo hi new q r = ((new ≡ Some r) × (q ≡ r.start)) ⊎ Part g lo hi q r
 
-pub exchanged_ranges : (es fs : List (ℕ × IotlbRange)) (lo hi : ℕ) (new : Option IotlbRange) → AreKeyed es → AreRanges (values_of es) → lo < hi → IsStrictlySortedBy nat_cmp (keys_of fs) →
-    ((r : IotlbRange) → new ≡ Some r → Stands (range_at es) lo hi r) → ((q : ℕ) (r : IotlbRange) → range_at fs q ≡ Some r → IsEither (range_at es) lo hi new q r) →
+pub exchanged_ranges : (es fs : List (ℕ × IotlbRange)) (lo hi : ℕ) (new : Option IotlbRange) → AreKeyed es → AreRanges (values_of es) →
+    lo < hi → IsStrictlySortedBy nat_cmp (keys_of fs) →
+    ((r : IotlbRange) → new ≡ Some r → Stands (range_at es) lo hi r) →
+    ((q : ℕ) (r : IotlbRange) → range_at fs q ≡ Some r → IsEither (range_at es) lo hi new q r) →
     AreKeyed fs × AreRanges (values_of fs)
 exchanged_ranges es fs lo hi new keyed are span sorted stands either =
     ranges_from_at fs sorted (λ k r at. elim (either k r at) [
@@ -94,7 +99,8 @@ exchanged_ranges es fs lo hi new keyed are span sorted stands either =
 
 -- ---- tables
 
-pub in_at : (es : List (ℕ × IotlbRange)) (k a : ℕ) (r : IotlbRange) → AreKeyed es → AreRanges (values_of es) → range_at es k ≡ Some r → r.start ≤ a → a < r.end →
+pub in_at : (es : List (ℕ × IotlbRange)) (k a : ℕ) (r : IotlbRange) → AreKeyed es → AreRanges (values_of es) → range_at es k ≡ Some r →
+    r.start ≤ a → a < r.end →
     table_kept (values_of es) a ≡ Some (mapping_in r a)
 in_at es k a r keyed are at low high =
     let tail = tail_at es k r keyed are at in
@@ -111,7 +117,8 @@ find_at (e ∷ es) a keyed are =
     (has.0, has.1, at_rest e es has.0 (λ equal. omega (arith, keyed.0, are.0.0)) ∙ has.2, has.3, has.4) in
     let down : (Has es a → ⊥) → (e.1.start ≤ a → a < e.1.end → ⊥) → Has (e ∷ es) a → ⊥ = λ none out has.
     elim (cases_eq has.0 e.0) [
-      | inl same ↦ let one = some_one e.1 has.1 (sym (at_here e es has.0 same) ∙ has.2) in out (omega (arith, ap (λ (r : IotlbRange). r.start) one, has.3))
+      | inl same ↦ let one = some_one e.1 has.1 (sym (at_here e es has.0 same) ∙ has.2) in
+          out (omega (arith, ap (λ (r : IotlbRange). r.start) one, has.3))
           (omega (arith, ap (λ (r : IotlbRange). r.end) one, has.4))
       | inr apart ↦ none (has.0, has.1, sym (at_rest e es has.0 apart) ∙ has.2, has.3, has.4)
     ] in
@@ -129,15 +136,19 @@ find_at (e ∷ es) a keyed are =
 -- an address is still in a range that maps it as before
 abbrev pub Keeps : (es fs : List (ℕ × IotlbRange)) → ℕ → Type 0
 Keeps es fs a = (k : ℕ) (s : IotlbRange) → range_at es k ≡ Some s → s.start ≤ a → a < s.end →
-    (q : ℕ) × (r : IotlbRange) × (range_at fs q ≡ Some r) × (r.start ≤ a) × (a < r.end) × (r.target + (a - r.start) ≡ s.target + (a - s.start)) × (r.perm ≡ s.perm)
+    (q : ℕ) × (r : IotlbRange) × (range_at fs q ≡ Some r) × (r.start ≤ a) × (a < r.end)
+    × (r.target + (a - r.start) ≡ s.target + (a - s.start)) × (r.perm ≡ s.perm)
 
 -- where each range that has an address has it from one that had it, the table stays there
-pub same_at : (es fs : List (ℕ × IotlbRange)) (a : ℕ) → AreKeyed es → AreRanges (values_of es) → AreKeyed fs → AreRanges (values_of fs) → Keeps es fs a → (Has fs a → Has es a) →
+pub same_at : (es fs : List (ℕ × IotlbRange)) (a : ℕ) → AreKeyed es → AreRanges (values_of es) → AreKeyed fs → AreRanges (values_of fs) →
+    Keeps es fs a → (Has fs a → Has es a) →
     table_kept (values_of fs) a ≡ table_kept (values_of es) a
 same_at es fs a keyed are locked ranges keeps back =
     elim (find_at es a keyed are) [
       | inl has ↦
           let to = keeps has.0 has.1 has.2 has.3 has.4 in
-          in_at fs to.0 a to.1 locked ranges to.2 to.3 to.4 ∙ some_same (mapping_in to.1 a) (mapping_in has.1 a) to.5 to.6 ∙ sym (in_at es has.0 a has.1 keyed are has.2 has.3 has.4)
-      | inr none ↦ none_at fs a locked ranges (λ k r at low high. none (back (k, r, at, low, high))) ∙ sym (none_at es a keyed are (λ k r at low high. none (k, r, at, low, high)))
+          in_at fs to.0 a to.1 locked ranges to.2 to.3 to.4 ∙ some_same (mapping_in to.1 a) (mapping_in has.1 a) to.5 to.6
+          ∙ sym (in_at es has.0 a has.1 keyed are has.2 has.3 has.4)
+      | inr none ↦ none_at fs a locked ranges (λ k r at low high. none (back (k, r, at, low, high)))
+          ∙ sym (none_at es a keyed are (λ k r at low high. none (k, r, at, low, high)))
     ]

@@ -1,5 +1,6 @@
 -- ranges by their starts: what a map of them says of the table that they keep
-use Rattle.std.proofs.Common.{◌≡◌, ℕ, true, false, ◌+◌, ◌<◌, ◌≤◌, List, [], ◌∷◌, refl, ap, sym, ◌∙◌, arith, Some, None, Option, IsSome, inl, inr, eq-eqb}
+use Rattle.std.proofs.Common.{◌≡◌, ℕ, true, false, ◌+◌, ◌<◌, ◌≤◌, List, [], ◌∷◌, refl, ap, sym, ◌∙◌, arith, Some, None, Option, IsSome, inl}
+use Rattle.std.proofs.Common.{inr, eq-eqb}
 use Rattle.std.specs.Ordering.{nat_cmp, is_gt, is_le}
 use Rattle.std.specs.BTreeMap.Range.{entries_between}
 use Rattle.std.specs.declared.ops.Bound.TheVariants.{Included, Unbounded}
@@ -31,7 +32,8 @@ pub some_one : (r s : IotlbRange) → Some r ≡ Some s → r ≡ s
 some_one r s e = cc
 
 -- a range lies behind where the first of them begins
-pub after_at : (es : List (ℕ × IotlbRange)) (k b : ℕ) (r : IotlbRange) → AreKeyed es → AreRanges (values_of es) → StartFrom b (values_of es) → range_at es k ≡ Some r → b ≤ k
+pub after_at : (es : List (ℕ × IotlbRange)) (k b : ℕ) (r : IotlbRange) → AreKeyed es → AreRanges (values_of es) →
+    StartFrom b (values_of es) → range_at es k ≡ Some r → b ≤ k
 after_at [] k b r keyed are from at = absurd (none_some r at)
 after_at (e ∷ es) k b r keyed are from at =
     elim (cases_eq k e.0) [
@@ -58,7 +60,8 @@ tail_at (e ∷ es) k r keyed are at =
     ]
 
 -- a range precedes each one behind it
-precedes_at : (p : IotlbRange) (es : List (ℕ × IotlbRange)) (k : ℕ) (s : IotlbRange) → AreKeyed es → AreRanges (p ∷ values_of es) → range_at es k ≡ Some s → Precedes p s
+precedes_at : (p : IotlbRange) (es : List (ℕ × IotlbRange)) (k : ℕ) (s : IotlbRange) → AreKeyed es → AreRanges (p ∷ values_of es) →
+    range_at es k ≡ Some s → Precedes p s
 precedes_at p [] k s keyed are at = absurd (none_some s at)
 precedes_at p (e ∷ es) k s keyed are at =
     elim (cases_eq k e.0) [
@@ -70,7 +73,8 @@ precedes_at p (e ∷ es) k s keyed are at =
           (omega arith, λ one. absurd (omega (arith, one.0)))
     ]
 
-pub pair_at : (es : List (ℕ × IotlbRange)) (j k : ℕ) (r s : IotlbRange) → AreKeyed es → AreRanges (values_of es) → range_at es j ≡ Some r → range_at es k ≡ Some s → j < k → Precedes r s
+pub pair_at : (es : List (ℕ × IotlbRange)) (j k : ℕ) (r s : IotlbRange) → AreKeyed es → AreRanges (values_of es) → range_at es j ≡ Some r →
+    range_at es k ≡ Some s → j < k → Precedes r s
 pair_at [] j k r s keyed are at next order = absurd (none_some r at)
 pair_at (e ∷ es) j k r s keyed are at next order =
     elim (cases_eq j e.0) [
@@ -117,7 +121,8 @@ lt_from_cmp x y e =
     ]
 
 -- the keys behind the first one are above it
-above_at : (x : ℕ) (es : List (ℕ × IotlbRange)) (k : ℕ) (r : IotlbRange) → AllByRecursion (λ y. nat_cmp x y ≡ Less) (keys_of es) → range_at es k ≡ Some r → x < k
+above_at : (x : ℕ) (es : List (ℕ × IotlbRange)) (k : ℕ) (r : IotlbRange) → AllByRecursion (λ y. nat_cmp x y ≡ Less) (keys_of es) →
+    range_at es k ≡ Some r → x < k
 above_at x [] k r all at = absurd (none_some r at)
 above_at x (e ∷ es) k r all at =
     elim (cases_eq k e.0) [
@@ -132,8 +137,10 @@ first_precedes e [] head pair = tt
 first_precedes e (f ∷ es) head pair = pair f.0 f.1 (lt_from_cmp e.0 f.0 head.0) (at_here f es f.0 refl)
 
 -- what stands at each key makes the ranges a table
-pub ranges_from_at : (es : List (ℕ × IotlbRange)) → IsStrictlySortedBy nat_cmp (keys_of es) → ((k : ℕ) (r : IotlbRange) → range_at es k ≡ Some r → (k ≡ r.start) × IsRange r) →
-    ((j k : ℕ) (r s : IotlbRange) → j < k → range_at es j ≡ Some r → range_at es k ≡ Some s → Precedes r s) → AreKeyed es × AreRanges (values_of es)
+pub ranges_from_at : (es : List (ℕ × IotlbRange)) → IsStrictlySortedBy nat_cmp (keys_of es) →
+    ((k : ℕ) (r : IotlbRange) → range_at es k ≡ Some r → (k ≡ r.start) × IsRange r) →
+    ((j k : ℕ) (r s : IotlbRange) → j < k → range_at es j ≡ Some r → range_at es k ≡ Some s → Precedes r s) →
+    AreKeyed es × AreRanges (values_of es)
 ranges_from_at [] sorted each pair = (tt, tt)
 ranges_from_at (e ∷ es) sorted each pair =
     let head = sorted_head nat_cmp e.0 (keys_of es) sorted in
@@ -142,8 +149,15 @@ ranges_from_at (e ∷ es) sorted each pair =
     (λ j k r s order at next.
     let up = above_at e.0 es j r head at in
     pair j k r s order (at_rest e es j (λ equal. omega arith) ∙ at) (at_rest e es k (λ equal. omega arith) ∙ next)) in
-    let this = each e.0 e.1 (at_here e es e.0 refl) in
-    ((this.0, rest.0), (this.1, first_precedes e es head (λ k s up next. pair e.0 k e.1 s up (at_here e es e.0 refl) (at_rest e es k (λ equal. omega arith) ∙ next)), rest.1))
+    let this = each e.0 e.1 (at_here e es e.0 refl) in (
+      (this.0, rest.0),
+      (
+        this.1,
+        first_precedes e es head
+            (λ k s up next. pair e.0 k e.1 s up (at_here e es e.0 refl) (at_rest e es k (λ equal. omega arith) ∙ next)),
+        rest.1,
+      ),
+    )
 
 -- ---- bounds
 
@@ -184,15 +198,18 @@ le_test a b h =
 gt_test : (a b : ℕ) → b < a → is_le (nat_cmp a b) ≡ false
 gt_test a b h = rw (sym (nat_cmp_is a b Greater h)) refl
 
-from_all : (es : List (ℕ × IotlbRange)) (low : ℕ) → AreKeyed es → AreRanges (values_of es) → StartFrom low (values_of es) → from_key low es ≡ es
+from_all :
+    (es : List (ℕ × IotlbRange)) (low : ℕ) → AreKeyed es → AreRanges (values_of es) → StartFrom low (values_of es) → from_key low es ≡ es
 from_all [] low keyed are from = refl
 from_all (e ∷ es) low keyed are from =
     let test : is_le (nat_cmp low e.0) ≡ true = le_test low e.0 (omega (arith, keyed.0)) in
-    let next : StartFrom low (values_of es) = starts_lower (values_of es) e.1.end low (from_after e.1 (values_of es) are.1) (omega (arith, are.0.0)) in
+    let next : StartFrom low (values_of es) =
+    starts_lower (values_of es) e.1.end low (from_after e.1 (values_of es) are.1) (omega (arith, are.0.0)) in
     rw test (ap (λ (l : List (ℕ × IotlbRange)). e ∷ l) (from_all es low keyed.1 are.2 next))
 
 pub from_divided : (es : List (ℕ × IotlbRange)) (low iova : ℕ) → AreKeyed es → AreRanges (values_of es) → Divides es low iova →
-    AreRanges (values_of (from_key low es)) × EndsAbove iova (values_of (from_key low es)) × ((a : ℕ) → iova ≤ a → table_kept (values_of es) a ≡ table_kept (values_of (from_key low es)) a)
+    AreRanges (values_of (from_key low es)) × EndsAbove iova (values_of (from_key low es))
+    × ((a : ℕ) → iova ≤ a → table_kept (values_of es) a ≡ table_kept (values_of (from_key low es)) a)
 from_divided [] low iova keyed are parts = (tt, tt, λ a high. refl)
 from_divided (e ∷ es) low iova keyed are parts =
     elim (cases_lt e.0 low) [
@@ -202,17 +219,20 @@ from_divided (e ∷ es) low iova keyed are parts =
           let up : (k : ℕ) (r : IotlbRange) → range_at es k ≡ Some r → range_at (e ∷ es) k ≡ Some r = λ k r at.
           let after = after_at es k e.1.end r keyed.1 are.2 (from_after e.1 (values_of es) are.1) at in
           at_rest e es k (λ equal. omega (arith, keyed.0, are.0.0)) ∙ at in
-          let rest = from_divided es low iova keyed.1 are.2 (λ k r at under. parts.0 k r (up k r at) under, λ k r at over. parts.1 k r (up k r at) over) in
+          let rest = from_divided es low iova keyed.1 are.2
+          (λ k r at under. parts.0 k r (up k r at) under, λ k r at over. parts.1 k r (up k r at) over) in
           rw test (rest.0, rest.1, λ a high. table_out e.1 (values_of es) a (omega arith) ∙ rest.2 a high)
       | inr above ↦
           let whole = from_all (e ∷ es) low keyed are (omega (arith, keyed.0)) in
           rw whole (are, parts.1 e.0 e.1 (at_here e es e.0 refl) above, λ a high. refl)
     ]
 
-pub is_at_key : (es : List (ℕ × IotlbRange)) (k : ℕ) (s : IotlbRange) → AreKeyed es → AreRanges (values_of es) → range_at es k ≡ Some s → (k ≡ s.start) × IsRange s
+pub is_at_key : (es : List (ℕ × IotlbRange)) (k : ℕ) (s : IotlbRange) → AreKeyed es → AreRanges (values_of es) → range_at es k ≡ Some s →
+    (k ≡ s.start) × IsRange s
 is_at_key es k s keyed are at = let tail = tail_at es k s keyed are at in (sym tail.2, tail.1.0)
 
-pub divides_some : (es : List (ℕ × IotlbRange)) (iova : ℕ) (r : IotlbRange) → AreKeyed es → AreRanges (values_of es) → IsLastUpTo es iova r → iova < r.end → Divides es r.start iova
+pub divides_some : (es : List (ℕ × IotlbRange)) (iova : ℕ) (r : IotlbRange) → AreKeyed es → AreRanges (values_of es) →
+    IsLastUpTo es iova r → iova < r.end → Divides es r.start iova
 divides_some es iova r keyed are last has = (
   λ k s at below. let order = pair_at es k r.start s r keyed are at last.1 below in omega (arith, order.0, last.0),
   λ k s at from. elim (cases_eq k r.start) [
@@ -226,7 +246,8 @@ divides_some es iova r keyed are last has = (
   ],
 )
 
-pub divides_ended : (es : List (ℕ × IotlbRange)) (iova : ℕ) (r : IotlbRange) → AreKeyed es → AreRanges (values_of es) → IsLastUpTo es iova r → r.end ≤ iova → Divides es iova iova
+pub divides_ended : (es : List (ℕ × IotlbRange)) (iova : ℕ) (r : IotlbRange) → AreKeyed es → AreRanges (values_of es) →
+    IsLastUpTo es iova r → r.end ≤ iova → Divides es iova iova
 divides_ended es iova r keyed are last ended = (
   λ k s at below. elim (cases_eq k r.start) [
     | inl same ↦ let one = some_one r s (sym last.1 ∙ ap (range_at es) (sym same) ∙ at) in rw (sym one) ended
@@ -238,9 +259,12 @@ divides_ended es iova r keyed are last ended = (
   λ k s at from. let is = is_at_key es k s keyed are at in omega (arith, is.0, is.1.0),
 )
 
-pub divides_none : (es : List (ℕ × IotlbRange)) (iova : ℕ) → AreKeyed es → AreRanges (values_of es) → NoneUpTo es iova → Divides es iova iova
-divides_none es iova keyed are none =
-    (λ k s at below. absurd (omega (arith, none k s at)), λ k s at from. let is = is_at_key es k s keyed are at in omega (arith, is.0, is.1.0))
+pub divides_none :
+    (es : List (ℕ × IotlbRange)) (iova : ℕ) → AreKeyed es → AreRanges (values_of es) → NoneUpTo es iova → Divides es iova iova
+divides_none es iova keyed are none = (
+  λ k s at below. absurd (omega (arith, none k s at)),
+  λ k s at from. let is = is_at_key es k s keyed are at in omega (arith, is.0, is.1.0),
+)
 
 -- ---- what stands at a key after a change
 
@@ -270,7 +294,8 @@ pub clear_above : (from to : ℕ) (g : ℕ → Option IotlbRange) (q : ℕ) → 
 clear_above from to g q high = let test : (nat_le from q && nat_lt q to) ≡ false = grind (arith, nat_tests) in rw test refl
 
 -- what was put under a free key is taken out again
-pub back_at : (r : IotlbRange) (before : ℕ → Option IotlbRange) (q : ℕ) (mid after : Option IotlbRange) → before r.start ≡ None → mid ≡ put_at (Some r) before q →
+pub back_at : (r : IotlbRange) (before : ℕ → Option IotlbRange) (q : ℕ) (mid after : Option IotlbRange) → before r.start ≡ None →
+    mid ≡ put_at (Some r) before q →
     after ≡ cond (is_at (nat_cmp r.start) q) None mid → after ≡ before q
 back_at r before q mid after free put gone =
     elim (cases_eq r.start q) [
@@ -280,7 +305,8 @@ back_at r before q mid after free put gone =
 
 -- ---- the ranges about an address
 
-pub reaches_none : (es : List (ℕ × IotlbRange)) (below addr : ℕ) (r : IotlbRange) → AreKeyed es → AreRanges (values_of es) → below + 1 ≡ addr → IsLastUpTo es below r →
+pub reaches_none : (es : List (ℕ × IotlbRange)) (below addr : ℕ) (r : IotlbRange) → AreKeyed es → AreRanges (values_of es) →
+    below + 1 ≡ addr → IsLastUpTo es below r →
     r.end < addr → ReachesFrom es addr None
 reaches_none es below addr r keyed are next last ended = λ k s at low.
     elim (cases_eq k r.start) [
@@ -291,7 +317,8 @@ reaches_none es below addr r keyed are next last ended = λ k s at low.
           omega (arith, order.0, last.0)
     ]
 
-pub has_none : (es : List (ℕ × IotlbRange)) (addr : ℕ) (r : IotlbRange) → AreKeyed es → AreRanges (values_of es) → IsLastUpTo es addr r → r.end ≤ addr → HasAddress es addr None
+pub has_none : (es : List (ℕ × IotlbRange)) (addr : ℕ) (r : IotlbRange) → AreKeyed es → AreRanges (values_of es) → IsLastUpTo es addr r →
+    r.end ≤ addr → HasAddress es addr None
 has_none es addr r keyed are last ended = λ k s at low.
     elim (cases_eq k r.start) [
       | inl same ↦ let one = some_one r s (sym last.1 ∙ ap (range_at es) (sym same) ∙ at) in rw (sym one) ended

@@ -1,5 +1,6 @@
 -- what a look-up over ranges answers
-use Rattle.std.proofs.Common.{◌≡◌, ℕ, zero, suc, true, false, ◌+◌, ◌-◌, ◌<◌, ◌≤◌, List, [], ◌∷◌, ◌++◌, append_assoc, map, leb, refl, ap, sym, ◌∙◌, arith, Some, None, Option, inl, inr}
+use Rattle.std.proofs.Common.{◌≡◌, ℕ, zero, suc, true, false, ◌+◌, ◌-◌, ◌<◌, ◌≤◌, List, [], ◌∷◌, ◌++◌, append_assoc, map, leb, refl, ap}
+use Rattle.std.proofs.Common.{sym, ◌∙◌, arith, Some, None, Option, inl, inr}
 use Rattle.std.proofs.Math.Numerals.{add-one}
 use Rattle.std.specs.Prelude.{nat_lt, if◌then◌else◌, max, min}
 use Rattle.std.specs.List.{range_with_len}
@@ -12,9 +13,11 @@ use Rattle.vm_iotlb.specs.declared.iova.IovaRange.{IovaRange}
 use Rattle.vm_iotlb.specs.Table.{Mapping, Table, allows}
 use Rattle.vm_iotlb.specs.Ranges.{mapping_in, table_kept, AreRanges, EndsAbove, Agree}
 use Rattle.vm_iotlb.proofs.Covering.{Cover, pieces_in}
-use Rattle.vm_iotlb.specs.AddressRuns.{may_pass, target_of, may_all, go_together, run_of, led_by, runs, missing, lacking, piece_of, pieces, addresses_joined, targets, between}
+use Rattle.vm_iotlb.specs.AddressRuns.{may_pass, target_of, may_all, go_together, run_of, led_by, runs, missing, lacking, piece_of, pieces}
+use Rattle.vm_iotlb.specs.AddressRuns.{addresses_joined, targets, between}
 use Rattle.vm_iotlb.proofs.RangeLemmas.{table_before, table_inside}
-use Rattle.vm_iotlb.proofs.RunLemmas.{runs_one, runs_more, gap_run, range_run, agree_rest, missing_run, missing_skip, lacking_run, lacking_skip, lacking_gap}
+use Rattle.vm_iotlb.proofs.RunLemmas.{runs_one, runs_more, gap_run, range_run, agree_rest, missing_run, missing_skip, lacking_run}
+use Rattle.vm_iotlb.proofs.RunLemmas.{lacking_skip, lacking_gap}
 use Rattle.vm_iotlb.proofs.RunLemmas.{pieces_run, nothing_left, may_stop, may_range}
 
 -- the ranges behind one that ends at an address or above it
@@ -38,7 +41,8 @@ stopped t access a e some none all =
     let held : may_pass access (t a) ≡ true = may_head t access a (e - a) (omega arith) all in
     false≢true (rw none at held)
 
-pub cover : (t : Table) (access : Permissions) (l : List IotlbRange) (a e : ℕ) → AreRanges l → EndsAbove a l → a ≤ e → Agree t l a e → may_all t access a (e - a) ≡ true → Cover l a e
+pub cover : (t : Table) (access : Permissions) (l : List IotlbRange) (a e : ℕ) → AreRanges l → EndsAbove a l → a ≤ e → Agree t l a e →
+    may_all t access a (e - a) ≡ true → Cover l a e
 cover t access [] a e are first order agree all =
     elim (cases_lt a e) [
       | inl some ↦ absurd (stopped t access a e some (agree_none t a e agree some) all)
@@ -46,17 +50,23 @@ cover t access [] a e are first order agree all =
     ]
 cover t access (r ∷ l) a e are first order agree all = λ some.
     let low : r.start ≤ a = elim (cases_lt a r.start) [
-      | inl under ↦ absurd (stopped t access a e some (agree a (omega arith) some ∙ table_before (r ∷ l) r.start a are (omega arith) under) all)
+      | inl under ↦
+          absurd (stopped t access a e some (agree a (omega arith) some ∙ table_before (r ∷ l) r.start a are (omega arith) under) all)
       | inr high ↦ high
     ] in
     let held : t a ≡ Some (mapping_in r a) = agree a (omega arith) some ∙ table_inside r l a low first in
     let may_go : may_pass access (t a) ≡ true = may_head t access a (e - a) (omega arith) all in
     let allowed : allows r.perm access ≡ true = rw held at may_go in
     let next = may_range t access r l a (min r.end e) e agree low (omega arith) (omega arith) (omega arith) allowed in
-    let rest = agree_rest t r l a (min r.end e) e agree (omega arith) (λ more. omega arith) in
-    (low, first, are.0.2, cover t access l (min r.end e) e are.2 (above_rest r l (min r.end e) are (omega arith)) (omega arith) rest (sym next ∙ all))
+    let rest = agree_rest t r l a (min r.end e) e agree (omega arith) (λ more. omega arith) in (
+      low,
+      first,
+      are.0.2,
+      cover t access l (min r.end e) e are.2 (above_rest r l (min r.end e) are (omega arith)) (omega arith) rest (sym next ∙ all),
+    )
 
-pub pieces_cover : (t : Table) (l : List IotlbRange) (a e : ℕ) → AreRanges l → Cover l a e → a ≤ e → Agree t l a e → pieces_in l a e ≡ pieces t a (e - a)
+pub pieces_cover :
+    (t : Table) (l : List IotlbRange) (a e : ℕ) → AreRanges l → Cover l a e → a ≤ e → Agree t l a e → pieces_in l a e ≡ pieces t a (e - a)
 pieces_cover t [] a e are cov order agree = sym (nothing_left t No a e cov).2
 pieces_cover t (r ∷ l) a e are cov order agree =
     elim (cases_lt a e) [
@@ -67,7 +77,8 @@ pieces_cover t (r ∷ l) a e are cov order agree =
           let high : a < r.end = held.1 in
           let run = range_run t r l a (min r.end e) e are agree low (omega arith) (omega arith) (omega arith) (λ more. omega arith) in
           let to : t a ≡ Some (mapping_in r a) = agree a (omega arith) some ∙ table_inside r l a low high in
-          let tail = pieces_cover t l (min r.end e) e are.2 held.3 (omega arith) (agree_rest t r l a (min r.end e) e agree (omega arith) (λ more. omega arith)) in
+          let tail = pieces_cover t l (min r.end e) e are.2 held.3 (omega arith)
+          (agree_rest t r l a (min r.end e) e agree (omega arith) (λ more. omega arith)) in
           let all = pieces_run t a (min r.end e) (min r.end e - a) (e - a) (e - min r.end e) (mapping_in r a) run to in
           rw (test, tail) (sym all)
       | inr done ↦ let test : nat_lt a e ≡ false = le-ltb a e done in rw test (sym (nothing_left t No a e done).2)
@@ -82,12 +93,14 @@ led_head a (r ∷ ys) = (r.length + 1, ys, refl)
 runs_head : (t : Table) (a n : ℕ) → (k : ℕ) × (rest : List IovaRange) × (runs t a (suc n) ≡ run_of a k ∷ rest)
 unfolding runs
 runs_head t a n =
-    elim (go_together (t a) (t (a + 1))) as (λ b. (k : ℕ) × (rest : List IovaRange) × ((if b then led_by a (runs t (a + 1) n) else run_of a 1 ∷ runs t (a + 1) n) ≡ run_of a k ∷ rest)) [
+    elim (go_together (t a) (t (a + 1))) as (λ b. (k : ℕ) × (rest : List IovaRange)
+    × ((if b then led_by a (runs t (a + 1) n) else run_of a 1 ∷ runs t (a + 1) n) ≡ run_of a k ∷ rest)) [
       | true ↦ led_head a (runs t (a + 1) n)
       | false ↦ (1, runs t (a + 1) n, refl)
     ]
 
-next_target : (access : Permissions) (p q : Option Mapping) → go_together p q ≡ true → may_pass access p ≡ true → target_of p + 1 ≡ target_of q
+next_target :
+    (access : Permissions) (p q : Option Mapping) → go_together p q ≡ true → may_pass access p ≡ true → target_of p + 1 ≡ target_of q
 next_target access None q on held = absurd (false≢true held)
 next_target access (Some p) None on held = absurd (false≢true on)
 next_target access (Some p) (Some q) on held = eqb-true _ _ (and_parts _ _ on).0
@@ -100,20 +113,23 @@ no_runs t a = refl
 longer : (x y k : ℕ) (rest all : List ℕ) → x + 1 ≡ y → range_with_len y k ++ rest ≡ all → range_with_len x (k + 1) ++ rest ≡ x ∷ all
 longer x y k rest all next same = rw (add-one, next) (ap (λ (l : List ℕ). x ∷ l) same)
 
-pub joined_pieces : (t : Table) (access : Permissions) (n a : ℕ) → may_all t access a n ≡ true → addresses_joined (pieces t a n) ≡ targets t a n
+pub joined_pieces :
+    (t : Table) (access : Permissions) (n a : ℕ) → may_all t access a n ≡ true → addresses_joined (pieces t a n) ≡ targets t a n
 unfolding pieces may_all
 joined_pieces t access zero a all = rw (no_runs t a) refl
 joined_pieces t access (suc zero) a all = rw (runs_one t a zero (λ some. absurd (omega arith)), no_runs t (a + 1)) refl
 joined_pieces t access (suc (suc n)) a all =
     let held = and_parts _ _ all in
-    let tail : addresses_joined (map (piece_of t) (runs t (a + 1) (suc n))) ≡ targets t (a + 1) (suc n) = joined_pieces t access (suc n) (a + 1) held.1 in
+    let tail : addresses_joined (map (piece_of t) (runs t (a + 1) (suc n))) ≡ targets t (a + 1) (suc n) =
+    joined_pieces t access (suc n) (a + 1) held.1 in
     elim (cases_Bool (go_together (t a) (t (a + 1)))) [
       | inl on ↦
           let head = runs_head t (a + 1) n in
           let whole = runs_more t a (suc n) head.0 head.1 on head.2 in
           let next = next_target access (t a) (t (a + 1)) on held.0 in
           let first = rw head.2 at tail in
-          rw whole (longer (target_of (t a)) (target_of (t (a + 1))) head.0 (addresses_joined (map (piece_of t) head.1)) (targets t (a + 1) (suc n)) next first)
+          rw whole (longer (target_of (t a)) (target_of (t (a + 1))) head.0 (addresses_joined (map (piece_of t) head.1))
+          (targets t (a + 1) (suc n)) next first)
       | inr off ↦ rw (runs_one t a (suc n) (λ some. off)) (ap (λ (l : List ℕ). target_of (t a) ∷ l) tail)
     ]
 
@@ -135,20 +151,26 @@ between_none : (a e : ℕ) → e ≤ a → between a e ≡ []
 between_none a e h = let test : nat_lt a e ≡ false = le-ltb a e h in rw test refl
 
 -- the addresses before a range
-pub gap_part : (t : Table) (access : Permissions) (r : IotlbRange) (l : List IotlbRange) (a s e : ℕ) → AreRanges (r ∷ l) → Agree t (r ∷ l) a e → a ≤ e → s ≡ min (max r.start a) e →
+pub gap_part : (t : Table) (access : Permissions) (r : IotlbRange) (l : List IotlbRange) (a s e : ℕ) → AreRanges (r ∷ l) →
+    Agree t (r ∷ l) a e → a ≤ e → s ≡ min (max r.start a) e →
     (missing t a (e - a) ≡ between a s ++ missing t s (e - s)) × (lacking t access a (e - a) ≡ lacking t access s (e - s))
 gap_part t access r l a s e are agree order start =
     elim (cases_lt a s) [
       | inl some ↦
-          let none : (x : ℕ) → a ≤ x → x < s → t x ≡ None = λ x from to. agree x from (omega arith) ∙ table_before (r ∷ l) r.start x are (omega arith) (omega arith) in
-          let run = gap_run t a s e some (omega arith) none (λ more. (mapping_in r s, agree s (omega arith) more ∙ table_inside r l s (omega arith) (omega (arith, are.0.0)))) in
-          let this = none a (omega arith) some in
-          (rw (between_some a s some) (missing_run t a s (s - a) (e - a) (e - s) run this), lacking_gap t access a s (s - a) (e - a) (e - s) run this)
+          let none : (x : ℕ) → a ≤ x → x < s → t x ≡ None =
+          λ x from to. agree x from (omega arith) ∙ table_before (r ∷ l) r.start x are (omega arith) (omega arith) in
+          let run = gap_run t a s e some (omega arith) none
+          (λ more. (mapping_in r s, agree s (omega arith) more ∙ table_inside r l s (omega arith) (omega (arith, are.0.0)))) in
+          let this = none a (omega arith) some in (
+            rw (between_some a s some) (missing_run t a s (s - a) (e - a) (e - s) run this),
+            lacking_gap t access a s (s - a) (e - a) (e - s) run this,
+          )
       | inr none ↦ let same : s ≡ a = omega arith in (rw (between_none a s none, same) refl, rw same refl)
     ]
 
 -- the addresses of a range, from one of its own on
-pub range_part : (t : Table) (access : Permissions) (r : IotlbRange) (l : List IotlbRange) (a p e : ℕ) → AreRanges (r ∷ l) → Agree t (r ∷ l) a e → a < e → r.start ≤ a → a < r.end → p ≡ min r.end e →
+pub range_part : (t : Table) (access : Permissions) (r : IotlbRange) (l : List IotlbRange) (a p e : ℕ) → AreRanges (r ∷ l) →
+    Agree t (r ∷ l) a e → a < e → r.start ≤ a → a < r.end → p ≡ min r.end e →
     (missing t a (e - a) ≡ missing t p (e - p)) × (allows r.perm access ≡ true → lacking t access a (e - a) ≡ lacking t access p (e - p)) ×
     (allows r.perm access ≡ false → lacking t access a (e - a) ≡ between a p ++ lacking t access p (e - p))
 range_part t access r l a p e are agree some low high end =
@@ -178,7 +200,8 @@ covered_end t access a e agree =
       | inr done ↦ le-leb e a done ∙ sym (nothing_left t access a e done).3
     ]
 
-pub fails_end : (t : Table) (access : Permissions) (a e : ℕ) → Agree t [] a e → (missing t a (e - a) ≡ between a e) × (lacking t access a (e - a) ≡ [])
+pub fails_end :
+    (t : Table) (access : Permissions) (a e : ℕ) → Agree t [] a e → (missing t a (e - a) ≡ between a e) × (lacking t access a (e - a) ≡ [])
 unfolding table_kept
 fails_end t access a e agree =
     elim (cases_lt a e) [
@@ -193,17 +216,23 @@ fails_end t access a e agree =
     ]
 
 -- one range is left behind
-pub fails_step : (t : Table) (access : Permissions) (r : IotlbRange) (l : List IotlbRange) (a s p e : ℕ) → AreRanges (r ∷ l) → Agree t (r ∷ l) a e → a < e → a < r.end →
+pub fails_step : (t : Table) (access : Permissions) (r : IotlbRange) (l : List IotlbRange) (a s p e : ℕ) → AreRanges (r ∷ l) →
+    Agree t (r ∷ l) a e → a < e → a < r.end →
     s ≡ min (max r.start a) e → p ≡ min r.end e →
-    (missing t a (e - a) ≡ between a s ++ missing t p (e - p)) × (allows r.perm access ≡ true → lacking t access a (e - a) ≡ between p p ++ lacking t access p (e - p)) ×
+    (missing t a (e - a) ≡ between a s ++ missing t p (e - p))
+    × (allows r.perm access ≡ true → lacking t access a (e - a) ≡ between p p ++ lacking t access p (e - p)) ×
     (allows r.perm access ≡ false → lacking t access a (e - a) ≡ between s p ++ lacking t access p (e - p))
 fails_step t access r l a s p e are agree some high start end =
     let up : r.start < r.end = are.0.0 in
     let gap = gap_part t access r l a s e are agree (omega arith) start in
     elim (cases_lt s p) [
       | inl more ↦
-          let part = range_part t access r l s p e are (λ x from to. agree x (omega arith) to) (omega arith) (omega arith) (omega arith) end in
-          (gap.0 ∙ ap (λ (l : List IovaRange). between a s ++ l) part.0, λ all. rw (between_none p p (omega arith)) (gap.1 ∙ part.1 all), λ denied. gap.1 ∙ part.2 denied)
+          let part = range_part t access r l s p e are (λ x from to. agree x (omega arith) to) (omega arith) (omega arith)
+          (omega arith) end in (
+            gap.0 ∙ ap (λ (l : List IovaRange). between a s ++ l) part.0,
+            λ all. rw (between_none p p (omega arith)) (gap.1 ∙ part.1 all),
+            λ denied. gap.1 ∙ part.2 denied,
+          )
       | inr none ↦
           let same : p ≡ s = omega arith in
           (rw same gap.0, λ all. rw (same, between_none s s (omega arith)) gap.1, λ denied. rw (same, between_none s s (omega arith)) gap.1)

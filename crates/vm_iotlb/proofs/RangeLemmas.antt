@@ -17,7 +17,8 @@ has_below r a h = grind (arith, nat_tests)
 pub has_above : (r : IotlbRange) (a : ℕ) → r.end ≤ a → has r a ≡ false
 has_above r a h = grind (arith, nat_tests)
 
-pub same_mapping : (t u : ℕ) (p q : Permissions) → t ≡ u → p ≡ q → ◌≡◌ {A = Mapping} (record { target = t; perm = p }) (record { target = u; perm = q })
+pub same_mapping :
+    (t u : ℕ) (p q : Permissions) → t ≡ u → p ≡ q → ◌≡◌ {A = Mapping} (record { target = t; perm = p }) (record { target = u; perm = q })
 same_mapping t u p q e f = rw (e, f) refl
 
 pub some_same : (m n : Mapping) → m.target ≡ n.target → m.perm ≡ n.perm → ◌≡◌ {A = Option Mapping} (Some m) (Some n)

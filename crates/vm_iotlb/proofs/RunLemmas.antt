@@ -1,5 +1,6 @@
 -- runs of addresses, and the ranges that they come from
-use Rattle.std.proofs.Common.{◌≡◌, ℕ, zero, suc, true, false, ◌+◌, ◌-◌, ◌<◌, ◌≤◌, List, [], ◌∷◌, refl, ◌∙◌, arith, Some, None, inl, inr, eqb, eq-eqb}
+use Rattle.std.proofs.Common.{◌≡◌, ℕ, zero, suc, true, false, ◌+◌, ◌-◌, ◌<◌, ◌≤◌, List, [], ◌∷◌, refl, ◌∙◌, arith, Some, None, inl, inr}
+use Rattle.std.proofs.Common.{eqb, eq-eqb}
 use Rattle.std.specs.Prelude.{◌&&◌, if◌then◌else◌}
 use Rattle.std.proofs.lemmas.Bool.{cases_lt, and_parts, eqb-true, false_from_ne_true, false≢true}
 use Rattle.vm_iotlb.specs.declared.permissions.Permissions.{Permissions}
@@ -15,15 +16,18 @@ use Rattle.vm_iotlb.proofs.RangeLemmas.{has_in, table_before, table_inside, tabl
 
 pub runs_one : (t : Table) (a n : ℕ) → (0 < n → go_together (t a) (t (a + 1)) ≡ false) → runs t a (suc n) ≡ run_of a 1 ∷ runs t (a + 1) n
 unfolding runs
-runs_one t a zero stop = elim (go_together (t a) (t (a + 1))) as (λ b. (if b then run_of a 1 ∷ [] else run_of a 1 ∷ []) ≡ run_of a 1 ∷ []) [ true ↦ refl | false ↦ refl ]
+runs_one t a zero stop = elim (go_together (t a) (t (a + 1)))
+    as (λ b. (if b then run_of a 1 ∷ [] else run_of a 1 ∷ []) ≡ run_of a 1 ∷ []) [ true ↦ refl | false ↦ refl ]
 runs_one t a (suc n) stop = let test : go_together (t a) (t (a + 1)) ≡ false = stop (omega arith) in rw test refl
 
-pub runs_more : (t : Table) (a n k : ℕ) (rest : List IovaRange) → go_together (t a) (t (a + 1)) ≡ true → runs t (a + 1) n ≡ run_of (a + 1) k ∷ rest → runs t a (suc n) ≡ run_of a (k + 1) ∷ rest
+pub runs_more : (t : Table) (a n k : ℕ) (rest : List IovaRange) → go_together (t a) (t (a + 1)) ≡ true →
+    runs t (a + 1) n ≡ run_of (a + 1) k ∷ rest → runs t a (suc n) ≡ run_of a (k + 1) ∷ rest
 unfolding runs
 runs_more t a n k rest test tail = rw (test, tail) refl
 
 -- c addresses that go together and after which another run begins
-pub runs_step : (t : Table) (c a b m n : ℕ) → c + n ≡ m → a + c ≡ b → 0 < c → ((x : ℕ) → a ≤ x → x + 1 < b → go_together (t x) (t (x + 1)) ≡ true) →
+pub runs_step :
+    (t : Table) (c a b m n : ℕ) → c + n ≡ m → a + c ≡ b → 0 < c → ((x : ℕ) → a ≤ x → x + 1 < b → go_together (t x) (t (x + 1)) ≡ true) →
     ((x : ℕ) → x + 1 ≡ b → 0 < n → go_together (t x) (t b) ≡ false) →
     runs t a m ≡ run_of a c ∷ runs t b n
 runs_step t zero a b m n count end some same stop = absurd (omega arith)
@@ -40,7 +44,8 @@ runs_step t (suc (suc c)) a b (suc m) n count end some same stop =
     rw more at all
 
 -- a gap between mappings
-pub gap_run : (t : Table) (a b e : ℕ) → a < b → b ≤ e → ((x : ℕ) → a ≤ x → x < b → t x ≡ None) → (b < e → (to : Mapping) × (t b ≡ Some to)) → runs t a (e - a) ≡ run_of a (b - a) ∷ runs t b (e - b)
+pub gap_run : (t : Table) (a b e : ℕ) → a < b → b ≤ e → ((x : ℕ) → a ≤ x → x < b → t x ≡ None) →
+    (b < e → (to : Mapping) × (t b ≡ Some to)) → runs t a (e - a) ≡ run_of a (b - a) ∷ runs t b (e - b)
 gap_run t a b e some most none mapped =
     runs_step t (b - a) a b (e - a) (e - b) (omega arith) (omega arith) (omega arith)
     (λ x from to. rw (none x from (omega arith), none (x + 1) (omega arith) to) refl)
@@ -48,7 +53,8 @@ gap_run t a b e some most none mapped =
 
 -- ---- runs of ranges
 
-pub agree_rest : (t : Table) (r : IotlbRange) (l : List IotlbRange) (a b e : ℕ) → Agree t (r ∷ l) a e → a ≤ b → (b < e → r.end ≤ b) → Agree t l b e
+pub agree_rest :
+    (t : Table) (r : IotlbRange) (l : List IotlbRange) (a b e : ℕ) → Agree t (r ∷ l) a e → a ≤ b → (b < e → r.end ≤ b) → Agree t l b e
 agree_rest t r l a b e agree order whole = λ x from to. agree x (omega arith) to ∙ table_out r l x (omega (arith, whole (omega arith)))
 
 allows_same : (p : Permissions) → allows p p ≡ true
@@ -84,11 +90,13 @@ together_parts p q e =
 -- an address of a range and the next one
 pub together_in : (r : IotlbRange) (x : ℕ) → r.start ≤ x → go_together (Some (mapping_in r x)) (Some (mapping_in r (x + 1))) ≡ true
 together_in r x low =
-    let same : eqb (r.target + (x - r.start) + 1) (r.target + (x + 1 - r.start)) ≡ true = eq-eqb (r.target + (x - r.start) + 1) (r.target + (x + 1 - r.start)) (omega arith) in
+    let same : eqb (r.target + (x - r.start) + 1) (r.target + (x + 1 - r.start)) ≡ true =
+    eq-eqb (r.target + (x - r.start) + 1) (r.target + (x + 1 - r.start)) (omega arith) in
     rw (same, allows_same r.perm) refl
 
 -- the last address of a range and the one that follows the range
-pub apart : (r : IotlbRange) (l : List IotlbRange) (x b : ℕ) → AreRanges (r ∷ l) → x + 1 ≡ b → b ≡ r.end → go_together (Some (mapping_in r x)) (table_kept l b) ≡ false
+pub apart : (r : IotlbRange) (l : List IotlbRange) (x b : ℕ) → AreRanges (r ∷ l) → x + 1 ≡ b → b ≡ r.end →
+    go_together (Some (mapping_in r x)) (table_kept l b) ≡ false
 unfolding table_kept
 apart r [] x b are next end = refl
 apart r (s ∷ l) x b are next end =
@@ -102,7 +110,8 @@ apart r (s ∷ l) x b are next end =
           are.1.1 (omega (arith, are.1.0), omega (arith, are.0.0, are.1.0), parts.1)))
     ]
 
-pub range_run : (t : Table) (r : IotlbRange) (l : List IotlbRange) (a b e : ℕ) → AreRanges (r ∷ l) → Agree t (r ∷ l) a e → r.start ≤ a → a < b → b ≤ r.end → b ≤ e → (b < e → b ≡ r.end) →
+pub range_run : (t : Table) (r : IotlbRange) (l : List IotlbRange) (a b e : ℕ) → AreRanges (r ∷ l) → Agree t (r ∷ l) a e → r.start ≤ a →
+    a < b → b ≤ r.end → b ≤ e → (b < e → b ≡ r.end) →
     runs t a (e - a) ≡ run_of a (b - a) ∷ runs t b (e - b)
 range_run t r l a b e are agree low some within most whole =
     runs_step t (b - a) a b (e - a) (e - b) (omega arith) (omega arith) (omega arith)
@@ -118,25 +127,30 @@ range_run t r l a b e are agree low some within most whole =
 
 -- ---- what is made of runs
 
-pub missing_run : (t : Table) (a b c m n : ℕ) → runs t a m ≡ run_of a c ∷ runs t b n → t a ≡ None → missing t a m ≡ run_of a c ∷ missing t b n
+pub missing_run :
+    (t : Table) (a b c m n : ℕ) → runs t a m ≡ run_of a c ∷ runs t b n → t a ≡ None → missing t a m ≡ run_of a c ∷ missing t b n
 unfolding missing
 missing_run t a b c m n run none = rw (run, none) refl
 
-pub missing_skip : (t : Table) (a b c m n : ℕ) (to : Mapping) → runs t a m ≡ run_of a c ∷ runs t b n → t a ≡ Some to → missing t a m ≡ missing t b n
+pub missing_skip :
+    (t : Table) (a b c m n : ℕ) (to : Mapping) → runs t a m ≡ run_of a c ∷ runs t b n → t a ≡ Some to → missing t a m ≡ missing t b n
 unfolding missing
 missing_skip t a b c m n to run some = rw (run, some) refl
 
-pub lacking_run : (t : Table) (access : Permissions) (a b c m n : ℕ) (to : Mapping) → runs t a m ≡ run_of a c ∷ runs t b n → t a ≡ Some to → allows to.perm access ≡ false →
+pub lacking_run : (t : Table) (access : Permissions) (a b c m n : ℕ) (to : Mapping) → runs t a m ≡ run_of a c ∷ runs t b n → t a ≡ Some to →
+    allows to.perm access ≡ false →
     lacking t access a m ≡ run_of a c ∷ lacking t access b n
 unfolding lacking
 lacking_run t access a b c m n to run some denied = rw (run, some, denied) refl
 
-pub lacking_skip : (t : Table) (access : Permissions) (a b c m n : ℕ) (to : Mapping) → runs t a m ≡ run_of a c ∷ runs t b n → t a ≡ Some to →
+pub lacking_skip :
+    (t : Table) (access : Permissions) (a b c m n : ℕ) (to : Mapping) → runs t a m ≡ run_of a c ∷ runs t b n → t a ≡ Some to →
     allows to.perm access ≡ true → lacking t access a m ≡ lacking t access b n
 unfolding lacking
 lacking_skip t access a b c m n to run some all = rw (run, some, all) refl
 
-pub lacking_gap : (t : Table) (access : Permissions) (a b c m n : ℕ) → runs t a m ≡ run_of a c ∷ runs t b n → t a ≡ None → lacking t access a m ≡ lacking t access b n
+pub lacking_gap : (t : Table) (access : Permissions) (a b c m n : ℕ) → runs t a m ≡ run_of a c ∷ runs t b n → t a ≡ None →
+    lacking t access a m ≡ lacking t access b n
 unfolding lacking
 lacking_gap t access a b c m n run none = rw (run, none) refl
 
@@ -145,7 +159,8 @@ pub pieces_run : (t : Table) (a b c m n : ℕ) (to : Mapping) → runs t a m ≡
 unfolding pieces
 pieces_run t a b c m n to run some = rw (run, some) refl
 
-pub nothing_left : (t : Table) (access : Permissions) (a e : ℕ) → e ≤ a → (missing t a (e - a) ≡ []) × (lacking t access a (e - a) ≡ []) × (pieces t a (e - a) ≡ []) ×
+pub nothing_left : (t : Table) (access : Permissions) (a e : ℕ) → e ≤ a →
+    (missing t a (e - a) ≡ []) × (lacking t access a (e - a) ≡ []) × (pieces t a (e - a) ≡ []) ×
     (may_all t access a (e - a) ≡ true)
 unfolding missing lacking pieces may_all runs
 nothing_left t access a e h = let none : e - a ≡ 0 = omega arith in (rw none refl, rw none refl, rw none refl, rw none refl)
@@ -157,17 +172,20 @@ unfolding may_all
 may_first t access a zero some denied = absurd (omega arith)
 may_first t access a (suc n) some denied = rw denied refl
 
-pub may_rest : (t : Table) (access : Permissions) (c a b m n : ℕ) → c + n ≡ m → a + c ≡ b → ((x : ℕ) → a ≤ x → x < b → may_pass access (t x) ≡ true) → may_all t access a m ≡ may_all t access b n
+pub may_rest : (t : Table) (access : Permissions) (c a b m n : ℕ) → c + n ≡ m → a + c ≡ b →
+    ((x : ℕ) → a ≤ x → x < b → may_pass access (t x) ≡ true) → may_all t access a m ≡ may_all t access b n
 unfolding may_all
 may_rest t access zero a b m n count end all = let same : m ≡ n = omega arith in let here : a ≡ b = omega arith in rw (same, here) refl
 may_rest t access (suc c) a b zero n count end all = absurd (omega arith)
 may_rest t access (suc c) a b (suc m) n count end all =
-    rw (all a (omega arith) (omega arith)) (may_rest t access c (a + 1) b m n (omega arith) (omega arith) (λ x from to. all x (omega arith) to))
+    rw (all a (omega arith) (omega arith))
+    (may_rest t access c (a + 1) b m n (omega arith) (omega arith) (λ x from to. all x (omega arith) to))
 
 pub may_stop : (t : Table) (access : Permissions) (a e : ℕ) → a < e → may_pass access (t a) ≡ false → may_all t access a (e - a) ≡ false
 may_stop t access a e some denied = may_first t access a (e - a) (omega arith) denied
 
-pub may_range : (t : Table) (access : Permissions) (r : IotlbRange) (l : List IotlbRange) (a b e : ℕ) → Agree t (r ∷ l) a e → r.start ≤ a → a ≤ b → b ≤ r.end → b ≤ e → allows r.perm access ≡ true →
+pub may_range : (t : Table) (access : Permissions) (r : IotlbRange) (l : List IotlbRange) (a b e : ℕ) → Agree t (r ∷ l) a e → r.start ≤ a →
+    a ≤ b → b ≤ r.end → b ≤ e → allows r.perm access ≡ true →
     may_all t access a (e - a) ≡ may_all t access b (e - b)
 may_range t access r l a b e agree low order within most all =
     may_rest t access (b - a) a b (e - a) (e - b) (omega arith) (omega arith)

@@ -17,25 +17,30 @@ use Rattle.vm_iotlb.proofs.CutLemmas.{head_apart, left_keep, left_part, right_ke
 abbrev pub both_put : (g : ℕ → Option IotlbRange) → (start end : ℕ) → (before after : Option IotlbRange) → ℕ → Option IotlbRange
 both_put g start end before after = put_at (part_up_to before start) (put_at None (put_at (part_from after end) g))
 
-module _ (es fs : List (ℕ × IotlbRange)) (start end : ℕ) (before after : Option IotlbRange) (keyed : AreKeyed es) (are : AreRanges (values_of es)) (span : start < end)
+module _ (es fs : List (ℕ × IotlbRange)) (start end : ℕ) (before after : Option IotlbRange) (keyed : AreKeyed es)
+    (are : AreRanges (values_of es)) (span : start < end)
     (reaches : ReachesFrom es start before) (has : HasAddress es end after)
-    (sorted : IsStrictlySortedBy nat_cmp (keys_of fs)) (now : (q : ℕ) → range_at fs q ≡ cleared start end (both_put (range_at es) start end before after) q) where
+    (sorted : IsStrictlySortedBy nat_cmp (keys_of fs)) (now : (q : ℕ) →
+    range_at fs q ≡ cleared start end (both_put (range_at es) start end before after) q) where
   each_part : (q : ℕ) (r : IotlbRange) → range_at fs q ≡ Some r → Part (range_at es) start end q r
   each_part q r at =
       let all = both_put (range_at es) start end before after in
       let value = sym (now q) ∙ at in
       elim (cases_lt q start) [
-        | inl below ↦ left_part es start end q before (put_at (part_from after end) (range_at es)) r keyed are reaches below (tail_apart after (range_at es) end q (λ same. omega arith))
+        | inl below ↦ left_part es start end q before (put_at (part_from after end) (range_at es)) r keyed are reaches below
+            (tail_apart after (range_at es) end q (λ same. omega arith))
             (sym (clear_below start end all q below) ∙ value)
         | inr low ↦ elim (cases_lt q end) [
           | inl within ↦ absurd (none_some r (sym (clear_within start end all q low within) ∙ value))
           | inr above ↦ right_part es start end q after r keyed are has above
-              (sym (head_apart es before (put_at (part_from after end) (range_at es)) start q reaches low) ∙ sym (clear_above start end all q above) ∙ value)
+              (sym (head_apart es before (put_at (part_from after end) (range_at es)) start q reaches low)
+              ∙ sym (clear_above start end all q above) ∙ value)
         ]
       ]
 
   pub taken_ranges : AreKeyed fs × AreRanges (values_of fs)
-  taken_ranges = exchanged_ranges es fs start end None keyed are span sorted (λ r is. absurd (none_some r is)) (λ q r at. inr (each_part q r at))
+  taken_ranges =
+      exchanged_ranges es fs start end None keyed are span sorted (λ r is. absurd (none_some r is)) (λ q r at. inr (each_part q r at))
 
   back : (a : ℕ) → Has fs a → Has es a
   back a one =
@@ -51,7 +56,8 @@ module _ (es fs : List (ℕ × IotlbRange)) (start end : ℕ) (before after : Op
             rw test (same_at es fs a keyed are taken_ranges.0 taken_ranges.1 (λ k s at low under.
             let kept = left_keep es start a k before (put_at (part_from after end) (range_at es)) s keyed are reaches below
             (λ q less. tail_apart after (range_at es) end q (λ same. omega arith)) at low under in
-            (kept.0, kept.1, now kept.0 ∙ clear_below start end all kept.0 kept.2 ∙ kept.3.0, kept.3.1, kept.3.2, kept.3.3, kept.3.4)) (back a))
+            (kept.0, kept.1, now kept.0 ∙ clear_below start end all kept.0 kept.2 ∙ kept.3.0, kept.3.1, kept.3.2, kept.3.3, kept.3.4))
+            (back a))
         | inr low ↦ elim (cases_lt a end) [
           | inl within ↦
               let test : (nat_le start a && nat_lt a end) ≡ true = grind (arith, nat_tests) in
@@ -65,7 +71,8 @@ module _ (es fs : List (ℕ × IotlbRange)) (start end : ℕ) (before after : Op
               let kept = right_keep es end a k after s keyed are has above at from under in (
                 kept.0,
                 kept.1,
-                now kept.0 ∙ clear_above start end all kept.0 kept.2 ∙ head_apart es before (put_at (part_from after end) (range_at es)) start kept.0 reaches (omega (arith, kept.2)) ∙
+                now kept.0 ∙ clear_above start end all kept.0 kept.2
+                    ∙ head_apart es before (put_at (part_from after end) (range_at es)) start kept.0 reaches (omega (arith, kept.2)) ∙
                     kept.3.0,
                 kept.3.1,
                 kept.3.2,
@@ -76,7 +83,8 @@ module _ (es fs : List (ℕ × IotlbRange)) (start end : ℕ) (before after : Op
       ]
 
 -- after a call that changes ranges to a table, or nothing
-pub settled : {X Y : Type 0} (result : Result X Y) (es fs : List (ℕ × IotlbRange)) → AreKeyed es → AreRanges (values_of es) → OnOk result (AreKeyed fs × AreRanges (values_of fs)) →
+pub settled : {X Y : Type 0} (result : Result X Y) (es fs : List (ℕ × IotlbRange)) → AreKeyed es → AreRanges (values_of es) →
+    OnOk result (AreKeyed fs × AreRanges (values_of fs)) →
     OnErr result (fs ≡ es) → AreKeyed fs × AreRanges (values_of fs)
 settled (Ok x) es fs keyed are ok err = ok
 settled (Err e) es fs keyed are ok err = rw err (keyed, are)

@@ -1,5 +1,7 @@
 -- What a look-up answers: the addresses of a range, in runs as long as can be.
-use Rattle.std.specs.Prelude.{◌≡◌, ℕ, zero, suc, ◌+◌, ◌-◌, ◌<◌, ◌≤◌, ◌^◌, nat_lt, Bool, true, false, not, ◌&&◌, ◌||◌, ◌==◌, List, [], ◌∷◌, map, Option, Some, None, if◌then◌else◌, Result, Ok, Err}
+use Rattle.std.specs.Prelude.{◌≡◌, ℕ, zero, suc, ◌+◌, ◌-◌, ◌<◌, ◌≤◌, ◌^◌, nat_lt, Bool, true, false, not}
+use Rattle.std.specs.Prelude.{◌&&◌, ◌||◌, ◌==◌, List, [], ◌∷◌, map, Option, Some, None, if◌then◌else◌, Result}
+use Rattle.std.specs.Prelude.{Ok, Err}
 use Rattle.std.specs.List.{list_all, filter, flat_map, range_with_len}
 use Rattle.vm_iotlb.specs.declared.permissions.Permissions.{Permissions}
 use Rattle.vm_iotlb.specs.declared.iova.IovaRange.{IovaRange}
@@ -32,14 +34,17 @@ target_of (Some to) = to.target
 unfoldable pub may_all : Table → Permissions → ℕ → ℕ → Bool
 may_all table access a n = list_all (λ x. may_pass access (table x)) (range_with_len a n)
 
--- whether an address and the next go together: both have no mapping, or one of the same permission, to a target and the next
+-- whether an address and the next go together: both have no mapping, or one of the same permission, to a
+-- target and the next
 abbrev pub go_together : Option Mapping → Option Mapping → Bool
 go_together None None = true
 go_together None (Some next) = false
 go_together (Some this) None = false
-go_together (Some this) (Some next) = this.target + 1 == next.target && (allows this.perm next.perm && allows next.perm this.perm)
+go_together (Some this) (Some next) =
+    this.target + 1 == next.target && (allows this.perm next.perm && allows next.perm this.perm)
 
--- whether an address is mapped as one with the address before it: both have a mapping, and they go together. The first address has none before it
+-- whether an address is mapped as one with the address before it: both have a mapping, and they go together.
+-- The first address has none before it
 abbrev pub goes_on_at : Table → ℕ → Bool
 goes_on_at table a = not (misses (table a)) && go_together (table (a - 1)) (table a)
 
@@ -67,7 +72,9 @@ led_by a (r ∷ rest) = run_of a (r.length + 1) ∷ rest
 -- n addresses from a on, as the longest runs that go together
 unfoldable pub runs : Table → ℕ → ℕ → List IovaRange
 runs table a zero = []
-runs table a (suc n) = if go_together (table a) (table (a + 1)) then led_by a (runs table (a + 1) n) else run_of a 1 ∷ runs table (a + 1) n
+runs table a (suc n) =
+    if go_together (table a) (table (a + 1)) then led_by a (runs table (a + 1) n)
+    else run_of a 1 ∷ runs table (a + 1) n
 
 -- the runs among n addresses from a on whose addresses have no mapping
 unfoldable pub missing : Table → ℕ → ℕ → List IovaRange
@@ -95,17 +102,24 @@ targets table a n = map (λ x. target_of (table x)) (range_with_len a n)
 
 -- if the end of the asked range does not fit 64 bits, all of it is missing; an allocation may fail
 abbrev pub IsMissedWhole : (iova n : ℕ) → LookupError → Type 0
-IsMissedWhole iova n (Fails fails) = (fails.misses.items ≡ run_of iova n ∷ []) × (fails.access_fails.items ≡ [])
+IsMissedWhole iova n (Fails fails) =
+    (fails.misses.items ≡ run_of iova n ∷ []) × (fails.access_fails.items ≡ [])
 IsMissedWhole iova n OutOfMemory = Unit {0}
 
 -- where it fits, what stands in the way
 abbrev pub IsStopped : Table → Permissions → (iova n : ℕ) → LookupError → Type 0
-IsStopped table access iova n (Fails fails) = (fails.misses.items ≡ missing table iova n) × (fails.access_fails.items ≡ lacking table access iova n)
+IsStopped table access iova n (Fails fails) =
+    (fails.misses.items ≡ missing table iova n) × (fails.access_fails.items ≡ lacking table access iova n)
 IsStopped table access iova n OutOfMemory = Unit {0}
 
--- a look-up gives the pieces exactly if the end fits 64 bits and an access may go through each address, and else what stands in its way; an allocation may fail for that
+-- a look-up gives the pieces exactly if the end fits 64 bits and an access may go through each address, and
+-- else what stands in its way; an allocation may fail for that
 abbrev pub LooksUp : Table → (iova n : ℕ) → Permissions → Result (List MappedRange) LookupError → Type 0
-LooksUp table iova n access (Ok all) = (iova + n < 2 ^ 64) × (may_all table access iova n ≡ true) × (all ≡ pieces table iova n) × (addresses_joined all ≡ targets table iova n)
+LooksUp table iova n access (Ok all) =
+    (iova + n < 2 ^ 64)
+    × (may_all table access iova n ≡ true)
+    × (all ≡ pieces table iova n)
+    × (addresses_joined all ≡ targets table iova n)
 LooksUp table iova n access (Err error) =
     (iova + n < 2 ^ 64 → (may_all table access iova n ≡ false) × IsStopped table access iova n error)
     × (2 ^ 64 ≤ iova + n → IsMissedWhole iova n error)

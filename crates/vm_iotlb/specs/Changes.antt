@@ -3,24 +3,40 @@ use Rattle.std.specs.Prelude.{◌≡◌, ℕ, ◌+◌, ◌<◌, ◌≤◌, ◌^�
 use Rattle.vm_iotlb.specs.declared.permissions.Permissions.{Permissions}
 use Rattle.vm_iotlb.specs.declared.range.IotlbRange.{IotlbRange}
 use Rattle.vm_iotlb.specs.declared.error.IommuError.{IommuError}
-use Rattle.vm_iotlb.specs.declared.error.IommuError.TheVariants.{CannotResolve, Fragmented, IommuMisconfigured, OutOfMemory}
+use Rattle.vm_iotlb.specs.declared.error.IommuError.TheVariants.{CannotResolve, Fragmented}
+use Rattle.vm_iotlb.specs.declared.error.IommuError.TheVariants.{IommuMisconfigured, OutOfMemory}
 use Rattle.vm_iotlb.specs.Table.{AreSame, mapped, unmapped}
 use Rattle.vm_iotlb.specs.Ranges.{table_kept}
 use Rattle.vm_iotlb.specs.AddressRuns.{begins_anew_about, goes_on_at}
 
--- n addresses from iova on are mapped to those from target on, unless an end does not fit 64 bits; an allocation may fail only if a run begins anew where they begin or right behind them. What is refused changes nothing
-abbrev pub SetsMapping : (iova target n : ℕ) → Permissions → (old new : List IotlbRange) → {X : Type 0} → Result X IommuError → Type 0
-SetsMapping iova target n perm old new (Ok done) = (iova + n < 2 ^ 64) × (target + n < 2 ^ 64) × AreSame (table_kept new) (mapped iova target n perm (table_kept old))
-SetsMapping iova target n perm old new (Err IommuMisconfigured) = ((2 ^ 64 ≤ iova + n) ⊎ (2 ^ 64 ≤ target + n)) × (new ≡ old)
+-- n addresses from iova on are mapped to those from target on, unless an end does not fit 64 bits; an
+-- allocation may fail only if a run begins anew where they begin or right behind them. What is refused
+-- changes nothing
+abbrev pub SetsMapping : (iova target n : ℕ) → Permissions → (old new : List IotlbRange) → {X : Type 0} →
+    Result X IommuError → Type 0
+SetsMapping iova target n perm old new (Ok done) =
+    (iova + n < 2 ^ 64)
+    × (target + n < 2 ^ 64)
+    × AreSame (table_kept new) (mapped iova target n perm (table_kept old))
+SetsMapping iova target n perm old new (Err IommuMisconfigured) =
+    ((2 ^ 64 ≤ iova + n) ⊎ (2 ^ 64 ≤ target + n)) × (new ≡ old)
 SetsMapping iova target n perm old new (Err OutOfMemory) =
-    (iova + n < 2 ^ 64) × (target + n < 2 ^ 64) × (0 < n) × (begins_anew_about (table_kept old) (mapped iova target n perm (table_kept old)) iova (iova + n) ≡ true) × (new ≡ old)
+    (iova + n < 2 ^ 64)
+    × (target + n < 2 ^ 64)
+    × (0 < n)
+    × (begins_anew_about (table_kept old) (mapped iova target n perm (table_kept old)) iova (iova + n) ≡ true)
+    × (new ≡ old)
 SetsMapping iova target n perm old new (Err (CannotResolve range)) = ⊥
 SetsMapping iova target n perm old new (Err Fragmented) = ⊥
 
--- n addresses from iova on are taken out, unless their end does not fit 64 bits; an allocation may fail only if the address behind them is mapped as one with the last. What is refused changes nothing
-abbrev pub InvalidatesMapping : (iova n : ℕ) → (old new : List IotlbRange) → {X : Type 0} → Result X IommuError → Type 0
-InvalidatesMapping iova n old new (Ok done) = (iova + n < 2 ^ 64) × AreSame (table_kept new) (unmapped iova n (table_kept old))
+-- n addresses from iova on are taken out, unless their end does not fit 64 bits; an allocation may fail only
+-- if the address behind them is mapped as one with the last. What is refused changes nothing
+abbrev pub InvalidatesMapping :
+    (iova n : ℕ) → (old new : List IotlbRange) → {X : Type 0} → Result X IommuError → Type 0
+InvalidatesMapping iova n old new (Ok done) =
+    (iova + n < 2 ^ 64) × AreSame (table_kept new) (unmapped iova n (table_kept old))
 InvalidatesMapping iova n old new (Err IommuMisconfigured) = (2 ^ 64 ≤ iova + n) × (new ≡ old)
-InvalidatesMapping iova n old new (Err OutOfMemory) = (iova + n < 2 ^ 64) × (0 < n) × (goes_on_at (table_kept old) (iova + n) ≡ true) × (new ≡ old)
+InvalidatesMapping iova n old new (Err OutOfMemory) =
+    (iova + n < 2 ^ 64) × (0 < n) × (goes_on_at (table_kept old) (iova + n) ≡ true) × (new ≡ old)
 InvalidatesMapping iova n old new (Err (CannotResolve range)) = ⊥
 InvalidatesMapping iova n old new (Err Fragmented) = ⊥

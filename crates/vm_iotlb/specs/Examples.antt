@@ -1,9 +1,11 @@
--- A worked table that computes: eight addresses for reading and writing, two in their middle that are elsewhere and for reading alone.
+-- A worked table that computes: eight addresses for reading and writing, two in their middle that are
+-- elsewhere and for reading alone.
 use Rattle.std.specs.Prelude.{◌≡◌, ℕ, true, false, [], ◌∷◌, map, refl}
 use Rattle.vm_iotlb.specs.declared.permissions.Permissions.TheVariants.{Read, Write, ReadWrite}
 use Rattle.vm_iotlb.specs.declared.iova.MappedRange.{MappedRange}
 use Rattle.vm_iotlb.specs.Table.{Table, nothing_mapped, mapped, unmapped}
-use Rattle.vm_iotlb.specs.AddressRuns.{run_of, runs, pieces, missing, lacking, may_all, goes_on_at, begins_at, begins_anew_about}
+use Rattle.vm_iotlb.specs.AddressRuns.{run_of, runs, pieces, missing, lacking, may_all, goes_on_at, begins_at}
+use Rattle.vm_iotlb.specs.AddressRuns.{begins_anew_about}
 
 -- the table of these examples
 abbrev table : Table
@@ -41,11 +43,14 @@ middle_misses : missing (unmapped 0x14 2 table) 0x12 6 ≡ run_of 0x14 2 ∷ []
 unfolding missing runs
 middle_misses = refl
 
--- the addresses 0, before the eight, the first of them, inside, the two in the middle and behind those, and behind all
-some_go_on : map (goes_on_at table) (0 ∷ 0xf ∷ 0x10 ∷ 0x11 ∷ 0x14 ∷ 0x15 ∷ 0x16 ∷ 0x17 ∷ 0x18 ∷ []) ≡ false ∷ false ∷ false ∷ true ∷ false ∷ true ∷ false ∷ true ∷ false ∷ []
+-- the addresses 0, before the eight, the first of them, inside, the two in the middle and behind those, and
+-- behind all
+some_go_on : map (goes_on_at table) (0 ∷ 0xf ∷ 0x10 ∷ 0x11 ∷ 0x14 ∷ 0x15 ∷ 0x16 ∷ 0x17 ∷ 0x18 ∷ [])
+    ≡ false ∷ false ∷ false ∷ true ∷ false ∷ true ∷ false ∷ true ∷ false ∷ []
 some_go_on = refl
 
-some_begin : map (begins_at table) (0 ∷ 0xf ∷ 0x10 ∷ 0x11 ∷ 0x14 ∷ 0x15 ∷ 0x16 ∷ 0x17 ∷ 0x18 ∷ []) ≡ false ∷ false ∷ true ∷ false ∷ true ∷ false ∷ true ∷ false ∷ false ∷ []
+some_begin : map (begins_at table) (0 ∷ 0xf ∷ 0x10 ∷ 0x11 ∷ 0x14 ∷ 0x15 ∷ 0x16 ∷ 0x17 ∷ 0x18 ∷ [])
+    ≡ false ∷ false ∷ true ∷ false ∷ true ∷ false ∷ true ∷ false ∷ false ∷ []
 some_begin = refl
 
 -- mapping the two elsewhere split the eight: a run begins at the two, and one behind them
@@ -53,5 +58,6 @@ middle_begins : begins_anew_about (mapped 0x10 0x80 8 ReadWrite nothing_mapped) 
 middle_begins = refl
 
 -- where the two are mapped as the others, or elsewhere once more, no run begins that did not before
-middle_begins_no_more : map (λ target. begins_anew_about table (mapped 0x14 target 2 ReadWrite table) 0x14 0x16) (0x84 ∷ 0x60 ∷ []) ≡ false ∷ false ∷ []
+middle_begins_no_more : map (λ target. begins_anew_about table (mapped 0x14 target 2 ReadWrite table) 0x14
+    0x16) (0x84 ∷ 0x60 ∷ []) ≡ false ∷ false ∷ []
 middle_begins_no_more = refl

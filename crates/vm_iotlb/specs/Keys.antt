@@ -1,5 +1,6 @@
 -- Ranges that are kept by their starts.
-use Rattle.std.specs.Prelude.{◌≡◌, ◌<◌, ◌≤◌, ◌+◌, ◌-◌, ℕ, List, [], ◌∷◌, Option, Some, None, IsSome, cond, nat_le, nat_lt, ◌&&◌, if◌then◌else◌}
+use Rattle.std.specs.Prelude.{◌≡◌, ◌<◌, ◌≤◌, ◌+◌, ◌-◌, ℕ, List, [], ◌∷◌, Option, Some, None, IsSome, cond}
+use Rattle.std.specs.Prelude.{nat_le, nat_lt, ◌&&◌, if◌then◌else◌}
 use Rattle.std.specs.Map.{lookup}
 use Rattle.std.specs.BTreeMap.{is_at}
 use Rattle.std.specs.Ordering.{nat_cmp}
@@ -16,7 +17,10 @@ range_at es k = lookup (is_at (nat_cmp k)) es
 
 -- the range with the greatest start up to an address
 abbrev pub IsLastUpTo : List (ℕ × IotlbRange) → ℕ → IotlbRange → Type 0
-IsLastUpTo es iova r = (r.start ≤ iova) × (range_at es r.start ≡ Some r) × ((k : ℕ) (s : IotlbRange) → range_at es k ≡ Some s → k ≤ iova → k ≤ r.start)
+IsLastUpTo es iova r =
+    (r.start ≤ iova)
+    × (range_at es r.start ≡ Some r)
+    × ((k : ℕ) (s : IotlbRange) → range_at es k ≡ Some s → k ≤ iova → k ≤ r.start)
 
 -- no range starts up to an address
 abbrev pub NoneUpTo : List (ℕ × IotlbRange) → ℕ → Type 0
@@ -24,7 +28,9 @@ NoneUpTo es iova = (k : ℕ) (s : IotlbRange) → range_at es k ≡ Some s → i
 
 -- those below a key end by an address, and those from it on end above the address
 abbrev pub Divides : List (ℕ × IotlbRange) → (low iova : ℕ) → Type 0
-Divides es low iova = ((k : ℕ) (r : IotlbRange) → range_at es k ≡ Some r → k < low → r.end ≤ iova) × ((k : ℕ) (r : IotlbRange) → range_at es k ≡ Some r → low ≤ k → iova < r.end)
+Divides es low iova =
+    ((k : ℕ) (r : IotlbRange) → range_at es k ≡ Some r → k < low → r.end ≤ iova)
+    × ((k : ℕ) (r : IotlbRange) → range_at es k ≡ Some r → low ≤ k → iova < r.end)
 
 -- a range, if there is one, put under its start
 abbrev pub put_at : Option IotlbRange → (ℕ → Option IotlbRange) → ℕ → Option IotlbRange
@@ -63,7 +69,9 @@ part_up_to (Some r) e = Some (record { start = r.start; end = e; target = r.targ
 -- the part of a range from an address on, unless the range begins there
 abbrev pub part_from : Option IotlbRange → ℕ → Option IotlbRange
 part_from None e = None
-part_from (Some r) e = if nat_lt r.start e then Some (record { start = e; end = r.end; target = r.target + (e - r.start); perm = r.perm }) else None
+part_from (Some r) e =
+    if nat_lt r.start e then Some
+    (record { start = e; end = r.end; target = r.target + (e - r.start); perm = r.perm }) else None
 
 -- a range maps the addresses from where another begins as that one does
 abbrev pub Aligns : IotlbRange → IotlbRange → Type 0
@@ -100,7 +108,13 @@ end_joined r (Some a) = a.end
 
 -- a range that was joined with those before and behind it
 abbrev pub joined : IotlbRange → (left right : Option IotlbRange) → IotlbRange
-joined r left right = record { start = start_joined r left; end = end_joined r right; target = target_joined r left; perm = r.perm }
+joined r left right =
+    record {
+      start = start_joined r left;
+      end = end_joined r right;
+      target = target_joined r left;
+      perm = r.perm;
+    }
 
 -- what is left of the range before, unless it was joined
 abbrev pub left_over : (left before : Option IotlbRange) → ℕ → Option IotlbRange

@@ -3,7 +3,8 @@ use Rattle.std.specs.Prelude.{ℕ, ◌≡◌, ◌-◌, ◌<◌, ◌≤◌, Resul
 use Rattle.std.specs.declared.ops.Range.{Range}
 use Rattle.vm_iotlb.specs.declared.iova.IovaRange.{IovaRange}
 use Rattle.vm_iotlb.specs.declared.error.IommuError.{IommuError}
-use Rattle.vm_iotlb.specs.declared.error.IommuError.TheVariants.{CannotResolve, Fragmented, IommuMisconfigured, OutOfMemory}
+use Rattle.vm_iotlb.specs.declared.error.IommuError.TheVariants.{CannotResolve, Fragmented}
+use Rattle.vm_iotlb.specs.declared.error.IommuError.TheVariants.{IommuMisconfigured, OutOfMemory}
 
 -- the number of an error, for whoever stores it
 abbrev pub iommu_error_number : IommuError → ℕ
@@ -14,7 +15,8 @@ iommu_error_number OutOfMemory = 4
 
 -- the addresses from one up to another are a range unless they end before they begin
 abbrev pub IsIovaRange : Range ℕ → Result IovaRange IommuError → Type 0
-IsIovaRange span (Ok range) = (span.start ≤ span.end) × (range.base.0 ≡ span.start) × (range.length ≡ span.end - span.start)
+IsIovaRange span (Ok range) =
+    (span.start ≤ span.end) × (range.base.0 ≡ span.start) × (range.length ≡ span.end - span.start)
 IsIovaRange span (Err IommuMisconfigured) = span.end < span.start
 IsIovaRange span (Err (CannotResolve range)) = ⊥
 IsIovaRange span (Err Fragmented) = ⊥

@@ -28,4 +28,8 @@ IsFoundAt es (Some r) a = IsLastUpTo es a r.now
 -- the table, if one is there, has each of the addresses from a up to e
 abbrev pub CanGoOn : Option (Bor (SeenMap ℕ IotlbRange)) → Option (Bor IotlbRange) → ℕ → ℕ → Type 0
 CanGoOn None found a e = Unit {0}
-CanGoOn (Some m) found a e = AreKeyed m.now.entries × AreRanges (values_of m.now.entries) × AreMapped (table_kept (values_of m.now.entries)) a e × IsFoundAt m.now.entries found a
+CanGoOn (Some m) found a e =
+    AreKeyed m.now.entries
+    × AreRanges (values_of m.now.entries)
+    × AreMapped (table_kept (values_of m.now.entries)) a e
+    × IsFoundAt m.now.entries found a

@@ -1,5 +1,6 @@
 -- What an IOMMU does to addresses: a partial function. However the ranges are kept, this is what they mean.
-use Rattle.std.specs.Prelude.{◌≡◌, ℕ, ◌+◌, ◌-◌, Bool, true, false, not, ◌&&◌, ◌||◌, nat_le, nat_lt, Option, Some, None, if◌then◌else◌}
+use Rattle.std.specs.Prelude.{◌≡◌, ℕ, ◌+◌, ◌-◌, Bool, true, false, not, ◌&&◌, ◌||◌, nat_le, nat_lt, Option}
+use Rattle.std.specs.Prelude.{Some, None, if◌then◌else◌}
 use Rattle.vm_iotlb.specs.declared.permissions.Permissions.{Permissions}
 use Rattle.vm_iotlb.specs.declared.permissions.Permissions.TheVariants.{No, Read, Write, ReadWrite}
 
@@ -23,11 +24,13 @@ allows given asked = (can_read given || not (can_read asked)) && (can_write give
 
 -- a permission has what either of two has
 abbrev pub HasEither : (one other both : Permissions) → Type 0
-HasEither one other both = (can_read both ≡ can_read one || can_read other) × (can_write both ≡ can_write one || can_write other)
+HasEither one other both =
+    (can_read both ≡ can_read one || can_read other) × (can_write both ≡ can_write one || can_write other)
 
 -- a permission has what each of two has
 abbrev pub HasShared : (one other both : Permissions) → Type 0
-HasShared one other both = (can_read both ≡ can_read one && can_read other) × (can_write both ≡ can_write one && can_write other)
+HasShared one other both =
+    (can_read both ≡ can_read one && can_read other) × (can_write both ≡ can_write one && can_write other)
 
 -- whether a is one of the n addresses from start on
 abbrev pub is_within : ℕ → ℕ → ℕ → Bool
@@ -48,7 +51,8 @@ nothing_mapped = λ a. None
 
 -- the table after n addresses from iova on were mapped to those from target on; all others keep theirs
 abbrev pub mapped : ℕ → ℕ → ℕ → Permissions → Table → Table
-mapped iova target n perm table = λ a. if is_within iova n a then Some (record { target = target + (a - iova); perm = perm }) else table a
+mapped iova target n perm table =
+    λ a. if is_within iova n a then Some (record { target = target + (a - iova); perm = perm }) else table a
 
 -- the table after n addresses from iova on were taken out
 abbrev pub unmapped : ℕ → ℕ → Table → Table

@@ -9,8 +9,7 @@ use thiserror::Error;
 #[derive(Clone, Copy, Debug, PartialEq, Eq, Error)]
 pub enum IommuError {
     /// Not each of the addresses is mapped with the permission.
-    #[error("cannot resolve {:#x} bytes at I/O address {:#x}: not mapped throughout with the \
-        permission", .0.length, .0.base.0)]
+    #[error("cannot resolve {:#x} bytes at I/O address {:#x}: not mapped throughout with the permission", .0.length, .0.base.0)]
     CannotResolve(IovaRange),
     /// Kept for its name: a range in pieces is answered piece by piece.
     #[error("the I/O addresses are mapped in pieces")]

@@ -1,6 +1,7 @@
 //! An IOMMU's table (vm-memory's `Iotlb`).
 
-ghost use Rattle.std.specs.Prelude.{◌≡◌, ℕ, ◌+◌, ◌<◌, ◌≤◌, ◌^◌, List, [], ◌∷◌, IfOk, IfSome, OnSome, None, MatchOption, true, false};
+ghost use Rattle.std.specs.Prelude.{◌≡◌, ℕ, ◌+◌, ◌<◌, ◌≤◌, ◌^◌, List, [], ◌∷◌, IfOk, IfSome, OnSome, None};
+ghost use Rattle.std.specs.Prelude.{MatchOption, true, false};
 ghost use Rattle.std.specs.Map.{values_of};
 ghost use Rattle.vm_iotlb.specs.Changes.{InvalidatesMapping, SetsMapping};
 ghost use Rattle.vm_iotlb.specs.Ranges.{AreRanges, EndsAbove, table_kept};
@@ -22,8 +23,8 @@ use std::collections::btree_map::Range;
 use std::marker::Model;
 use vm_values::GuestAddress;
 
-/// What each I/O address is mapped to, and what may be done there (vm-memory's `Iotlb`). Lengths count bytes. Clauses
-/// see its ranges, and say by `table_kept` what it does to each address.
+/// What each I/O address is mapped to, and what may be done there (vm-memory's `Iotlb`). Lengths count bytes.
+/// Clauses see its ranges, and say by `table_kept` what it does to each address.
 #[derive(Drop)]
 pub struct Iotlb {
     alloc: Global,
@@ -66,8 +67,9 @@ impl Iotlb {
     }
 
     /// Maps `length` I/O addresses to those from a target on, whatever they had before (vm-memory's
-    /// `Iotlb::set_mapping`). Refused with IommuMisconfigured or OutOfMemory. It takes memory only if a run of addresses
-    /// that are mapped as one begins where none did: at the first of them or right behind the last.
+    /// `Iotlb::set_mapping`). Refused with IommuMisconfigured or OutOfMemory. It takes memory only if a run
+    /// of addresses that are mapped as one begins where none did: at the first of them or right behind the
+    /// last.
     pub fn set_mapping(
         &mut self,
         iova: GuestAddress,
@@ -98,9 +100,9 @@ impl Iotlb {
         }
     }
 
-    /// Takes the mapping of `length` I/O addresses out (vm-memory's `Iotlb::invalidate_mapping`). Refused with
-    /// IommuMisconfigured or OutOfMemory. It takes memory only if the address behind them is mapped as one with the last:
-    /// taking the middle of a range out leaves two.
+    /// Takes the mapping of `length` I/O addresses out (vm-memory's `Iotlb::invalidate_mapping`). Refused
+    /// with IommuMisconfigured or OutOfMemory. It takes memory only if the address behind them is mapped as
+    /// one with the last: taking the middle of a range out leaves two.
     pub fn invalidate_mapping(
         &mut self,
         iova: GuestAddress,
@@ -127,8 +129,8 @@ impl Iotlb {
         self.ranges.clear();
     }
 
-    /// What `length` I/O addresses are mapped to, if each may be accessed so (vm-memory's `Iotlb::lookup`). Only one
-    /// that fails takes memory: LookupError::Fails, or OutOfMemory if there is none to say it.
+    /// What `length` I/O addresses are mapped to, if each may be accessed so (vm-memory's `Iotlb::lookup`).
+    /// Only one that fails takes memory: LookupError::Fails, or OutOfMemory if there is none to say it.
     #[inline]
     pub fn lookup(
         &self,
@@ -170,20 +172,22 @@ impl Iotlb {
         }
     }
 
-    /// What the first of `length` I/O addresses is mapped to, with those after it that are mapped as one with it, where
-    /// each of them may be accessed.
+    /// What the first of `length` I/O addresses is mapped to, with those after it that are mapped as one with
+    /// it, where each of them may be accessed.
     #[inline]
     pub fn first_piece(&self, iova: GuestAddress, length: usize) -> Option<MappedRange>
         requires some { 0 < length }
         requires ends { iova.0 + length < 2 ^ 64 }
-        requires mapped { (access : Permissions) × (may_all (table_kept self.now) access iova.0 length ≡ true) }
-        ensures { MatchOption result ⊥ (λ p. (rest : List MappedRange) × (pieces (table_kept self.now) iova.0 length ≡ p ∷ rest)) }
+        requires mapped { (access : Permissions)
+            × (may_all (table_kept self.now) access iova.0 length ≡ true) }
+        ensures { MatchOption result ⊥ (λ p. (rest : List MappedRange)
+            × (pieces (table_kept self.now) iova.0 length ≡ p ∷ rest)) }
     {
         IotlbIterator::over(&self.ranges, iova.0, iova.0 + length as u64).next()
     }
 
-    /// Translates an address, and with it the next ones as long as their targets follow one another, at most `most` in
-    /// all. None if the table doesn't map the address, or doesn't allow the access there. It allocates nothing.
+    /// What an address is mapped to, with those after it that are mapped as one with it, at most so many.
+    /// None if the access may not go through it. It takes no memory.
     #[inline]
     pub fn piece_at(
         &self,
@@ -194,7 +198,8 @@ impl Iotlb {
         requires some { 0 < most }
         ensures none { result ≡ None → may_pass access (table_kept self.now iova.0) ≡ false }
         ensures some { OnSome result (may_pass access (table_kept self.now iova.0) ≡ true) }
-        ensures piece { IfSome result (λ p. (rest : List MappedRange) × (pieces (table_kept self.now) iova.0 most ≡ p ∷ rest)) }
+        ensures piece { IfSome result (λ p. (rest : List MappedRange)
+            × (pieces (table_kept self.now) iova.0 most ≡ p ∷ rest)) }
         ensures fits { IfSome result (λ p. (p.base.0 + p.length < 2 ^ 64) × (iova.0 + p.length < 2 ^ 64)) }
     {
         let Some(range) = having(&self.ranges, iova.0) else {
@@ -210,8 +215,8 @@ impl Iotlb {
         })
     }
 
-    /// The first of `length` addresses that isn't mapped, with the unmapped ones right after it. None if each is mapped,
-    /// with any permission. It allocates nothing.
+    /// The first of `length` addresses without a mapping, with those after it that have none either. None if
+    /// each has one, whatever it lets through. It takes no memory.
     pub fn first_miss(&self, iova: GuestAddress, length: usize) -> Option<IovaRange>
         requires ends { iova.0 + length < 2 ^ 64 }
         ensures { MatchOption result (missing (table_kept self.now) iova.0 length ≡ [])
@@ -230,7 +235,8 @@ impl Iotlb {
         self.ranges.range(key_from(&self.ranges, iova)..)
     }
 
-    /// Tables that do the same to each address are the same, range by range: this is a law, and the call does nothing.
+    /// Tables that do the same to each address are the same, range by range: this is a law, and the call does
+    /// nothing.
     pub fn law_canonical(&self, other: &Iotlb)
         ensures { AreSame (table_kept self.now) (table_kept other.now) → self.now ≡ other.now }
     {

@@ -1,6 +1,7 @@
 //! What a look-up answers.
 
-ghost use Rattle.std.specs.Prelude.{◌≡◌, ◌+◌, ◌^◌, ◌-◌, ◌≤◌, ◌<◌, ◌++◌, ◌∷◌, List, [], IfOk, OnOk, MatchOption, length};
+ghost use Rattle.std.specs.Prelude.{◌≡◌, ◌+◌, ◌^◌, ◌-◌, ◌≤◌, ◌<◌, ◌++◌, ◌∷◌, List, [], IfOk, OnOk};
+ghost use Rattle.std.specs.Prelude.{MatchOption, length};
 ghost use Rattle.std.specs.Iterator.{at_most};
 ghost use Rattle.std.specs.Map.{values_of};
 ghost use Rattle.vm_iotlb.specs.Ranges.{Agree, AreRanges, EndsAbove, table_kept};
@@ -20,7 +21,8 @@ use std::marker::Model;
 use thiserror::Error;
 use vm_values::GuestAddress;
 
-/// What stands in the way of a look-up (vm-memory's `IotlbFails`). Each range is as long as can be, and they ascend.
+/// What stands in the way of a look-up (vm-memory's `IotlbFails`). Each range is as long as can be, and they
+/// ascend.
 #[derive(Debug, Drop)]
 pub struct IotlbFails {
     /// Addresses that have no mapping.
@@ -48,7 +50,8 @@ fn found_or_last<'a>(
 ) -> Option<&'a IotlbRange>
     requires keyed { AreKeyed ranges.now.entries }
     requires found { IsFoundAt ranges.now.entries found addr }
-    ensures { MatchOption result (NoneUpTo ranges.now.entries addr) (λ r. IsLastUpTo ranges.now.entries addr r.now) }
+    ensures { MatchOption result (NoneUpTo ranges.now.entries addr)
+        (λ r. IsLastUpTo ranges.now.entries addr r.now) }
 {
     match found {
         Some(range) => Some(range),
@@ -134,7 +137,8 @@ impl<'a> Default for IotlbIterator<'a> {
 impl<'a> Iterator for IotlbIterator<'a> {
     type Item = MappedRange;
 
-    ghost next_gives = { λ s r t. MatchOption r ((s ≡ []) × (t ≡ [])) (λ x. (s ≡ x ∷ t) × (x.base.0 + x.length < 2 ^ 64)) };
+    ghost next_gives = { λ s r t. MatchOption r ((s ≡ [])
+        × (t ≡ [])) (λ x. (s ≡ x ∷ t) × (x.base.0 + x.length < 2 ^ 64)) };
 
     ghost remaining = { λ s. at_most (length s) };
 
@@ -170,7 +174,9 @@ pub(crate) fn is_covered(
     requires ranges { AreRanges (values_of ranges) }
     requires first { EndsAbove iova (values_of ranges) }
     requires order { iova ≤ end }
-    ensures { (table : Table) → Agree table (values_of ranges.entry) iova end → result ≡ may_all table access iova (end - iova) }
+    ensures { (table : Table)
+        → Agree table (values_of ranges.entry) iova end
+        → result ≡ may_all table access iova (end - iova) }
 {
     let mut next = iova;
     for (_, range) in ranges {
@@ -188,7 +194,7 @@ pub(crate) fn is_covered(
     end <= next
 }
 
-// The first unmapped addresses between two: the first one, and those right after it.
+// The first addresses without a mapping from one up to another, as long as they go together.
 pub(crate) fn first_gap(
     ranges: Range<'_, u64, IotlbRange>,
     iova: u64,
@@ -197,8 +203,10 @@ pub(crate) fn first_gap(
     requires ranges { AreRanges (values_of ranges) }
     requires first { EndsAbove iova (values_of ranges) }
     requires order { iova ≤ end }
-    ensures { (table : Table) → Agree table (values_of ranges.entry) iova end
-        → MatchOption result (missing table iova (end - iova) ≡ []) (λ r. (rest : List IovaRange) × (missing table iova (end - iova) ≡ r ∷ rest)) }
+    ensures { (table : Table)
+        → Agree table (values_of ranges.entry) iova end
+        → MatchOption result (missing table iova (end - iova) ≡ []) (λ r. (rest : List IovaRange)
+        × (missing table iova (end - iova) ≡ r ∷ rest)) }
 {
     let mut next = iova;
     for (_, range) in ranges {

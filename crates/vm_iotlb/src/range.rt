@@ -7,7 +7,8 @@ ghost use Rattle.vm_iotlb.specs.Keys.{Aligns, AlignsBehind};
 
 use crate::permissions::Permissions;
 
-/// I/O addresses, each of a byte, from a first one up to an end, which are mapped to addresses from a target on.
+/// I/O addresses, each of a byte, from a first one up to an end, which are mapped to addresses from a target
+/// on.
 #[derive(Clone, Copy)]
 pub struct IotlbRange {
     /// The first I/O address.

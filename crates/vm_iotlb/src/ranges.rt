@@ -1,13 +1,16 @@
 //! The ranges of a table by their starts, and how they change.
 
-ghost use Rattle.std.specs.Prelude.{◌≡◌, ℕ, ◌+◌, ◌<◌, ◌≤◌, ◌&&◌, nat_le, nat_lt, true, None, Some, IsSome, if◌then◌else◌, OnOk, OnErr, MatchOption};
+ghost use Rattle.std.specs.Prelude.{◌≡◌, ℕ, ◌+◌, ◌<◌, ◌≤◌, ◌&&◌, nat_le, nat_lt, true, None, Some, IsSome};
+ghost use Rattle.std.specs.Prelude.{if◌then◌else◌, OnOk, OnErr, MatchOption};
 ghost use Rattle.std.specs.Map.{values_of};
 ghost use Rattle.std.specs.BTreeMap.{BTreeMap as SeenMap, IsOrdered};
 ghost use Rattle.std.specs.Ordering.{nat_cmp};
 ghost use Rattle.vm_iotlb.specs.AddressRuns.{begins_anew_about, goes_on_at};
 ghost use Rattle.vm_iotlb.specs.Ranges.{AddsRange, AreRanges, IsRange, table_kept, with_range};
-ghost use Rattle.vm_iotlb.specs.Keys.{AreKeyed, Divides, HasAddress, IsNoKey, IsLastUpTo, IsKey, JoinsLeft, JoinsRight, NoneUpTo};
-ghost use Rattle.vm_iotlb.specs.Keys.{ReachesFrom, cleared, joined, left_over, part_from, part_up_to, put_at, range_at, right_over};
+ghost use Rattle.vm_iotlb.specs.Keys.{AreKeyed, Divides, HasAddress, IsNoKey, IsLastUpTo, IsKey, JoinsLeft};
+ghost use Rattle.vm_iotlb.specs.Keys.{JoinsRight, NoneUpTo};
+ghost use Rattle.vm_iotlb.specs.Keys.{ReachesFrom, cleared, joined, left_over, part_from, part_up_to, put_at};
+ghost use Rattle.vm_iotlb.specs.Keys.{range_at, right_over};
 ghost use Rattle.vm_iotlb.specs.declared.range.IotlbRange.{IotlbRange};
 
 use crate::range::IotlbRange;
@@ -21,7 +24,8 @@ pub(crate) type Ranges = BTreeMap<u64, IotlbRange>;
 #[inline]
 pub(crate) fn last_up_to(ranges: &Ranges, addr: u64) -> Option<&IotlbRange>
     requires { AreKeyed ranges.now.entries }
-    ensures { MatchOption result (NoneUpTo ranges.now.entries addr) (λ r. IsLastUpTo ranges.now.entries addr r.now) }
+    ensures { MatchOption result (NoneUpTo ranges.now.entries addr)
+        (λ r. IsLastUpTo ranges.now.entries addr r.now) }
 {
     match ranges.range(..=addr).next_back() {
         Some((_, range)) => Some(range),
@@ -83,7 +87,8 @@ fn law_ordered(ranges: &Ranges)
 
 // Puts a range under its start. Only a new key can allocate.
 fn put(ranges: &mut Ranges, range: Option<IotlbRange>) -> Result<(), AllocError>
-    ensures ok { OnOk result ((q : ℕ) → range_at ranges.new.entries q ≡ put_at range (range_at ranges.old.entries) q) }
+    ensures ok { OnOk result ((q : ℕ)
+        → range_at ranges.new.entries q ≡ put_at range (range_at ranges.old.entries) q) }
     ensures err { OnErr result (ranges.new.entries ≡ ranges.old.entries) }
     ensures free { OnErr result (IsKey (range_at ranges.old.entries) range → ⊥) }
 {
@@ -98,8 +103,11 @@ fn put(ranges: &mut Ranges, range: Option<IotlbRange>) -> Result<(), AllocError>
 
 // Takes out what was put under a key that was free.
 fn take_back(ranges: &mut Ranges, range: Option<IotlbRange>)
-    ensures { (before : SeenMap ℕ IotlbRange) → IsOrdered nat_cmp before → IsNoKey (range_at before.entries) range
-        → ((q : ℕ) → range_at ranges.old.entries q ≡ put_at range (range_at before.entries) q) → ranges.new.entries ≡ before.entries }
+    ensures { (before : SeenMap ℕ IotlbRange)
+        → IsOrdered nat_cmp before
+        → IsNoKey (range_at before.entries) range
+        → ((q : ℕ) → range_at ranges.old.entries q ≡ put_at range (range_at before.entries) q)
+        → ranges.new.entries ≡ before.entries }
 {
     match range {
         Some(range) => {
@@ -131,8 +139,8 @@ fn clear(ranges: &mut Ranges, from: u64, to: u64)
     }
 }
 
-// Puts up to three ranges in, of which the last is under a key that is there, and takes those out whose starts lie from
-// an address up to another: all of it, or nothing. Only a new key can allocate.
+// Puts up to three ranges in, of which the last is under a key that is there, and takes those out whose
+// starts lie from an address up to another: all of it, or nothing. Only a new key can allocate.
 fn exchange(
     ranges: &mut Ranges,
     puts: (Option<IotlbRange>, Option<IotlbRange>, Option<IotlbRange>),
@@ -145,7 +153,9 @@ fn exchange(
     ensures ok { OnOk result ((q : ℕ) → range_at ranges.new.entries q
         ≡ cleared from to (put_at puts.2 (put_at puts.1 (put_at puts.0 (range_at ranges.old.entries)))) q) }
     ensures err { OnErr result (ranges.new.entries ≡ ranges.old.entries) }
-    ensures memory { OnErr result (IsKey (range_at ranges.old.entries) puts.0 → IsKey (range_at ranges.old.entries) puts.1 → ⊥) }
+    ensures memory { OnErr result (IsKey (range_at ranges.old.entries) puts.0
+        → IsKey (range_at ranges.old.entries) puts.1
+        → ⊥) }
     ensures ordered { IsOrdered nat_cmp ranges.new }
 {
     let (behind, new, before) = puts;
@@ -191,7 +201,9 @@ fn part_from(range: Option<IotlbRange>, start: u64) -> Option<IotlbRange>
 // The range before another one, if one range would do for both.
 fn joined_left(range: &IotlbRange, before: Option<IotlbRange>) -> Option<IotlbRange>
     requires range { IsRange range.now }
-    requires before { MatchOption before (Unit {0}) (λ b. IsRange b × (b.start ≤ range.now.start) × (range.now.start ≤ b.end)) }
+    requires before { MatchOption before (Unit {0}) (λ b. IsRange b
+        × (b.start ≤ range.now.start)
+        × (range.now.start ≤ b.end)) }
     ensures { JoinsLeft range.now before result }
 {
     match before {
@@ -204,7 +216,9 @@ fn joined_left(range: &IotlbRange, before: Option<IotlbRange>) -> Option<IotlbRa
 // The range behind another one, if one range would do for both.
 fn joined_right(range: &IotlbRange, after: Option<IotlbRange>) -> Option<IotlbRange>
     requires range { IsRange range.now }
-    requires after { MatchOption after (Unit {0}) (λ a. IsRange a × (a.start ≤ range.now.end) × (range.now.end < a.end)) }
+    requires after { MatchOption after (Unit {0}) (λ a. IsRange a
+        × (a.start ≤ range.now.end)
+        × (range.now.end < a.end)) }
     ensures { JoinsRight range.now after result }
 {
     match after {
@@ -254,18 +268,20 @@ fn right_over(
     }
 }
 
-// Maps the addresses of a range as it says, whatever they had before. It can allocate only if a run begins anew at its
-// start or at its end.
+// Maps the addresses of a range as it says, whatever they had before. It can allocate only if a run begins
+// anew at its start or at its end.
 pub(crate) fn map_range(ranges: &mut Ranges, range: &IotlbRange) -> Result<(), AllocError>
     requires keyed { AreKeyed ranges.old.entries }
     requires ranges { AreRanges (values_of ranges.old.entries) }
     requires range { IsRange range.now }
     ensures keyed { AreKeyed ranges.new.entries }
     ensures ranges { AreRanges (values_of ranges.new.entries) }
-    ensures table { OnOk result (AddsRange range.now (values_of ranges.old.entries) (values_of ranges.new.entries)) }
+    ensures table { OnOk result
+        (AddsRange range.now (values_of ranges.old.entries) (values_of ranges.new.entries)) }
     ensures err { OnErr result (ranges.new.entries ≡ ranges.old.entries) }
     ensures memory { OnErr result (begins_anew_about (table_kept (values_of ranges.old.entries))
-        (with_range range.now (table_kept (values_of ranges.old.entries))) range.now.start range.now.end ≡ true) }
+        (with_range range.now (table_kept (values_of ranges.old.entries))) range.now.start range.now.end
+        ≡ true) }
 {
     let before = reaching_from(ranges, range.start);
     let after = having(ranges, range.end);

@@ -1,5 +1,6 @@
 -- layouts that change
-use Rattle.std.proofs.Common.{◌≡◌, ℕ, Bool, true, false, ◌+◌, ◌-◌, ◌<◌, ◌≤◌, List, [], ◌∷◌, length, refl, ap, sym, ◌∙◌, arith, zero, suc, Some, None}
+use Rattle.std.proofs.Common.{◌≡◌, ℕ, Bool, true, false, ◌+◌, ◌-◌, ◌<◌, ◌≤◌, List, [], ◌∷◌, length, refl, ap, sym, ◌∙◌, arith, zero, suc}
+use Rattle.std.proofs.Common.{Some, None}
 use Rattle.std.specs.Arc.{arc_value}
 use Rattle.std.specs.declared.sync.Arc.{Arc}
 use Rattle.std.specs.Bool.{OnTrue, OnFalse}
@@ -7,19 +8,22 @@ use Rattle.std.specs.Prelude.{nat_le, get_or, slice_get, nat_lt, not, ◌||◌, 
 use Rattle.std.specs.List.{list_any}
 use Rattle.std.proofs.lemmas.Bool.Decides.{nat_tests}
 use Rattle.std.proofs.lemmas.Option.{slice_get_within}
-use Rattle.vm_memory.specs.Layout.{Region, start_at, end_at, regions_of, overlap, with_region, is_region, without_region, AllFrom, IsLawful, IsLayout}
+use Rattle.vm_memory.specs.Layout.{Region, start_at, end_at, regions_of, overlap, with_region, is_region, without_region, AllFrom, IsLawful}
+use Rattle.vm_memory.specs.Layout.{IsLayout}
 use Rattle.vm_memory.proofs.LayoutLemmas.{start_at-get, from_start, from_lower, length-shared}
 
 -- ---- one more region
 
-pub overlap-block : (r s : Region) (start size : ℕ) → r.start ≡ start → r.size ≡ size → overlap (record { start = start; size = size; block = 0 }) s ≡ overlap r s
+pub overlap-block : (r s : Region) (start size : ℕ) → r.start ≡ start → r.size ≡ size →
+    overlap (record { start = start; size = size; block = 0 }) s ≡ overlap r s
 overlap-block r s start size e f = rw (← e, ← f)
 
 any-same : (p q : Region → Bool) (l : List Region) → ((s : Region) → p s ≡ q s) → list_any p l ≡ list_any q l
 any-same p q [] same = refl
 any-same p q (s ∷ l) same = rw (same s, any-same p q l same)
 
-pub any-block : (l : List Region) (r : Region) (start size : ℕ) → r.start ≡ start → r.size ≡ size → list_any (overlap (record { start = start; size = size; block = 0 })) l ≡ list_any (overlap r) l
+pub any-block : (l : List Region) (r : Region) (start size : ℕ) → r.start ≡ start → r.size ≡ size →
+    list_any (overlap (record { start = start; size = size; block = 0 })) l ≡ list_any (overlap r) l
 any-block l r start size e f = any-same _ _ l (λ s. overlap-block r s start size e f)
 
 or_true : (a b : Bool) → b ≡ true → (a || b) ≡ true
@@ -27,7 +31,8 @@ or_true true b e = refl
 or_true false b e = e
 
 -- a region that ends past its start
-pub any_back : (l : List Region) (n : ℕ) (r : Region) → n < length l → start_at l n ≤ r.start → r.start < end_at l n → 0 < r.size → list_any (overlap r) l ≡ true
+pub any_back : (l : List Region) (n : ℕ) (r : Region) → n < length l → start_at l n ≤ r.start → r.start < end_at l n → 0 < r.size →
+    list_any (overlap r) l ≡ true
 any_back [] n r h low high some = absurd (omega arith)
 any_back (x ∷ l) zero r h low high some =
     let here : overlap r x ≡ true = grind (arith, nat_tests) in
@@ -35,7 +40,8 @@ any_back (x ∷ l) zero r h low high some =
 any_back (x ∷ l) (suc n) r h low high some = or_true (overlap r x) (list_any (overlap r) l) (any_back l n r (omega arith) low high some)
 
 -- a region that begins before its end
-pub any_on : (l : List Region) (n : ℕ) (r : Region) → n < length l → r.start < start_at l n → start_at l n < r.start + r.size → list_any (overlap r) l ≡ true
+pub any_on : (l : List Region) (n : ℕ) (r : Region) → n < length l → r.start < start_at l n → start_at l n < r.start + r.size →
+    list_any (overlap r) l ≡ true
 any_on [] n r h low high = absurd (omega arith)
 any_on (x ∷ l) zero r h low high =
     let here : overlap r x ≡ true = grind (arith, nat_tests) in
@@ -92,14 +98,16 @@ with_region-insert (x ∷ l) zero r is most below above =
 with_region-insert (x ∷ l) (suc zero) r is most below above =
     let low : x.start ≤ r.start = below (omega arith) in
     let test : nat_lt r.start x.start ≡ false = grind (arith, nat_tests) in
-    rw test (ap (λ (rest : List Region). x ∷ rest) (with_region-insert l zero r is.3 (omega arith) (λ none. absurd (omega arith)) (λ some. above (omega arith))))
+    rw test (ap (λ (rest : List Region). x ∷ rest)
+    (with_region-insert l zero r is.3 (omega arith) (λ none. absurd (omega arith)) (λ some. above (omega arith))))
 with_region-insert (x ∷ l) (suc (suc n)) r is most below above =
     let back : suc n - 1 ≡ n = omega arith in
     let two : suc (suc n) - 1 ≡ suc n = omega arith in
     let last : start_at l n ≤ r.start = rw two at (below (omega arith)) in
     let from = from_start l (x.start + x.size) n is.2 (omega arith) in
     let test : nat_lt r.start x.start ≡ false = grind (arith, nat_tests) in
-    rw test (ap (λ (rest : List Region). x ∷ rest) (with_region-insert l (suc n) r is.3 (omega arith) (λ some. rw back last) (λ some. above (omega arith))))
+    rw test (ap (λ (rest : List Region). x ∷ rest)
+    (with_region-insert l (suc n) r is.3 (omega arith) (λ some. rw back last) (λ some. above (omega arith))))
 
 from_with : (l : List Region) (r : Region) (e : ℕ) → AllFrom e l → e ≤ r.start → AllFrom e (with_region r l)
 from_with [] r e from h = (h, tt)
@@ -157,7 +165,8 @@ is_at : (s : Region) (base size : ℕ) → is_region base size s ≡ true → s.
 is_at s base size e = grind (arith, nat_tests)
 
 -- no region begins at an address before the first one
-pub none_begins : (l : List Region) (base size : ℕ) → IsLayout l → (0 < length l → base < start_at l 0) → find (is_region base size) l ≡ None
+pub none_begins :
+    (l : List Region) (base size : ℕ) → IsLayout l → (0 < length l → base < start_at l 0) → find (is_region base size) l ≡ None
 none_begins [] base size is h = refl
 none_begins (x ∷ l) base size is h =
     let low : base < x.start = h (omega arith) in
@@ -180,7 +189,8 @@ not_there (x ∷ l) (suc n) base size s is e low high out =
     let before : x.start < base = omega (arith, is.0) in
     rw (lower x base size before) (not_there l n base size s is.3 e low more out)
 
-pub found_there : (l : List Region) (n base size : ℕ) (s : Region) → IsLayout l → slice_get l n ≡ Some s → is_region base size s ≡ true → find (is_region base size) l ≡ Some s
+pub found_there : (l : List Region) (n base size : ℕ) (s : Region) → IsLayout l → slice_get l n ≡ Some s → is_region base size s ≡ true →
+    find (is_region base size) l ≡ Some s
 found_there [] n base size s is e this = absurd (cc)
 found_there (x ∷ l) zero base size s is e this =
     let same : x ≡ s = cc in
@@ -194,7 +204,8 @@ found_there (x ∷ l) (suc n) base size s is e this =
     let before : x.start < base = omega (arith, is.0) in
     rw (lower x base size before) (found_there l n base size s is.3 e this)
 
-pub without-remove : (l : List Region) (n base size : ℕ) (s : Region) → IsLayout l → slice_get l n ≡ Some s → is_region base size s ≡ true → remove l n ≡ without_region base size l
+pub without-remove : (l : List Region) (n base size : ℕ) (s : Region) → IsLayout l → slice_get l n ≡ Some s → is_region base size s ≡ true →
+    remove l n ≡ without_region base size l
 without-remove [] n base size s is e this = absurd (cc)
 without-remove (x ∷ l) zero base size s is e this =
     let same : x ≡ s = cc in
@@ -228,19 +239,22 @@ layout_without (x ∷ l) base size is =
 
 -- ---- shared regions
 
-pub shared-insert : {X Z : Type 0} (f : X → Region) (items : List (Arc X Z)) (i : ℕ) (arc : Arc X Z) → regions_of f (insert items i arc) ≡ insert (regions_of f items) i (f (arc_value arc))
+pub shared-insert : {X Z : Type 0} (f : X → Region) (items : List (Arc X Z)) (i : ℕ) (arc : Arc X Z) →
+    regions_of f (insert items i arc) ≡ insert (regions_of f items) i (f (arc_value arc))
 shared-insert f [] zero arc = refl
 shared-insert f [] (suc i) arc = refl
 shared-insert f (x ∷ items) zero arc = refl
 shared-insert f (x ∷ items) (suc i) arc = ap (λ (l : List Region). f (arc_value x) ∷ l) (shared-insert f items i arc)
 
-pub shared-remove : {X Z : Type 0} (f : X → Region) (items : List (Arc X Z)) (i : ℕ) → regions_of f (remove items i) ≡ remove (regions_of f items) i
+pub shared-remove :
+    {X Z : Type 0} (f : X → Region) (items : List (Arc X Z)) (i : ℕ) → regions_of f (remove items i) ≡ remove (regions_of f items) i
 shared-remove f [] zero = refl
 shared-remove f [] (suc i) = refl
 shared-remove f (x ∷ items) zero = refl
 shared-remove f (x ∷ items) (suc i) = ap (λ (l : List Region). f (arc_value x) ∷ l) (shared-remove f items i)
 
-pub shared_item : {X Z : Type 0} (f : X → Region) (items : List (Arc X Z)) (i : ℕ) (arc : Arc X Z) → i < length items → arc ≡ get_or items i arc →
+pub shared_item :
+    {X Z : Type 0} (f : X → Region) (items : List (Arc X Z)) (i : ℕ) (arc : Arc X Z) → i < length items → arc ≡ get_or items i arc →
     slice_get (regions_of f items) i ≡ Some (f (arc_value arc))
 shared_item f [] i arc h e = absurd (omega arith)
 shared_item f (x ∷ items) zero arc h e = ap (λ y. Some (f (arc_value y))) (sym e)
@@ -261,8 +275,10 @@ on_gt a b P f = elim (nat_le a b) as (λ v. nat_le a b ≡ v → OnFalse v P) [
 ] refl
 
 -- whether a region from one address to another has an address in common with one of a layout
-pub collides_on : (l : List Region) (at : ℕ) (r : Region) (test : Bool) → IsLayout l → at ≤ length l → (0 < at → end_at l (at - 1) ≤ r.start) → (at < length l → r.start < start_at l at) →
-    OnTrue test ((at < length l) × (start_at l at < r.start + r.size)) → OnFalse test (at < length l → r.start + r.size ≤ start_at l at) → test ≡ list_any (overlap r) l
+pub collides_on : (l : List Region) (at : ℕ) (r : Region) (test : Bool) → IsLayout l → at ≤ length l →
+    (0 < at → end_at l (at - 1) ≤ r.start) → (at < length l → r.start < start_at l at) →
+    OnTrue test ((at < length l) × (start_at l at < r.start + r.size)) → OnFalse test (at < length l → r.start + r.size ≤ start_at l at) →
+    test ≡ list_any (overlap r) l
 collides_on l at r true is most before above by past = sym (any_on l at r by.0 (above by.0) by.1)
 collides_on l at r false is most before above by past = sym (none_apart l at r is most before past)
 
@@ -274,7 +290,8 @@ on_false_with : (test : Bool) {P Q : Type 0} → (P → Q) → OnFalse test P �
 on_false_with true f h = tt
 on_false_with false f h = f h
 
-pub collides_by : (l : List Region) (at start last : ℕ) (test : Bool) → IsLayout l → start ≤ last → at ≤ length l → (0 < at → end_at l (at - 1) ≤ start) → (at < length l → start < start_at l at) →
+pub collides_by : (l : List Region) (at start last : ℕ) (test : Bool) → IsLayout l → start ≤ last → at ≤ length l →
+    (0 < at → end_at l (at - 1) ≤ start) → (at < length l → start < start_at l at) →
     OnTrue test ((at < length l) × (start_at l at ≤ last)) → OnFalse test (at < length l → last < start_at l at) →
     test ≡ list_any (overlap (record { start = start; size = last - start + 1; block = 0 })) l
 collides_by l at start last test is order most before above by past =
@@ -293,7 +310,8 @@ is_not_size r base size out = grind (arith, nat_tests)
 pub is_this : (r : Region) (base size : ℕ) → r.start ≡ base → r.size ≡ size → is_region base size r ≡ true
 is_this r base size e f = grind (arith, nat_tests)
 
-pub removed_item : {X Z : Type 0} (f : X → Region) (items : List (Arc X Z)) (l : List Region) (i : ℕ) (r : Region) (arc : Arc X Z) → regions_of f items ≡ l → slice_get l i ≡ Some r →
+pub removed_item : {X Z : Type 0} (f : X → Region) (items : List (Arc X Z)) (l : List Region) (i : ℕ) (r : Region) (arc : Arc X Z) →
+    regions_of f items ≡ l → slice_get l i ≡ Some r →
     arc ≡ get_or items i arc → Some r ≡ Some (f (arc_value arc))
 removed_item f items l i r arc same found e =
     let within : i < length items = omega (arith, slice_get_within l i r found, ap length same, length-shared f items) in

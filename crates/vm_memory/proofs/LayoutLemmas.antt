@@ -1,5 +1,6 @@
 -- layouts: the search for the region of an address
-use Rattle.std.proofs.Common.{max, subst, inl, inr, ◌≡◌, ℕ, Bool, true, false, ◌+◌, ◌-◌, ◌<◌, ◌≤◌, List, [], ◌∷◌, length, refl, ap, sym, ◌∙◌, arith, zero, suc, Option, Some, None, Err}
+use Rattle.std.proofs.Common.{max, subst, inl, inr, ◌≡◌, ℕ, Bool, true, false, ◌+◌, ◌-◌, ◌<◌, ◌≤◌, List, [], ◌∷◌, length, refl, ap, sym}
+use Rattle.std.proofs.Common.{◌∙◌, arith, zero, suc, Option, Some, None, Err}
 use Rattle.std.specs.Prelude.{slice_index_or, slice_get, nat_lt, if◌then◌else◌, get_or, drop, take, map, ◌++◌}
 use Rattle.std.specs.Option.{option_or}
 use Rattle.std.specs.Arc.{arc_value}
@@ -13,7 +14,8 @@ use Rattle.vm_memory.specs.Layout.{AreHeld, last_address, Region, region_at, sta
 use Rattle.vm_memory.specs.Backend.{last_of}
 use Rattle.vm_memory.specs.Collecting.{fault_between, fault_after, fault_of, Collects}
 use Rattle.vm_memory.specs.declared.error.GuestRegionCollectionError.{GuestRegionCollectionError}
-use Rattle.vm_memory.specs.declared.error.GuestRegionCollectionError.TheVariants.{NoMemoryRegion, MemoryRegionOverlap, UnsortedMemoryRegions, OutOfMemory}
+use Rattle.vm_memory.specs.declared.error.GuestRegionCollectionError.TheVariants.{NoMemoryRegion, MemoryRegionOverlap}
+use Rattle.vm_memory.specs.declared.error.GuestRegionCollectionError.TheVariants.{UnsortedMemoryRegions, OutOfMemory}
 use Rattle.vm_memory.proofs.Places.{within_false}
 
 within_lt : (r : Region) (a : ℕ) → r.start ≤ a → is_within r.start r.size a ≡ nat_lt (a - r.start) r.size
@@ -45,7 +47,8 @@ none_before (r ∷ l) a is h =
     rw (within_false r a (λ high. absurd (omega arith))) (none_below l (r.start + r.size) a is.2 (omega arith))
 
 -- an address from the start of a region on and before the next one
-pub found_from : (l : List Region) (i a : ℕ) (r : Region) → IsLayout l → slice_get l i ≡ Some r → r.start ≤ a → (i + 1 < length l → a < start_at l (i + 1)) →
+pub found_from : (l : List Region) (i a : ℕ) (r : Region) → IsLayout l → slice_get l i ≡ Some r → r.start ≤ a →
+    (i + 1 < length l → a < start_at l (i + 1)) →
     region_at l a ≡ (if nat_lt (a - r.start) r.size then Some r else None)
 unfolding region_at
 found_from [] i a r is e low high = absurd (cc)
@@ -61,14 +64,16 @@ found_from (x ∷ l) (suc i) a r is e low high =
     let more : i + 1 < length l → a < start_at l (i + 1) = λ h. rw next at high (omega arith) in
     rw (within_false x a (λ high. omega arith)) (found_from l i a r is.3 e low more)
 
-pub found_in : (l : List Region) (n a : ℕ) (r : Region) → IsLayout l → 0 < n → slice_get l (n - 1) ≡ Some r → r.start ≤ a → (n < length l → a < start_at l n) → a - r.start < r.size →
+pub found_in : (l : List Region) (n a : ℕ) (r : Region) → IsLayout l → 0 < n → slice_get l (n - 1) ≡ Some r → r.start ≤ a →
+    (n < length l → a < start_at l n) → a - r.start < r.size →
     Some r ≡ region_at l a
 found_in l n a r is some e low high inside =
     let next : n - 1 + 1 ≡ n = omega arith in
     let test : nat_lt (a - r.start) r.size ≡ true = grind (arith, nat_tests) in
     sym (found_from l (n - 1) a r is e low (rw next high) ∙ ap (λ (b : Bool). if b then Some r else None) test)
 
-pub found_out : (l : List Region) (n a : ℕ) (r : Region) → IsLayout l → 0 < n → slice_get l (n - 1) ≡ Some r → r.start ≤ a → (n < length l → a < start_at l n) → r.size ≤ a - r.start →
+pub found_out : (l : List Region) (n a : ℕ) (r : Region) → IsLayout l → 0 < n → slice_get l (n - 1) ≡ Some r → r.start ≤ a →
+    (n < length l → a < start_at l n) → r.size ≤ a - r.start →
     None ≡ region_at l a
 found_out l n a r is some e low high outside =
     let next : n - 1 + 1 ≡ n = omega arith in
@@ -87,7 +92,8 @@ pub length-shared : {X Z : Type 0} (f : X → Region) (items : List (Arc X Z)) �
 length-shared f items = length-map items (λ a. f (arc_value a))
 
 -- the region of an item by its number
-pub region_of-map : {X : Type 0} (f : X → Region) (items : List X) (i : ℕ) (x : X) → i < length items → x ≡ get_or items i x → region_of (map f items) i ≡ f x
+pub region_of-map : {X : Type 0} (f : X → Region) (items : List X) (i : ℕ) (x : X) → i < length items → x ≡ get_or items i x →
+    region_of (map f items) i ≡ f x
 region_of-map f [] i x h e = absurd (omega arith)
 region_of-map f (item ∷ items) zero x h e = ap f (sym e)
 region_of-map f (item ∷ items) (suc i) x h e = region_of-map f items i x (omega arith) e
@@ -96,14 +102,16 @@ region_of-map f (item ∷ items) (suc i) x h e = region_of-map f items i x (omeg
 abbrev pub fault_from : List Region → ℕ → Option GuestRegionCollectionError
 fault_from l i = fault_after (region_of l (i - 1)) (drop i l)
 
-pub fault_step : (l : List Region) (i : ℕ) → i < length l → fault_from l i ≡ option_or (fault_between (region_of l (i - 1)) (region_of l i)) (fault_from l (i + 1))
+pub fault_step : (l : List Region) (i : ℕ) → i < length l →
+    fault_from l i ≡ option_or (fault_between (region_of l (i - 1)) (region_of l i)) (fault_from l (i + 1))
 unfolding fault_after
 fault_step l i h =
     let back : i + 1 - 1 ≡ i = omega arith in
     rw back (ap (fault_after (region_of l (i - 1))) (drop_more l i no_region h))
 
 -- a pair of neighbours with or without a fault
-pub fault_pair : (l : List Region) (i : ℕ) (r s : Region) (o : Option GuestRegionCollectionError) → i < length l → region_of l (i - 1) ≡ r → region_of l i ≡ s → o ≡ fault_between r s →
+pub fault_pair : (l : List Region) (i : ℕ) (r s : Region) (o : Option GuestRegionCollectionError) → i < length l → region_of l (i - 1) ≡ r →
+    region_of l i ≡ s → o ≡ fault_between r s →
     fault_from l i ≡ option_or o (fault_from l (i + 1))
 fault_pair l i r s o h front back is =
     fault_step l i h
@@ -111,7 +119,8 @@ fault_pair l i r s o h front back is =
     ∙ ap (λ (x : Region). option_or (fault_between r x) (fault_from l (i + 1))) back
     ∙ ap (λ (x : Option GuestRegionCollectionError). option_or x (fault_from l (i + 1))) (sym is)
 
-pub lawful_more : (l : List Region) (i : ℕ) (r : Region) → ((k : ℕ) → k < i → IsLawful (region_of l k)) → region_of l i ≡ r → IsLawful r → (k : ℕ) → k < i + 1 → IsLawful (region_of l k)
+pub lawful_more : (l : List Region) (i : ℕ) (r : Region) → ((k : ℕ) → k < i → IsLawful (region_of l k)) → region_of l i ≡ r → IsLawful r →
+    (k : ℕ) → k < i + 1 → IsLawful (region_of l k)
 lawful_more l i r below is here k h =
     elim (cases_eq k i) [
       | inl same ↦ subst (λ n. IsLawful (region_of l n)) (sym same) (subst IsLawful (sym is) here)
@@ -125,7 +134,8 @@ fault_end l i h = ap (fault_after (region_of l (i - 1))) (drop_all i l h)
 abbrev between : Bool → Bool → Option GuestRegionCollectionError
 between down common = if down then Some UnsortedMemoryRegions else if common then Some MemoryRegionOverlap else None
 
-none_parts : (down common : Bool) (o : Option GuestRegionCollectionError) → option_or (between down common) o ≡ None → (down ≡ false) × (common ≡ false) × (o ≡ None)
+none_parts : (down common : Bool) (o : Option GuestRegionCollectionError) → option_or (between down common) o ≡ None →
+    (down ≡ false) × (common ≡ false) × (o ≡ None)
 none_parts true common o e = absurd (cc)
 none_parts false true o e = absurd (cc)
 none_parts false false o e = (refl, refl, e)
@@ -140,7 +150,8 @@ from_lower (r ∷ l) e f h all = (omega (arith, all.0), from_lower l e f h all.1
 abbrev EachIsLawful : List Region → Type 0
 EachIsLawful l = (k : ℕ) → k < length l → IsLawful (region_of l k)
 
-ascending : (l : List Region) (r : Region) → IsLawful r → EachIsLawful l → fault_after r l ≡ None → AllFrom (r.start + r.size) l × IsLayout l
+ascending :
+    (l : List Region) (r : Region) → IsLawful r → EachIsLawful l → fault_after r l ≡ None → AllFrom (r.start + r.size) l × IsLayout l
 unfolding fault_after
 ascending [] r h each e = (tt, tt)
 ascending (s ∷ l) r h each e =
@@ -159,7 +170,8 @@ faultless (r ∷ l) each e =
     (lawful.0, lawful.2, more.0, more.1)
 
 -- what is wrong with regions is never a want of memory
-no_want : (down common : Bool) (o : Option GuestRegionCollectionError) → option_or (between down common) o ≡ Some OutOfMemory → o ≡ Some OutOfMemory
+no_want : (down common : Bool) (o : Option GuestRegionCollectionError) → option_or (between down common) o ≡ Some OutOfMemory →
+    o ≡ Some OutOfMemory
 no_want true common o e = absurd (cc)
 no_want false true o e = absurd (cc)
 no_want false false o e = e
@@ -178,14 +190,16 @@ refused_for [] OutOfMemory is = absurd (cc)
 refused_for (r ∷ l) OutOfMemory is = absurd (wants_none l r is)
 
 -- one shared region more was copied
-pub copied_more : {X Z : Type 0} (f : X → Region) (items all new : List (Arc X Z)) (i : ℕ) (arc copy : Arc X Z) → i < length items → arc ≡ get_or items i arc →
+pub copied_more : {X Z : Type 0} (f : X → Region) (items all new : List (Arc X Z)) (i : ℕ) (arc copy : Arc X Z) → i < length items →
+    arc ≡ get_or items i arc →
     arc_value copy ≡ arc_value arc → new ≡ all ++ copy ∷ [] →
     regions_of f all ≡ take i (regions_of f items) → regions_of f new ≡ take (i + 1) (regions_of f items)
 copied_more f items all new i arc copy h e same is before =
     ap (regions_of f) is ∙ map-append (λ a. f (arc_value a)) all (copy ∷ [])
     ∙ ap (λ (l : List Region). l ++ f (arc_value copy) ∷ []) (before ∙ take-map (λ a. f (arc_value a)) i items)
     ∙ ap (λ x. map (λ a. f (arc_value a)) (take i items) ++ f x ∷ []) same
-    ∙ sym (ap (take (i + 1)) refl ∙ take-map (λ a. f (arc_value a)) (i + 1) items ∙ ap (map (λ a. f (arc_value a))) (take_more items i arc h ∙ ap (λ a. take i items ++ a ∷ []) (sym e)) ∙ map-append
+    ∙ sym (ap (take (i + 1)) refl ∙ take-map (λ a. f (arc_value a)) (i + 1) items
+    ∙ ap (map (λ a. f (arc_value a))) (take_more items i arc h ∙ ap (λ a. take i items ++ a ∷ []) (sym e)) ∙ map-append
     (λ a. f (arc_value a)) (take i items) (arc ∷ []))
 
 max_left : (a b : ℕ) → b ≤ a → max a b ≡ a
@@ -214,7 +228,8 @@ last_is (x ∷ (y ∷ l)) (suc i) r is e h =
 abbrev pub HasBlock : List ℕ → Region → Type 0
 HasBlock lengths r = (r.block < length lengths) × (slice_index_or lengths r.block 0 ≡ r.size)
 
-pub blocks_more : (lengths : List ℕ) (l : List Region) (i : ℕ) (r : Region) → ((k : ℕ) → k < i → HasBlock lengths (region_of l k)) → slice_get l i ≡ Some r → HasBlock lengths r → (k : ℕ) →
+pub blocks_more : (lengths : List ℕ) (l : List Region) (i : ℕ) (r : Region) → ((k : ℕ) → k < i → HasBlock lengths (region_of l k)) →
+    slice_get l i ≡ Some r → HasBlock lengths r → (k : ℕ) →
     k < i + 1 → HasBlock lengths (region_of l k)
 blocks_more lengths l i r below is here k h =
     let same : region_of l i ≡ r = get_or_from_slice_get l i r no_region is in

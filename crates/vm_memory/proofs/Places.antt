@@ -1,5 +1,6 @@
 -- the places of addresses
-use Rattle.std.proofs.Common.{◌≡◌, ℕ, Bool, true, false, ◌+◌, ◌-◌, ◌%◌, ◌^◌, ◌<◌, ◌≤◌, ◌&&◌, eqb, List, [], ◌∷◌, ◌++◌, length, get_or, take, drop, refl, ap, sym, ◌∙◌}
+use Rattle.std.proofs.Common.{◌≡◌, ℕ, Bool, true, false, ◌+◌, ◌-◌, ◌%◌, ◌^◌, ◌<◌, ◌≤◌, ◌&&◌, eqb, List, [], ◌∷◌, ◌++◌, length, get_or, take}
+use Rattle.std.proofs.Common.{drop, refl, ap, sym, ◌∙◌}
 use Rattle.std.proofs.Common.{append_assoc, append-nil, length-append, length-drop, map, subst, arith, min, zero, suc, Option, Some, None}
 use Rattle.std.specs.Prelude.{unwrap_or, is_some, if◌then◌else◌, nat_le, Result, Ok, Err}
 use Rattle.std.specs.Option.{option_map, option_and_then, option_or}
@@ -16,7 +17,8 @@ use Rattle.vm_memory.specs.Layout.{Region, left_at, place, region_at, AllFrom, I
 use Rattle.vm_memory.specs.Regions.{window_in}
 use Rattle.vm_memory.specs.declared.error.GuestMemoryError.{GuestMemoryError}
 use Rattle.vm_memory.specs.declared.error.GuestMemoryError.TheVariants.{InvalidBackendAddress}
-use Rattle.vm_memory.specs.Memory.{Memory, memory_of, addresses, circular, location, located, reached, after, byte, stored, stored_at, stored_all}
+use Rattle.vm_memory.specs.Memory.{Memory, memory_of, addresses, circular, location, located, reached, after, byte, stored, stored_at}
+use Rattle.vm_memory.specs.Memory.{stored_all}
 
 -- ---- one address
 
@@ -41,7 +43,8 @@ abbrev place_at : ℕ → ℕ → Place
 place_at block offset = record { block = block; offset = offset; io = None }
 
 -- no other region has an address of this one
-pub place_here : (l : List Region) (i a : ℕ) (d : Region) → IsLayout l → i < length l → (get_or l i d).start ≤ a → a < (get_or l i d).start + (get_or l i d).size →
+pub place_here : (l : List Region) (i a : ℕ) (d : Region) → IsLayout l → i < length l → (get_or l i d).start ≤ a →
+    a < (get_or l i d).start + (get_or l i d).size →
     place l a ≡ Some (place_at (get_or l i d).block (a - (get_or l i d).start))
 unfolding place
 place_here [] i a d is h low high = absurd (omega arith)
@@ -56,7 +59,8 @@ abbrev pub Where : Type 0
 Where = ℕ → Option Place
 
 -- addresses whose places follow one another
-pub located_run : (n : ℕ) (f : Where) (a b o : ℕ) → ((k : ℕ) → k < n → f (a + k) ≡ Some (place_at b (o + k))) → located f (addresses a n) ≡ Some (span b o None n)
+pub located_run : (n : ℕ) (f : Where) (a b o : ℕ) → ((k : ℕ) → k < n → f (a + k) ≡ Some (place_at b (o + k))) →
+    located f (addresses a n) ≡ Some (span b o None n)
 unfolding located addresses span
 located_run zero f a b o at = refl
 located_run (suc n) f a b o at =
@@ -90,7 +94,8 @@ pub length-circular : (n a : ℕ) → length (circular a n) ≡ n
 length-circular n a = length-map (addresses a n) (λ x. x % 2 ^ 64) ∙ length-addresses n a
 
 pub circular-append : (m n a : ℕ) → circular a (m + n) ≡ circular a m ++ circular (a + m) n
-circular-append m n a = ap (map (λ x. x % 2 ^ 64)) (addresses-append m n a) ∙ map-append (λ x. x % 2 ^ 64) (addresses a m) (addresses (a + m) n)
+circular-append m n a =
+    ap (map (λ x. x % 2 ^ 64)) (addresses-append m n a) ∙ map-append (λ x. x % 2 ^ 64) (addresses a m) (addresses (a + m) n)
 
 next_low : (a x : ℕ) → x ≡ a % 2 ^ 64 → x + 1 < 2 ^ 64 → x + 1 ≡ (a + 1) % 2 ^ 64
 next_low a x e h = omega arith
@@ -121,7 +126,8 @@ located_step (Some p) (Some qs) whole None ps e h = rw (h qs refl)
 located_step (Some p) (Some qs) whole (Some x) ps e h = rw (h qs refl) (ap (option_map (λ (s : List Place). s ++ x)) e)
 
 -- addresses in two parts, of which the first has its places
-pub located-append : (xs ys : List ℕ) (f : Where) (ps : List Place) → located f xs ≡ Some ps → located f (xs ++ ys) ≡ after ps (located f ys)
+pub located-append :
+    (xs ys : List ℕ) (f : Where) (ps : List Place) → located f xs ≡ Some ps → located f (xs ++ ys) ≡ after ps (located f ys)
 unfolding located
 located-append [] ys f ps e = let none : [] ≡ ps = cc in rw (← none) (after-nil (located f ys))
 located-append (x ∷ xs) ys f ps e = located_step (f x) (located f xs) _ _ ps e (λ qs h. located-append xs ys f qs h)
@@ -138,7 +144,8 @@ after-after None old ps = refl
 after-after (Some x) old ps = ap Some (sym (append_assoc old ps x))
 
 -- those that have their places count as reached
-pub reached-append : (xs ys : List ℕ) (f : Where) (ps : List Place) → located f xs ≡ Some ps → reached f (xs ++ ys) ≡ length xs + reached f ys
+pub reached-append :
+    (xs ys : List ℕ) (f : Where) (ps : List Place) → located f xs ≡ Some ps → reached f (xs ++ ys) ≡ length xs + reached f ys
 unfolding located reached
 reached-append [] ys f ps e = omega arith
 reached-append (x ∷ xs) ys f ps e =
@@ -154,10 +161,12 @@ pub circular_step : (addr done n len x : ℕ) → x ≡ (addr + done) % 2 ^ 64 �
 circular_step addr done n len x e h le =
     let count : len - done ≡ n + (len - (done + n)) = omega arith in
     let there : addr + (done + n) ≡ addr + done + n = omega arith in
-    rw (count, there) (circular-append n (len - (done + n)) (addr + done) ∙ ap (λ (l : List ℕ). l ++ circular (addr + done + n) (len - (done + n))) (circular-low n (addr + done) x e h))
+    rw (count, there) (circular-append n (len - (done + n)) (addr + done)
+    ∙ ap (λ (l : List ℕ). l ++ circular (addr + done + n) (len - (done + n))) (circular-low n (addr + done) x e h))
 
 -- what is left of a range that begins without a place
-pub circular_head : (addr done len x : ℕ) → x ≡ (addr + done) % 2 ^ 64 → done < len → (rest : List ℕ) × (circular (addr + done) (len - done) ≡ x ∷ rest)
+pub circular_head :
+    (addr done len x : ℕ) → x ≡ (addr + done) % 2 ^ 64 → done < len → (rest : List ℕ) × (circular (addr + done) (len - done) ≡ x ∷ rest)
 unfolding addresses
 circular_head addr done len x e h =
     let count : len - done ≡ suc (len - done - 1) = omega arith in
@@ -194,7 +203,8 @@ reached_step f xs ys zs ps done n cut e l = rw (cut, reached-append ys zs f ps e
 -- ---- what is read and written there
 
 -- the bytes at addresses are those at their places
-pub bytes-located : (xs : List ℕ) (m : Memory) (ps : List Place) → located (location m Read) xs ≡ Some ps → map (byte m) xs ≡ map (byte_in m.host) ps
+pub bytes-located :
+    (xs : List ℕ) (m : Memory) (ps : List Place) → located (location m Read) xs ≡ Some ps → map (byte m) xs ≡ map (byte_in m.host) ps
 unfolding located
 bytes-located [] m ps e = let none : [] ≡ ps = cc in rw (← none)
 bytes-located (x ∷ xs) m ps e =
@@ -217,7 +227,8 @@ stored_one : (a x : ℕ) (as' xs : List ℕ) (ps qs : List Place) (p : Place) (l
     stored_all (memory_of h l) (zip (a ∷ as') (x ∷ xs)) ≡ memory_of (put_all h (zip ps (x ∷ xs))) l
 unfolding stored_all put_all
 stored_one a x as' xs ps qs p l h at is ih =
-    ap (λ (o : Option Place). stored_all (stored_at (memory_of h l) x o) (zip as' xs)) at ∙ ih ∙ sym (ap (λ (rs : List Place). memory_of (put_all h (zip rs (x ∷ xs))) l) is)
+    ap (λ (o : Option Place). stored_all (stored_at (memory_of h l) x o) (zip as' xs)) at ∙ ih
+    ∙ sym (ap (λ (rs : List Place). memory_of (put_all h (zip rs (x ∷ xs))) l) is)
 
 -- stores at addresses are stores at their places
 pub stored_all-zip : (as' : List ℕ) (ps : List Place) (xs : List ℕ) (l : List Region) (h : Host) → located (place l) as' ≡ Some ps →
@@ -232,7 +243,8 @@ stored_all-zip (a ∷ as') ps (x ∷ xs) l h e =
 -- ---- regions and their blocks
 
 -- a part of a region, from an address on
-pub located_in : (l : List Region) (i a n : ℕ) (d : Region) → IsLayout l → i < length l → (get_or l i d).start ≤ a → a - (get_or l i d).start + n ≤ (get_or l i d).size →
+pub located_in : (l : List Region) (i a n : ℕ) (d : Region) → IsLayout l → i < length l → (get_or l i d).start ≤ a →
+    a - (get_or l i d).start + n ≤ (get_or l i d).size →
     located (place l) (addresses a n) ≡ Some (span (get_or l i d).block (a - (get_or l i d).start) None n)
 located_in l i a n d is h low high =
     located_run n (place l) a _ _ (λ k below.
@@ -250,11 +262,13 @@ abbrev no_region : Region
 no_region = record { start = 0; size = 0; block = 0 }
 
 -- the same of an item of the list
-pub located_item : (l : List Region) (i a n : ℕ) (r : Region) → IsLayout l → i < length l → r ≡ get_or l i r → r.start ≤ a → a - r.start + n ≤ r.size →
+pub located_item :
+    (l : List Region) (i a n : ℕ) (r : Region) → IsLayout l → i < length l → r ≡ get_or l i r → r.start ≤ a → a - r.start + n ≤ r.size →
     located (place l) (addresses a n) ≡ Some (span r.block (a - r.start) None n)
 located_item l i a n r is h item =
     let e : get_or l i no_region ≡ r = get_or_default l i no_region r h ∙ sym item in
-    subst (λ (s : Region). s.start ≤ a → a - s.start + n ≤ s.size → located (place l) (addresses a n) ≡ Some (span s.block (a - s.start) None n)) e (located_in l i a n no_region is h)
+    subst (λ (s : Region). s.start ≤ a → a - s.start + n ≤ s.size →
+    located (place l) (addresses a n) ≡ Some (span s.block (a - s.start) None n)) e (located_in l i a n no_region is h)
 
 pub held_item : (lengths : List ℕ) (l : List Region) (i : ℕ) (r : Region) → AreHeld lengths l → i < length l → r ≡ get_or l i r →
     (r.block < length lengths) × (get_or lengths r.block 0 ≡ r.size)
@@ -274,12 +288,14 @@ list_all-reached (x ∷ xs) f = all_step (f x) (reached f xs) (length xs) (list_
 
 -- ---- loops over a range, one window further
 
-pub count_step : (f : Where) (addr done len n x : ℕ) (ps : List Place) → x ≡ (addr + done) % 2 ^ 64 → x + n ≤ 2 ^ 64 → done + n ≤ len → located f (addresses x n) ≡ Some ps →
+pub count_step : (f : Where) (addr done len n x : ℕ) (ps : List Place) → x ≡ (addr + done) % 2 ^ 64 → x + n ≤ 2 ^ 64 → done + n ≤ len →
+    located f (addresses x n) ≡ Some ps →
     done + n + reached f (circular (addr + (done + n)) (len - (done + n))) ≡ done + reached f (circular (addr + done) (len - done))
 count_step f addr done len n x ps e h le at =
     sym (reached_step f _ (addresses x n) _ ps done n (circular_step addr done n len x e h le) at (length-addresses n x))
 
-pub count_none : (f : Where) (addr done len x : ℕ) → x ≡ (addr + done) % 2 ^ 64 → done < len → f x ≡ None → reached f (circular (addr + done) (len - done)) ≡ 0
+pub count_none : (f : Where) (addr done len x : ℕ) → x ≡ (addr + done) % 2 ^ 64 → done < len → f x ≡ None →
+    reached f (circular (addr + done) (len - done)) ≡ 0
 count_none f addr done len x e h at =
     let head = circular_head addr done len x e h in
     ap (reached f) head.1 ∙ reached_none x head.0 f at
@@ -288,17 +304,20 @@ pub count_end : (f : Where) (addr done len : ℕ) → len ≤ done → reached f
 unfolding reached
 count_end f addr done len h = ap (reached f) (circular_done addr done len h)
 
-pub find_step : (f : Where) (addr done len n x : ℕ) (ps old new : List Place) → x ≡ (addr + done) % 2 ^ 64 → x + n ≤ 2 ^ 64 → done + n ≤ len → located f (addresses x n) ≡ Some ps → new ≡ old ++ ps →
+pub find_step : (f : Where) (addr done len n x : ℕ) (ps old new : List Place) → x ≡ (addr + done) % 2 ^ 64 → x + n ≤ 2 ^ 64 →
+    done + n ≤ len → located f (addresses x n) ≡ Some ps → new ≡ old ++ ps →
     after new (located f (circular (addr + (done + n)) (len - (done + n)))) ≡ after old (located f (circular (addr + done) (len - done)))
 find_step f addr done len n x ps old new e h le at is =
     sym (found_step f _ (addresses x n) _ ps old new (circular_step addr done n len x e h le) at is)
 
-pub find_none : (f : Where) (addr done len x : ℕ) (old : List Place) → x ≡ (addr + done) % 2 ^ 64 → done < len → f x ≡ None → after old (located f (circular (addr + done) (len - done))) ≡ None
+pub find_none : (f : Where) (addr done len x : ℕ) (old : List Place) → x ≡ (addr + done) % 2 ^ 64 → done < len → f x ≡ None →
+    after old (located f (circular (addr + done) (len - done))) ≡ None
 find_none f addr done len x old e h at =
     let head = circular_head addr done len x e h in
     ap (after old) (ap (located f) head.1 ∙ located_none x head.0 f at)
 
-pub find_end : (f : Where) (addr done len : ℕ) (old : List Place) → len ≤ done → after old (located f (circular (addr + done) (len - done))) ≡ Some old
+pub find_end :
+    (f : Where) (addr done len : ℕ) (old : List Place) → len ≤ done → after old (located f (circular (addr + done) (len - done))) ≡ Some old
 unfolding located
 find_end f addr done len old h = ap (λ (l : List ℕ). after old (located f l)) (circular_done addr done len h) ∙ ap Some (append-nil old)
 
@@ -325,8 +344,10 @@ drop-put old bytes at n e h =
     let size : length (take at old ++ bytes) ≡ at + n = omega (arith, length-append (take at old) bytes) in
     drop_at (take at old ++ bytes) (drop (at + length bytes) old) (at + n) size ∙ ap (λ k. drop (at + k) old) (sym e)
 
-pub front_step : (m : Memory) (addr done len n x : ℕ) (ps : List Place) (old bytes new : List ℕ) → x ≡ (addr + done) % 2 ^ 64 → x + n ≤ 2 ^ 64 → done + n ≤ len → len ≡ length old →
-    located (location m Read) (addresses x n) ≡ Some ps → n ≡ length bytes → bytes ≡ map (byte_in m.host) ps → new ≡ take done old ++ bytes ++ drop (done + length bytes) old →
+pub front_step : (m : Memory) (addr done len n x : ℕ) (ps : List Place) (old bytes new : List ℕ) → x ≡ (addr + done) % 2 ^ 64 →
+    x + n ≤ 2 ^ 64 → done + n ≤ len → len ≡ length old →
+    located (location m Read) (addresses x n) ≡ Some ps → n ≡ length bytes → bytes ≡ map (byte_in m.host) ps →
+    new ≡ take done old ++ bytes ++ drop (done + length bytes) old →
     take done old ≡ map (byte m) (take done (circular addr len)) → take (done + n) new ≡ map (byte m) (take (done + n) (circular addr len))
 front_step m addr done len n x ps old bytes new e h le size at count got is front =
     ap (take (done + n)) is ∙ take-put old bytes done n count (omega arith)
@@ -335,7 +356,8 @@ front_step m addr done len n x ps old bytes new e h le size at count got is fron
     ∙ sym (map-append (byte m) (take done (circular addr len)) (addresses x n))
     ∙ ap (map (byte m)) (sym (take_step addr done len n x e h le))
 
-pub back_step : (done n : ℕ) (old bytes new whole : List ℕ) → n ≡ length bytes → done + n ≤ length old → new ≡ take done old ++ bytes ++ drop (done + length bytes) old →
+pub back_step : (done n : ℕ) (old bytes new whole : List ℕ) → n ≡ length bytes → done + n ≤ length old →
+    new ≡ take done old ++ bytes ++ drop (done + length bytes) old →
     drop done old ≡ drop done whole → drop (done + n) new ≡ drop (done + n) whole
 back_step done n old bytes new whole count fits is back =
     ap (drop (done + n)) is ∙ drop-put old bytes done n count fits
@@ -345,17 +367,21 @@ zip_front : (a : List ℕ) (d : List ℕ) (k : ℕ) → k ≡ length a → k ≤
 zip_front a d k e h =
     ap (λ (l : List ℕ). zip l d) (sym (append-nil a)) ∙ zip-append a [] d k (omega arith) ∙ append-nil (zip a (take k d))
 
-pub store_step : (l : List Region) (start : Memory) (h h' : Host) (bytes piece : List ℕ) (addr done len n x : ℕ) (ps : List Place) → x ≡ (addr + done) % 2 ^ 64 → x + n ≤ 2 ^ 64 → done + n ≤ len →
-    len ≡ length bytes → located (place l) (addresses x n) ≡ Some ps → memory_of h l ≡ stored_all start (zip (take done (circular addr len)) bytes) →
+pub store_step : (l : List Region) (start : Memory) (h h' : Host) (bytes piece : List ℕ) (addr done len n x : ℕ) (ps : List Place) →
+    x ≡ (addr + done) % 2 ^ 64 → x + n ≤ 2 ^ 64 → done + n ≤ len →
+    len ≡ length bytes → located (place l) (addresses x n) ≡ Some ps →
+    memory_of h l ≡ stored_all start (zip (take done (circular addr len)) bytes) →
     piece ≡ take n (drop done bytes) → h' ≡ put_all h (zip ps piece) →
     memory_of h' l ≡ stored_all start (zip (take (done + n) (circular addr len)) bytes)
 store_step l start h h' bytes piece addr done len n x ps e w le size at so cut is =
-    let front : length (take done (circular addr len)) ≡ done = ap length (take_circular addr done len (omega arith)) ∙ length-circular done addr in
+    let front : length (take done (circular addr len)) ≡ done =
+    ap length (take_circular addr done len (omega arith)) ∙ length-circular done addr in
     let left = length-drop done bytes in
     let a : List ℕ = take done (circular addr len) in
     let both : zip a bytes ++ zip (addresses x n) piece ≡ zip (take (done + n) (circular addr len)) bytes =
     ap (λ (s : List (ℕ × ℕ)). s ++ zip (addresses x n) piece) (zip_front a bytes done (sym front) (omega arith))
-    ∙ ap (λ (s : List (ℕ × ℕ)). zip a (take done bytes) ++ s) (ap (zip (addresses x n)) cut ∙ sym (zip_front (addresses x n) (drop done bytes) n (sym (length-addresses n x)) (omega arith)))
+    ∙ ap (λ (s : List (ℕ × ℕ)). zip a (take done bytes) ++ s)
+    (ap (zip (addresses x n)) cut ∙ sym (zip_front (addresses x n) (drop done bytes) n (sym (length-addresses n x)) (omega arith)))
     ∙ sym (zip-append a (addresses x n) bytes done (omega arith))
     ∙ ap (λ (s : List ℕ). zip s bytes) (sym (take_step addr done len n x e w le)) in
     ap (λ (g : Host). memory_of g l) is ∙ sym (stored_all-zip (addresses x n) ps piece l h at)
@@ -366,7 +392,8 @@ store_step l start h h' bytes piece addr done len n x ps e w le size at so cut i
 -- ---- the region of an address
 
 -- the region of an address is one of the layout, and has it
-pub region_at-Some : (l : List Region) (a : ℕ) (r : Region) → region_at l a ≡ Some r → (r.start ≤ a) × (a < r.start + r.size) × (i : ℕ) × (i < length l) × (r ≡ get_or l i r)
+pub region_at-Some : (l : List Region) (a : ℕ) (r : Region) → region_at l a ≡ Some r →
+    (r.start ≤ a) × (a < r.start + r.size) × (i : ℕ) × (i < length l) × (r ≡ get_or l i r)
 unfolding region_at
 region_at-Some [] a r e = absurd (cc)
 region_at-Some (x ∷ l) a r e =
@@ -386,7 +413,8 @@ pub region_at-None : (l : List Region) (a : ℕ) → region_at l a ≡ None → 
 unfolding region_at place
 region_at-None [] a e = refl
 region_at-None (x ∷ l) a e =
-    elim (is_within x.start x.size a) as (λ b. (if b then Some x else region_at l a) ≡ None → option_or (if b then Some (place_at x.block (a - x.start)) else None) (place l a) ≡ None) [
+    elim (is_within x.start x.size a) as (λ b. (if b then Some x else region_at l a) ≡ None →
+    option_or (if b then Some (place_at x.block (a - x.start)) else None) (place l a) ≡ None) [
       | true ↦ λ found. absurd (cc)
       | false ↦ λ found. region_at-None l a found
     ] e
@@ -420,7 +448,8 @@ refused : (e : GuestMemoryError) (w : Window) → err_of e ≡ ok_of w → ⊥
 refused e w h = cc
 
 -- a window that its region has
-pub window_is : (r : Region) (o n : ℕ) → o + n ≤ r.size → window_in r o n ≡ ok_of (record { block = r.block; offset = o; len = n; io = None })
+pub window_is :
+    (r : Region) (o n : ℕ) → o + n ≤ r.size → window_in r o n ≡ ok_of (record { block = r.block; offset = o; len = n; io = None })
 window_is r o n h =
     let test : nat_le (o + n) r.size ≡ true = grind (arith, nat_tests) in
     ap (λ (b : Bool). if b then ok_of (record { block = r.block; offset = o; len = n; io = None }) else Err InvalidBackendAddress) test
@@ -429,16 +458,20 @@ ok_is : (v w : Window) → ok_of v ≡ ok_of w → v ≡ w
 ok_is v w e = cc
 
 -- what the window from an address on is, and which addresses it has
-window_there : (l : List Region) (a most start size : ℕ) (r : Region) (w : Window) → Some r ≡ region_at l a → start ≡ r.start → size ≡ r.size →
-    ok_of w ≡ window_in r (a - start) (min (size - (a - start)) most) → w ≡ record { block = r.block; offset = a - r.start; len = min (r.size - (a - r.start)) most; io = None }
+window_there :
+    (l : List Region) (a most start size : ℕ) (r : Region) (w : Window) → Some r ≡ region_at l a → start ≡ r.start → size ≡ r.size →
+    ok_of w ≡ window_in r (a - start) (min (size - (a - start)) most) →
+    w ≡ record { block = r.block; offset = a - r.start; len = min (r.size - (a - r.start)) most; io = None }
 window_there l a most start size r w found from many e =
     let low = start_below l a r found in
     let high = end_above l a r found in
     ok_is w (record { block = r.block; offset = a - r.start; len = min (r.size - (a - r.start)) most; io = None })
-    (e ∙ ap (λ s. window_in r (a - s) (min (size - (a - s)) most)) from ∙ ap (λ n. window_in r (a - r.start) (min (n - (a - r.start)) most)) many
+    (e ∙ ap (λ s. window_in r (a - s) (min (size - (a - s)) most)) from
+    ∙ ap (λ n. window_in r (a - r.start) (min (n - (a - r.start)) most)) many
     ∙ window_is r (a - r.start) (min (r.size - (a - r.start)) most) (omega arith))
 
-pub window_found : (l : List Region) (a most start size : ℕ) (r : Region) (w : Window) → IsLayout l → Some r ≡ region_at l a → start ≡ r.start → size ≡ r.size → 0 < most → r.start + r.size ≤ 2 ^ 64 →
+pub window_found : (l : List Region) (a most start size : ℕ) (r : Region) (w : Window) → IsLayout l → Some r ≡ region_at l a →
+    start ≡ r.start → size ≡ r.size → 0 < most → r.start + r.size ≤ 2 ^ 64 →
     ok_of w ≡ window_in r (a - start) (min (size - (a - start)) most) →
     (0 < w.len) × (w.len ≤ most) × (a + w.len ≤ 2 ^ 64) × (located (place l) (addresses a w.len) ≡ Some (places_of w))
 window_found l a most start size r w is found from many some fits e =
@@ -449,14 +482,16 @@ window_found l a most start size r w is found from many some fits e =
     rw same (omega arith, omega arith, omega arith, run_in l a n r is found (omega arith))
 
 -- it is as long as its region and what is asked for allow
-pub window_longest : (l : List Region) (a most start size : ℕ) (r : Region) (w : Window) → Some r ≡ region_at l a → start ≡ r.start → size ≡ r.size →
+pub window_longest :
+    (l : List Region) (a most start size : ℕ) (r : Region) (w : Window) → Some r ≡ region_at l a → start ≡ r.start → size ≡ r.size →
     ok_of w ≡ window_in r (a - start) (min (size - (a - start)) most) → w.len ≡ min most (left_at l a)
 window_longest l a most start size r w found from many e =
     let low = start_below l a r found in
     let same = window_there l a most start size r w found from many e in
     ap (λ (v : Window). v.len) same ∙ rw (← found) (omega arith)
 
-pub window_held : (lengths : List ℕ) (l : List Region) (a most start size : ℕ) (r : Region) (w : Window) → Some r ≡ region_at l a → start ≡ r.start → size ≡ r.size →
+pub window_held : (lengths : List ℕ) (l : List Region) (a most start size : ℕ) (r : Region) (w : Window) → Some r ≡ region_at l a →
+    start ≡ r.start → size ≡ r.size →
     ok_of w ≡ window_in r (a - start) (min (size - (a - start)) most) → AreHeld lengths l → LiesIn lengths w
 window_held lengths l a most start size r w found from many e held =
     let low = start_below l a r found in
@@ -466,7 +501,8 @@ window_held lengths l a most start size r w found from many e held =
     rw same (there.0, omega (arith, there.1))
 
 -- the window from an address on is never refused
-pub window_refused : (l : List Region) (a most start size : ℕ) (r : Region) (e : GuestMemoryError) → Some r ≡ region_at l a → start ≡ r.start → size ≡ r.size →
+pub window_refused : (l : List Region) (a most start size : ℕ) (r : Region) (e : GuestMemoryError) → Some r ≡ region_at l a →
+    start ≡ r.start → size ≡ r.size →
     err_of e ≡ window_in r (a - start) (min (size - (a - start)) most) → ⊥
 window_refused l a most start size r e found from many is =
     let low = start_below l a r found in

@@ -1,5 +1,6 @@
 -- What is asked of a layout.
-use Rattle.std.specs.Prelude.{ℕ, ◌-◌, ◌^◌, ◌&&◌, nat_lt, max, List, [], ◌∷◌, Option, Some, None, if◌then◌else◌, is_some, option_map, Result, Err}
+use Rattle.std.specs.Prelude.{ℕ, ◌-◌, ◌^◌, ◌&&◌, nat_lt, max, List, [], ◌∷◌, Option, Some, None}
+use Rattle.std.specs.Prelude.{if◌then◌else◌, is_some, option_map, Result, Err}
 use Rattle.vm_values.specs.declared.address.GuestAddress.{GuestAddress}
 use Rattle.vm_memory_core.specs.Window.{Window}
 use Rattle.vm_memory.specs.Layout.{Region, region_at, last_address}
@@ -19,10 +20,12 @@ region_and_offset layout a = option_map (λ r. (r, a - r.start)) (region_at layo
 
 -- an address, if it fits 64 bits and a region has it
 abbrev pub checked_at : List Region → ℕ → Option GuestAddress
-checked_at layout a = if nat_lt a (2 ^ 64) && is_some (region_at layout a) then Some (record { 0 = a }) else None
+checked_at layout a =
+    if nat_lt a (2 ^ 64) && is_some (region_at layout a) then Some (record { 0 = a }) else None
 
 -- what a region answers at an offset, which is that of an address
-abbrev pub in_region : {X : Type 0} → GuestAddress → (Region → ℕ → Result X GuestMemoryError) → Option Region → Result X GuestMemoryError
+abbrev pub in_region : {X : Type 0} → GuestAddress → (Region → ℕ → Result X GuestMemoryError) →
+    Option Region → Result X GuestMemoryError
 in_region addr answer None = Err (InvalidGuestAddress addr)
 in_region addr answer (Some r) = answer r (addr.0 - r.start)
 

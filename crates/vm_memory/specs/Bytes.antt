@@ -1,5 +1,6 @@
 -- Which places an access to bytes reaches.
-use Rattle.std.specs.Prelude.{◌≡◌, ℕ, ◌==◌, true, List, [], ◌∷◌, Option, Some, None, ◌⊎◌, if◌then◌else◌, Result, Ok, Err}
+use Rattle.std.specs.Prelude.{◌≡◌, ℕ, ◌==◌, true, List, [], ◌∷◌, Option, Some, None, ◌⊎◌, if◌then◌else◌}
+use Rattle.std.specs.Prelude.{Result, Ok, Err}
 use Rattle.vm_values.specs.declared.address.GuestAddress.{GuestAddress}
 use Rattle.vm_iotlb.specs.declared.permissions.Permissions.{Permissions}
 use Rattle.vm_memory_core.specs.Host.{Place}
@@ -7,7 +8,8 @@ use Rattle.vm_memory.specs.Layout.{Region, place}
 use Rattle.vm_memory.specs.Memory.{Memory, circular, is_mapped, location}
 use Rattle.vm_memory.specs.RangeAnswers.{CannotGive}
 use Rattle.vm_memory.specs.declared.error.GuestMemoryError.{GuestMemoryError}
-use Rattle.vm_memory.specs.declared.error.GuestMemoryError.TheVariants.{InvalidGuestAddress, InvalidBackendAddress}
+use Rattle.vm_memory.specs.declared.error.GuestMemoryError.TheVariants.{InvalidGuestAddress}
+use Rattle.vm_memory.specs.declared.error.GuestMemoryError.TheVariants.{InvalidBackendAddress}
 use Rattle.vm_values.specs.declared.address.MemoryRegionAddress.{MemoryRegionAddress}
 use Rattle.vm_memory_core.specs.Access.{reached_places}
 use Rattle.vm_memory_core.specs.declared.error.VolatileMemoryError.{VolatileMemoryError}
@@ -43,10 +45,13 @@ abbrev pub IsNotMapped : Memory → Permissions → (a n : ℕ) → Result (List
 IsNotMapped m access a n (Ok places) = ⊥
 IsNotMapped m access a n (Err e) = CannotGive m access a n e
 
--- an access to n bytes from an address on: where they are mapped throughout it reaches their places, and else none
-abbrev pub MayReach : Memory → Permissions → GuestAddress → (n : ℕ) → Result (List Place) GuestMemoryError → Type 0
+-- an access to n bytes from an address on: where they are mapped throughout it reaches their places, and else
+-- none
+abbrev pub MayReach :
+    Memory → Permissions → GuestAddress → (n : ℕ) → Result (List Place) GuestMemoryError → Type 0
 MayReach m access addr n places =
-    ((is_mapped m access addr.0 n ≡ true) × (places ≡ reached_from m access addr n)) ⊎ IsNotMapped m access addr.0 n places
+    ((is_mapped m access addr.0 n ≡ true) × (places ≡ reached_from m access addr n))
+    ⊎ IsNotMapped m access addr.0 n places
 
 -- ---- the bytes of one region
 

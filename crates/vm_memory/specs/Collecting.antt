@@ -1,5 +1,6 @@
 -- Which regions are a layout, and how a layout changes.
-use Rattle.std.specs.Prelude.{◌≡◌, ◌⊎◌, ℕ, length, false, true, nat_lt, List, [], ◌∷◌, find, Option, Some, None, IsSome, if◌then◌else◌, Result, Ok, Err}
+use Rattle.std.specs.Prelude.{◌≡◌, ◌⊎◌, ℕ, length, false, true, nat_lt, List, [], ◌∷◌, find, Option, Some}
+use Rattle.std.specs.Prelude.{None, IsSome, if◌then◌else◌, Result, Ok, Err}
 use Rattle.std.specs.List.{list_any}
 use Rattle.std.specs.Option.{option_or}
 use Rattle.std.specs.Arc.{arc_value}
@@ -7,7 +8,10 @@ use Rattle.std.specs.declared.sync.Arc.{Arc}
 use Rattle.memory_requests.specs.Refused.{MemoryWasRefused, RoomWasRefused}
 use Rattle.vm_memory.specs.Layout.{Region, overlap, with_region, is_region, without_region}
 use Rattle.vm_memory.specs.declared.error.GuestRegionCollectionError.{GuestRegionCollectionError}
-use Rattle.vm_memory.specs.declared.error.GuestRegionCollectionError.TheVariants.{NoMemoryRegion, MemoryRegionOverlap, UnsortedMemoryRegions, OutOfMemory}
+use Rattle.vm_memory.specs.declared.error.GuestRegionCollectionError.TheVariants.{NoMemoryRegion}
+use Rattle.vm_memory.specs.declared.error.GuestRegionCollectionError.TheVariants.{MemoryRegionOverlap}
+use Rattle.vm_memory.specs.declared.error.GuestRegionCollectionError.TheVariants.{UnsortedMemoryRegions}
+use Rattle.vm_memory.specs.declared.error.GuestRegionCollectionError.TheVariants.{OutOfMemory}
 
 -- what is wrong with two regions that stand one after the other, if anything is
 abbrev pub fault_between : Region → Region → Option GuestRegionCollectionError
@@ -27,7 +31,8 @@ fault_of [] = Some NoMemoryRegion
 fault_of (r ∷ rest) = fault_after r rest
 
 -- some regions, unless there is a fault
-abbrev pub unless : Option GuestRegionCollectionError → List Region → Result (List Region) GuestRegionCollectionError
+abbrev pub unless :
+    Option GuestRegionCollectionError → List Region → Result (List Region) GuestRegionCollectionError
 unless None regions = Ok regions
 unless (Some fault) regions = Err fault
 
@@ -43,7 +48,8 @@ Collects regions (Err MemoryRegionOverlap) = fault_of regions ≡ Some MemoryReg
 Collects regions (Err UnsortedMemoryRegions) = fault_of regions ≡ Some UnsortedMemoryRegions
 Collects regions (Err OutOfMemory) = (fault_of regions ≡ None) × RegionsWereRefused (length regions)
 
--- a layout with one more region, which has no address in common with any that is there; the allocator may refuse if it has none
+-- a layout with one more region, which has no address in common with any that is there; the allocator may
+-- refuse if it has none
 abbrev pub Inserts : Region → List Region → Result (List Region) GuestRegionCollectionError → Type 0
 Inserts r layout (Ok new) = (list_any (overlap r) layout ≡ false) × (new ≡ with_region r layout)
 Inserts r layout (Err NoMemoryRegion) = ⊥
@@ -52,14 +58,17 @@ Inserts r layout (Err UnsortedMemoryRegions) = ⊥
 Inserts r layout (Err OutOfMemory) = (list_any (overlap r) layout ≡ false) × MemoryWasRefused
 
 -- the layout that is left, and the region that was shared
-abbrev pub with_removed : {X Z : Type 0} → (X → Region) → Result (List Region × Arc X Z) GuestRegionCollectionError
+abbrev pub with_removed :
+    {X Z : Type 0} → (X → Region) → Result (List Region × Arc X Z) GuestRegionCollectionError
     → Result (List Region × Region) GuestRegionCollectionError
 with_removed region (Ok left) = Ok (left.0, region (arc_value left.1))
 with_removed region (Err e) = Err e
 
 -- a layout without the region of this base and size, and that region; the allocator may refuse if it is there
-abbrev pub Removes : (base size : ℕ) → List Region → Result (List Region × Region) GuestRegionCollectionError → Type 0
-Removes base size layout (Ok left) = (find (is_region base size) layout ≡ Some left.1) × (left.0 ≡ without_region base size layout)
+abbrev pub Removes :
+    (base size : ℕ) → List Region → Result (List Region × Region) GuestRegionCollectionError → Type 0
+Removes base size layout (Ok left) =
+    (find (is_region base size) layout ≡ Some left.1) × (left.0 ≡ without_region base size layout)
 Removes base size layout (Err NoMemoryRegion) = find (is_region base size) layout ≡ None
 Removes base size layout (Err MemoryRegionOverlap) = ⊥
 Removes base size layout (Err UnsortedMemoryRegions) = ⊥

@@ -1,5 +1,7 @@
 -- Which place a guest's physical address has: a partial function, given by regions.
-use Rattle.std.specs.Prelude.{ℕ, zero, suc, ◌≡◌, ◌+◌, ◌-◌, ◌<◌, ◌≤◌, ◌^◌, Bool, ◌&&◌, not, nat_le, nat_lt, ◌==◌, List, [], ◌∷◌, length, map, Option, Some, None, if◌then◌else◌, slice_index_or}
+use Rattle.std.specs.Prelude.{ℕ, zero, suc, ◌≡◌, ◌+◌, ◌-◌, ◌<◌, ◌≤◌, ◌^◌, Bool, ◌&&◌, not, nat_le, nat_lt}
+use Rattle.std.specs.Prelude.{◌==◌, List, [], ◌∷◌, length, map, Option, Some, None, if◌then◌else◌}
+use Rattle.std.specs.Prelude.{slice_index_or}
 use Rattle.std.specs.List.{filter}
 use Rattle.std.specs.Option.{option_or}
 use Rattle.std.specs.Arc.{arc_value}
@@ -29,7 +31,9 @@ last_address r = r.start + r.size - 1
 
 -- the place of an address in one region
 abbrev pub place_in : Region → ℕ → Option Place
-place_in r a = if is_within r.start r.size a then Some (record { block = r.block; offset = a - r.start; io = None }) else None
+place_in r a =
+    if is_within r.start r.size a then Some (record { block = r.block; offset = a - r.start; io = None })
+    else None
 
 -- the place of an address
 unfoldable pub place : List Region → ℕ → Option Place
@@ -100,12 +104,15 @@ IsLayout (r ∷ rs) = (0 < r.size) × (r.start + r.size ≤ 2 ^ 64) × AllFrom (
 -- blocks of these lengths have the regions, each as long as its block
 abbrev pub AreHeld : List ℕ → List Region → Type 0
 AreHeld lengths [] = Unit {0}
-AreHeld lengths (r ∷ rs) = (r.block < length lengths) × (slice_index_or lengths r.block 0 ≡ r.size) × AreHeld lengths rs
+AreHeld lengths (r ∷ rs) =
+    (r.block < length lengths) × (slice_index_or lengths r.block 0 ≡ r.size) × AreHeld lengths rs
 
 -- the blocks of a host have the regions, each as long as its block
 abbrev pub HostHolds : Host → List Region → Type 0
 HostHolds h layout = AreHeld (lengths h) layout
 
--- a proof that a ghost member needs, of which nothing has to be believed: hosts of the same shape have the same regions
-pub held-same : (layout : List Region) (h g : Host) → shape g ≡ shape h → HostHolds h layout → HostHolds g layout
+-- a proof that a ghost member needs, of which nothing has to be believed: hosts of the same shape have the
+-- same regions
+pub held-same :
+    (layout : List Region) (h g : Host) → shape g ≡ shape h → HostHolds h layout → HostHolds g layout
 held-same layout h g same held = subst (λ l. AreHeld l layout) (sym (ap (λ s. s.block_lengths) same)) held

@@ -1,6 +1,7 @@
 -- What making blocks, regions and layouts answers, and what it leaves in the host.
 use Rattle.std.specs.Prelude.{◌≡◌, ℕ, ◌+◌, ◌<◌, ◌≤◌, ◌^◌, nat_le, nat_lt, Bool, true, false, ◌&&◌, ◌⊎◌}
-use Rattle.std.specs.Prelude.{List, [], ◌∷◌, ◌++◌, length, map, take, replicate, Option, Some, None, if◌then◌else◌, option_map, slice_get, Result, Ok, Err}
+use Rattle.std.specs.Prelude.{List, [], ◌∷◌, ◌++◌, length, map, take, replicate, Option, Some, None}
+use Rattle.std.specs.Prelude.{if◌then◌else◌, option_map, slice_get, Result, Ok, Err}
 use Rattle.std.specs.List.{list_all}
 use Rattle.vm_values.specs.declared.address.GuestAddress.{GuestAddress}
 use Rattle.vm_memory_core.specs.Host.{Block, Host, with_block, with_blocks}
@@ -9,7 +10,8 @@ use Rattle.std.specs.declared.vec.Vec.{Vec}
 use Rattle.vm_memory.specs.Layout.{Backing, Region, regions_of}
 use Rattle.vm_memory.specs.Collecting.{fault_of}
 use Rattle.vm_memory.specs.declared.error.FromRangesError.{FromRangesError}
-use Rattle.vm_memory.specs.declared.error.FromRangesError.TheVariants.{Collection, MmapRegion, InvalidGuestRegion, OutOfMemory}
+use Rattle.vm_memory.specs.declared.error.FromRangesError.TheVariants.{Collection, MmapRegion}
+use Rattle.vm_memory.specs.declared.error.FromRangesError.TheVariants.{InvalidGuestRegion, OutOfMemory}
 use Rattle.vm_memory.specs.declared.error.MmapRegionError.{MmapRegionError}
 use Rattle.vm_memory.specs.declared.error.MmapRegionError.TheVariants as mmap
 
@@ -22,8 +24,12 @@ abbrev pub grown : (ℕ → ℕ) → Host → ℕ → Host
 grown count h size = with_block h (zero_block count size)
 
 -- a new block of some size, which is not 0
-abbrev pub IsMapped : (count : ℕ → ℕ) → (before after : Host) → (size : ℕ) → Result Backing MmapRegionError → Type 0
-IsMapped count before after size (Ok m) = (0 < size) × (m ≡ record { size = size; block = length before.blocks }) × (after ≡ grown count before size)
+abbrev pub IsMapped :
+    (count : ℕ → ℕ) → (before after : Host) → (size : ℕ) → Result Backing MmapRegionError → Type 0
+IsMapped count before after size (Ok m) =
+    (0 < size)
+    × (m ≡ record { size = size; block = length before.blocks })
+    × (after ≡ grown count before size)
 IsMapped count before after size (Err mmap.Mmap) = (size ≡ 0) × (after ≡ before)
 IsMapped count before after size (Err mmap.OutOfMemory) = (0 < size) × (after ≡ before)
 
@@ -43,16 +49,24 @@ backing_over h b = not_empty (backing_at h b)
 
 -- the region over a block from an address on, if its last address fits 64 bits
 abbrev pub region_over : Backing → (base : ℕ) → Option Region
-region_over m base = if nat_le (base + m.size) (2 ^ 64) then Some (record { start = base; size = m.size; block = m.block }) else None
+region_over m base =
+    if nat_le (base + m.size) (2 ^ 64) then Some (record { start = base; size = m.size; block = m.block })
+    else None
 
--- one region over a new block; a size of 0 makes no block, and a last address past the greatest leaves the block in the host
-abbrev pub IsRegionMade : (count : ℕ → ℕ) → (before after : Host) → (base size : ℕ) → Result Region FromRangesError → Type 0
+-- one region over a new block; a size of 0 makes no block, and a last address past the greatest leaves the
+-- block in the host
+abbrev pub IsRegionMade :
+    (count : ℕ → ℕ) → (before after : Host) → (base size : ℕ) → Result Region FromRangesError → Type 0
 IsRegionMade count before after base size (Ok r) =
-    (0 < size) × (base + size ≤ 2 ^ 64) × (r ≡ record { start = base; size = size; block = length before.blocks }) × (after ≡ grown count before size)
+    (0 < size)
+    × (base + size ≤ 2 ^ 64)
+    × (r ≡ record { start = base; size = size; block = length before.blocks })
+    × (after ≡ grown count before size)
 IsRegionMade count before after base size (Err (Collection e)) = ⊥
 IsRegionMade count before after base size (Err (MmapRegion mmap.Mmap)) = (size ≡ 0) × (after ≡ before)
 IsRegionMade count before after base size (Err (MmapRegion mmap.OutOfMemory)) = ⊥
-IsRegionMade count before after base size (Err InvalidGuestRegion) = (0 < size) × (2 ^ 64 < base + size) × (after ≡ grown count before size)
+IsRegionMade count before after base size (Err InvalidGuestRegion) =
+    (0 < size) × (2 ^ 64 < base + size) × (after ≡ grown count before size)
 IsRegionMade count before after base size (Err OutOfMemory) = (0 < size) × (after ≡ before)
 
 -- a first address, and how many addresses: neither none of them, nor one past the greatest
@@ -62,7 +76,8 @@ is_good range = nat_lt 0 range.1 && nat_le (range.0.0 + range.1) (2 ^ 64)
 -- the regions of ranges, over the blocks from the n-th on
 abbrev pub regions_from : ℕ → List (GuestAddress × ℕ) → List Region
 regions_from n [] = []
-regions_from n (range ∷ rest) = record { start = range.0.0; size = range.1; block = n } ∷ regions_from (n + 1) rest
+regions_from n (range ∷ rest) =
+    record { start = range.0.0; size = range.1; block = n } ∷ regions_from (n + 1) rest
 
 -- the host with a new block for each of some ranges
 abbrev pub grown_by : (ℕ → ℕ) → Host → List (GuestAddress × ℕ) → Host
@@ -73,17 +88,25 @@ abbrev pub IsFirstBad : List (GuestAddress × ℕ) → (k : ℕ) → GuestAddres
 IsFirstBad ranges k bad = (list_all is_good (take k ranges) ≡ true) × (slice_get ranges k ≡ Some bad)
 
 -- the first k ranges are good, and the host has a new block for each
-abbrev pub AreBlocksMade : (count : ℕ → ℕ) → (before after : Host) → List (GuestAddress × ℕ) → (k : ℕ) → Type 0
-AreBlocksMade count before after ranges k = (list_all is_good (take k ranges) ≡ true) × (after ≡ grown_by count before (take k ranges))
+abbrev pub AreBlocksMade :
+    (count : ℕ → ℕ) → (before after : Host) → List (GuestAddress × ℕ) → (k : ℕ) → Type 0
+AreBlocksMade count before after ranges k =
+    (list_all is_good (take k ranges) ≡ true) × (after ≡ grown_by count before (take k ranges))
 
--- regions over new blocks, one for each range up to the first that is refused; their blocks stay in the host. An allocation may fail at a range that isn't empty, before its block is made or after
+-- regions over new blocks, one for each range up to the first that is refused; their blocks stay in the host.
+-- An allocation may fail at a range that isn't empty, before its block is made or after
 abbrev pub AreRegionsMade : (count : ℕ → ℕ) → (before after : Host) → List (GuestAddress × ℕ)
     → Result (List Region) FromRangesError → Type 0
 AreRegionsMade count before after ranges (Ok regions) =
-    (list_all is_good ranges ≡ true) × (regions ≡ regions_from (length before.blocks) ranges) × (after ≡ grown_by count before ranges)
+    (list_all is_good ranges ≡ true)
+    × (regions ≡ regions_from (length before.blocks) ranges)
+    × (after ≡ grown_by count before ranges)
 AreRegionsMade count before after ranges (Err (Collection e)) = ⊥
 AreRegionsMade count before after ranges (Err (MmapRegion mmap.Mmap)) =
-    (k : ℕ) × (bad : GuestAddress × ℕ) × IsFirstBad ranges k bad × (bad.1 ≡ 0) × (after ≡ grown_by count before (take k ranges))
+    (k : ℕ) × (bad : GuestAddress × ℕ)
+    × IsFirstBad ranges k bad
+    × (bad.1 ≡ 0)
+    × (after ≡ grown_by count before (take k ranges))
 AreRegionsMade count before after ranges (Err (MmapRegion mmap.OutOfMemory)) = ⊥
 AreRegionsMade count before after ranges (Err InvalidGuestRegion) =
     (k : ℕ) × (bad : GuestAddress × ℕ) × IsFirstBad ranges k bad × (2 ^ 64 < bad.0.0 + bad.1) × (0 < bad.1)
@@ -93,14 +116,17 @@ AreRegionsMade count before after ranges (Err OutOfMemory) =
     × (AreBlocksMade count before after ranges k ⊎ AreBlocksMade count before after ranges (k + 1))
 
 -- a layout of such regions, if there is no fault among them
-abbrev pub IsMadeOf : (count : ℕ → ℕ) → (before after : Host) → List (GuestAddress × ℕ) → Result (List Region) FromRangesError → Type 0
+abbrev pub IsMadeOf : (count : ℕ → ℕ) → (before after : Host) → List (GuestAddress × ℕ) →
+    Result (List Region) FromRangesError → Type 0
 IsMadeOf count before after ranges (Ok layout) =
     AreRegionsMade count before after ranges (Ok layout) × (fault_of layout ≡ None)
 IsMadeOf count before after ranges (Err (Collection e)) =
-    AreRegionsMade count before after ranges (Ok (regions_from (length before.blocks) ranges)) × (fault_of (regions_from (length before.blocks) ranges) ≡ Some e)
+    AreRegionsMade count before after ranges (Ok (regions_from (length before.blocks) ranges))
+    × (fault_of (regions_from (length before.blocks) ranges) ≡ Some e)
 IsMadeOf count before after ranges (Err e) = AreRegionsMade count before after ranges (Err e)
 
 -- shared regions, or why there are none
-abbrev pub shared_regions : {X Z W E : Type 0} → (X → Region) → Result (Vec (Arc X Z) W) E → Result (List Region) E
+abbrev pub shared_regions :
+    {X Z W E : Type 0} → (X → Region) → Result (Vec (Arc X Z) W) E → Result (List Region) E
 shared_regions region (Ok shared) = Ok (regions_of region shared.items)
 shared_regions region (Err e) = Err e

@@ -1,6 +1,7 @@
 -- Memory as a device sees it: each address is translated by itself.
 use Rattle.std.specs.Prelude.{ℕ, zero, suc, ◌+◌, ◌%◌, ◌^◌, ◌==◌, Bool, true, false, ◌&&◌, nat_lt}
-use Rattle.std.specs.Prelude.{List, [], ◌∷◌, ◌++◌, map, take, drop, Option, Some, None, if◌then◌else◌, unwrap_or, option_and_then, slice_get, is_some, option_map, Result, Ok, Err}
+use Rattle.std.specs.Prelude.{List, [], ◌∷◌, ◌++◌, map, take, drop, Option, Some, None, if◌then◌else◌}
+use Rattle.std.specs.Prelude.{unwrap_or, option_and_then, slice_get, is_some, option_map, Result, Ok, Err}
 use Rattle.std.specs.List.{list_all, zip}
 use Rattle.std.specs.Int.{Width, byte_len, from_le_bytes}
 use Rattle.vm_iotlb.specs.declared.permissions.Permissions.{Permissions}
@@ -15,7 +16,8 @@ use Rattle.vm_values.specs.declared.address.GuestAddress.{GuestAddress}
 use Rattle.vm_memory.specs.declared.error.GuestMemoryError.{GuestMemoryError}
 use Rattle.vm_memory.specs.declared.error.GuestMemoryError.TheVariants.{InvalidGuestAddress, PartialBuffer}
 
--- a host, a layout, the numbers of the device's table and of its set of I/O pages, and whether the table is used
+-- a host, a layout, the numbers of the device's table and of its set of I/O pages, and whether the table is
+-- used
 pub record Memory : Type 0 where
   pub host : Host
   pub layout : List Region
@@ -43,7 +45,9 @@ for_io set address (Some p) = Some (record p { io = Some (record { set = set; ad
 
 -- where an address is, for an access
 abbrev pub location : Memory → Permissions → ℕ → Option Place
-location m access a = if m.translates then for_io m.io_pages a (place_behind m.layout access (table_of m a)) else place m.layout a
+location m access a =
+    if m.translates then for_io m.io_pages a (place_behind m.layout access (table_of m a))
+    else place m.layout a
 
 -- n addresses from a on
 unfoldable pub addresses : ℕ → ℕ → List ℕ
@@ -94,7 +98,8 @@ memory_of h layout = record { host = h; layout = layout; table = 0; io_pages = 0
 
 -- a host under a layout behind an IOMMU that is on or off
 abbrev pub memory_behind : Host → List Region → (table set : ℕ) → (on : Bool) → Memory
-memory_behind h layout table set on = record { host = h; layout = layout; table = table; io_pages = set; translates = on }
+memory_behind h layout table set on =
+    record { host = h; layout = layout; table = table; io_pages = set; translates = on }
 
 -- a host under a layout, where a table is used, and writes mark a set of I/O pages
 abbrev pub io_memory : Host → List Region → (table set : ℕ) → Memory
@@ -107,13 +112,17 @@ io_location h layout table set access = location (io_memory h layout table set) 
 -- the places of some addresses, if each has one
 unfoldable pub located : (ℕ → Option Place) → List ℕ → Option (List Place)
 located where_is [] = Some []
-located where_is (a ∷ as') = option_and_then (λ p. option_map (λ ps. p ∷ ps) (located where_is as')) (where_is a)
+located where_is (a ∷ as') =
+    option_and_then (λ p. option_map (λ ps. p ∷ ps) (located where_is as')) (where_is a)
 
--- whether n addresses from a on may be looked at one by one: where they are translated, their end has to fit 64 bits and each to be mapped with the permission
+-- whether n addresses from a on may be looked at one by one: where they are translated, their end has to fit
+-- 64 bits and each to be mapped with the permission
 abbrev pub is_mapped : Memory → Permissions → (a n : ℕ) → Bool
-is_mapped m access a n = if m.translates then nat_lt (a + n) (2 ^ 64) && may_all (table_of m) access a n else true
+is_mapped m access a n =
+    if m.translates then nat_lt (a + n) (2 ^ 64) && may_all (table_of m) access a n else true
 
--- the places of n addresses from a on, for an access, if each has one; of addresses that aren't translated, 0 comes after the greatest
+-- the places of n addresses from a on, for an access, if each has one; of addresses that aren't translated, 0
+-- comes after the greatest
 abbrev pub places_from : Memory → Permissions → (a n : ℕ) → Option (List Place)
 places_from m access a n = if is_mapped m access a n then located (location m access) (circular a n) else None
 

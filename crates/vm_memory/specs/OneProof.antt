@@ -1,4 +1,5 @@
--- What blocks of some lengths hold has one proof, as a ghost field that keeps it needs. Nothing here has to be believed.
+-- What blocks of some lengths hold has one proof, as a ghost field that keeps it needs. Nothing here has to
+-- be believed.
 use Rattle.std.specs.Prelude.{ℕ, List, [], ◌∷◌}
 use Rattle.std.specs.Coded.{Unit-prop, le_prop}
 use Rattle.vm_memory.specs.Layout.{Region, AreHeld}

@@ -18,8 +18,10 @@ abbrev pub ReadsRange : Memory → (a n : ℕ) → (new : List ℕ) → Result B
 ReadsRange m a n new (Ok found) = IsTrue found → new ≡ map (byte m) (circular a n)
 ReadsRange m a n new (Err e) = Unit {0}
 
--- no windows of n addresses from a on are given, since they aren't mapped throughout; an allocation may fail to say that
+-- no windows of n addresses from a on are given, since they aren't mapped throughout; an allocation may fail
+-- to say that
 abbrev pub CannotGive : Memory → Permissions → (a n : ℕ) → GuestMemoryError → Type 0
-CannotGive m access a n (IommuError (CannotResolve range)) = (is_mapped m access a n ≡ false) × (range ≡ run_of a n)
+CannotGive m access a n (IommuError (CannotResolve range)) =
+    (is_mapped m access a n ≡ false) × (range ≡ run_of a n)
 CannotGive m access a n OutOfMemory = is_mapped m access a n ≡ false
 CannotGive m access a n _ = ⊥

@@ -18,11 +18,14 @@ offset_in r a = if is_within r.start r.size a then Some (record { 0 = a - r.star
 
 -- n bytes from an offset on, if the region has them
 abbrev pub window_in : Region → (offset n : ℕ) → Result Window GuestMemoryError
-window_in r o n = if nat_le (o + n) r.size then Ok (record { block = r.block; offset = o; len = n; io = None }) else Err InvalidBackendAddress
+window_in r o n =
+    if nat_le (o + n) r.size then Ok (record { block = r.block; offset = o; len = n; io = None })
+    else Err InvalidBackendAddress
 
 -- where the byte at an offset is, if the region has it
 abbrev pub host_address_in : Region → ℕ → Result HostAddress GuestMemoryError
-host_address_in r o = if nat_lt o r.size then Ok (record { block = r.block; offset = o }) else Err InvalidBackendAddress
+host_address_in r o =
+    if nat_lt o r.size then Ok (record { block = r.block; offset = o }) else Err InvalidBackendAddress
 
 -- all bytes of a region
 abbrev pub whole_of : Region → Window

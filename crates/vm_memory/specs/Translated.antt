@@ -1,5 +1,6 @@
 -- Memory behind a table: where I/O addresses are, and how long a window of them can be.
-use Rattle.std.specs.Prelude.{◌≡◌, ℕ, zero, suc, ◌+◌, ◌-◌, ◌<◌, ◌^◌, min, length, Bool, true, false, refl, List, [], ◌∷◌, Option, if◌then◌else◌, option_map, slice_get, map, unwrap_or}
+use Rattle.std.specs.Prelude.{◌≡◌, ℕ, zero, suc, ◌+◌, ◌-◌, ◌<◌, ◌^◌, min, length, Bool, true, false, refl}
+use Rattle.std.specs.Prelude.{List, [], ◌∷◌, Option, if◌then◌else◌, option_map, slice_get, map, unwrap_or}
 use Rattle.std.specs.Borrow.{Bor}
 use Rattle.vm_iotlb.specs.declared.permissions.Permissions.{Permissions}
 use Rattle.vm_iotlb.specs.declared.range.IotlbRange.{IotlbRange}
@@ -14,7 +15,8 @@ use Rattle.vm_memory.specs.Layout.{Region, HostHolds, held-same, left_at}
 use Rattle.vm_memory.specs.Memory.{for_io, place_behind, table_in}
 use Rattle.vm_memory.specs.Slices.{Slices}
 
--- the place of an I/O address, by a layout and a table, where the access is allowed; a write there marks the address's page in a set
+-- the place of an I/O address, by a layout and a table, where the access is allowed; a write there marks the
+-- address's page in a set
 abbrev pub translated : List Region → Table → (set : ℕ) → Permissions → ℕ → Option Place
 translated layout table set access a = for_io set a (place_behind layout access (table a))
 
@@ -23,21 +25,28 @@ unfoldable pub run_len : Table → (a n : ℕ) → ℕ
 run_len table a zero = 0
 run_len table a (suc n) = if go_together (table a) (table (a + 1)) then suc (run_len table (a + 1) n) else 1
 
--- how many I/O addresses from a on a window of them has at most: it ends with what is mapped as one, and with its region
+-- how many I/O addresses from a on a window of them has at most: it ends with what is mapped as one, and with
+-- its region
 abbrev pub translated_left : List Region → Table → ℕ → ℕ
 translated_left layout table a = min (run_len table a (2 ^ 64 - a)) (left_at layout (target_of (table a)))
 
--- n addresses from a on that end below 2^64 and are mapped with a permission, and the pieces that they are mapped to
+-- n addresses from a on that end below 2^64 and are mapped with a permission, and the pieces that they are
+-- mapped to
 abbrev pub AreMappedTo : Table → Permissions → (a n : ℕ) → List MappedRange → Type 0
-AreMappedTo table access a n mapped = (a + n < 2 ^ 64) × (may_all table access a n ≡ true) × (mapped ≡ pieces table a n)
+AreMappedTo table access a n mapped =
+    (a + n < 2 ^ 64) × (may_all table access a n ≡ true) × (mapped ≡ pieces table a n)
 
 -- what n addresses from a on are mapped to, piece by piece: a piece, if it isn't empty, and those that follow
 abbrev pub AreLeft : Table → (a n : ℕ) → MappedRange → List MappedRange → Type 0
-AreLeft table a n piece rest = (piece.base.0 + piece.length < 2 ^ 64) × (0 < piece.length → pieces table a n ≡ piece ∷ rest) × (piece.length ≡ 0 → pieces table a n ≡ rest)
+AreLeft table a n piece rest =
+    (piece.base.0 + piece.length < 2 ^ 64)
+    × (0 < piece.length → pieces table a n ≡ piece ∷ rest)
+    × (piece.length ≡ 0 → pieces table a n ≡ rest)
 
 -- some addresses that are mapped throughout, and what they are mapped to
 abbrev pub MappedLeft : Table → Permissions → (a n : ℕ) → MappedRange → List MappedRange → Type 0
-MappedLeft table access a n piece rest = (0 < n) × (a + n < 2 ^ 64) × (may_all table access a n ≡ true) × AreLeft table a n piece rest
+MappedLeft table access a n piece rest =
+    (0 < n) × (a + n < 2 ^ 64) × (may_all table access a n ≡ true) × AreLeft table a n piece rest
 
 -- windows of I/O addresses that are still to come
 pub record TranslatedSlices : Type 0 where
@@ -65,7 +74,8 @@ ranges_in h number = unwrap_or (slice_get h.tables number) []
 
 -- how many addresses from a on a window has at most, behind an IOMMU that is on or off
 abbrev pub left_behind : (on : Bool) → Host → List Region → (number : ℕ) → ℕ → ℕ
-left_behind on h layout number a = if on then translated_left layout (table_in h number) a else left_at layout a
+left_behind on h layout number a =
+    if on then translated_left layout (table_in h number) a else left_at layout a
 
 -- a host has the blocks of a layout, a table of this number and a set of I/O pages of that one
 abbrev pub HoldsBehind : Host → List Region → (number set : ℕ) → Type 0
@@ -75,8 +85,13 @@ HoldsBehind h layout number set = HostHolds h layout × (number < length h.table
 pub left-off : (on : Bool) (x y : ℕ) → on ≡ false → (if on then x else y) ≡ y
 left-off on x y off = rw off refl
 
-pub holds-same : (layout : List Region) (number set : ℕ) (h g : Host) → shape g ≡ shape h → HoldsBehind h layout number set → HoldsBehind g layout number set
+pub holds-same : (layout : List Region) (number set : ℕ) (h g : Host) → shape g ≡ shape h →
+    HoldsBehind h layout number set → HoldsBehind g layout number set
 holds-same layout number set h g same held =
     let tables : length g.tables ≡ length h.tables = ap (λ s. s.table_count) same in
-    let sets : length (map length g.io_marks) ≡ length (map length h.io_marks) = ap (λ s. length s.io_sizes) same in
-    (held-same layout h g same held.0, omega (arith, tables, held.1), omega (arith, sets, held.2, length-map g.io_marks length, length-map h.io_marks length))
+    let sets : length (map length g.io_marks) ≡ length (map length h.io_marks) =
+    ap (λ s. length s.io_sizes) same in (
+      held-same layout h g same held.0,
+      omega (arith, tables, held.1),
+      omega (arith, sets, held.2, length-map g.io_marks length, length-map h.io_marks length),
+    )

@@ -73,7 +73,8 @@ pub trait GuestMemoryBackend {
     /// The region that has an address, and the address's offset there.
     #[inline]
     final fn to_region_addr(&self, addr: GuestAddress) -> Option<(&Self::R, MemoryRegionAddress)>
-        ensures { option_map (λ p. (Self.R.region p.0.now, p.1.0)) result ≡ region_and_offset (layout self.now) addr.0 }
+        ensures { option_map (λ p. (Self.R.region p.0.now, p.1.0)) result
+            ≡ region_and_offset (layout self.now) addr.0 }
     {
         match self.find_region(addr) {
             Some(region) => {
@@ -114,8 +115,8 @@ pub trait GuestMemoryBackend {
         }
     }
 
-    /// The window of `count` bytes from an address on, if its region has them: else InvalidGuestAddress if no region
-    /// has the address, or InvalidBackendAddress.
+    /// The window of `count` bytes from an address on, if its region has them: else InvalidGuestAddress if no
+    /// region has the address, or InvalidBackendAddress.
     #[inline]
     final fn get_slice(
         &self,

@@ -7,7 +7,8 @@ ghost use Rattle.vm_memory_core.specs.Window.{LiesIn};
 ghost use Rattle.vm_memory.specs.Bytes.{reached_by, reached_in};
 ghost use Rattle.vm_memory.specs.ReachedBytesProof.{length-reached_by, length-reached_in};
 ghost use Rattle.vm_memory.specs.Regions.{whole_of};
-ghost use Rattle.vm_memory.specs.declared.error.GuestMemoryError.TheVariants.{InvalidGuestAddress, PartialBuffer};
+ghost use Rattle.vm_memory.specs.declared.error.GuestMemoryError.TheVariants.{InvalidGuestAddress};
+ghost use Rattle.vm_memory.specs.declared.error.GuestMemoryError.TheVariants.{PartialBuffer};
 
 use crate::collection::GuestRegionCollection;
 use crate::error::GuestMemoryError;
@@ -73,7 +74,9 @@ pub(crate) fn some_of(
     asked: usize,
     completed: usize,
 ) -> Result<usize, GuestMemoryError>
-    ensures { result ≡ (if asked == 0 then Ok 0 else if completed == 0 then Err (InvalidGuestAddress addr) else Ok completed) }
+    ensures { result ≡ (if asked == 0 then Ok 0
+        else if completed == 0 then Err (InvalidGuestAddress addr)
+        else Ok completed) }
 {
     if asked == 0 {
         Ok(0)

@@ -1,12 +1,15 @@
 //! Regions that ascend and have no address in common (vm-memory's `GuestRegionCollection`).
 
-ghost use Rattle.std.specs.Prelude.{◌≡◌, ◌+◌, ◌-◌, ◌<◌, ◌≤◌, [], length, map, option_map, slice_get, Some, None, IfOk, OnErr};
+ghost use Rattle.std.specs.Prelude.{◌≡◌, ◌+◌, ◌-◌, ◌<◌, ◌≤◌, [], length, map, option_map, slice_get, Some};
+ghost use Rattle.std.specs.Prelude.{None, IfOk, OnErr};
 ghost use Rattle.std.specs.Bool.{OnFalse, OnTrue};
 ghost use Rattle.std.specs.List.{list_any};
 ghost use Rattle.std.specs.Arc.{arc_value};
 ghost use Rattle.memory_requests.specs.Refused.{MemoryWasRefused};
-ghost use Rattle.vm_memory.specs.Layout.{Region, end_at, overlap, region_at, start_at, regions_of, IsLawful, IsLayout};
-ghost use Rattle.vm_memory.specs.Collecting.{fault_between, fault_of, unless, with_removed, Collects, Inserts, RegionsWereRefused, Removes};
+ghost use Rattle.vm_memory.specs.Layout.{Region, end_at, overlap, region_at, start_at, regions_of, IsLawful};
+ghost use Rattle.vm_memory.specs.Layout.{IsLayout};
+ghost use Rattle.vm_memory.specs.Collecting.{fault_between, fault_of, unless, with_removed, Collects};
+ghost use Rattle.vm_memory.specs.Collecting.{Inserts, RegionsWereRefused, Removes};
 
 use crate::error::GuestRegionCollectionError;
 use crate::region::GuestMemoryRegion;
@@ -16,8 +19,8 @@ use std::marker::Model;
 use std::sync::Arc;
 use vm_memory_core::{GuestAddress, GuestUsize};
 
-/// The regions of a guest's physical memory, by ascending address (vm-memory's `GuestRegionCollection`). Collections
-/// share their regions.
+/// The regions of a guest's physical memory, by ascending address (vm-memory's `GuestRegionCollection`).
+/// Collections share their regions.
 #[derive(Drop)]
 pub struct GuestRegionCollection<R: GuestMemoryRegion> {
     alloc: Global,
@@ -46,8 +49,9 @@ impl<R: GuestMemoryRegion> GuestRegionCollection<R> {
         }
     }
 
-    /// Some regions, which have to ascend and to have no address in common: else NoMemoryRegion, UnsortedMemoryRegions
-    /// or MemoryRegionOverlap, or OutOfMemory (vm-memory's `GuestRegionCollection::from_regions`).
+    /// Some regions, which have to ascend and to have no address in common: else NoMemoryRegion,
+    /// UnsortedMemoryRegions or MemoryRegionOverlap, or OutOfMemory (vm-memory's
+    /// `GuestRegionCollection::from_regions`).
     pub fn from_regions(
         alloc: Global,
         regions: Vec<R>,
@@ -63,13 +67,14 @@ impl<R: GuestMemoryRegion> GuestRegionCollection<R> {
         }
     }
 
-    /// The same of regions that others may share: NoMemoryRegion, UnsortedMemoryRegions or MemoryRegionOverlap. No
-    /// memory is taken (vm-memory's `GuestRegionCollection::from_arc_regions`).
+    /// The same of regions that others may share: NoMemoryRegion, UnsortedMemoryRegions or
+    /// MemoryRegionOverlap. No memory is taken (vm-memory's `GuestRegionCollection::from_arc_regions`).
     pub fn from_arc_regions(
         alloc: Global,
         regions: Vec<Arc<R>>,
     ) -> Result<GuestRegionCollection<R>, GuestRegionCollectionError>
-        ensures { result ≡ unless (fault_of (regions_of R.region regions.items)) (regions_of R.region regions.items) }
+        ensures { result
+            ≡ unless (fault_of (regions_of R.region regions.items)) (regions_of R.region regions.items) }
     {
         match fault_among(&regions) {
             None => Ok(GuestRegionCollection { alloc, regions }),
@@ -77,8 +82,8 @@ impl<R: GuestMemoryRegion> GuestRegionCollection<R> {
         }
     }
 
-    /// The regions and one more, if it has no address in common with any that is there: else MemoryRegionOverlap, or
-    /// OutOfMemory (vm-memory's `GuestRegionCollection::insert_region`).
+    /// The regions and one more, if it has no address in common with any that is there: else
+    /// MemoryRegionOverlap, or OutOfMemory (vm-memory's `GuestRegionCollection::insert_region`).
     pub fn insert_region(
         &self,
         region: Arc<R>,
@@ -104,14 +109,15 @@ impl<R: GuestMemoryRegion> GuestRegionCollection<R> {
         })
     }
 
-    // Whether one of the regions has an address from one to another; `at` of them begin at the first address or below
-    // it.
+    // Whether one of the regions has an address from one to another; `at` of them begin at the first address
+    // or below it.
     fn collides(&self, at: usize, start: u64, last: u64) -> bool
         requires order { start ≤ last }
         requires most { at ≤ length self.now }
         requires below { 0 < at → start_at self.now (at - 1) ≤ start }
         requires above { at < length self.now → start < start_at self.now at }
-        ensures { result ≡ list_any (overlap (record { start = start; size = last - start + 1; block = 0 })) self.now }
+        ensures { result
+            ≡ list_any (overlap (record { start = start; size = last - start + 1; block = 0 })) self.now }
     {
         if self.ends_past(at, start) {
             return true;

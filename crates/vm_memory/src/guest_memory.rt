@@ -7,7 +7,8 @@ ghost use Rattle.vm_memory_core.specs.Host.{shape};
 ghost use Rattle.vm_memory_core.specs.Window.{LiesIn};
 ghost use Rattle.vm_memory.specs.Layout.{left_at, place, AreHeld, HostHolds};
 ghost use Rattle.vm_memory.specs.Making.{shared_regions, AreRegionsMade, IsMadeOf};
-ghost use Rattle.vm_memory.specs.Memory.{memory_of, circular, located, reached, read_first, stored_first, transferred};
+ghost use Rattle.vm_memory.specs.Memory.{memory_of, circular, located, reached, read_first, stored_first};
+ghost use Rattle.vm_memory.specs.Memory.{transferred};
 ghost use Rattle.vm_memory.specs.Slices.{AddsLongest, IsWindowAt, Joins, StayIn};
 
 use crate::collection::GuestRegionCollection;
@@ -23,9 +24,9 @@ use vm_memory_core::{GuestAddress, HostBlocks, HostMemory, NewBitmap, VolatileSl
 pub type GuestMemoryMmap = GuestRegionCollection<GuestRegionMmap>;
 
 impl GuestRegionCollection<GuestRegionMmap> {
-    /// Memory of the regions that begin at these addresses and have these sizes, each over a new block (vm-memory's
-    /// `GuestMemoryMmap::from_ranges`). Blocks that were made before a refusal stay in the host: MmapRegion,
-    /// InvalidGuestRegion, Collection or OutOfMemory.
+    /// Memory of the regions that begin at these addresses and have these sizes, each over a new block
+    /// (vm-memory's `GuestMemoryMmap::from_ranges`). Blocks that were made before a refusal stay in the host:
+    /// MmapRegion, InvalidGuestRegion, Collection or OutOfMemory.
     pub fn from_ranges<B: NewBitmap>(
         alloc: Global,
         host: &mut HostMemory<B>,
@@ -97,24 +98,29 @@ impl<R: GuestMemoryRegion> GuestRegionCollection<R> {
         done
     }
 
-    /// Whether each of `len` physical addresses from one on has a place, where 0 comes after the greatest address.
+    /// Whether each of `len` physical addresses from one on has a place, where 0 comes after the greatest
+    /// address.
     pub fn has_range(&self, addr: GuestAddress, len: usize) -> bool
         ensures { result ≡ list_all (λ a. is_some (place self.now a)) (circular addr.0 len) }
     {
         self.reached_len(addr.0, len) == len
     }
 
-    // Adds the windows of `len` physical addresses from one on, joined, or answers that one of them has no place, where
-    // 0 comes after the greatest address.
+    // Adds the windows of `len` physical addresses from one on, joined, or answers that one of them has no
+    // place, where 0 comes after the greatest address.
     pub(crate) fn push_physical<const N: usize>(
         &self,
         addr: GuestAddress,
         len: usize,
         windows: &mut SmallVec<VolatileSlice, N>,
     ) -> Result<bool, AllocError>
-        ensures found { Joins windows.old.items windows.new.items (located (place self.now) (circular addr.0 len)) result }
-        ensures longest { AddsLongest (left_at self.now) (circular addr.0 len) windows.old.items windows.new.items }
-        ensures held { (lengths : List ℕ) → AreHeld lengths self.now → StayIn lengths windows.old.items windows.new.items }
+        ensures found { Joins windows.old.items windows.new.items
+            (located (place self.now) (circular addr.0 len)) result }
+        ensures longest { AddsLongest (left_at self.now) (circular addr.0 len) windows.old.items
+            windows.new.items }
+        ensures held { (lengths : List ℕ)
+            → AreHeld lengths self.now
+            → StayIn lengths windows.old.items windows.new.items }
         ensures lacking { OnErr result (windows.old.capacity ≤ length windows.new.items) }
     {
         let mut done = 0;
@@ -132,7 +138,8 @@ impl<R: GuestMemoryRegion> GuestRegionCollection<R> {
     pub(crate) fn read_some<H: HostBlocks>(&self, host: &H, buffer: &mut [u8], addr: u64) -> usize
         requires { HostHolds (H.host host.now) self.now }
         ensures count { result ≡ reached (place self.now) (circular addr (length buffer.old)) }
-        ensures bytes { buffer.new ≡ read_first (memory_of (H.host host.now) self.now) (circular addr (length buffer.old)) result buffer.old }
+        ensures bytes { buffer.new ≡ read_first (memory_of (H.host host.now) self.now)
+            (circular addr (length buffer.old)) result buffer.old }
     {
         let mut done = 0;
         while done < buffer.len() {
@@ -171,8 +178,9 @@ impl<R: GuestMemoryRegion> GuestRegionCollection<R> {
         done
     }
 
-    /// Reads a buffer full of bytes from an address on, where 0 comes after the greatest address. Where fewer are
-    /// there, these are read: PartialBuffer, or InvalidGuestAddress if none is (vm-memory's `Bytes::read_slice`).
+    /// Reads a buffer full of bytes from an address on, where 0 comes after the greatest address. Where fewer
+    /// are there, these are read: PartialBuffer, or InvalidGuestAddress if none is (vm-memory's
+    /// `Bytes::read_slice`).
     pub fn read_slice<B: NewBitmap>(
         &self,
         host: &HostMemory<B>,
@@ -180,17 +188,19 @@ impl<R: GuestMemoryRegion> GuestRegionCollection<R> {
         addr: GuestAddress,
     ) -> Result<(), GuestMemoryError>
         requires { HostHolds host.now self.now }
-        ensures result { result ≡ transferred addr (length buffer.old) (reached (place self.now) (circular addr.0 (length buffer.old))) }
+        ensures result { result ≡ transferred addr (length buffer.old)
+            (reached (place self.now) (circular addr.0 (length buffer.old))) }
         ensures bytes { let all = circular addr.0 (length buffer.old) in
-            buffer.new ≡ read_first (memory_of host.now self.now) all (reached (place self.now) all) buffer.old }
+            buffer.new ≡ read_first (memory_of host.now self.now) all (reached (place self.now) all)
+            buffer.old }
     {
         let completed = self.read_some(host, buffer, addr.0);
         outcome(addr, buffer.len(), completed)
     }
 
-    /// Writes bytes from an address on, where 0 comes after the greatest address, and marks their pages. Where fewer
-    /// have a place, these are written: PartialBuffer, or InvalidGuestAddress if none has (vm-memory's
-    /// `Bytes::write_slice`).
+    /// Writes bytes from an address on, where 0 comes after the greatest address, and marks their pages.
+    /// Where fewer have a place, these are written: PartialBuffer, or InvalidGuestAddress if none has
+    /// (vm-memory's `Bytes::write_slice`).
     pub fn write_slice<B: NewBitmap>(
         &self,
         host: &mut HostMemory<B>,
@@ -198,7 +208,8 @@ impl<R: GuestMemoryRegion> GuestRegionCollection<R> {
         addr: GuestAddress,
     ) -> Result<(), GuestMemoryError>
         requires { HostHolds host.old self.now }
-        ensures result { result ≡ transferred addr (length bytes.now) (reached (place self.now) (circular addr.0 (length bytes.now))) }
+        ensures result { result ≡ transferred addr (length bytes.now)
+            (reached (place self.now) (circular addr.0 (length bytes.now))) }
         ensures stored { let all = circular addr.0 (length bytes.now) in
             memory_of host.new self.now
             ≡ stored_first (memory_of host.old self.now) all (reached (place self.now) all) bytes.now }

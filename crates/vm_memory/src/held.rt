@@ -26,7 +26,8 @@ impl<R: GuestMemoryRegion> HeldIn for GuestRegionCollection<R> {
 // Whether a host has the block of a region, with its length.
 fn has_block<H: HostBlocks, R: GuestMemoryRegion>(h: &H, region: &R) -> bool
     ensures { IsTrue result ↔ (((R.region region.now).block < length (lengths (H.host h.now)))
-        × (slice_index_or (lengths (H.host h.now)) (R.region region.now).block 0 ≡ (R.region region.now).size)) }
+        × (slice_index_or (lengths (H.host h.now)) (R.region region.now).block 0
+        ≡ (R.region region.now).size)) }
 {
     let size = region.len();
     match region.get_host_address(MemoryRegionAddress(0)) {

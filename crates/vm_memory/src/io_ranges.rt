@@ -7,7 +7,8 @@ ghost use Rattle.vm_memory_core.specs.Host.{lengths, shape};
 ghost use Rattle.vm_memory_core.specs.Window.{LiesIn, Stores};
 ghost use Rattle.vm_memory.specs.Bytes.{places_at};
 ghost use Rattle.vm_memory.specs.Layout.{AreHeld};
-ghost use Rattle.vm_memory.specs.Memory.{circular, io_location, io_memory, located, reached, read_first, table_in};
+ghost use Rattle.vm_memory.specs.Memory.{circular, io_location, io_memory, located, reached, read_first};
+ghost use Rattle.vm_memory.specs.Memory.{table_in};
 ghost use Rattle.vm_memory.specs.Slices.{AddsLongest, IsWindowAt, Joins, StayIn};
 ghost use Rattle.vm_memory.specs.Translated.{AreMappedTo, translated_left};
 
@@ -29,11 +30,17 @@ pub(crate) fn io_window<M: GuestMemoryBackend, B: NewBitmap>(
     addr: u64,
     most: usize,
 ) -> Option<VolatileSlice>
-    requires { (0 < most) × (addr + most < 2 ^ 64) × (may_all (table_in h.now table) access addr most ≡ true) }
+    requires { (0 < most)
+        × (addr + most < 2 ^ 64)
+        × (may_all (table_in h.now table) access addr most ≡ true) }
     ensures none { result ≡ None → io_location h.now (M.layout backend.now) table set access addr ≡ None }
-    ensures some { IfSome result (IsWindowAt (io_location h.now (M.layout backend.now) table set access) addr most) }
-    ensures longest { IfSome result (λ w. w.len ≡ min most (translated_left (M.layout backend.now) (table_in h.now table) addr)) }
-    ensures held { (lengths : List ℕ) → AreHeld lengths (M.layout backend.now) → IfSome result (LiesIn lengths) }
+    ensures some { IfSome result
+        (IsWindowAt (io_location h.now (M.layout backend.now) table set access) addr most) }
+    ensures longest { IfSome result
+        (λ w. w.len ≡ min most (translated_left (M.layout backend.now) (table_in h.now table) addr)) }
+    ensures held { (lengths : List ℕ)
+        → AreHeld lengths (M.layout backend.now)
+        → IfSome result (LiesIn lengths) }
 {
     let Some(table) = h.table(table) else {
         return None;
@@ -53,7 +60,8 @@ pub(crate) fn io_reached<M: GuestMemoryBackend, H: HostBlocks>(
     mapped: IotlbIterator<'_>,
 ) -> usize
     requires { AreMappedTo (table_in (H.host h.now) table) access addr len mapped }
-    ensures { result ≡ reached (io_location (H.host h.now) (M.layout backend.now) table set access) (circular addr len) }
+    ensures { result ≡ reached (io_location (H.host h.now) (M.layout backend.now) table set access)
+        (circular addr len) }
 {
     let _ = h;
     let _ = table;
@@ -82,11 +90,14 @@ pub(crate) fn push_io<M: GuestMemoryBackend, H: HostBlocks>(
     windows: &mut Windows,
 ) -> Result<bool, AllocError>
     requires { AreMappedTo (table_in (H.host h.now) table) access addr len mapped }
-    ensures found { let found = located (io_location (H.host h.now) (M.layout backend.now) table set access) (circular addr len) in
+    ensures found { let found = located (io_location (H.host h.now) (M.layout backend.now) table set access)
+        (circular addr len) in
         Joins windows.old.items windows.new.items found result }
     ensures longest { let longest = translated_left (M.layout backend.now) (table_in (H.host h.now) table) in
         AddsLongest longest (circular addr len) windows.old.items windows.new.items }
-    ensures held { (lengths : List ℕ) → AreHeld lengths (M.layout backend.now) → StayIn lengths windows.old.items windows.new.items }
+    ensures held { (lengths : List ℕ)
+        → AreHeld lengths (M.layout backend.now)
+        → StayIn lengths windows.old.items windows.new.items }
     ensures lacking { OnErr result (windows.old.capacity ≤ length windows.new.items) }
 {
     let _ = h;
@@ -116,8 +127,10 @@ pub(crate) fn read_io<M: GuestMemoryBackend, H: HostBlocks>(
 ) -> usize
     requires held { AreHeld (lengths (H.host h.now)) (M.layout backend.now) }
     requires mapped { AreMappedTo (table_in (H.host h.now) table) Read addr (length buffer.old) mapped }
-    ensures count { result ≡ reached (io_location (H.host h.now) (M.layout backend.now) table set Read) (circular addr (length buffer.old)) }
-    ensures bytes { buffer.new ≡ read_first (io_memory (H.host h.now) (M.layout backend.now) table set) (circular addr (length buffer.old)) result buffer.old }
+    ensures count { result ≡ reached (io_location (H.host h.now) (M.layout backend.now) table set Read)
+        (circular addr (length buffer.old)) }
+    ensures bytes { buffer.new ≡ read_first (io_memory (H.host h.now) (M.layout backend.now) table set)
+        (circular addr (length buffer.old)) result buffer.old }
 {
     let _ = table;
     let mut left = PiecesLeft::new(mapped);
@@ -141,10 +154,13 @@ pub(crate) fn write_io<M: GuestMemoryBackend, B: NewBitmap>(
     bytes: &[u8],
     addr: u64,
 ) -> usize
-    requires { (addr + length bytes.now < 2 ^ 64) × (may_all (table_in h.old table) Write addr (length bytes.now) ≡ true)
+    requires { (addr + length bytes.now < 2 ^ 64)
+        × (may_all (table_in h.old table) Write addr (length bytes.now) ≡ true)
         × AreHeld (lengths h.old) (M.layout backend.now) }
-    ensures count { result ≡ reached (io_location h.old (M.layout backend.now) table set Write) (circular addr (length bytes.now)) }
-    ensures stored { let places = places_at (io_location h.old (M.layout backend.now) table set Write) (circular addr (length bytes.now)) in
+    ensures count { result ≡ reached (io_location h.old (M.layout backend.now) table set Write)
+        (circular addr (length bytes.now)) }
+    ensures stored { let places = places_at (io_location h.old (M.layout backend.now) table set Write)
+        (circular addr (length bytes.now)) in
         Stores h.old h.new places bytes.now }
     ensures shape { shape h.new ≡ shape h.old }
 {

@@ -18,8 +18,8 @@ pub trait Iommu {
         ensures { result ≡ number self.now };
 
     /// What `length` I/O addresses are mapped to, as long pieces as can be (vm-memory's `Iommu::translate`);
-    /// CannotResolve with the asked range if not each is mapped with the permission, or if its end doesn't fit.
-    /// Only one that fails takes memory, and answers OutOfMemory if there is none.
+    /// CannotResolve with the asked range if not each is mapped with the permission, or if its end doesn't
+    /// fit. Only one that fails takes memory, and answers OutOfMemory if there is none.
     fn translate<'a, H: HostBlocks>(
         &self,
         h: &'a H,
@@ -30,7 +30,8 @@ pub trait Iommu {
         ensures { Translates (table_in (H.host h.now) (number self.now)) iova.0 length access result };
 }
 
-/// The plain `Iommu`: all that it knows is the number of its table in the host. A table that isn't there maps nothing.
+/// The plain `Iommu`: all that it knows is the number of its table in the host. A table that isn't there maps
+/// nothing.
 #[derive(Clone, Copy, Debug, PartialEq, Eq)]
 pub struct TableIommu {
     table: usize,

@@ -34,9 +34,12 @@ impl<R: GuestMemoryRegion, I: Iommu + Drop> IommuMemory<GuestRegionCollection<R>
         count: usize,
         access: Permissions,
     ) -> Result<IotlbIterator<'a>, GuestMemoryError>
-        ensures pieces { IfOk result (λ all. self.now.use_iommu ≡ true → all ≡ pieces (table_in h.now (I.number self.now.iommu)) addr.0 count) }
-        ensures mapped { IfOk result (λ _. is_mapped (seen_through I.number self.now h.now) access addr.0 count ≡ true) }
-        ensures refused { IfErr result (CannotGive (seen_through I.number self.now h.now) access addr.0 count) }
+        ensures pieces { IfOk result (λ all. self.now.use_iommu ≡ true
+            → all ≡ pieces (table_in h.now (I.number self.now.iommu)) addr.0 count) }
+        ensures mapped { IfOk result
+            (λ _. is_mapped (seen_through I.number self.now h.now) access addr.0 count ≡ true) }
+        ensures refused { IfErr result
+            (CannotGive (seen_through I.number self.now h.now) access addr.0 count) }
     {
         if !self.get_iommu_enabled() {
             return Ok(IotlbIterator::default());
@@ -56,8 +59,10 @@ impl<R: GuestMemoryRegion, I: Iommu + Drop> IommuMemory<GuestRegionCollection<R>
         count: usize,
         access: Permissions,
     ) -> Result<(), GuestMemoryError>
-        ensures mapped { IfOk result (λ _. is_mapped (seen_through I.number self.now h.now) access addr.0 count ≡ true) }
-        ensures refused { IfErr result (CannotGive (seen_through I.number self.now h.now) access addr.0 count) }
+        ensures mapped { IfOk result
+            (λ _. is_mapped (seen_through I.number self.now h.now) access addr.0 count ≡ true) }
+        ensures refused { IfErr result
+            (CannotGive (seen_through I.number self.now h.now) access addr.0 count) }
     {
         match self.translate(h, addr, count, access) {
             Ok(_) => Ok(()),
@@ -73,11 +78,15 @@ impl<R: GuestMemoryRegion, I: Iommu + Drop> IommuMemory<GuestRegionCollection<R>
         addr: GuestAddress,
         mapped: IotlbIterator<'_>,
     ) -> usize
-        requires pieces { self.now.use_iommu ≡ true → mapped ≡ pieces (table_in h.now (I.number self.now.iommu)) addr.0 (length buffer.old) }
+        requires pieces { self.now.use_iommu ≡ true
+            → mapped ≡ pieces (table_in h.now (I.number self.now.iommu)) addr.0 (length buffer.old) }
         requires held { HostHolds h.now self.now.backend }
-        requires mapped { is_mapped (seen_through I.number self.now h.now) Read addr.0 (length buffer.old) ≡ true }
-        ensures count { result ≡ reached (location (seen_through I.number self.now h.now) Read) (circular addr.0 (length buffer.old)) }
-        ensures bytes { buffer.new ≡ read_first (seen_through I.number self.now h.now) (circular addr.0 (length buffer.old)) result buffer.old }
+        requires mapped { is_mapped (seen_through I.number self.now h.now) Read addr.0 (length buffer.old)
+            ≡ true }
+        ensures count { result ≡ reached (location (seen_through I.number self.now h.now) Read)
+            (circular addr.0 (length buffer.old)) }
+        ensures bytes { buffer.new ≡ read_first (seen_through I.number self.now h.now)
+            (circular addr.0 (length buffer.old)) result buffer.old }
     {
         let backend = self.get_backend();
         if self.get_iommu_enabled() {
@@ -103,8 +112,10 @@ impl<R: GuestMemoryRegion, I: Iommu + Drop> IommuMemory<GuestRegionCollection<R>
         addr: GuestAddress,
     ) -> usize
         requires held { HostHolds h.old self.now.backend }
-        requires mapped { is_mapped (seen_through I.number self.now h.old) Write addr.0 (length bytes.now) ≡ true }
-        ensures count { result ≡ reached (location (seen_through I.number self.now h.old) Write) (circular addr.0 (length bytes.now)) }
+        requires mapped { is_mapped (seen_through I.number self.now h.old) Write addr.0 (length bytes.now)
+            ≡ true }
+        ensures count { result ≡ reached (location (seen_through I.number self.now h.old) Write)
+            (circular addr.0 (length bytes.now)) }
         ensures stored { let m = seen_through I.number self.now h.old in
             Stores h.old h.new (places_at (location m Write) (circular addr.0 (length bytes.now))) bytes.now }
         ensures shape { shape h.new ≡ shape h.old }
@@ -125,8 +136,8 @@ impl<R: GuestMemoryRegion, I: Iommu + Drop> IommuMemory<GuestRegionCollection<R>
     }
 }
 
-/// A guest's bytes by their address: while the IOMMU is on, a range that isn't mapped throughout is refused before any
-/// byte moves; while it is off, 0 comes after the greatest address.
+/// A guest's bytes by their address: while the IOMMU is on, a range that isn't mapped throughout is refused
+/// before any byte moves; while it is off, 0 comes after the greatest address.
 impl<R: GuestMemoryRegion, I: Iommu + Drop> Bytes<GuestAddress>
     for IommuMemory<GuestRegionCollection<R>, I> {
     type E = GuestMemoryError;

@@ -17,8 +17,8 @@ use crate::slice_iterator::GuestMemoryBackendSliceIterator;
 use std::alloc::{AllocError, Global};
 use vm_memory_core::{GuestAddress, HeldIn, HostBlocks, IommuError, Permissions, Windows};
 
-/// A backend behind an IOMMU, which a device uses by I/O addresses while the IOMMU is on, and by physical ones while it
-/// is off (vm-memory's `IommuMemory`).
+/// A backend behind an IOMMU, which a device uses by I/O addresses while the IOMMU is on, and by physical
+/// ones while it is off (vm-memory's `IommuMemory`).
 #[derive(Drop)]
 pub struct IommuMemory<M: GuestMemoryBackend + Drop, I: Iommu + Drop> {
     alloc: Global,
@@ -29,8 +29,8 @@ pub struct IommuMemory<M: GuestMemoryBackend + Drop, I: Iommu + Drop> {
 }
 
 impl<M: GuestMemoryBackend + Drop, I: Iommu + Drop> IommuMemory<M, I> {
-    /// A backend behind an IOMMU that is on or off, and the number of the set of I/O pages that writes mark while it is
-    /// on.
+    /// A backend behind an IOMMU that is on or off, and the number of the set of I/O pages that writes mark
+    /// while it is on.
     pub fn new(
         alloc: Global,
         backend: M,
@@ -52,8 +52,8 @@ impl<M: GuestMemoryBackend + Drop, I: Iommu + Drop> IommuMemory<M, I> {
         }
     }
 
-    /// The number of the set of I/O pages, of 4096 addresses each, that writes mark while the IOMMU is on (vm-memory's
-    /// `IommuMemory::bitmap`).
+    /// The number of the set of I/O pages, of 4096 addresses each, that writes mark while the IOMMU is on
+    /// (vm-memory's `IommuMemory::bitmap`).
     pub fn bitmap(&self) -> usize
         ensures { result ≡ self.now.io_bitmap }
     {

@@ -14,8 +14,8 @@ use crate::translated::translated_window;
 use std::marker::Model;
 use vm_memory_core::{GuestAddress, HostBlocks, Iotlb, Permissions, VolatileSlice};
 
-/// The windows of I/O addresses that follow one another and are mapped throughout, up to the first that is mapped to an
-/// address without a place, whose error ends them (vm-memory's `IommuMemorySliceIterator`).
+/// The windows of I/O addresses that follow one another and are mapped throughout, up to the first that is
+/// mapped to an address without a place, whose error ends them (vm-memory's `IommuMemorySliceIterator`).
 #[derive(Drop)]
 pub struct IommuMemorySliceIterator<'a, M: GuestMemoryBackend> {
     backend: &'a M,
@@ -43,12 +43,13 @@ impl<'a, M: GuestMemoryBackend> Model for IommuMemorySliceIterator<'a, M> {
       left = circular i.addr i.count;
     } };
 
-    ghost invariant = { λ i. (i.addr + i.count < 2 ^ 64) × (may_all (table_kept (ranges_of i.table)) i.access i.addr i.count ≡ true) };
+    ghost invariant = { λ i. (i.addr + i.count < 2 ^ 64)
+        × (may_all (table_kept (ranges_of i.table)) i.access i.addr i.count ≡ true) };
 }
 
 impl<'a, M: GuestMemoryBackend> IommuMemorySliceIterator<'a, M> {
-    // The windows of `count` addresses from one on, which a table of the host maps throughout; writes of them mark a
-    // set of I/O pages.
+    // The windows of `count` addresses from one on, which a table of the host maps throughout; writes of them
+    // mark a set of I/O pages.
     pub(crate) fn new<H: HostBlocks>(
         backend: &'a M,
         h: &'a H,

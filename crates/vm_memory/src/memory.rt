@@ -1,13 +1,15 @@
 //! Guest memory as a device reaches it (vm-memory's `GuestMemory`).
 
-ghost use Rattle.std.specs.Prelude.{◌≡◌, ◌≤◌, ◌⊎◌, ℕ, List, length, false, true, option_map, IfOk, IfErr, OnErr, Result, refl};
+ghost use Rattle.std.specs.Prelude.{◌≡◌, ◌≤◌, ◌⊎◌, ℕ, List, length, false, true, option_map, IfOk, IfErr};
+ghost use Rattle.std.specs.Prelude.{OnErr, Result, refl};
 ghost use Rattle.std.specs.Iterator.{at_most, Drains};
 ghost use Rattle.vm_memory_core.specs.Host.{Host, lengths, shape};
 ghost use Rattle.vm_memory_core.specs.Window.{Window};
 ghost use Rattle.vm_iotlb.specs.declared.permissions.Permissions.{Permissions};
 ghost use Rattle.vm_iotlb.specs.declared.permissions.Permissions.TheVariants.{Read};
 ghost use Rattle.vm_memory.specs.Layout.{left_at, held-same};
-ghost use Rattle.vm_memory.specs.Memory.{Memory, circular, is_mapped, location, memory_of, physical_layout, places_from};
+ghost use Rattle.vm_memory.specs.Memory.{Memory, circular, is_mapped, location, memory_of, physical_layout};
+ghost use Rattle.vm_memory.specs.Memory.{places_from};
 ghost use Rattle.vm_memory.specs.RangeAnswers.{CannotGive, Checks, ReadsRange};
 ghost use Rattle.vm_memory.specs.declared.error.GuestMemoryError.{GuestMemoryError};
 ghost use Rattle.vm_memory.specs.Slices.{AddsLongest, AreAllOf, GivesSlice, Joins, StayIn, slices_from};
@@ -22,8 +24,8 @@ use crate::slices::GuestMemorySliceIterator;
 use std::alloc::{AllocError, Global};
 use vm_memory_core::{GuestAddress, HeldIn, HostBlocks, Permissions, VolatileSlice, Windows};
 
-/// Windows of a range of guest memory, one after another. It stands for the unnamed type that vm-memory's `get_slices`
-/// answers.
+/// Windows of a range of guest memory, one after another. It stands for the unnamed type that vm-memory's
+/// `get_slices` answers.
 #[derive(Drop)]
 pub enum GuestMemorySlices<'a, M: GuestMemoryBackend> {
     /// Of physical addresses.
@@ -67,9 +69,9 @@ impl<'a, M: GuestMemoryBackend> GuestMemorySliceIterator for GuestMemorySlices<'
     }
 }
 
-/// Guest memory as a device reaches it (vm-memory's `GuestMemory`). Of addresses that aren't translated, 0 comes after
-/// the greatest; translated ones have to be mapped throughout. Memory is taken only if a translation fails, or a
-/// list grows.
+/// Guest memory as a device reaches it (vm-memory's `GuestMemory`). Of addresses that aren't translated, 0
+/// comes after the greatest; translated ones have to be mapped throughout. Memory is taken only if a
+/// translation fails, or a list grows.
 pub trait GuestMemory: HeldIn {
     ghost use Rattle.vm_memory.specs.MemorySlices.{slices_of};
 
@@ -94,8 +96,8 @@ pub trait GuestMemory: HeldIn {
     ) -> Result<bool, AllocError>
         ensures { Checks (memory self.now (H.host h.now)) access addr.0 count result };
 
-    /// The windows of `count` addresses from one on, for an access (vm-memory's `GuestMemory::get_slices`); IommuError
-    /// of CannotResolve if they aren't mapped throughout, or OutOfMemory.
+    /// The windows of `count` addresses from one on, for an access (vm-memory's `GuestMemory::get_slices`);
+    /// IommuError of CannotResolve if they aren't mapped throughout, or OutOfMemory.
     fn get_slices<'a, H: HostBlocks>(
         &'a self,
         alloc: Global,
@@ -105,19 +107,25 @@ pub trait GuestMemory: HeldIn {
         access: Permissions,
     ) -> Result<GuestMemorySlices<'a, Self::PhysicalMemory>, GuestMemoryError>
         ensures slices { IfOk result (λ s. slices_of s
-            ≡ slices_from (location (memory self.now (H.host h.now)) access) (longest self.now (H.host h.now) access) addr.0 count) }
-        ensures joined { IfOk result (λ s. (items : List (Result Window GuestMemoryError)) → Drains (λ s r t. GivesSlice (slices_of s) r (slices_of t)) s items
-            → AreAllOf (slices_from (location (memory self.now (H.host h.now)) access) (longest self.now (H.host h.now) access) addr.0 count) items) }
-        ensures mapped { IfOk result (λ s. is_mapped (memory self.now (H.host h.now)) access addr.0 count ≡ true) }
+            ≡ slices_from (location (memory self.now (H.host h.now)) access)
+            (longest self.now (H.host h.now) access) addr.0 count) }
+        ensures joined { IfOk result (λ s. (items : List (Result Window GuestMemoryError))
+            → Drains (λ s r t. GivesSlice (slices_of s) r (slices_of t)) s items
+            → AreAllOf (slices_from (location (memory self.now (H.host h.now)) access)
+            (longest self.now (H.host h.now) access) addr.0 count) items) }
+        ensures mapped { IfOk result
+            (λ s. is_mapped (memory self.now (H.host h.now)) access addr.0 count ≡ true) }
         ensures refused { IfErr result (CannotGive (memory self.now (H.host h.now)) access addr.0 count) };
 
     /// The memory by physical addresses, if these are the addresses that a device uses (vm-memory's
     /// `GuestMemory::physical_memory`).
     fn physical_memory(&self) -> Option<&Self::PhysicalMemory>
-        ensures { (h : Host) → option_map (λ m. Self.PhysicalMemory.layout m.now) result ≡ physical_layout (memory self.now h) };
+        ensures { (h : Host)
+            → option_map (λ m. Self.PhysicalMemory.layout m.now) result
+            ≡ physical_layout (memory self.now h) };
 
-    /// Reads a buffer full of bytes from an address on, or answers false, if one of them isn't there. AllocError
-    /// only if they aren't mapped throughout.
+    /// Reads a buffer full of bytes from an address on, or answers false, if one of them isn't there.
+    /// AllocError only if they aren't mapped throughout.
     fn read_range<H: HostBlocks>(
         &self,
         alloc: Global,
@@ -127,10 +135,11 @@ pub trait GuestMemory: HeldIn {
     ) -> Result<bool, AllocError>
         requires { Self.IsHeld self.now (H.host h.now) }
         ensures found { Checks (memory self.now (H.host h.now)) Read addr.0 (length buffer.old) result }
-        ensures bytes { ReadsRange (memory self.now (H.host h.now)) addr.0 (length buffer.old) buffer.new result };
+        ensures bytes { ReadsRange (memory self.now (H.host h.now)) addr.0 (length buffer.old)
+            buffer.new result };
 
-    /// Adds the windows of `count` addresses from one on, joined, for an access, or answers false, if one of them
-    /// has no place. AllocError only if they aren't mapped throughout, or if the list has no room left.
+    /// Adds the windows of `count` addresses from one on, joined, for an access, or answers false, if one of
+    /// them has no place. AllocError only if they aren't mapped throughout, or if the list has no room left.
     fn push_windows<H: HostBlocks>(
         &self,
         alloc: Global,
@@ -142,9 +151,12 @@ pub trait GuestMemory: HeldIn {
     ) -> Result<bool, AllocError>
         ensures found { let found = places_from (memory self.now (H.host h.now)) access addr.0 count in
             Joins windows.old.items windows.new.items found result }
-        ensures longest { AddsLongest (longest self.now (H.host h.now) access) (circular addr.0 count) windows.old.items windows.new.items }
-        ensures held { Self.IsHeld self.now (H.host h.now) → StayIn (lengths (H.host h.now)) windows.old.items windows.new.items }
-        ensures lacking { OnErr result ((is_mapped (memory self.now (H.host h.now)) access addr.0 count ≡ false)
+        ensures longest { AddsLongest (longest self.now (H.host h.now) access) (circular addr.0 count)
+            windows.old.items windows.new.items }
+        ensures held { Self.IsHeld self.now (H.host h.now)
+            → StayIn (lengths (H.host h.now)) windows.old.items windows.new.items }
+        ensures lacking { OnErr result
+            ((is_mapped (memory self.now (H.host h.now)) access addr.0 count ≡ false)
             ⊎ (windows.old.capacity ≤ length windows.new.items)) };
 
     // what a device sees depends on the host by its bytes, tables and marks alone

@@ -29,7 +29,8 @@ impl Model for MmapRegion {
 }
 
 impl MmapRegion {
-    /// A new block of `size` zero bytes, none of whose pages is marked; Mmap if it would have none, or OutOfMemory.
+    /// A new block of `size` zero bytes, none of whose pages is marked; Mmap if it would have none, or
+    /// OutOfMemory.
     pub fn new<B: NewBitmap>(
         _alloc: Global,
         h: &mut HostMemory<B>,

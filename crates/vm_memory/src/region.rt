@@ -1,4 +1,5 @@
-//! A region of guest addresses over a block of host memory (vm-memory's `GuestMemoryRegion` and `GuestRegionMmap`).
+//! A region of guest addresses over a block of host memory (vm-memory's `GuestMemoryRegion` and
+//! `GuestRegionMmap`).
 
 ghost use Rattle.std.specs.Prelude.{◌≡◌, ◌+◌, ◌-◌, ◌<◌, nat_lt, IfOk};
 ghost use Rattle.std.specs.Arc.{arc_value};
@@ -196,9 +197,9 @@ impl GuestRegionMmap {
         })
     }
 
-    /// The region of `size` addresses from one on, over a new block (vm-memory's `GuestRegionMmap::from_range`): else
-    /// MmapRegion if it would have none, OutOfMemory, or InvalidGuestRegion if the last address does not fit 64
-    /// bits; the block stays in the host then.
+    /// The region of `size` addresses from one on, over a new block (vm-memory's
+    /// `GuestRegionMmap::from_range`): else MmapRegion if it would have none, OutOfMemory, or
+    /// InvalidGuestRegion if the last address does not fit 64 bits; the block stays in the host then.
     pub fn from_range<B: NewBitmap>(
         alloc: Global,
         h: &mut HostMemory<B>,

@@ -14,8 +14,8 @@ use crate::slices::GuestMemorySliceIterator;
 use std::marker::Model;
 use vm_memory_core::{GuestAddress, MemoryRegionAddress, VolatileSlice};
 
-/// The windows of some addresses that follow one another, where 0 comes after the greatest, up to the first address
-/// without a place, whose error ends them (vm-memory's `GuestMemoryBackendSliceIterator`).
+/// The windows of some addresses that follow one another, where 0 comes after the greatest, up to the first
+/// address without a place, whose error ends them (vm-memory's `GuestMemoryBackendSliceIterator`).
 #[derive(Drop)]
 pub struct GuestMemoryBackendSliceIterator<'a, M: GuestMemoryBackend> {
     memory: &'a M,
@@ -106,7 +106,9 @@ pub(crate) fn window_at<M: GuestMemoryBackend>(
     ensures none { result ≡ None → place (M.layout memory.now) addr ≡ None }
     ensures some { IfSome result (IsWindowAt (place (M.layout memory.now)) addr most) }
     ensures longest { IfSome result (λ w. w.len ≡ min most (left_at (M.layout memory.now) addr)) }
-    ensures held { (lengths : List ℕ) → AreHeld lengths (M.layout memory.now) → IfSome result (LiesIn lengths) }
+    ensures held { (lengths : List ℕ)
+        → AreHeld lengths (M.layout memory.now)
+        → IfSome result (LiesIn lengths) }
 {
     match memory.find_region(GuestAddress(addr)) {
         Some(region) => {

@@ -9,8 +9,8 @@ ghost use Rattle.vm_memory.specs.declared.error.GuestMemoryError.{GuestMemoryErr
 use crate::error::GuestMemoryError;
 use vm_memory_core::VolatileSlice;
 
-/// Windows of some addresses, one after another, or the error of the first address without a place (vm-memory's
-/// `GuestMemorySliceIterator`).
+/// Windows of some addresses, one after another, or the error of the first address without a place
+/// (vm-memory's `GuestMemorySliceIterator`).
 pub trait GuestMemorySliceIterator: Iterator<Item = Result<VolatileSlice, GuestMemoryError>> {
     // where addresses are, and which are left
     ghost slices: { Self → Slices };
@@ -30,9 +30,11 @@ pub trait GuestMemorySliceIterator: Iterator<Item = Result<VolatileSlice, GuestM
     final fn stop_on_error(self) -> Result<SlicesBeforeError<Self>, GuestMemoryError>
     where
         Self: Sized,
-        ensures outcome { MatchResult result (λ s. (first_error (slices self) ≡ None) × (slices s.slices ≡ slices self))
+        ensures outcome { MatchResult result (λ s. (first_error (slices self) ≡ None)
+            × (slices s.slices ≡ slices self))
             (λ e. first_error (slices self) ≡ Some e) }
-        ensures joined { IfOk result (λ s. (windows : List Window) → Drains (λ s r t. GivesWindow (slices s.slices) r (slices t.slices)) s windows
+        ensures joined { IfOk result (λ s. (windows : List Window)
+            → Drains (λ s r t. GivesWindow (slices s.slices) r (slices t.slices)) s windows
             → AreWindowsOf (slices self) windows) }
     {
         match self.next_error() {

@@ -1,6 +1,7 @@
 //! Windows of I/O addresses, by what a table maps them to.
 
-ghost use Rattle.std.specs.Prelude.{◌≡◌, ◌+◌, ◌-◌, ◌<◌, ◌^◌, ℕ, List, ◌∷◌, None, IfSome, MatchOption, min, true};
+ghost use Rattle.std.specs.Prelude.{◌≡◌, ◌+◌, ◌-◌, ◌<◌, ◌^◌, ℕ, List, ◌∷◌, None, IfSome, MatchOption, min};
+ghost use Rattle.std.specs.Prelude.{true};
 ghost use Rattle.vm_iotlb.specs.Table.{Table};
 ghost use Rattle.vm_iotlb.specs.AddressRuns.{may_all, pieces};
 ghost use Rattle.vm_iotlb.specs.declared.permissions.Permissions.{Permissions};
@@ -14,8 +15,8 @@ use crate::backend::GuestMemoryBackend;
 use crate::slice_iterator::window_at;
 use vm_memory_core::{GuestAddress, Iotlb, IotlbIterator, MappedRange, Permissions, VolatileSlice};
 
-// The longest window of at most `most` bytes from an I/O address on, if what it is mapped to has a place. Writes of it
-// mark a set of I/O pages. All `most` addresses are mapped with the permission.
+// The longest window of at most `most` bytes from an I/O address on, if what it is mapped to has a place.
+// Writes of it mark a set of I/O pages. All `most` addresses are mapped with the permission.
 #[inline]
 pub(crate) fn translated_window<M: GuestMemoryBackend>(
     backend: &M,
@@ -28,10 +29,15 @@ pub(crate) fn translated_window<M: GuestMemoryBackend>(
     requires some { 0 < most }
     requires ends { addr + most < 2 ^ 64 }
     requires mapped { may_all (table_kept table.now) access addr most ≡ true }
-    ensures none { result ≡ None → translated (M.layout backend.now) (table_kept table.now) set access addr ≡ None }
-    ensures some { IfSome result (IsWindowAt (translated (M.layout backend.now) (table_kept table.now) set access) addr most) }
-    ensures longest { IfSome result (λ w. w.len ≡ min most (translated_left (M.layout backend.now) (table_kept table.now) addr)) }
-    ensures held { (lengths : List ℕ) → AreHeld lengths (M.layout backend.now) → IfSome result (LiesIn lengths) }
+    ensures none { result ≡ None
+        → translated (M.layout backend.now) (table_kept table.now) set access addr ≡ None }
+    ensures some { IfSome result
+        (IsWindowAt (translated (M.layout backend.now) (table_kept table.now) set access) addr most) }
+    ensures longest { IfSome result
+        (λ w. w.len ≡ min most (translated_left (M.layout backend.now) (table_kept table.now) addr)) }
+    ensures held { (lengths : List ℕ)
+        → AreHeld lengths (M.layout backend.now)
+        → IfSome result (LiesIn lengths) }
 {
     let Some(piece) = table.first_piece(GuestAddress(addr), most) else {
         return None;
@@ -42,7 +48,8 @@ pub(crate) fn translated_window<M: GuestMemoryBackend>(
     }
 }
 
-// What is left of some I/O addresses, by what they are mapped to: the rest of a piece, and the pieces that follow.
+// What is left of some I/O addresses, by what they are mapped to: the rest of a piece, and the pieces that
+// follow.
 #[derive(Drop)]
 pub(crate) struct PiecesLeft<'a> {
     piece: MappedRange,
@@ -53,7 +60,8 @@ impl<'a> PiecesLeft<'a> {
     // All of these pieces are left.
     #[inline]
     pub(crate) fn new(pieces: IotlbIterator<'a>) -> PiecesLeft<'a>
-        ensures { result ≡ record { piece = record { base = record { 0 = 0 }; length = 0 }; rest = pieces.entry } }
+        ensures { result
+            ≡ record { piece = record { base = record { 0 = 0 }; length = 0 }; rest = pieces.entry } }
     {
         let none = MappedRange {
             base: GuestAddress(0),
@@ -79,8 +87,8 @@ impl<'a> PiecesLeft<'a> {
         self.rest.next()
     }
 
-    // The longest window of them, which begin with `addr`, if what it is mapped to has a place; they are what comes
-    // after it then. Writes of it mark a set of I/O pages.
+    // The longest window of them, which begin with `addr`, if what it is mapped to has a place; they are what
+    // comes after it then. Writes of it mark a set of I/O pages.
     #[inline]
     pub(crate) fn next_window<M: GuestMemoryBackend>(
         &mut self,
@@ -88,16 +96,28 @@ impl<'a> PiecesLeft<'a> {
         set: usize,
         addr: u64,
     ) -> Option<VolatileSlice>
-        requires { (table : Table) × (access : Permissions) × (n : ℕ) × MappedLeft table access addr n self.old.piece self.old.rest }
-        ensures none { (table : Table) (access : Permissions) (n : ℕ) → MappedLeft table access addr n self.old.piece self.old.rest →
-            result ≡ None → translated (M.layout backend.now) table set access addr ≡ None }
-        ensures some { (table : Table) (access : Permissions) (n : ℕ) → MappedLeft table access addr n self.old.piece self.old.rest →
+        requires { (table : Table) × (access : Permissions) × (n : ℕ)
+            × MappedLeft table access addr n self.old.piece self.old.rest }
+        ensures none { (table : Table) (access : Permissions) (n : ℕ)
+            → MappedLeft table access addr n self.old.piece self.old.rest
+            →
+            result ≡ None
+            → translated (M.layout backend.now) table set access addr ≡ None }
+        ensures some { (table : Table) (access : Permissions) (n : ℕ)
+            → MappedLeft table access addr n self.old.piece self.old.rest
+            →
             IfSome result (IsWindowAt (translated (M.layout backend.now) table set access) addr n) }
-        ensures longest { (table : Table) (access : Permissions) (n : ℕ) → MappedLeft table access addr n self.old.piece self.old.rest →
+        ensures longest { (table : Table) (access : Permissions) (n : ℕ)
+            → MappedLeft table access addr n self.old.piece self.old.rest
+            →
             IfSome result (λ w. w.len ≡ min n (translated_left (M.layout backend.now) table addr)) }
-        ensures left { (table : Table) (access : Permissions) (n : ℕ) → MappedLeft table access addr n self.old.piece self.old.rest →
+        ensures left { (table : Table) (access : Permissions) (n : ℕ)
+            → MappedLeft table access addr n self.old.piece self.old.rest
+            →
             IfSome result (λ w. AreLeft table (addr + w.len) (n - w.len) self.new.piece self.new.rest) }
-        ensures held { (lengths : List ℕ) → AreHeld lengths (M.layout backend.now) → IfSome result (LiesIn lengths) }
+        ensures held { (lengths : List ℕ)
+            → AreHeld lengths (M.layout backend.now)
+            → IfSome result (LiesIn lengths) }
     {
         let Some(piece) = self.first() else {
             return None;

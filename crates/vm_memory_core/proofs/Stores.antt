@@ -1,15 +1,19 @@
 -- bytes put at places of one block, one after another, are a run of bytes
-use Rattle.std.proofs.Common.{◌≡◌, ℕ, ◌+◌, ◌-◌, ◌/◌, ◌^◌, ◌<◌, ◌≤◌, Bool, List, [], ◌∷◌, ◌++◌, length, map, replicate, set, get_or, take, drop, refl, ap, sym, ◌∙◌}
-use Rattle.std.proofs.Common.{arith, zero, suc, add-one, length-set, length-append, length-drop, true, false, nat_lt, if◌then◌else◌, Option, None, Some}
+use Rattle.std.proofs.Common.{◌≡◌, ℕ, ◌+◌, ◌-◌, ◌/◌, ◌^◌, ◌<◌, ◌≤◌, Bool, List, [], ◌∷◌, ◌++◌, length, map, replicate, set, get_or, take}
+use Rattle.std.proofs.Common.{drop, refl, ap, sym, ◌∙◌}
+use Rattle.std.proofs.Common.{arith, zero, suc, add-one, length-set, length-append, length-drop, true, false, nat_lt, if◌then◌else◌, Option}
+use Rattle.std.proofs.Common.{None, Some}
 use Rattle.std.specs.Prelude.{IfSome, slice_get, unwrap_or}
 use Rattle.std.specs.Option.{is_none, option_and_then}
 use Rattle.std.specs.List.{zip}
-use Rattle.std.proofs.lemmas.List.{drop_more, get_or-map, get_or-append_right, get_or_append_left, length-map, length-take-le, set-append_left, set-append_right, take-append-drop}
+use Rattle.std.proofs.lemmas.List.{drop_more, get_or-map, get_or-append_right, get_or_append_left, length-map, length-take-le}
+use Rattle.std.proofs.lemmas.List.{set-append_left, set-append_right, take-append-drop}
 use Rattle.std.proofs.lemmas.Option.{slice_get-get_or}
 use Rattle.std.proofs.lemmas.Bool.{le-ltb, lt-ltb, cond-true}
 use Rattle.std.proofs.lemmas.List.Edits.{sets, sets-eq}
 use Rattle.vm_bitmaps.specs.Pages.{marked_at, marked_range}
-use Rattle.vm_memory_core.specs.Host.{Host, Block, IoAddress, Place, Shape, changed_at, marked, unmarked, lengths, shape, with_blocks, with_byte, with_mark_by}
+use Rattle.vm_memory_core.specs.Host.{Host, Block, IoAddress, Place, Shape, changed_at, marked, unmarked, lengths, shape, with_blocks}
+use Rattle.vm_memory_core.specs.Host.{with_byte, with_mark_by}
 use Rattle.vm_memory_core.specs.Window.{Window, io_address, span, places_of, LiesIn, byte_in, put_byte, put_all, set_all}
 use Rattle.vm_memory_core.specs.Putting.{block_put, io_marked, io_marked_by, marked_if, put_in_block}
 use Rattle.vm_memory_core.specs.declared.window.IoMarks.{IoMarks}
@@ -23,10 +27,12 @@ pub length-marked_range : (n s : ℕ) (m : List Bool) (o : ℕ) → length (mark
 unfolding marked_range
 length-marked_range zero s m o = refl
 length-marked_range (suc n) s m o =
-    length-marked_range n s (marked_at s m o) (o + 1) ∙ length_if (nat_lt o (2 ^ 64)) (set m (o / s) true) m (length m) (length-set m (o / s) true) refl
+    length-marked_range n s (marked_at s m o) (o + 1)
+    ∙ length_if (nat_lt o (2 ^ 64)) (set m (o / s) true) m (length m) (length-set m (o / s) true) refl
 
 -- a buffer that was written over as a whole keeps its length
-pub length_written : (n : ℕ) (new old : List ℕ) → length new ≡ length old → n ≡ length old → length (take n (new ++ drop (length new) old)) ≡ length old
+pub length_written :
+    (n : ℕ) (new old : List ℕ) → length new ≡ length old → n ≡ length old → length (take n (new ++ drop (length new) old)) ≡ length old
 length_written n new old e f =
     let front = length-append new (drop (length new) old) in
     let back = length-drop (length new) old in
@@ -86,7 +92,8 @@ abbrev with_both : Host → List Block → List (List Bool) → Host
 with_both h blocks io = record h { blocks = blocks; io_marks = io }
 
 -- a store to a span of one block changes that block, and the set of I/O pages that it marks, alone
-pub put_all-span : (xs : List ℕ) (h : Host) (b offset : ℕ) (io : Option IoMarks) (n : ℕ) → length xs ≤ n → IfSome io (λ m. m.from ≤ offset) →
+pub put_all-span :
+    (xs : List ℕ) (h : Host) (b offset : ℕ) (io : Option IoMarks) (n : ℕ) → length xs ≤ n → IfSome io (λ m. m.from ≤ offset) →
     put_all h (zip (span b offset io n) xs)
     ≡ io_marked_by io (with_blocks h (changed_at h.blocks b (stored_in (is_none io) offset xs))) offset (length xs)
 unfolding put_all span marks_each marked_range
@@ -107,7 +114,8 @@ put_all-span (x ∷ xs) h b offset None (suc n) le from =
     ∙ ap (with_blocks h)
     (ap (λ (l : List Block). changed_at l b (stored_in true (offset + 1) xs)) (changed_at-changed_at h.blocks b f g)
     ∙ changed_at-changed_at h.blocks b (λ (k : Block). g (f k)) (stored_in true (offset + 1) xs)
-    ∙ ap (λ j. changed_at h.blocks b (λ (k : Block). block_with (sets (set k.bytes offset x) j xs) (marks_each (marked k.marks offset) (offset + 1) (length xs)))) (add-one offset))
+    ∙ ap (λ j. changed_at h.blocks b (λ (k : Block). block_with (sets (set k.bytes offset x) j xs)
+    (marks_each (marked k.marks offset) (offset + 1) (length xs)))) (add-one offset))
 put_all-span (x ∷ xs) h b offset (Some m) (suc n) le from =
     let a = m.base + (offset - m.from) in
     let p : Place = record { block = b; offset = offset; io = Some (record { set = m.set; address = a }) } in
@@ -115,7 +123,8 @@ put_all-span (x ∷ xs) h b offset (Some m) (suc n) le from =
     let one : List Bool → List Bool = λ marks. marked_at 4096 marks a in
     let next : m.base + (offset + 1 - m.from) ≡ a + 1 = omega (arith, from) in
     put_all-span xs (put_byte h p x) b (offset + 1) (Some m) n (omega arith) (omega (arith, from))
-    ∙ ap (λ (l : List Block). with_both h l (changed_at (changed_at h.io_marks m.set one) m.set (λ marks. marked_range 4096 marks (m.base + (offset + 1 - m.from)) (length xs))))
+    ∙ ap (λ (l : List Block). with_both h l
+    (changed_at (changed_at h.io_marks m.set one) m.set (λ marks. marked_range 4096 marks (m.base + (offset + 1 - m.from)) (length xs))))
     (changed_at-changed_at h.blocks b f (stored_in false (offset + 1) xs)
     ∙ ap (λ j. changed_at h.blocks b (λ (k : Block). block_with (sets (set k.bytes offset x) j xs) k.marks)) (add-one offset))
     ∙ ap (with_both h (changed_at h.blocks b (stored_in false offset (x ∷ xs))))
@@ -123,7 +132,8 @@ put_all-span (x ∷ xs) h b offset (Some m) (suc n) le from =
     ∙ ap (λ i. changed_at h.io_marks m.set (λ marks. marked_range 4096 (one marks) i (length xs))) next)
 
 -- the bytes of a span are a run of the block's bytes
-pub bytes_in-span : (h : Host) (b n offset : ℕ) (io : Option IoMarks) (k : Block) → slice_get h.blocks b ≡ Some k → offset + n ≤ length k.bytes →
+pub bytes_in-span :
+    (h : Host) (b n offset : ℕ) (io : Option IoMarks) (k : Block) → slice_get h.blocks b ≡ Some k → offset + n ≤ length k.bytes →
     map (byte_in h) (span b offset io n) ≡ take n (drop offset k.bytes)
 unfolding span
 bytes_in-span h b zero offset io k at le = refl
@@ -131,7 +141,8 @@ bytes_in-span h b (suc n) offset io k at le =
     let there = drop_more k.bytes offset 0 (omega arith) in
     let got = slice_get-get_or k.bytes offset 0 (omega arith) in
     let byte : byte_in h (record { block = b; offset = offset; io = io_address offset io }) ≡ get_or k.bytes offset 0 =
-    ap (λ (o : Option Block). unwrap_or (option_and_then (λ (c : Block). slice_get c.bytes offset) o) 0) at ∙ ap (λ (o : Option ℕ). unwrap_or o 0) got in
+    ap (λ (o : Option Block). unwrap_or (option_and_then (λ (c : Block). slice_get c.bytes offset) o) 0) at
+    ∙ ap (λ (o : Option ℕ). unwrap_or o 0) got in
     rw (there, byte) (ap (λ (r : List ℕ). get_or k.bytes offset 0 ∷ r) (bytes_in-span h b n (offset + 1) io k at (omega arith)))
 
 lengths-changed_at : (l : List Block) (i : ℕ) (f : Block → Block) → ((k : Block) → length (f k).bytes ≡ length k.bytes) →
@@ -168,7 +179,8 @@ shape-put_all (w ∷ ws) h =
     shape-put_all ws (put_byte h w.0 w.1)
     ∙ shape-with_mark w.0.io w.0 (with_byte h w.0 w.1)
     ∙ shape-blocks h (with_byte h w.0 w.1).blocks
-    (lengths-changed_at h.blocks w.0.block (λ (k : Block). block_with (set k.bytes w.0.offset w.1) k.marks) (λ k. length-set k.bytes w.0.offset w.1))
+    (lengths-changed_at h.blocks w.0.block (λ (k : Block). block_with (set k.bytes w.0.offset w.1) k.marks)
+    (λ k. length-set k.bytes w.0.offset w.1))
 
 abbrev no_block : Block
 no_block = block_with [] []
@@ -186,7 +198,8 @@ within_block h w k has at =
     (inside, omega (arith, has.1))
 
 -- the same, where block, offset and length were asked of the window
-pub room_at : (h : Host) (w : Window) (k : Block) (b o n : ℕ) → b ≡ w.block → o ≡ w.offset → n ≡ w.len → LiesIn (lengths h) w → k ≡ get_or h.blocks b k →
+pub room_at : (h : Host) (w : Window) (k : Block) (b o n : ℕ) → b ≡ w.block → o ≡ w.offset → n ≡ w.len → LiesIn (lengths h) w →
+    k ≡ get_or h.blocks b k →
     o + n ≤ length k.bytes
 room_at h w k b o n be oe ne has here =
     let room = within_block h w k has (here ∙ ap (λ i. get_or h.blocks i k) be) in
@@ -198,7 +211,8 @@ get_or-same (x ∷ l) zero d = refl
 get_or-same (x ∷ l) (suc i) d = get_or-same l i d
 
 -- pages marked one range at once, or byte by byte
-marks_put : (io : Option IoMarks) (m : List Bool) (o n : ℕ) → o + n ≤ 2 ^ 64 → marked_if (is_none io) m o n ≡ (if is_none io then marks_each m o n else m)
+marks_put : (io : Option IoMarks) (m : List Bool) (o n : ℕ) → o + n ≤ 2 ^ 64 →
+    marked_if (is_none io) m o n ≡ (if is_none io then marks_each m o n else m)
 marks_put None m o n le = marked_range-is n m o le
 marks_put (Some i) m o n le = refl
 
@@ -229,7 +243,8 @@ pub stored : (h inside : Host) (w : Window) (xs : List ℕ) (old new : Block) �
 stored h inside w xs old new same at e m =
     let here : old ≡ get_or h.blocks w.block old = at ∙ ap (λ (k : Host). get_or k.blocks w.block old) same in
     let new-is : new ≡ block_put (is_none w.io) w.offset xs old =
-    ap (λ (l : List ℕ). block_with l new.marks) e ∙ ap (block_with (take w.offset old.bytes ++ xs ++ drop (w.offset + length xs) old.bytes)) m in
+    ap (λ (l : List ℕ). block_with l new.marks) e
+    ∙ ap (block_with (take w.offset old.bytes ++ xs ++ drop (w.offset + length xs) old.bytes)) m in
     ap (λ (k : Host). with_blocks k (set k.blocks w.block new)) same
     ∙ ap (with_blocks h)
     (ap (λ (c : Block). set h.blocks w.block c) (new-is ∙ ap (block_put (is_none w.io) w.offset xs) here)
@@ -245,7 +260,8 @@ loaded h inside w k bytes same has at e =
     e ∙ sym (bytes_in-span h w.block w.len w.offset w.io k found room.1)
 
 -- the same, where block, offset and I/O pages were asked of the window
-pub stored_at : (h inside : Host) (w : Window) (xs : List ℕ) (old new : Block) (b o : ℕ) (plain : Bool) → b ≡ w.block → o ≡ w.offset → plain ≡ is_none w.io →
+pub stored_at : (h inside : Host) (w : Window) (xs : List ℕ) (old new : Block) (b o : ℕ) (plain : Bool) → b ≡ w.block → o ≡ w.offset →
+    plain ≡ is_none w.io →
     inside ≡ h → old ≡ get_or inside.blocks b old →
     new.bytes ≡ take o old.bytes ++ xs ++ drop (o + length xs) old.bytes → new.marks ≡ marked_if plain old.marks o (length xs) →
     with_blocks inside (set inside.blocks b new) ≡ put_in_block h w xs
@@ -253,7 +269,8 @@ stored_at h inside w xs old new b o plain be oe pe same here e m =
     rw be (stored h inside w xs old new same (rw be at here) (rw oe at e) (rw (oe, pe) at m))
 
 pub loaded_at : (h inside : Host) (w : Window) (k : Block) (bytes : List ℕ) (b o n : ℕ) → b ≡ w.block → o ≡ w.offset → n ≡ w.len →
-    inside ≡ h → LiesIn (lengths h) w → k ≡ get_or inside.blocks b k → bytes ≡ take n (drop o k.bytes) → bytes ≡ map (byte_in h) (places_of w)
+    inside ≡ h → LiesIn (lengths h) w → k ≡ get_or inside.blocks b k → bytes ≡ take n (drop o k.bytes) →
+    bytes ≡ map (byte_in h) (places_of w)
 loaded_at h inside w k bytes b o n be oe ne same has here e =
     loaded h inside w k bytes same has (rw be at here) (rw (oe, ne) at e)
 
@@ -307,7 +324,8 @@ shape-set_all [] h = refl
 shape-set_all (w ∷ ws) h =
     shape-set_all ws (with_byte h w.0 w.1)
     ∙ shape-blocks h (with_byte h w.0 w.1).blocks
-    (lengths-changed_at h.blocks w.0.block (λ (k : Block). block_with (set k.bytes w.0.offset w.1) k.marks) (λ k. length-set k.bytes w.0.offset w.1))
+    (lengths-changed_at h.blocks w.0.block (λ (k : Block). block_with (set k.bytes w.0.offset w.1) k.marks)
+    (λ k. length-set k.bytes w.0.offset w.1))
 
 -- what setting bytes of one block leaves, as the code leaves it
 pub set_stored : (h inside : Host) (w : Window) (xs : List ℕ) (old new : Block) →
@@ -327,7 +345,8 @@ set_stored h inside w xs old new same has le at e =
 
 -- blocks cut in two
 pub seam_of : (l low high : List Block) (d : ℕ) → low ≡ take d l → high ≡ drop d l → l ≡ low ++ high
-seam_of l low high d front back = sym (take-append-drop d l) ∙ ap (λ (m : List Block). m ++ drop d l) (sym front) ∙ ap (λ (m : List Block). low ++ m) (sym back)
+seam_of l low high d front back =
+    sym (take-append-drop d l) ∙ ap (λ (m : List Block). m ++ drop d l) (sym front) ∙ ap (λ (m : List Block). low ++ m) (sym back)
 
 -- the blocks on both sides of a seam
 pub set-back : (l low high : List Block) (d : ℕ) (x : Block) → l ≡ low ++ high → length low ≡ d → low ++ set high 0 x ≡ set l d x

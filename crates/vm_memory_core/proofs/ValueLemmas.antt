@@ -1,5 +1,6 @@
 -- values that stand one after another
-use Rattle.std.proofs.Common.{◌≡◌, ℕ, zero, suc, ◌+◌, ◌*◌, ◌/◌, min, refl, ◌<◌, ◌≤◌, List, [], ◌∷◌, ◌++◌, All, length, take, drop, get_or, set, arith, ap, sym, subst, ◌∙◌, append-nil, append_assoc}
+use Rattle.std.proofs.Common.{◌≡◌, ℕ, zero, suc, ◌+◌, ◌*◌, ◌/◌, min, refl, ◌<◌, ◌≤◌, List, [], ◌∷◌, ◌++◌, All, length, take, drop, get_or}
+use Rattle.std.proofs.Common.{set, arith, ap, sym, subst, ◌∙◌, append-nil, append_assoc}
 use Rattle.std.specs.Prelude.{◌==◌, if◌then◌else◌}
 use Rattle.std.proofs.lemmas.Nat.{mul-le, div-mul-add}
 use Rattle.std.proofs.Math.Nat.{add-mul}
@@ -36,7 +37,8 @@ pub read_more : {T : Type 0} (f : T → List Field) (out : List T) (k : ℕ) (x 
     spelled_all f (take k out) ≡ take at bytes → take n (drop at bytes) ≡ spelled (f x) →
     spelled_all f (take (k + 1) (set out k x)) ≡ take (at + s) bytes
 read_more f out k x bytes at s n l same before now =
-    spelled-more_set f out k x l ∙ ap (λ b. b ++ spelled (f x)) before ∙ ap (λ b. take at bytes ++ b) (sym now ∙ ap (λ i. take i (drop at bytes)) same) ∙ sym (take-add at s bytes)
+    spelled-more_set f out k x l ∙ ap (λ b. b ++ spelled (f x)) before
+    ∙ ap (λ b. take at bytes ++ b) (sym now ∙ ap (λ i. take i (drop at bytes)) same) ∙ sym (take-add at s bytes)
 
 all_one : {T : Type 0} (P : T → Type 0) (x : T) → P x → (k : ℕ) (d : T) → k < 1 → P (get_or (x ∷ []) k d)
 all_one P x p zero d l = p
@@ -52,7 +54,8 @@ pub fits_more : {T : Type 0} (f : T → List Field) (out : List T) (k : ℕ) (x 
 unfolding EachFits
 fits_more {T} f out k x l before now =
     let P : List T → Type 0 = λ xs. All (λ (y : T). AllFit (f y)) xs in
-    subst P (sym (take_more_set out k x l)) (All-append (λ (y : T). AllFit (f y)) (take k out) (x ∷ []) before (all_one (λ (y : T). AllFit (f y)) x now))
+    subst P (sym (take_more_set out k x l))
+    (All-append (λ (y : T). AllFit (f y)) (take k out) (x ∷ []) before (all_one (λ (y : T). AllFit (f y)) x now))
 
 -- one part more was put in a buffer
 pub put_more : (front buffer old part : List ℕ) (place s : ℕ) → length front ≡ place → buffer ≡ front ++ drop place old →

@@ -1,5 +1,6 @@
 -- stores through several windows are one list of stores
-use Rattle.std.proofs.Common.{◌≡◌, ℕ, ◌+◌, ◌-◌, ◌<◌, ◌≤◌, List, [], ◌∷◌, ◌++◌, length, map, append_assoc, append-nil, get_or, take, drop, refl, ap, sym, ◌∙◌, arith}
+use Rattle.std.proofs.Common.{◌≡◌, ℕ, ◌+◌, ◌-◌, ◌<◌, ◌≤◌, List, [], ◌∷◌, ◌++◌, length, map, append_assoc, append-nil, get_or, take, drop}
+use Rattle.std.proofs.Common.{refl, ap, sym, ◌∙◌, arith}
 use Rattle.std.proofs.Common.{zero, suc, min, true, false, Option, Some, length-append, length-drop}
 use Rattle.std.specs.Prelude.{if◌then◌else◌, nat_le}
 use Rattle.std.proofs.lemmas.Bool.Decides.{nat_tests}
@@ -80,7 +81,8 @@ unfolding span
 span-part zero m b o io h = refl
 span-part (suc n) zero b o io h = absurd (omega arith)
 span-part (suc n) (suc m) b o io h =
-    ap (λ (r : List Place). let p : Place = record { block = b; offset = o; io = io_address o io } in p ∷ r) (span-part n m b (o + 1) io (omega arith))
+    ap (λ (r : List Place). let p : Place = record { block = b; offset = o; io = io_address o io } in p ∷ r)
+    (span-part n m b (o + 1) io (omega arith))
 
 pub places-part : (w : Window) (n : ℕ) → n ≤ w.len → places_of (part_of w 0 n) ≡ take n (places_of w)
 places-part w n h =
@@ -102,7 +104,8 @@ zip-take {X} {Y} (x ∷ a) (y ∷ b) (suc n) e = ap (λ (l : List (X × Y)). (x,
 
 -- a copy of the bytes that two windows have both
 pub zip-parts : (h : Host) (source dest : Window) (n : ℕ) → n ≡ min source.len dest.len →
-    zip (places_of (part_of dest 0 n)) (map (byte_in h) (places_of (part_of source 0 n))) ≡ zip (places_of dest) (map (byte_in h) (places_of source))
+    zip (places_of (part_of dest 0 n)) (map (byte_in h) (places_of (part_of source 0 n)))
+    ≡ zip (places_of dest) (map (byte_in h) (places_of source))
 zip-parts h source dest n e =
     let to = length-span dest.len dest.block dest.offset dest.io in
     let from = length-span source.len source.block source.offset source.io in
@@ -121,10 +124,13 @@ zip-take_right {X} {Y} (x ∷ a) (y ∷ b) (suc n) e = ap (λ (l : List (X × Y)
 
 from_address : (o a k : ℕ) (set : ℕ) → io_address (o + k) (Some (io_from set a o)) ≡ Some (record { set = set; address = a + k })
 from_address o a k set =
-    elim (nat_le o a) as (λ b. nat_le o a ≡ b → io_address (o + k) (Some (if b then record { set = set; base = a - o; from = 0 } else record { set = set; base = 0; from = o - a })) ≡ Some
+    elim (nat_le o a) as (λ b. nat_le o a ≡ b → io_address (o + k)
+    (Some (if b then record { set = set; base = a - o; from = 0 } else record { set = set; base = 0; from = o - a })) ≡ Some
     (record { set = set; address = a + k })) [
-      | true ↦ λ le. let low : o ≤ a = grind (arith, nat_tests) in let same : a - o + (o + k - 0) ≡ a + k = omega arith in ap (λ x. Some (record { set = set; address = x })) same
-      | false ↦ λ gt. let high : a < o = grind (arith, nat_tests) in let same : 0 + (o + k - (o - a)) ≡ a + k = omega arith in ap (λ x. Some (record { set = set; address = x })) same
+      | true ↦ λ le. let low : o ≤ a = grind (arith, nat_tests) in let same : a - o + (o + k - 0) ≡ a + k = omega arith in
+          ap (λ x. Some (record { set = set; address = x })) same
+      | false ↦ λ gt. let high : a < o = grind (arith, nat_tests) in let same : 0 + (o + k - (o - a)) ≡ a + k = omega arith in
+          ap (λ x. Some (record { set = set; address = x })) same
     ] refl
 
 span_io : (n b o a k set : ℕ) (io : Option IoMarks) → span b (o + k) (Some (io_from set a o)) n ≡ with_io set (a + k) (span b (o + k) io n)
@@ -134,7 +140,8 @@ span_io (suc n) b o a k set io =
     let at : o + k + 1 ≡ o + (k + 1) = omega arith in
     let to : a + k + 1 ≡ a + (k + 1) = omega arith in
     let more = span_io n b o a (k + 1) set io in
-    rw (from_address o a k set, at, to) (ap (λ (ps : List Place). record { block = b; offset = o + k; io = Some (record { set = set; address = a + k }) } ∷ ps) more)
+    rw (from_address o a k set, at, to)
+    (ap (λ (ps : List Place). record { block = b; offset = o + k; io = Some (record { set = set; address = a + k }) } ∷ ps) more)
 
 pub places_replaced : (w : Window) (set a : ℕ) → with_io set a (places_of w) ≡ places_of (record w { io = Some (io_from set a w.offset) })
 places_replaced w set a =
@@ -143,13 +150,15 @@ places_replaced w set a =
     sym (rw (o, x) at (span_io w.len w.block w.offset a 0 set w.io))
 
 -- where the addresses lie above the offsets, and where they lie below them
-pub places_above : (b o n set a : ℕ) (io : Option IoMarks) → o ≤ a → span b o (Some (record { set = set; base = a - o; from = 0 })) n ≡ with_io set a (span b o io n)
+pub places_above : (b o n set a : ℕ) (io : Option IoMarks) → o ≤ a →
+    span b o (Some (record { set = set; base = a - o; from = 0 })) n ≡ with_io set a (span b o io n)
 places_above b o n set a io le =
     let yes : nat_le o a ≡ true = grind (arith, nat_tests) in
     let same : io_from set a o ≡ record { set = set; base = a - o; from = 0 } = rw yes refl in
     ap (λ (m : IoMarks). span b o (Some m) n) (sym same) ∙ sym (places_replaced (record { block = b; offset = o; len = n; io = io }) set a)
 
-pub places_below : (b o n set a : ℕ) (io : Option IoMarks) → a < o → span b o (Some (record { set = set; base = 0; from = o - a })) n ≡ with_io set a (span b o io n)
+pub places_below : (b o n set a : ℕ) (io : Option IoMarks) → a < o →
+    span b o (Some (record { set = set; base = 0; from = o - a })) n ≡ with_io set a (span b o io n)
 places_below b o n set a io lt =
     let no : nat_le o a ≡ false = grind (arith, nat_tests) in
     let same : io_from set a o ≡ record { set = set; base = 0; from = o - a } = rw no refl in

@@ -1,5 +1,6 @@
 -- What an access to bytes does: from the places that it reaches, or from what refuses it.
-use Rattle.std.specs.Prelude.{◌≡◌, ℕ, ◌==◌, ◌++◌, List, length, map, drop, if◌then◌else◌, IfOk, Result, Ok, Err}
+use Rattle.std.specs.Prelude.{◌≡◌, ℕ, ◌==◌, ◌++◌, List, length, map, drop, if◌then◌else◌, IfOk, Result, Ok}
+use Rattle.std.specs.Prelude.{Err}
 use Rattle.std.specs.List.{zip}
 use Rattle.vm_values.specs.Fields.{Field, AllFit, spelled}
 use Rattle.vm_memory_core.specs.Host.{Host, Place}
@@ -18,7 +19,8 @@ bytes_of h (Ok ps) = Ok (map (byte_in h) ps)
 bytes_of h (Err e) = Err e
 
 -- whether all of n bytes are reached; partial n k refuses where there are only k
-abbrev pub in_full : {E : Type 0} → (partial : ℕ → ℕ → E) → (n : ℕ) → Result (List Place) E → Result (Unit {0}) E
+abbrev pub in_full :
+    {E : Type 0} → (partial : ℕ → ℕ → E) → (n : ℕ) → Result (List Place) E → Result (Unit {0}) E
 in_full partial n (Ok ps) = if length ps == n then Ok tt else Err (partial n (length ps))
 in_full partial n (Err e) = Err e
 
@@ -37,8 +39,10 @@ abbrev pub without_value : {T E : Type 0} → Result T E → Result (Unit {0}) E
 without_value (Ok x) = Ok tt
 without_value (Err e) = Err e
 
--- places that may be reached were read to the front of a buffer, and the result is their count or what refused them
-pub record ReadsSome {E : Type 0} (Reaches : Result (List Place) E → Type 0) (h : Host) (old new : List ℕ) (result : Result ℕ E) : Type 0 where
+-- places that may be reached were read to the front of a buffer, and the result is their count or what
+-- refused them
+pub record ReadsSome {E : Type 0} (Reaches : Result (List Place) E →
+    Type 0) (h : Host) (old new : List ℕ) (result : Result ℕ E) : Type 0 where
   pub places : Result (List Place) E
   pub may : Reaches places
   pub count : result ≡ count_of places
@@ -61,7 +65,8 @@ pub record ReadsValue {T E : Type 0} (Reaches : Result (List Place) E → Type 0
   pub value : IfOk result (λ x. (Ok (spelled (fields x)) ≡ bytes_of h places) × AllFit (fields x))
 
 -- bytes were written at places that may be reached, and the result is their count or what refused them
-pub record WritesSome {E : Type 0} (Reaches : Result (List Place) E → Type 0) (bytes : List ℕ) (old new : Host) (result : Result ℕ E) : Type 0 where
+pub record WritesSome {E : Type 0} (Reaches : Result (List Place) E →
+    Type 0) (bytes : List ℕ) (old new : Host) (result : Result ℕ E) : Type 0 where
   pub places : Result (List Place) E
   pub may : Reaches places
   pub count : result ≡ count_of places

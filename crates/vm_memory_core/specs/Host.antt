@@ -1,5 +1,7 @@
--- The memory of the host: numbered blocks of bytes with their marked pages, numbered tables, and numbered sets of marked I/O pages.
-use Rattle.std.specs.Prelude.{ℕ, zero, suc, ◌+◌, ◌/◌, Bool, true, false, List, [], ◌∷◌, ◌++◌, length, map, replicate, Option, Some, None, slice_get, slice_set, option_and_then}
+-- The memory of the host: numbered blocks of bytes with their marked pages, numbered tables, and numbered
+-- sets of marked I/O pages.
+use Rattle.std.specs.Prelude.{ℕ, zero, suc, ◌+◌, ◌/◌, Bool, true, false, List, [], ◌∷◌, ◌++◌, length, map}
+use Rattle.std.specs.Prelude.{replicate, Option, Some, None, slice_get, slice_set, option_and_then}
 use Rattle.vm_bitmaps.specs.Pages.{marked_at}
 use Rattle.vm_iotlb.specs.declared.range.IotlbRange.{IotlbRange}
 
@@ -8,7 +10,8 @@ pub record IoAddress : Type 0 where
   pub set : ℕ
   pub address : ℕ
 
--- where a byte is, a block and an offset in it; and which page a write of it marks: its own in the block, or that of an I/O address
+-- where a byte is, a block and an offset in it; and which page a write of it marks: its own in the block, or
+-- that of an I/O address
 pub record Place : Type 0 where
   pub block : ℕ
   pub offset : ℕ
@@ -19,7 +22,8 @@ pub record Block : Type 0 where
   pub bytes : List ℕ
   pub marks : List Bool
 
--- what a host has; a table is told by the ranges that keep it (`table_kept`), since a value that clauses see holds no function
+-- what a host has; a table is told by the ranges that keep it (`table_kept`), since a value that clauses see
+-- holds no function
 pub record Host : Type 0 where
   pub blocks : List Block
   pub tables : List (List IotlbRange)
@@ -41,7 +45,8 @@ byte_at h p = option_and_then (λ b. slice_get b.bytes p.offset) (slice_get h.bl
 
 -- the host with this byte at a place
 abbrev pub with_byte : Host → Place → ℕ → Host
-with_byte h p byte = with_blocks h (changed_at h.blocks p.block (λ b. record b { bytes = slice_set b.bytes p.offset byte }))
+with_byte h p byte =
+    with_blocks h (changed_at h.blocks p.block (λ b. record b { bytes = slice_set b.bytes p.offset byte }))
 
 -- a page has 4096 bytes; the pages that n bytes take
 abbrev pub page_count : ℕ → ℕ
@@ -53,11 +58,13 @@ marked marks offset = slice_set marks (offset / 4096) true
 
 -- the host with the page of a place marked
 abbrev pub with_block_mark : Host → Place → Host
-with_block_mark h p = with_blocks h (changed_at h.blocks p.block (λ b. record b { marks = marked b.marks p.offset }))
+with_block_mark h p =
+    with_blocks h (changed_at h.blocks p.block (λ b. record b { marks = marked b.marks p.offset }))
 
 -- the host with the page of an I/O address marked in its set: no address lies at or past 2^64
 abbrev pub with_io_mark : Host → IoAddress → Host
-with_io_mark h a = record h { io_marks = changed_at h.io_marks a.set (λ marks. marked_at 4096 marks a.address) }
+with_io_mark h a =
+    record h { io_marks = changed_at h.io_marks a.set (λ marks. marked_at 4096 marks a.address) }
 
 -- the host with that page marked which belongs to a place
 abbrev pub with_mark_by : Option IoAddress → Place → Host → Host
@@ -92,7 +99,8 @@ with_io_pages h marks = record h { io_marks = h.io_marks ++ marks ∷ [] }
 abbrev pub lengths : Host → List ℕ
 lengths h = map (λ b. length b.bytes) h.blocks
 
--- what no write changes of a host: the lengths of its blocks, how many tables it has, and how many pages each set of I/O pages
+-- what no write changes of a host: the lengths of its blocks, how many tables it has, and how many pages each
+-- set of I/O pages
 pub record Shape : Type 0 where
   pub block_lengths : List ℕ
   pub table_count : ℕ
@@ -100,4 +108,5 @@ pub record Shape : Type 0 where
 
 -- a host's shape
 abbrev pub shape : Host → Shape
-shape h = record { block_lengths = lengths h; table_count = length h.tables; io_sizes = map length h.io_marks }
+shape h =
+    record { block_lengths = lengths h; table_count = length h.tables; io_sizes = map length h.io_marks }

@@ -1,4 +1,5 @@
--- What a host ends as, where a table or a set of I/O pages of it is lent to be changed: with the last value that was left there.
+-- What a host ends as, where a table or a set of I/O pages of it is lent to be changed: with the last value
+-- that was left there.
 use Rattle.std.specs.Prelude.{ℕ, Option, List, Bool, slice_set}
 use Rattle.std.specs.Borrow.{LendsIf, Fml, RattleType, MutBor}
 use Rattle.vm_iotlb.specs.declared.range.IotlbRange.{IotlbRange}
@@ -9,7 +10,8 @@ use Rattle.vm_memory_core.specs.contracts.io_pages.IoPages.{the_row as io_pages_
 
 -- what a clause has as B.NewBitmap
 abbrev pub BitmapMembers : Type 0 → Type 1
-BitmapMembers X = record { page_size : X → ℕ; base : X → ℕ; marks : X → List Bool; Keeps : X → X → Type 0; count : ℕ → ℕ }
+BitmapMembers X =
+    record { page_size : X → ℕ; base : X → ℕ; marks : X → List Bool; Keeps : X → X → Type 0; count : ℕ → ℕ }
 
 -- the host with its table number t as it is left
 abbrev pub with_table_at : Host → (t : ℕ) → List IotlbRange → Host
@@ -22,11 +24,15 @@ with_io_pages_at h i marks = record h { io_marks = slice_set h.io_marks i marks 
 module _ (B : RattleType) (g : BitmapMembers B.Denot) (h : MutBor Host) (number : ℕ) where
   -- the type of a host with such bitmaps
   abbrev pub host_row : RattleType
-  host_row = the_row B (record { count = g.count }) (record { page_size = g.page_size; base = g.base; marks = g.marks; Keeps = g.Keeps })
+  host_row =
+      the_row B (record { count = g.count })
+      (record { page_size = g.page_size; base = g.base; marks = g.marks; Keeps = g.Keeps })
 
   -- the type of its sets of I/O pages
   abbrev pub pages_row : RattleType
-  pages_row = io_pages_row B (record { count = g.count }) (record { page_size = g.page_size; base = g.base; marks = g.marks; Keeps = g.Keeps })
+  pages_row =
+      io_pages_row B (record { count = g.count })
+      (record { page_size = g.page_size; base = g.base; marks = g.marks; Keeps = g.Keeps })
 
   -- a table is lent; if there is none, the host stays as it is
   abbrev pub LendsTable : Option (MutBor (List IotlbRange)) → Fml

@@ -1,7 +1,8 @@
 -- The numbers that tell errors apart.
 use Rattle.std.specs.Prelude.{ℕ}
 use Rattle.vm_memory_core.specs.declared.error.VolatileMemoryError.{VolatileMemoryError}
-use Rattle.vm_memory_core.specs.declared.error.VolatileMemoryError.TheVariants.{OutOfBounds, Overflow, TooBig, Misaligned, PartialBuffer}
+use Rattle.vm_memory_core.specs.declared.error.VolatileMemoryError.TheVariants.{OutOfBounds, Overflow, TooBig}
+use Rattle.vm_memory_core.specs.declared.error.VolatileMemoryError.TheVariants.{Misaligned, PartialBuffer}
 
 -- why a window refuses
 abbrev pub volatile_memory_number : VolatileMemoryError → ℕ

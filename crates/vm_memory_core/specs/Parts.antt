@@ -1,5 +1,6 @@
 -- Parts of a window: what each call hands out, or why it refuses.
-use Rattle.std.specs.Prelude.{ℕ, List, All, ◌+◌, ◌-◌, ◌*◌, ◌/◌, ◌^◌, ◌&&◌, ◌==◌, min, nat_lt, nat_le, if◌then◌else◌, Result, Ok, Err}
+use Rattle.std.specs.Prelude.{ℕ, List, All, ◌+◌, ◌-◌, ◌*◌, ◌/◌, ◌^◌, ◌&&◌, ◌==◌, min, nat_lt, nat_le}
+use Rattle.std.specs.Prelude.{if◌then◌else◌, Result, Ok, Err}
 use Rattle.std.specs.List.{flat_map}
 use Rattle.vm_values.specs.Fields.{Field, AllFit, spelled}
 use Rattle.vm_memory_core.specs.Window.{Window}
@@ -13,7 +14,8 @@ pub record Elements : Type 0 where
 
 -- the sum of two numbers of bytes, if it fits 64 bits
 abbrev pub end_of : (base offset : ℕ) → Result ℕ VolatileMemoryError
-end_of base offset = if nat_lt (base + offset) (2 ^ 64) then Ok (base + offset) else Err (Overflow base offset)
+end_of base offset =
+    if nat_lt (base + offset) (2 ^ 64) then Ok (base + offset) else Err (Overflow base offset)
 
 -- the same, where it does not lie past the end of len bytes
 abbrev pub end_within : (len base offset : ℕ) → Result ℕ VolatileMemoryError
@@ -39,7 +41,8 @@ rest_of w n = if nat_le n w.len then Ok (part_of w n (w.len - n)) else Err (OutO
 
 -- the first n bytes of a window, and what follows them
 abbrev pub halves_of : Window → ℕ → Result (Window × Window) VolatileMemoryError
-halves_of w n = if nat_le n w.len then Ok (record w { len = n }, part_of w n (w.len - n)) else Err (OutOfBounds n)
+halves_of w n =
+    if nat_le n w.len then Ok (record w { len = n }, part_of w n (w.len - n)) else Err (OutOfBounds n)
 
 -- n elements of size bytes from an offset on, where their bytes are fewer than 2^63 and the window has them
 abbrev pub sub_elements : Window → (offset n size : ℕ) → Result Elements VolatileMemoryError

@@ -1,5 +1,7 @@
--- A store in its two parts: bytes in one block, whose pages are marked unless I/O pages are, and those I/O pages.
-use Rattle.std.specs.Prelude.{ℕ, ◌+◌, ◌-◌, Bool, List, ◌++◌, length, map, take, drop, Option, None, Some, if◌then◌else◌}
+-- A store in its two parts: bytes in one block, whose pages are marked unless I/O pages are, and those I/O
+-- pages.
+use Rattle.std.specs.Prelude.{ℕ, ◌+◌, ◌-◌, Bool, List, ◌++◌, length, map, take, drop, Option, None, Some}
+use Rattle.std.specs.Prelude.{if◌then◌else◌}
 use Rattle.std.specs.Option.{is_none}
 use Rattle.vm_bitmaps.specs.Pages.{marked_range}
 use Rattle.vm_memory_core.specs.Host.{Block, Host, changed_at, with_blocks}
@@ -13,20 +15,28 @@ marked_if mark marks offset n = if mark then marked_range 4096 marks offset n el
 -- a block with bytes from an offset on, its pages marked or not
 abbrev pub block_put : Bool → (offset : ℕ) → List ℕ → Block → Block
 block_put mark offset bytes b =
-    record { bytes = take offset b.bytes ++ bytes ++ drop (offset + length bytes) b.bytes; marks = marked_if mark b.marks offset (length bytes) }
+    record {
+      bytes = take offset b.bytes ++ bytes ++ drop (offset + length bytes) b.bytes;
+      marks = marked_if mark b.marks offset (length bytes);
+    }
 
 -- the host with bytes at the front of a window, marked in its block unless the window marks I/O pages
 abbrev pub put_in_block : Host → Window → List ℕ → Host
 put_in_block h w bytes = with_blocks h (changed_at h.blocks w.block (block_put (is_none w.io) w.offset bytes))
 
--- the host with the bytes of one window copied into another, marked in its block unless the window marks I/O pages
+-- the host with the bytes of one window copied into another, marked in its block unless the window marks I/O
+-- pages
 abbrev pub copied_in_block : Host → (source dest : Window) → Host
 copied_in_block h source dest = put_in_block h dest (map (byte_in h) (places_of source))
 
 -- the host with the I/O pages of n bytes from an offset on marked
 abbrev pub io_marked_by : Option IoMarks → Host → (offset n : ℕ) → Host
 io_marked_by None h offset n = h
-io_marked_by (Some m) h offset n = record h { io_marks = changed_at h.io_marks m.set (λ marks. marked_range 4096 marks (m.base + (offset - m.from)) n) }
+io_marked_by (Some m) h offset n =
+    record h {
+      io_marks = changed_at h.io_marks m.set
+          (λ marks. marked_range 4096 marks (m.base + (offset - m.from)) n);
+    }
 
 -- the host with the I/O pages of the first n bytes of a window marked, if it marks such
 abbrev pub io_marked : Host → Window → (n : ℕ) → Host

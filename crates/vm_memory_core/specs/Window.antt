@@ -1,5 +1,6 @@
 -- A window is a list of places: what is read there, and what a write leaves.
-use Rattle.std.specs.Prelude.{◌≡◌, ℕ, zero, suc, ◌+◌, ◌-◌, ◌<◌, ◌≤◌, nat_le, List, [], ◌∷◌, length, All, Option, Some, None, option_map, slice_index_or, unwrap_or, if◌then◌else◌, refl}
+use Rattle.std.specs.Prelude.{◌≡◌, ℕ, zero, suc, ◌+◌, ◌-◌, ◌<◌, ◌≤◌, nat_le, List, [], ◌∷◌, length, All}
+use Rattle.std.specs.Prelude.{Option, Some, None, option_map, slice_index_or, unwrap_or, if◌then◌else◌, refl}
 use Rattle.std.proofs.Common.{arith}
 use Rattle.std.specs.List.{flat_map, zip}
 use Rattle.vm_memory_core.specs.Host.{Host, IoAddress, Place, byte_at, with_byte, with_mark_by}
@@ -7,7 +8,8 @@ use Rattle.vm_memory_core.specs.declared.window.IoMarks.{IoMarks}
 use Rattle.vm_memory_core.specs.declared.window.Marking.{Marking}
 use Rattle.vm_memory_core.specs.declared.window.Marking.TheVariants.{InBlock, IoAbove, IoBelow}
 
--- len bytes of a block, from an offset on, and the I/O pages that writes of them mark, if not their own in the block
+-- len bytes of a block, from an offset on, and the I/O pages that writes of them mark, if not their own in
+-- the block
 pub record Window : Type 0 where
   pub block : ℕ
   pub offset : ℕ
@@ -17,7 +19,8 @@ pub record Window : Type 0 where
 -- the I/O pages of a set, where the byte at an offset has the I/O address base
 abbrev pub io_from : (set base offset : ℕ) → IoMarks
 io_from set base offset =
-    if nat_le offset base then record { set = set; base = base - offset; from = 0 } else record { set = set; base = 0; from = offset - base }
+    if nat_le offset base then record { set = set; base = base - offset; from = 0 }
+    else record { set = set; base = 0; from = offset - base }
 
 -- the I/O pages that a window marks, if any
 abbrev pub io_of : Marking → (set by : ℕ) → Option IoMarks
@@ -31,7 +34,8 @@ BeginsBy offset InBlock set by = (set ≡ 0) × (by ≡ 0)
 BeginsBy offset IoAbove set by = Unit {0}
 BeginsBy offset IoBelow set by = (0 < by) × (by ≤ offset)
 
--- the same told the other way round, with a proof that a ghost member needs, of which nothing has to be believed
+-- the same told the other way round, with a proof that a ghost member needs, of which nothing has to be
+-- believed
 abbrev pub marking_from : (from : ℕ) → Marking
 marking_from zero = IoAbove
 marking_from (suc from) = IoBelow
@@ -55,7 +59,8 @@ by_of (Some m) = by_from m.base m.from
 abbrev told : Option IoMarks → Marking × ℕ × ℕ
 told io = (marking_of io, set_of io, by_of io)
 
-pub marking_back : (m : Marking) (offset set by : ℕ) → BeginsBy offset m set by → told (io_of m set by) ≡ (m, set, by)
+pub marking_back :
+    (m : Marking) (offset set by : ℕ) → BeginsBy offset m set by → told (io_of m set by) ≡ (m, set, by)
 marking_back InBlock offset set by begins = rw (begins.0, begins.1) refl
 marking_back IoAbove offset set by begins = refl
 marking_back IoBelow offset set zero begins = absurd (omega (arith, begins.0))
@@ -68,7 +73,8 @@ io_address offset io = option_map (λ m. record { set = m.set; address = m.base 
 -- n places of a block, from an offset on
 unfoldable pub span : (block offset : ℕ) → Option IoMarks → (n : ℕ) → List Place
 span block offset io zero = []
-span block offset io (suc n) = record { block = block; offset = offset; io = io_address offset io } ∷ span block (offset + 1) io n
+span block offset io (suc n) =
+    record { block = block; offset = offset; io = io_address offset io } ∷ span block (offset + 1) io n
 
 -- the places of a window
 abbrev pub places_of : Window → List Place
@@ -77,7 +83,8 @@ places_of w = span w.block w.offset w.io w.len
 -- these places, of which writes mark the I/O pages of addresses that follow one another, from one on
 abbrev pub with_io : (set address : ℕ) → List Place → List Place
 with_io set address [] = []
-with_io set address (place ∷ more) = record place { io = Some (record { set = set; address = address }) } ∷ with_io set (address + 1) more
+with_io set address (place ∷ more) =
+    record place { io = Some (record { set = set; address = address }) } ∷ with_io set (address + 1) more
 
 -- the places of some windows, one after another
 abbrev pub places : List Window → List Place

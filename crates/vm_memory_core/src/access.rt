@@ -4,7 +4,8 @@ ghost use Rattle.std.specs.Prelude.{◌≡◌, ◌==◌, ◌≤◌, ℕ, List, R
 ghost use Rattle.vm_values.specs.Fields.{spelled};
 ghost use Rattle.vm_memory_core.specs.Host.{Host, Place, lengths, shape};
 ghost use Rattle.vm_memory_core.specs.Window.{LiesIn};
-ghost use Rattle.vm_memory_core.specs.Access.{ReadsAll, ReadsSome, ReadsValue, WritesAll, WritesSome, reached_places};
+ghost use Rattle.vm_memory_core.specs.Access.{ReadsAll, ReadsSome, ReadsValue, WritesAll, WritesSome};
+ghost use Rattle.vm_memory_core.specs.Access.{reached_places};
 ghost use Rattle.vm_memory_core.specs.ReachedProof.{length-reached_places};
 ghost use Rattle.vm_iotlb.specs.declared.permissions.Permissions.{Permissions};
 ghost use Rattle.vm_memory_core.specs.declared.error.VolatileMemoryError.TheVariants.{PartialBuffer};
@@ -32,8 +33,8 @@ pub trait Bytes<A> {
     // what refuses an access to so many bytes of which only some are there
     ghost partial: { ℕ → ℕ → Self.E };
 
-    /// Reads as many bytes as are there, at most as many as the buffer has: how many, or the error that refuses them
-    /// all (vm-memory's `Bytes::read`).
+    /// Reads as many bytes as are there, at most as many as the buffer has: how many, or the error that
+    /// refuses them all (vm-memory's `Bytes::read`).
     fn read<B: NewBitmap>(
         &self,
         h: &HostMemory<B>,
@@ -41,7 +42,8 @@ pub trait Bytes<A> {
         addr: A,
     ) -> Result<usize, Self::E>
         requires { IsHeld self.now h.now }
-        ensures { ReadsSome (Reaches self.now h.now addr (length buf.old) Permissions.Read) h.now buf.old buf.new result };
+        ensures { ReadsSome (Reaches self.now h.now addr (length buf.old) Permissions.Read) h.now buf.old
+            buf.new result };
 
     /// Writes as many bytes as are there, and marks their pages: how many, or the error that refuses them all
     /// (vm-memory's `Bytes::write`).
@@ -52,12 +54,13 @@ pub trait Bytes<A> {
         addr: A,
     ) -> Result<usize, Self::E>
         requires { IsHeld self.now h.old }
-        ensures written { WritesSome (Reaches self.now h.old addr (length buf.now) Permissions.Write) buf.now h.old h.new result }
+        ensures written { WritesSome (Reaches self.now h.old addr (length buf.now) Permissions.Write) buf.now
+            h.old h.new result }
         ensures held { IsHeld self.now h.new }
         ensures shape { shape h.new ≡ shape h.old };
 
-    /// Fills a buffer. Where only some bytes are there, these are read, and the error is `partial`, as PartialBuffer;
-    /// one that refuses them all is that of `read` (vm-memory's `Bytes::read_slice`).
+    /// Fills a buffer. Where only some bytes are there, these are read, and the error is `partial`, as
+    /// PartialBuffer; one that refuses them all is that of `read` (vm-memory's `Bytes::read_slice`).
     fn read_slice<B: NewBitmap>(
         &self,
         h: &HostMemory<B>,
@@ -65,10 +68,12 @@ pub trait Bytes<A> {
         addr: A,
     ) -> Result<(), Self::E>
         requires { IsHeld self.now h.now }
-        ensures { ReadsAll (Reaches self.now h.now addr (length buf.old) Permissions.Read) partial h.now buf.old buf.new result };
+        ensures { ReadsAll (Reaches self.now h.now addr (length buf.old) Permissions.Read) partial h.now
+            buf.old buf.new result };
 
-    /// Writes all of a buffer, and marks the pages. Where only some bytes are there, these are written, and the error
-    /// is `partial`, as PartialBuffer; one that refuses them all is that of `write` (vm-memory's `Bytes::write_slice`).
+    /// Writes all of a buffer, and marks the pages. Where only some bytes are there, these are written, and
+    /// the error is `partial`, as PartialBuffer; one that refuses them all is that of `write` (vm-memory's
+    /// `Bytes::write_slice`).
     fn write_slice<B: NewBitmap>(
         &self,
         h: &mut HostMemory<B>,
@@ -89,7 +94,8 @@ pub trait Bytes<A> {
         addr: A,
     ) -> Result<T, Self::E>
         requires { IsHeld self.now h.now }
-        ensures { ReadsValue (Reaches self.now h.now addr T.SIZE Permissions.Read) partial T.fields T.SIZE h.now result }
+        ensures { ReadsValue (Reaches self.now h.now addr T.SIZE Permissions.Read) partial T.fields T.SIZE
+            h.now result }
     {
         let mut buffer = [0; 256];
         let bytes = &mut buffer[..T::SIZE];
@@ -99,8 +105,8 @@ pub trait Bytes<A> {
         }
     }
 
-    /// Writes a value's bytes from an address on, and marks their pages. The errors are those of `write_slice`: where
-    /// only some bytes are there, these are written (vm-memory's `Bytes::write_obj`).
+    /// Writes a value's bytes from an address on, and marks their pages. The errors are those of
+    /// `write_slice`: where only some bytes are there, these are written (vm-memory's `Bytes::write_obj`).
     final fn write_obj<T: ByteValued, B: NewBitmap>(
         &self,
         h: &mut HostMemory<B>,
@@ -119,11 +125,13 @@ pub trait Bytes<A> {
     }
 
     // an access reaches at most as many places as it asks for
-    ghost at_most: { (m : Self) (h : Host) (a : A) (n : ℕ) (p : Permissions) (places : List Place) → Reaches m h a n p (Ok places) → length places ≤ n };
+    ghost at_most: { (m : Self) (h : Host) (a : A) (n : ℕ) (p : Permissions) (places : List Place)
+        → Reaches m h a n p (Ok places)
+        → length places ≤ n };
 }
 
-/// A window's bytes, addressed from its start. An access that begins past its end is refused with OutOfBounds, one that
-/// is asked to do all and can't with PartialBuffer.
+/// A window's bytes, addressed from its start. An access that begins past its end is refused with
+/// OutOfBounds, one that is asked to do all and can't with PartialBuffer.
 impl Bytes<usize> for VolatileSlice {
     type E = VolatileMemoryError;
 

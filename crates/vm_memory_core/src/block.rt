@@ -1,6 +1,7 @@
 //! One block of host memory, and copies from one block to another.
 
-ghost use Rattle.std.specs.Prelude.{◌≡◌, ◌≢◌, ℕ, ◌+◌, ◌<◌, ◌≤◌, ◌^◌, ◌*◌, List, ◌++◌, IfOk, length, map, take, drop};
+ghost use Rattle.std.specs.Prelude.{◌≡◌, ◌≢◌, ℕ, ◌+◌, ◌<◌, ◌≤◌, ◌^◌, ◌*◌, List, ◌++◌, IfOk, length, map};
+ghost use Rattle.std.specs.Prelude.{take, drop};
 ghost use Rattle.vm_memory_core.specs.Host.{Block, Host, with_blocks};
 ghost use Rattle.vm_memory_core.specs.Parts.{spelled_all};
 ghost use Rattle.vm_memory_core.specs.Putting.{copied_in_block, marked_if};
@@ -48,7 +49,8 @@ impl<B: NewBitmap> Block<B> {
         requires { offset + length values.now * T.SIZE ≤ length self.old.bytes }
         ensures stored { self.new.bytes ≡ take offset self.old.bytes ++ spelled_all T.fields values.now
             ++ drop (offset + length (spelled_all T.fields values.now)) self.old.bytes }
-        ensures marked { self.new.marks ≡ marked_if mark self.old.marks offset (length (spelled_all T.fields values.now)) }
+        ensures marked { self.new.marks
+            ≡ marked_if mark self.old.marks offset (length (spelled_all T.fields values.now)) }
         ensures fits { offset + length (spelled_all T.fields values.now) < 2 ^ 64 }
         ensures count { length (spelled_all T.fields values.now) ≡ length values.now * T.SIZE }
     {
@@ -58,13 +60,15 @@ impl<B: NewBitmap> Block<B> {
         }
     }
 
-    // Copies bytes from one offset to another, those that stood there before, and marks their pages if `mark`.
+    // Copies bytes from one offset to another, those that stood there before, and marks their pages if
+    // `mark`.
     pub(crate) fn copy_within(&mut self, from: usize, to: usize, len: usize, mark: bool)
         requires source { from + len ≤ length self.old.bytes }
         requires dest { to + len ≤ length self.old.bytes }
         ensures stored { self.new.bytes ≡ take to self.old.bytes ++ take len (drop from self.old.bytes)
             ++ drop (to + length (take len (drop from self.old.bytes))) self.old.bytes }
-        ensures marked { self.new.marks ≡ marked_if mark self.old.marks to (length (take len (drop from self.old.bytes))) }
+        ensures marked { self.new.marks
+            ≡ marked_if mark self.old.marks to (length (take len (drop from self.old.bytes))) }
         ensures fits { to + length (take len (drop from self.old.bytes)) < 2 ^ 64 }
         ensures count { length (take len (drop from self.old.bytes)) ≡ len }
     {
@@ -77,7 +81,9 @@ impl<B: NewBitmap> Block<B> {
     // Sets bytes, and marks no page.
     pub(crate) fn set(&mut self, offset: usize, bytes: &[u8])
         requires { offset + length bytes.now ≤ length self.old.bytes }
-        ensures { self.new ≡ record self.old { bytes = take offset self.old.bytes ++ bytes.now ++ drop (offset + length bytes.now) self.old.bytes } }
+        ensures { self.new ≡ record self.old {
+          bytes = take offset self.old.bytes ++ bytes.now ++ drop (offset + length bytes.now) self.old.bytes;
+        } }
     {
         put_at(&mut self.bytes, offset, bytes);
     }
@@ -85,7 +91,8 @@ impl<B: NewBitmap> Block<B> {
     // Writes bytes, and marks their pages if `mark`.
     pub(crate) fn write(&mut self, offset: usize, bytes: &[u8], mark: bool)
         requires { offset + length bytes.now ≤ length self.old.bytes }
-        ensures stored { self.new.bytes ≡ take offset self.old.bytes ++ bytes.now ++ drop (offset + length bytes.now) self.old.bytes }
+        ensures stored { self.new.bytes ≡ take offset self.old.bytes ++ bytes.now
+            ++ drop (offset + length bytes.now) self.old.bytes }
         ensures marked { self.new.marks ≡ marked_if mark self.old.marks offset (length bytes.now) }
         ensures fits { offset + length bytes.now < 2 ^ 64 }
     {
@@ -104,9 +111,14 @@ impl<B: NewBitmap> Block<B> {
         mark: bool,
     ) -> Result<usize, S::Error>
         requires { offset + len ≤ length self.old.bytes }
-        ensures reads { (part : List ℕ) × (self.new.bytes ≡ take offset self.old.bytes ++ part ++ drop (offset + length part) self.old.bytes)
-            × (self.new.marks ≡ marked_if mark self.old.marks offset (length part)) × (length part ≡ moved result) × (length part ≤ len)
-            × S.gives source.old (take len (drop offset self.old.bytes)) (read_answer result part) source.new }
+        ensures reads { (part : List ℕ)
+            × (self.new.bytes ≡ take offset self.old.bytes ++ part
+            ++ drop (offset + length part) self.old.bytes)
+            × (self.new.marks ≡ marked_if mark self.old.marks offset (length part))
+            × (length part ≡ moved result)
+            × (length part ≤ len)
+            × S.gives source.old (take len (drop offset self.old.bytes)) (read_answer result part)
+            source.new }
         ensures fits { offset + moved result < 2 ^ 64 }
     {
         let answer = read_to(&mut self.bytes, offset, len, source);
@@ -143,8 +155,8 @@ pub(crate) fn cloned_blocks(
     Ok(copies)
 }
 
-// Copies a window of one block to one of the same length in another, and marks the pages there if none of a set of I/O
-// pages are marked instead.
+// Copies a window of one block to one of the same length in another, and marks the pages there if none of a
+// set of I/O pages are marked instead.
 pub(crate) fn copy_across<B: NewBitmap>(
     blocks: &mut [Block<B>],
     source: VolatileSlice,

@@ -35,7 +35,8 @@ fn get_values<T: ByteValued>(bytes: &[u8], out: &mut [T])
 // Puts the bytes of values, one after another, in a buffer from `at` on.
 pub(crate) fn put_values<T: ByteValued>(buffer: &mut [u8], at: usize, values: &[T])
     requires { at + length values.now * T.SIZE ≤ length buffer.old }
-    ensures stored { buffer.new ≡ take at buffer.old ++ spelled_all T.fields values.now ++ drop (at + length values.now * T.SIZE) buffer.old }
+    ensures stored { buffer.new ≡ take at buffer.old ++ spelled_all T.fields values.now
+        ++ drop (at + length values.now * T.SIZE) buffer.old }
     ensures count { length (spelled_all T.fields values.now) ≡ length values.now * T.SIZE }
     ensures len { length buffer.new ≡ length buffer.old }
 {
@@ -65,7 +66,8 @@ impl VolatileSlice {
     pub fn copy_to<T: ByteValued, B: NewBitmap>(&self, h: &HostMemory<B>, values: &mut [T]) -> usize
         requires { LiesIn (lengths h.now) self.now }
         ensures count { result ≡ whole_elements T.SIZE self.now.len (length values.old) }
-        ensures bytes { spelled_all T.fields (take result values.new) ≡ map (byte_in h.now) (places_of (part_of self.now 0 (result * T.SIZE))) }
+        ensures bytes { spelled_all T.fields (take result values.new)
+            ≡ map (byte_in h.now) (places_of (part_of self.now 0 (result * T.SIZE))) }
         ensures fits { EachFits T.fields (take result values.new) }
         ensures rest { drop result values.new ≡ drop result values.old }
     {
@@ -80,7 +82,8 @@ impl VolatileSlice {
     pub fn copy_from<T: ByteValued, B: NewBitmap>(&self, h: &mut HostMemory<B>, values: &[T])
         requires { LiesIn (lengths h.old) self.now }
         ensures stored { Stores h.old h.new (places_of self.now)
-            (spelled_all T.fields (take (whole_elements T.SIZE self.now.len (length values.now)) values.now)) }
+            (spelled_all T.fields
+            (take (whole_elements T.SIZE self.now.len (length values.now)) values.now)) }
         ensures shape { shape h.new ≡ shape h.old }
     {
         let count = whole_values::<T>(self.len(), values.len());

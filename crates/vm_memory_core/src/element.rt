@@ -4,7 +4,8 @@ ghost use Rattle.std.specs.Prelude.{◌≡◌, ◌==◌, ◌+◌, ◌*◌, ◌<�
 ghost use Rattle.vm_values.specs.Fields.{AllFit, spelled};
 ghost use Rattle.vm_memory_core.specs.Host.{lengths, shape};
 ghost use Rattle.vm_memory_core.specs.Window.{LiesIn, Stores, byte_in, places_of};
-ghost use Rattle.vm_memory_core.specs.Parts.{EachFits, elements_copied, part_of, spelled_all, sub_elements, sub_window};
+ghost use Rattle.vm_memory_core.specs.Parts.{EachFits, elements_copied, part_of, spelled_all, sub_elements};
+ghost use Rattle.vm_memory_core.specs.Parts.{sub_window};
 
 use crate::error::VolatileMemoryError;
 use crate::host::HostMemory;
@@ -135,7 +136,8 @@ impl<T: ByteValued> VolatileArrayRef<T> {
     pub fn load<B: NewBitmap>(&self, h: &HostMemory<B>, index: usize) -> T
         requires lies { LiesIn (lengths h.now) self.now.window }
         requires some { index < self.now.count }
-        ensures bytes { spelled (T.fields result) ≡ map (byte_in h.now) (places_of (part_of self.now.window (index * T.SIZE) T.SIZE)) }
+        ensures bytes { spelled (T.fields result)
+            ≡ map (byte_in h.now) (places_of (part_of self.now.window (index * T.SIZE) T.SIZE)) }
         ensures fits { AllFit (T.fields result) }
     {
         self.ref_at(index).load(h)
@@ -145,7 +147,8 @@ impl<T: ByteValued> VolatileArrayRef<T> {
     pub fn store<B: NewBitmap>(&self, h: &mut HostMemory<B>, index: usize, value: T)
         requires lies { LiesIn (lengths h.old) self.now.window }
         requires some { index < self.now.count }
-        ensures stored { Stores h.old h.new (places_of (part_of self.now.window (index * T.SIZE) T.SIZE)) (spelled (T.fields value)) }
+        ensures stored { Stores h.old h.new (places_of (part_of self.now.window (index * T.SIZE) T.SIZE))
+            (spelled (T.fields value)) }
         ensures shape { shape h.new ≡ shape h.old }
     {
         self.ref_at(index).store(h, value);
@@ -169,7 +172,8 @@ impl<T: ByteValued> VolatileArrayRef<T> {
     pub fn copy_from<B: NewBitmap>(&self, h: &mut HostMemory<B>, values: &[T])
         requires { LiesIn (lengths h.old) self.now.window }
         ensures stored { Stores h.old h.new (places_of self.now.window)
-            (spelled_all T.fields (take (elements_copied T.SIZE self.now.count (length values.now)) values.now)) }
+            (spelled_all T.fields
+            (take (elements_copied T.SIZE self.now.count (length values.now)) values.now)) }
         ensures shape { shape h.new ≡ shape h.old }
     {
         self.window.copy_from(h, values);
@@ -180,7 +184,8 @@ impl<T: ByteValued> VolatileArrayRef<T> {
     pub fn copy_to_volatile_slice<B: NewBitmap>(&self, h: &mut HostMemory<B>, dest: VolatileSlice)
         requires source { LiesIn (lengths h.old) self.now.window }
         requires dest { LiesIn (lengths h.old) dest }
-        ensures stored { Stores h.old h.new (places_of dest) (map (byte_in h.old) (places_of self.now.window)) }
+        ensures stored { Stores h.old h.new (places_of dest)
+            (map (byte_in h.old) (places_of self.now.window)) }
         ensures shape { shape h.new ≡ shape h.old }
     {
         self.window.copy_to_volatile_slice(h, dest);
@@ -195,7 +200,8 @@ impl<T: ByteValued> VolatileArrayRef<T> {
 }
 
 impl VolatileSlice {
-    /// The place of a value, from an offset on, or OutOfBounds or Overflow (vm-memory's `VolatileSlice::get_ref`).
+    /// The place of a value, from an offset on, or OutOfBounds or Overflow (vm-memory's
+    /// `VolatileSlice::get_ref`).
     pub fn get_ref<T: ByteValued>(
         &self,
         offset: usize,

@@ -22,7 +22,8 @@ pub trait HeldIn {
 }
 
 impl<B: NewBitmap> HostMemory<B> {
-    /// Whether this memory has all that something names: blocks with their lengths, tables and sets of I/O pages.
+    /// Whether this memory has all that something names: blocks with their lengths, tables and sets of I/O
+    /// pages.
     pub fn holds<M: HeldIn>(&self, m: &M) -> bool
         ensures held { IsTrue result ↔ M.IsHeld m.now self.now }
         ensures sound { M.IsSound m.now }

@@ -1,6 +1,8 @@
-//! Memory as numbered blocks, each with its dirty pages, with the tables of IOMMUs and their dirty pages beside them.
+//! Memory as numbered blocks, each with its dirty pages, with the tables of IOMMUs and their dirty pages
+//! beside them.
 
-ghost use Rattle.std.specs.Prelude.{[], IfOk, IfSome, IsSome, IsTrue, None, OnErr, false, ℕ, ◌≡◌, ◌↔◌, ◌<◌, ◌≤◌, ◌*◌};
+ghost use Rattle.std.specs.Prelude.{[], IfOk, IfSome, IsSome, IsTrue, None, OnErr, false, ℕ, ◌≡◌, ◌↔◌, ◌<◌};
+ghost use Rattle.std.specs.Prelude.{◌≤◌, ◌*◌};
 ghost use Rattle.std.specs.Prelude.{List, length, map, replicate, slice_get, option_map};
 ghost use Rattle.std.specs.Borrow.{sem};
 ghost use Rattle.vm_memory_core.specs.Host.{byte_at, lengths, shape, with_block, with_io_pages, with_table};
@@ -20,8 +22,8 @@ use vm_bitmaps::{NewBitmap, PageBitmap};
 use vm_iotlb::Iotlb;
 use vm_values::ByteValued;
 
-/// The memory that guests and devices share: blocks, each with a bitmap of its dirty pages; and what devices behind an
-/// IOMMU go by: tables, and sets of dirty I/O pages. Each of the three is numbered from 0.
+/// The memory that guests and devices share: blocks, each with a bitmap of its dirty pages; and what devices
+/// behind an IOMMU go by: tables, and sets of dirty I/O pages. Each of the three is numbered from 0.
 #[derive(Drop)]
 pub struct HostMemory<B: NewBitmap> {
     alloc: Global,
@@ -36,7 +38,8 @@ impl<B: NewBitmap> Model for HostMemory<B> {
 
     ghost Value = { Host };
 
-    ghost view = { λ h. record { blocks = h.blocks.items; tables = h.tables.items; io_marks = h.io_pages.items } };
+    ghost view = { λ h.
+        record { blocks = h.blocks.items; tables = h.tables.items; io_marks = h.io_pages.items } };
 }
 
 impl<B: NewBitmap> HostMemory<B> {
@@ -54,12 +57,13 @@ impl<B: NewBitmap> HostMemory<B> {
         }
     }
 
-    /// A new block of `len` bytes, all zero, none of whose pages is marked: its number. AllocError if an allocation
-    /// fails; then nothing changes.
+    /// A new block of `len` bytes, all zero, none of whose pages is marked: its number. AllocError if an
+    /// allocation fails; then nothing changes.
     pub fn new_block(&mut self, len: usize) -> Result<usize, AllocError>
         requires { 0 < len }
         ensures number { IfOk result (λ b. b ≡ length self.old.blocks) }
-        ensures ok { IfOk result (λ _. self.new ≡ with_block self.old (record { bytes = replicate len 0; marks = replicate (B.count len) false })) }
+        ensures ok { IfOk result (λ _. self.new ≡ with_block self.old
+            (record { bytes = replicate len 0; marks = replicate (B.count len) false })) }
         ensures err { OnErr result (self.new ≡ self.old) }
     {
         let number = self.blocks.len();
@@ -69,8 +73,8 @@ impl<B: NewBitmap> HostMemory<B> {
         Ok(number)
     }
 
-    /// A new table, in which no I/O address is mapped: its number. AllocError if an allocation fails; then nothing
-    /// changes.
+    /// A new table, in which no I/O address is mapped: its number. AllocError if an allocation fails; then
+    /// nothing changes.
     pub fn new_table(&mut self) -> Result<usize, AllocError>
         ensures number { IfOk result (λ t. t ≡ length self.old.tables) }
         ensures ok { IfOk result (λ _. self.new ≡ with_table self.old []) }
@@ -85,7 +89,8 @@ impl<B: NewBitmap> HostMemory<B> {
     /// AllocError if an allocation fails; then nothing changes.
     pub fn new_io_bitmap(&mut self, byte_size: usize) -> Result<usize, AllocError>
         ensures number { IfOk result (λ i. i ≡ length self.old.io_marks) }
-        ensures ok { IfOk result (λ _. self.new ≡ with_io_pages self.old (replicate (B.count byte_size) false)) }
+        ensures ok { IfOk result
+            (λ _. self.new ≡ with_io_pages self.old (replicate (B.count byte_size) false)) }
         ensures err { OnErr result (self.new ≡ self.old) }
     {
         let number = self.io_pages.len();
@@ -171,16 +176,20 @@ impl<B: NewBitmap> HostMemory<B> {
         self.mark_io(window, bytes.len());
     }
 
-    /// Reads to the first places of a window, and marks the pages of the bytes that came. An error changes nothing
-    /// (vm-memory's `VolatileSlice::read_volatile_from`).
+    /// Reads to the first places of a window, and marks the pages of the bytes that came. An error changes
+    /// nothing (vm-memory's `VolatileSlice::read_volatile_from`).
     pub fn read_volatile_from<S: ReadVolatile>(
         &mut self,
         window: VolatileSlice,
         source: &mut S,
     ) -> Result<usize, S::Error>
         requires { LiesIn (lengths self.old) window }
-        ensures reads { (part : List ℕ) × Stores self.old self.new (places_of window) part × (length part ≡ moved result) × (length part ≤ window.len)
-            × S.gives source.old (map (byte_in self.old) (places_of window)) (read_answer result part) source.new }
+        ensures reads { (part : List ℕ)
+            × Stores self.old self.new (places_of window) part
+            × (length part ≡ moved result)
+            × (length part ≤ window.len)
+            × S.gives source.old (map (byte_in self.old) (places_of window)) (read_answer result part)
+            source.new }
         ensures shape { shape self.new ≡ shape self.old }
     {
         let block = &mut self.blocks[window.block()];
@@ -239,7 +248,8 @@ impl<B: NewBitmap> HostMemory<B> {
         requires source { LiesIn (lengths self.old) source }
         requires dest { LiesIn (lengths self.old) dest }
         requires len { source.len ≡ dest.len }
-        ensures stored { Stores self.old self.new (places_of dest) (map (byte_in self.old) (places_of source)) }
+        ensures stored { Stores self.old self.new (places_of dest)
+            (map (byte_in self.old) (places_of source)) }
         ensures shape { shape self.new ≡ shape self.old }
     {
         self.copy_in_blocks(source, dest);
@@ -250,7 +260,8 @@ impl<B: NewBitmap> HostMemory<B> {
     pub fn bitmap(&self, block: usize) -> Option<&B>
         ensures size { IfSome result (λ b. B.page_size b.now ≡ 4096) }
         ensures base { IfSome result (λ b. B.base b.now ≡ 0) }
-        ensures marks { option_map (λ b. B.marks b.now) result ≡ option_map (λ b. b.marks) (slice_get self.now.blocks block) }
+        ensures marks { option_map (λ b. B.marks b.now) result
+            ≡ option_map (λ b. b.marks) (slice_get self.now.blocks block) }
     {
         match self.blocks.get(block) {
             Some(block) => Some(&block.bitmap),
@@ -260,8 +271,10 @@ impl<B: NewBitmap> HostMemory<B> {
 
     /// The bytes of a block, and its dirty pages; None if there is no such block.
     pub fn bytes_and_bitmap(&self, block: usize) -> Option<(&[u8], &B)>
-        ensures bytes { option_map (λ p. p.0.now) result ≡ option_map (λ b. b.bytes) (slice_get self.now.blocks block) }
-        ensures marks { option_map (λ p. B.marks p.1.now) result ≡ option_map (λ b. b.marks) (slice_get self.now.blocks block) }
+        ensures bytes { option_map (λ p. p.0.now) result
+            ≡ option_map (λ b. b.bytes) (slice_get self.now.blocks block) }
+        ensures marks { option_map (λ p. B.marks p.1.now) result
+            ≡ option_map (λ b. b.marks) (slice_get self.now.blocks block) }
         ensures count { IfSome result (λ p. length (B.marks p.1.now) ≡ B.count (length p.0.now)) }
     {
         match self.blocks.get(block) {
@@ -280,8 +293,10 @@ impl<B: NewBitmap> HostMemory<B> {
 
     /// A window of a block, where the block has all of it.
     pub fn window(&self, block: usize, offset: usize, len: usize) -> Option<VolatileSlice>
-        ensures value { IfSome result (λ w. w ≡ record { block = block; offset = offset; len = len; io = None }) }
-        ensures found { IsSome result ↔ LiesIn (lengths self.now) (record { block = block; offset = offset; len = len; io = None }) }
+        ensures value { IfSome result
+            (λ w. w ≡ record { block = block; offset = offset; len = len; io = None }) }
+        ensures found { IsSome result ↔ LiesIn (lengths self.now)
+            (record { block = block; offset = offset; len = len; io = None }) }
     {
         let size = self.block_len(block)?;
         if offset <= size && len <= size - offset {
@@ -317,8 +332,8 @@ fn cloned_tables(alloc: Global, tables: &[Iotlb]) -> Result<Vec<Iotlb>, AllocErr
 impl HostMemory<PageBitmap> {
     ghost use Rattle.vm_memory_core.specs.Host.{changed_at, unmarked, with_blocks};
 
-    /// The same memory once more: blocks with their bytes and marks, tables, and sets of I/O pages. AllocError if
-    /// an allocation fails.
+    /// The same memory once more: blocks with their bytes and marks, tables, and sets of I/O pages.
+    /// AllocError if an allocation fails.
     pub fn try_clone(&self) -> Result<HostMemory<PageBitmap>, AllocError>
         ensures { IfOk result (λ h. h ≡ self.now) }
     {

@@ -1,6 +1,7 @@
 //! Host memory of any kind, as queues and devices use it.
 
-ghost use Rattle.std.specs.Prelude.{◌≡◌, ◌↔◌, ℕ, ◌<◌, ◌≤◌, IfOk, IsTrue, List, length, map, option_map, slice_get};
+ghost use Rattle.std.specs.Prelude.{◌≡◌, ◌↔◌, ℕ, ◌<◌, ◌≤◌, IfOk, IsTrue, List, length, map, option_map};
+ghost use Rattle.std.specs.Prelude.{slice_get};
 ghost use Rattle.vm_memory_core.specs.Host.{Host, lengths, shape};
 ghost use Rattle.vm_memory_core.specs.Volatile.{moved, read_answer};
 ghost use Rattle.vm_memory_core.specs.Window.{AllLieIn, LiesIn, Stores, byte_in, places, places_of};
@@ -35,15 +36,20 @@ pub trait HostBlocks {
         ensures stored { Stores (host self.old) (host self.new) (places_of window) bytes.now }
         ensures shape { shape (host self.new) ≡ shape (host self.old) };
 
-    /// Reads to the first places of a window, and marks the pages of the bytes that came. An error changes nothing.
+    /// Reads to the first places of a window, and marks the pages of the bytes that came. An error changes
+    /// nothing.
     fn read_volatile_from<S: ReadVolatile>(
         &mut self,
         window: VolatileSlice,
         source: &mut S,
     ) -> Result<usize, S::Error>
         requires { LiesIn (lengths (host self.old)) window }
-        ensures reads { (part : List ℕ) × Stores (host self.old) (host self.new) (places_of window) part × (length part ≡ moved result)
-            × (length part ≤ window.len) × S.gives source.old (map (byte_in (host self.old)) (places_of window)) (read_answer result part) source.new }
+        ensures reads { (part : List ℕ)
+            × Stores (host self.old) (host self.new) (places_of window) part
+            × (length part ≡ moved result)
+            × (length part ≤ window.len)
+            × S.gives source.old (map (byte_in (host self.old)) (places_of window)) (read_answer result part)
+            source.new }
         ensures shape { shape (host self.new) ≡ shape (host self.old) };
 
     /// The table of an IOMMU with this number; None if there is none.
@@ -107,7 +113,8 @@ pub trait HostBlocks {
         }
     }
 
-    /// The bytes of the windows, joined; there are about `capacity` of them. AllocError if an allocation fails.
+    /// The bytes of the windows, joined; there are about `capacity` of them. AllocError if an allocation
+    /// fails.
     #[tactic(auto, unfolding(crate::specs::Window::AllLieIn))]
     #[inline(always)]
     final fn fetch_windows(

@@ -36,8 +36,8 @@ impl<B: NewBitmap> IoPages<B> {
     }
 }
 
-// Marks the I/O pages of `count` bytes from an offset of a block on. A set that isn't there has none, and no address
-// lies at or past 2^64.
+// Marks the I/O pages of `count` bytes from an offset of a block on. A set that isn't there has none, and no
+// address lies at or past 2^64.
 pub(crate) fn mark_pages<B: NewBitmap>(
     sets: &mut [IoPages<B>],
     marks: IoMarks,
@@ -45,7 +45,8 @@ pub(crate) fn mark_pages<B: NewBitmap>(
     count: usize,
 )
     requires { marks.from ≤ offset }
-    ensures { sets.new ≡ changed_at sets.old marks.set (λ m. marked_range 4096 m (marks.base + (offset - marks.from)) count) }
+    ensures { sets.new ≡ changed_at sets.old marks.set
+        (λ m. marked_range 4096 m (marks.base + (offset - marks.from)) count) }
 {
     if marks.set < sets.len() {
         if let Some(address) = marks.base.checked_add((offset - marks.from) as u64) {

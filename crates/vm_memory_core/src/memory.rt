@@ -18,7 +18,8 @@ pub trait VolatileMemory {
     fn len(&self) -> usize
         ensures { result ≡ (window self.now).len };
 
-    /// Its `count` bytes from an offset on, or OutOfBounds or Overflow (vm-memory's `VolatileMemory::get_slice`).
+    /// Its `count` bytes from an offset on, or OutOfBounds or Overflow (vm-memory's
+    /// `VolatileMemory::get_slice`).
     fn get_slice(&self, offset: usize, count: usize) -> Result<VolatileSlice, VolatileMemoryError>
         ensures { result ≡ sub_window (window self.now) offset count };
 
@@ -33,7 +34,8 @@ pub trait VolatileMemory {
         self.len() == 0
     }
 
-    /// The place of a value, from an offset on, or OutOfBounds or Overflow (vm-memory's `VolatileMemory::get_ref`).
+    /// The place of a value, from an offset on, or OutOfBounds or Overflow (vm-memory's
+    /// `VolatileMemory::get_ref`).
     final fn get_ref<T: ByteValued>(
         &self,
         offset: usize,

@@ -12,8 +12,10 @@ use vm_bitmaps::NewBitmap;
 impl<B: NewBitmap> HostMemory<B> {
     /// Reads bytes of a block, if it has all of them; else the buffer stays as it was.
     pub fn read_block(&self, block: usize, offset: usize, buffer: &mut [u8]) -> bool
-        ensures found { IsTrue result ↔ LiesIn (lengths self.now) (record { block = block; offset = offset; len = length buffer.old; io = None }) }
-        ensures read { OnTrue result (buffer.new ≡ map (byte_in self.now) (span block offset None (length buffer.old))) }
+        ensures found { IsTrue result ↔ LiesIn (lengths self.now)
+            (record { block = block; offset = offset; len = length buffer.old; io = None }) }
+        ensures read { OnTrue result
+            (buffer.new ≡ map (byte_in self.now) (span block offset None (length buffer.old))) }
         ensures refused { OnFalse result (buffer.new ≡ buffer.old) }
     {
         match self.window(block, offset, buffer.len()) {
@@ -27,8 +29,10 @@ impl<B: NewBitmap> HostMemory<B> {
 
     /// Sets bytes of a block, if it has all of their places, and marks no page; else nothing changes.
     pub fn write_block(&mut self, block: usize, offset: usize, bytes: &[u8]) -> bool
-        ensures found { IsTrue result ↔ LiesIn (lengths self.old) (record { block = block; offset = offset; len = length bytes.now; io = None }) }
-        ensures set { OnTrue result (self.new ≡ set_all self.old (zip (span block offset None (length bytes.now)) bytes.now)) }
+        ensures found { IsTrue result ↔ LiesIn (lengths self.old)
+            (record { block = block; offset = offset; len = length bytes.now; io = None }) }
+        ensures set { OnTrue result
+            (self.new ≡ set_all self.old (zip (span block offset None (length bytes.now)) bytes.now)) }
         ensures refused { OnFalse result (self.new ≡ self.old) }
         ensures shape { shape self.new ≡ shape self.old }
     {

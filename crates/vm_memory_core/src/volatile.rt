@@ -8,11 +8,13 @@ pub trait ReadVolatile {
     /// Why nothing was read.
     type Error;
 
-    // What one read may answer: before, the bytes that it is lent, answer, after. Of all memory it sees these alone.
+    // What one read may answer: before, the bytes that it is lent, answer, after. Of all memory it sees these
+    // alone.
     ghost gives: { Self → List ℕ → Result (List ℕ) Self.Error → Self → Type 0 };
 
-    /// Reads to the front of a buffer, and answers how many bytes. The buffer may hold bytes of a guest, which are no input:
-    /// what lies behind those that came stays as it was, and all of the buffer with an error.
+    /// Reads to the front of a buffer, and answers how many bytes. The buffer may hold bytes of a guest,
+    /// which are no input: what lies behind those that came stays as it was, and all of the buffer with an
+    /// error.
     fn read_volatile(&mut self, buf: &mut [u8]) -> Result<usize, Self::Error>
         ensures within { moved result ≤ length buf.old }
         ensures rest { buf.new ≡ take (moved result) buf.new ++ drop (moved result) buf.old }
@@ -37,8 +39,11 @@ pub(crate) fn read_to<S: ReadVolatile>(
     source: &mut S,
 ) -> Result<usize, S::Error>
     requires { offset + len ≤ length block.old }
-    ensures reads { (part : List ℕ) × (block.new ≡ take offset block.old ++ part ++ drop (offset + length part) block.old)
-        × (length part ≡ moved result) × (length part ≤ len) × S.gives source.old (take len (drop offset block.old)) (read_answer result part) source.new }
+    ensures reads { (part : List ℕ)
+        × (block.new ≡ take offset block.old ++ part ++ drop (offset + length part) block.old)
+        × (length part ≡ moved result)
+        × (length part ≤ len)
+        × S.gives source.old (take len (drop offset block.old)) (read_answer result part) source.new }
     ensures len { length block.new ≡ length block.old }
     ensures within { offset + moved result ≤ length block.old }
 {

@@ -9,8 +9,8 @@ use crate::error::{VolatileMemoryError, compute_offset};
 use smallvec::SmallVec;
 use std::marker::Model;
 
-/// Some bytes of a block of host memory (vm-memory's `VolatileSlice`). It is a plain value: calls that touch bytes are
-/// lent the host.
+/// Some bytes of a block of host memory (vm-memory's `VolatileSlice`). It is a plain value: calls that touch
+/// bytes are lent the host.
 #[derive(Clone, Copy, Debug, Default)]
 pub struct VolatileSlice {
     block: usize,
@@ -21,8 +21,9 @@ pub struct VolatileSlice {
     marks: Marking,
 }
 
-/// Which pages writes of a window mark: those of its block, or I/O pages of a set of the host's, whose addresses lie so
-/// far above or below the offsets in the block. So a part of a window marks as the window does.
+/// Which pages writes of a window mark: those of its block, or I/O pages of a set of the host's, whose
+/// addresses lie so far above or below the offsets in the block. So a part of a window marks as the window
+/// does.
 #[derive(Clone, Copy, Debug, Default)]
 pub enum Marking {
     /// The pages of its block, of 4096 bytes each.
@@ -34,8 +35,8 @@ pub enum Marking {
     IoBelow,
 }
 
-/// The I/O pages that writes mark in place of a block's own: those of a set of the host's, in which the byte at offset
-/// `from` of the block has the I/O address `base`.
+/// The I/O pages that writes mark in place of a block's own: those of a set of the host's, in which the byte
+/// at offset `from` of the block has the I/O address `base`.
 #[derive(Clone, Copy, Debug)]
 pub struct IoMarks {
     /// The number of the set.
@@ -52,22 +53,34 @@ pub type Windows = SmallVec<VolatileSlice, 2>;
 impl Model for VolatileSlice {
     ghost use Rattle.std.specs.Prelude.{ℕ, ◌+◌, ◌<◌, ◌^◌};
     ghost use Rattle.std.proofs.Common.{ap};
-    ghost use Rattle.vm_memory_core.specs.Window.{Window, BeginsBy, by_of, io_of, marking_of, marking_back, set_of};
+    ghost use Rattle.vm_memory_core.specs.Window.{Window, BeginsBy, by_of, io_of, marking_of, marking_back};
+    ghost use Rattle.vm_memory_core.specs.Window.{set_of};
     ghost use Rattle.vm_memory_core.specs.declared.window.Marking.{Marking};
 
     ghost Value = { Window };
 
-    ghost view = { λ w. record { block = w.block; offset = w.offset; len = w.len; io = io_of w.marks w.set w.by } };
+    ghost view = { λ w.
+        record { block = w.block; offset = w.offset; len = w.len; io = io_of w.marks w.set w.by } };
 
     ghost invariant = { λ w. (w.offset + w.len < 2 ^ 64) × BeginsBy w.offset w.marks w.set w.by };
 
-    ghost inverse = { λ w. record { block = w.block; offset = w.offset; len = w.len; set = set_of w.io; by = by_of w.io; marks = marking_of w.io } };
+    ghost inverse = { λ w. record {
+      block = w.block;
+      offset = w.offset;
+      len = w.len;
+      set = set_of w.io;
+      by = by_of w.io;
+      marks = marking_of w.io;
+    } };
 
-    ghost inverse_ok = { λ w h. ap (λ (m : Marking × ℕ × ℕ). record w { marks = m.0; set = m.1; by = m.2 }) (marking_back w.marks w.offset w.set w.by h.1) };
+    ghost inverse_ok = { λ w h. ap (λ (m : Marking
+        × ℕ
+        × ℕ). record w { marks = m.0; set = m.1; by = m.2 }) (marking_back w.marks w.offset w.set w.by h.1) };
 }
 
 impl VolatileSlice {
-    /// The window of `len` bytes of a block, from `offset` on. Whether a host has it, `HostMemory::has` tells.
+    /// The window of `len` bytes of a block, from `offset` on. Whether a host has it, `HostMemory::has`
+    /// tells.
     pub fn new(block: usize, offset: usize, len: usize) -> VolatileSlice
         requires { offset + len < 2 ^ 64 }
         ensures { result ≡ record { block = block; offset = offset; len = len; io = None } }
@@ -82,8 +95,8 @@ impl VolatileSlice {
         }
     }
 
-    /// The same bytes, of which writes mark I/O pages: those of a set of the host's, where its first byte has the I/O
-    /// address `base` (vm-memory's `VolatileSlice::replace_bitmap`).
+    /// The same bytes, of which writes mark I/O pages: those of a set of the host's, where its first byte has
+    /// the I/O address `base` (vm-memory's `VolatileSlice::replace_bitmap`).
     pub fn replace_bitmap(&self, io: usize, base: u64) -> VolatileSlice
         ensures window { result ≡ record self.now { io = Some (io_from io base self.now.offset) } }
         ensures places { places_of result ≡ with_io io base (places_of self.now) }
@@ -176,8 +189,8 @@ impl VolatileSlice {
         Ok(self.part(count, self.len - count))
     }
 
-    /// Its `count` bytes from an offset on; OutOfBounds, or Overflow if their end doesn't fit 64 bits (vm-memory's
-    /// `VolatileSlice::subslice`).
+    /// Its `count` bytes from an offset on; OutOfBounds, or Overflow if their end doesn't fit 64 bits
+    /// (vm-memory's `VolatileSlice::subslice`).
     pub fn subslice(
         &self,
         offset: usize,

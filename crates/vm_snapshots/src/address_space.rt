@@ -8,8 +8,8 @@ use std::rc::Rc;
 use std::sync::{Arc, Wait};
 use vm_memory::GuestMemory;
 
-/// What has guest memory to lend, for one call at a time (vm-memory's `GuestAddressSpace`, whose `memory` hands out a
-/// guard): a reference, an `Rc`, an `Arc`, or a `GuestMemoryAtomic`.
+/// What has guest memory to lend, for one call at a time (vm-memory's `GuestAddressSpace`, whose `memory`
+/// hands out a guard): a reference, an `Rc`, an `Arc`, or a `GuestMemoryAtomic`.
 pub trait GuestAddressSpace {
     /// The memory that it lends.
     type M: GuestMemory;
@@ -17,8 +17,8 @@ pub trait GuestAddressSpace {
     // which memory it lends
     ghost Lends: { Self → Self.M → Type 0 };
 
-    /// Lends the memory to `f`, which is called once, and answers what `f` answered. It may wait for whoever replaces
-    /// the memory.
+    /// Lends the memory to `f`, which is called once, and answers what `f` answered. It may wait for whoever
+    /// replaces the memory.
     fn memory<R: Wait, T, F: FnOnce(&Self::M) -> T>(&self, rt: &R, f: F) -> T
         requires { F.IsAlwaysCallable f }
         ensures lent { (m : _) × Lends self.now m × FnOnceReturnsAt F.FnOnce f m result };

@@ -30,9 +30,9 @@ struct Snapshots<M: Drop, L: MemoryLaw<M>> {
     turn: Mutex<()>,
 }
 
-/// Guest memory that many hold, and that one at a time replaces (vm-memory's `GuestMemoryAtomic`). Whoever asks for it
-/// has the newest snapshot, and keeps that one. Whatever is said of each memory that is put there (`MemoryLaw`) is so of
-/// each that is lent.
+/// Guest memory that many hold, and that one at a time replaces (vm-memory's `GuestMemoryAtomic`). Whoever
+/// asks for it has the newest snapshot, and keeps that one. Whatever is said of each memory that is put there
+/// (`MemoryLaw`) is so of each that is lent.
 #[derive(Drop)]
 pub struct GuestMemoryAtomic<M: Drop, L: MemoryLaw<M>> {
     shared: Arc<Snapshots<M, L>, Global>,
@@ -59,7 +59,8 @@ pub struct GuestMemoryExclusiveGuard<'a, M: Drop, L: MemoryLaw<M>> {
     turn: MutexGuard<'a, ()>,
 }
 
-/// The newest snapshot, as it was put there. Whoever asks for memory waits until this is dropped, and then finds it.
+/// The newest snapshot, as it was put there. Whoever asks for memory waits until this is dropped, and then
+/// finds it.
 #[derive(Drop)]
 pub struct GuestMemoryReplaceGuard<'a, M: Drop, L: MemoryLaw<M>> {
     newest: RwLockWriteGuard<'a, Newest<M, L>>,
@@ -146,9 +147,9 @@ impl<M: Drop> GuestMemoryLoadGuard<M> {
 }
 
 impl<'a, M: GuestMemory + Drop, L: MemoryLaw<M>> GuestMemoryExclusiveGuard<'a, M, L> {
-    /// Puts other memory in the place of the newest snapshot; older ones stay as they are with whoever holds them. Whoever
-    /// asks for memory waits until the answer is dropped, which is of this lock. An error is a refused allocation: what was
-    /// handed in comes back, and the newest snapshot stays.
+    /// Puts other memory in the place of the newest snapshot; older ones stay as they are with whoever holds
+    /// them. Whoever asks for memory waits until the answer is dropped, which is of this lock. An error is a
+    /// refused allocation: what was handed in comes back, and the newest snapshot stays.
     pub fn replace<R: Wait>(
         self,
         rt: &R,

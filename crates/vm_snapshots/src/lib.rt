@@ -1,4 +1,5 @@
-//! Snapshots of guest memory: memory that threads share, and that one of them at a time replaces (vm-memory's `atomic`).
+//! Snapshots of guest memory: memory that threads share, and that one of them at a time replaces (vm-memory's
+//! `atomic`).
 #![tactic(auto)]
 
 mod address_space;

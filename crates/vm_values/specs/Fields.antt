@@ -77,4 +77,5 @@ AllFit (f ∷ fs) = Fits f × AllFit fs
 
 -- values whose fields fit and are spelled alike are the same
 abbrev pub HasOneReading : {X : Type 0} → (X → List Field) → Type 0
-HasOneReading {X} fields = (x y : X) → AllFit (fields x) → AllFit (fields y) → spelled (fields x) ≡ spelled (fields y) → x ≡ y
+HasOneReading {X} fields =
+    (x y : X) → AllFit (fields x) → AllFit (fields y) → spelled (fields x) ≡ spelled (fields y) → x ≡ y

@@ -1,6 +1,7 @@
 //! Values that are spelled by a fixed number of bytes.
 
-ghost use Rattle.std.specs.Prelude.{◌≡◌, ℕ, ◌+◌, ◌*◌, ◌≤◌, List, [], ◌∷◌, map, length, refl, replicate, ◌↔◌, IsSome, IfSome, IfOk, OnOk};
+ghost use Rattle.std.specs.Prelude.{◌≡◌, ℕ, ◌+◌, ◌*◌, ◌≤◌, List, [], ◌∷◌, map, length, refl, replicate, ◌↔◌};
+ghost use Rattle.std.specs.Prelude.{IsSome, IfSome, IfOk, OnOk};
 ghost use Rattle.std.specs.Int.{w8, w16, w32, w64, w128};
 ghost use Rattle.std.specs.Io.KnownBytes.{Appends, Consumes};
 ghost use Rattle.std.proofs.Common.{rules};
@@ -9,8 +10,9 @@ ghost use Rattle.vm_values.specs.UniqueProof.{fields_once};
 
 use std::io::{self, Read, Write};
 
-/// A value that is spelled by `SIZE` bytes (vm-memory's `ByteValued`). Rust's integers are spelled with the lowest byte
-/// first, signed ones in two's complement; a record is spelled by its fields, one after another without a gap.
+/// A value that is spelled by `SIZE` bytes (vm-memory's `ByteValued`). Rust's integers are spelled with the
+/// lowest byte first, signed ones in two's complement; a record is spelled by its fields, one after another
+/// without a gap.
 pub trait ByteValued: Copy {
     ghost SIZE: { ℕ };
 
@@ -40,8 +42,8 @@ pub trait ByteValued: Copy {
         Self::get_bytes(&zeros[..Self::SIZE])
     }
 
-    /// The value that these bytes spell, if there are `SIZE` of them (vm-memory's `ByteValued::from_slice`, by
-    /// value).
+    /// The value that these bytes spell, if there are `SIZE` of them (vm-memory's `ByteValued::from_slice`,
+    /// by value).
     final fn from_slice(bytes: &[u8]) -> Option<Self>
         ensures whole { IsSome result ↔ (length bytes.now ≡ SIZE) }
         ensures bytes { IfSome result (λ x. (bytes.now ≡ spelled (fields x)) × AllFit (fields x)) }
@@ -53,20 +55,23 @@ pub trait ByteValued: Copy {
         }
     }
 
-    /// Writes the value's bytes to a stream; an error is the stream's, and some of the bytes may have gone out then
-    /// (vm-memory's `ByteValued::write_all_to`).
+    /// Writes the value's bytes to a stream; an error is the stream's, and some of the bytes may have gone
+    /// out then (vm-memory's `ByteValued::write_all_to`).
     final fn write_all_to<W: Write>(&self, w: &mut W) -> io::Result<()>
-        ensures bytes { OnOk result (Appends (W.contents w.old) (W.contents w.new) (spelled (fields self.now))) }
+        ensures bytes { OnOk result
+            (Appends (W.contents w.old) (W.contents w.new) (spelled (fields self.now))) }
     {
         let mut buffer = [0; 256];
         self.put_bytes(&mut buffer[..Self::SIZE]);
         w.write_all(&buffer[..Self::SIZE])
     }
 
-    /// The value that a stream's next bytes spell; an error is the stream's, and some of the bytes may be taken then
-    /// (vm-memory's `ByteValued::read_exact_from`).
+    /// The value that a stream's next bytes spell; an error is the stream's, and some of the bytes may be
+    /// taken then (vm-memory's `ByteValued::read_exact_from`).
     final fn read_exact_from<R: Read>(r: &mut R) -> io::Result<Self>
-        ensures bytes { IfOk result (λ x. Consumes (R.remaining r.old) (R.remaining r.new) (spelled (fields x)) × AllFit (fields x)) }
+        ensures bytes { IfOk result
+            (λ x. Consumes (R.remaining r.old) (R.remaining r.new) (spelled (fields x))
+            × AllFit (fields x)) }
     {
         let mut buffer = [0; 256];
         r.read_exact(&mut buffer[..Self::SIZE])?;
@@ -74,9 +79,12 @@ pub trait ByteValued: Copy {
     }
 
     // Values have fields of one zero_field, fields tell values apart, and a value has at most 256 bytes.
-    ghost lawful: { ((x y : Self) → map zero_field (fields x) ≡ map zero_field (fields y)) × ((x y : Self) → fields x ≡ fields y → x ≡ y) × (SIZE ≤ 256) };
+    ghost lawful: { ((x y : Self) → map zero_field (fields x) ≡ map zero_field (fields y))
+        × ((x y : Self) → fields x ≡ fields y → x ≡ y)
+        × (SIZE ≤ 256) };
 
-    ghost one_reading: { HasOneReading fields } = { λ x y p r e. lawful.1 x y (fields_once (fields x) (fields y) (lawful.0 x y) p r e) };
+    ghost one_reading: { HasOneReading fields } = { λ x y p r e.
+        lawful.1 x y (fields_once (fields x) (fields y) (lawful.0 x y) p r e) };
 }
 
 impl ByteValued for u8 {

@@ -33,7 +33,8 @@ pub fn put<T: ByteValued>(out: &mut [u8], at: &mut usize, value: &T)
     ensures place { at.new ≡ at.old + T.SIZE }
     ensures bytes { take at.new out.new ≡ then_fields (take at.old out.old) (T.fields value.now) }
     ensures behind { drop at.new out.new ≡ drop at.new out.old }
-    ensures whole { at.new ≡ length out.new → out.new ≡ then_fields (take at.old out.old) (T.fields value.now) }
+    ensures whole { at.new ≡ length out.new
+        → out.new ≡ then_fields (take at.old out.old) (T.fields value.now) }
     ensures fits { AllFit (T.fields value.now) }
 {
     value.put_bytes(&mut out[*at..*at + T::SIZE]);
@@ -46,7 +47,8 @@ pub fn get<T: ByteValued>(bytes: &[u8], at: &mut usize) -> T
     requires { at.old + T.SIZE ≤ length bytes.now }
     ensures place { at.new ≡ at.old + T.SIZE }
     ensures bytes { take at.new bytes.now ≡ then_fields (take at.old bytes.now) (T.fields result) }
-    ensures whole { at.new ≡ length bytes.now → bytes.now ≡ then_fields (take at.old bytes.now) (T.fields result) }
+    ensures whole { at.new ≡ length bytes.now
+        → bytes.now ≡ then_fields (take at.old bytes.now) (T.fields result) }
     ensures fits { AllFit (T.fields result) }
 {
     let value = T::get_bytes(&bytes[*at..*at + T::SIZE]);
@@ -61,7 +63,8 @@ fn put_array<const N: usize>(out: &mut [u8], at: &mut usize, values: &[u32; N])
     ensures place { at.new ≡ at.old + 4 * N }
     ensures bytes { take at.new out.new ≡ then_fields (take at.old out.old) (ds N values.now ∷ []) }
     ensures behind { drop at.new out.new ≡ drop at.new out.old }
-    ensures whole { at.new ≡ length out.new → out.new ≡ then_fields (take at.old out.old) (ds N values.now ∷ []) }
+    ensures whole { at.new ≡ length out.new
+        → out.new ≡ then_fields (take at.old out.old) (ds N values.now ∷ []) }
     ensures fits { AllFit (ds N values.now ∷ []) }
 {
     for k in 0..N {
@@ -75,7 +78,8 @@ fn get_array<const N: usize>(bytes: &[u8], at: &mut usize) -> [u32; N]
     requires { at.old + 4 * N ≤ length bytes.now }
     ensures place { at.new ≡ at.old + 4 * N }
     ensures bytes { take at.new bytes.now ≡ then_fields (take at.old bytes.now) (ds N result ∷ []) }
-    ensures whole { at.new ≡ length bytes.now → bytes.now ≡ then_fields (take at.old bytes.now) (ds N result ∷ []) }
+    ensures whole { at.new ≡ length bytes.now
+        → bytes.now ≡ then_fields (take at.old bytes.now) (ds N result ∷ []) }
     ensures fits { AllFit (ds N result ∷ []) }
 {
     let mut values = [0; N];

@@ -18,23 +18,28 @@ use Rattle.virtiofsd_fuse.specs.Serving.{May}
 use Rattle.plain_machine.specs.Examples.{queue}
 use Rattle.plain_machine.specs.StepBy.{FindFlags}
 use Rattle.fs_live.specs.Live.{AsksSo, AnswersSo, ReturnsSo, WalksSo, acts_of}
-use Rattle.fs_live.specs.Overlap.{at_positions, destroy, first, first_loads, first_table, second, second_loads, second_table, state, unknown}
+use Rattle.fs_live.specs.Overlap.{at_positions, destroy, first, first_loads, first_table, second, second_loads, second_table, state}
+use Rattle.fs_live.specs.Overlap.{unknown}
 use Rattle.fs_live.specs.Serial.{FoundIn, SerialRun, return_in}
 use Rattle.fs_live.specs.Several.{LiveQueue}
 use Rattle.fs_live.proofs.OverlapRun.{first_fetches, second_fetches}
 use Rattle.fs_live.proofs.Queues.{same_some}
-use Rattle.worked_callers.specs.InARow.{after_both, after_one, first_asked, first_exchange, first_used, one, second_answered, second_asked, second_exchange, second_used, two, with_both}
+use Rattle.worked_callers.specs.InARow.{after_both, after_one, first_asked, first_exchange, first_used, one, second_answered, second_asked}
+use Rattle.worked_callers.specs.InARow.{second_exchange, second_used, two, with_both}
 
 -- ---- the run
 
-first_walks : {F : Type 0} (f : F) → WalksSo (state f (at_positions 0 0) 1 []) 0 first_loads first_table (step.Chain 0 None) (state f (at_positions 1 0) 1 (first ∷ []))
+first_walks : {F : Type 0} (f : F) →
+    WalksSo (state f (at_positions 0 0) 1 []) 0 first_loads first_table (step.Chain 0 None) (state f (at_positions 1 0) 1 (first ∷ []))
 first_walks f = record { w = at_positions 0 0; there = refl; room = refl; goes = refl; walks = (first_fetches, refl) }
 
-first_asks : {F : Type 0} (f : F) → AsksSo (state f (at_positions 1 0) 1 (first ∷ [])) first unknown [] (state f (at_positions 1 0) 1 (first_asked ∷ []))
+first_asks : {F : Type 0} (f : F) →
+    AsksSo (state f (at_positions 1 0) 1 (first ∷ [])) first unknown [] (state f (at_positions 1 0) 1 (first_asked ∷ []))
 unfolding addresses meaning reading_of meant row reply_bytes error_bytes fields.field_bytes
 first_asks f = record { before = []; behind = []; out = refl; fresh = refl; whole = refl; tells = refl; state = refl }
 
-first_returns : {F : Type 0} (f : F) → ReturnsSo (state f (at_positions 1 0) 1 (first_asked ∷ [])) first_asked first_exchange true 0 first_used (le16 0) (state f (at_positions 1 1) 1 [])
+first_returns : {F : Type 0} (f : F) → ReturnsSo (state f (at_positions 1 0) 1 (first_asked ∷ [])) first_asked first_exchange true 0
+    first_used (le16 0) (state f (at_positions 1 1) 1 [])
 unfolding addresses meaning reading_of meant row reply_bytes error_bytes fields.field_bytes
 first_returns f = record {
   before = [];
@@ -49,15 +54,18 @@ first_returns f = record {
   state = refl;
 }
 
-second_walks : {F : Type 0} (f : F) → WalksSo (state f (at_positions 1 1) 1 []) 0 second_loads second_table (step.Chain 2 None) (state f (at_positions 2 1) 1 (second ∷ []))
+second_walks : {F : Type 0} (f : F) →
+    WalksSo (state f (at_positions 1 1) 1 []) 0 second_loads second_table (step.Chain 2 None) (state f (at_positions 2 1) 1 (second ∷ []))
 second_walks f = record { w = at_positions 1 1; there = refl; room = refl; goes = refl; walks = (second_fetches, refl) }
 
-second_asks : {F : Type 0} (f : F) → AsksSo (state f (at_positions 2 1) 1 (second ∷ [])) second destroy (Destroy ∷ []) (state f (at_positions 2 1) 1 (second_asked ∷ []))
+second_asks : {F : Type 0} (f : F) →
+    AsksSo (state f (at_positions 2 1) 1 (second ∷ [])) second destroy (Destroy ∷ []) (state f (at_positions 2 1) 1 (second_asked ∷ []))
 unfolding addresses meaning reading_of meant row reply_bytes error_bytes fields.field_bytes
 second_asks f = record { before = []; behind = []; out = refl; fresh = refl; whole = refl; tells = refl; state = refl }
 
 second_answers : {F : Type 0} (may : May F) (before after : F) → may before Destroy Done after →
-    AnswersSo may (state before (at_positions 2 1) 1 (second_asked ∷ [])) second_asked Destroy Done (state after (at_positions 2 1) 0 (second_answered ∷ []))
+    AnswersSo may (state before (at_positions 2 1) 1 (second_asked ∷ [])) second_asked Destroy Done
+    (state after (at_positions 2 1) 0 (second_answered ∷ []))
 unfolding addresses meaning reading_of meant row reply_bytes error_bytes fields.field_bytes
 second_answers may before after so = record {
   before = [];
@@ -74,7 +82,8 @@ second_answers may before after so = record {
   state = refl;
 }
 
-second_returns : {F : Type 0} (f : F) → ReturnsSo (state f (at_positions 2 1) 0 (second_answered ∷ [])) second_answered second_exchange true 0 second_used (le16 0) (state f (at_positions 2 2) 0 [])
+second_returns : {F : Type 0} (f : F) → ReturnsSo (state f (at_positions 2 1) 0 (second_answered ∷ [])) second_answered second_exchange true
+    0 second_used (le16 0) (state f (at_positions 2 2) 0 [])
 unfolding addresses meaning reading_of meant row reply_bytes error_bytes fields.field_bytes
 second_returns f = record {
   before = [];
@@ -105,7 +114,8 @@ first_has = record {
   index_is = λ bs is. refl;
   entry_is = λ bs is. refl;
   entries_are = (refl, (refl, tt));
-  request_is = λ head is some. subst (λ (h : ℕ). unknown ≡ request_in with_both (chain with_both queue h)) (same_head 0 head (next_avail with_both queue) refl is) refl;
+  request_is = λ head is some. subst (λ (h : ℕ). unknown ≡ request_in with_both (chain with_both queue h))
+      (same_head 0 head (next_avail with_both queue) refl is) refl;
 }
 
 second_has : HasLoaded after_one (record queue { position = 1 }) second_loads destroy
@@ -123,7 +133,8 @@ unfolding place addresses stored_all
 first_found f = record {
   places = refl;
   loads = λ w at. subst (λ (v : LiveQueue). HasLoaded with_both v.queue first_loads unknown) (same_some (at_positions 0 0) w at) first_has;
-  flags = λ w at. subst (λ (v : LiveQueue). FindFlags with_both v.queue (acts_of (return_in one))) (same_some (at_positions 0 0) w at) (refl, tt);
+  flags = λ w at. subst (λ (v : LiveQueue). FindFlags with_both v.queue (acts_of (return_in one)))
+      (same_some (at_positions 0 0) w at) (refl, tt);
   apart = inl refl;
 }
 
@@ -131,8 +142,10 @@ second_found : {F : Type 0} (f : F) → FoundIn after_one (state f (at_positions
 unfolding place addresses stored_all
 second_found f = record {
   places = refl;
-  loads = λ w at. subst (λ (v : LiveQueue). HasLoaded after_one v.queue second_loads destroy) (same_some (at_positions 1 1) w at) second_has;
-  flags = λ w at. subst (λ (v : LiveQueue). FindFlags after_one v.queue (acts_of (return_in two))) (same_some (at_positions 1 1) w at) (refl, tt);
+  loads = λ w at. subst (λ (v : LiveQueue). HasLoaded after_one v.queue second_loads destroy)
+      (same_some (at_positions 1 1) w at) second_has;
+  flags = λ w at. subst (λ (v : LiveQueue). FindFlags after_one v.queue (acts_of (return_in two)))
+      (same_some (at_positions 1 1) w at) (refl, tt);
   apart = inl refl;
 }
 
@@ -145,7 +158,11 @@ in_a_row {F} may before after so = (
   (
     state before (at_positions 1 0) 1 (first ∷ []),
     first_walks before,
-    (state before (at_positions 1 0) 1 (first_asked ∷ []), first_asks before, (state before (at_positions 1 1) 1 [], first_returns before, refl)),
+    (
+      state before (at_positions 1 0) 1 (first_asked ∷ []),
+      first_asks before,
+      (state before (at_positions 1 1) 1 [], first_returns before, refl),
+    ),
   ),
   first_found before,
   (
@@ -158,7 +175,11 @@ in_a_row {F} may before after so = (
       (
         state before (at_positions 2 1) 1 (second_asked ∷ []),
         second_asks before,
-        (state after (at_positions 2 1) 0 (second_answered ∷ []), second_answers may before after so, (state after (at_positions 2 2) 0 [], second_returns after, refl)),
+        (
+          state after (at_positions 2 1) 0 (second_answered ∷ []),
+          second_answers may before after so,
+          (state after (at_positions 2 2) 0 [], second_returns after, refl),
+        ),
       ),
     ),
     second_found before,

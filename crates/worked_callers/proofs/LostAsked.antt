@@ -16,21 +16,27 @@ use Rattle.fs_chain.specs.declared.queue.QueueState.{QueueState}
 use Rattle.fs_chain.specs.declared.popping.PopOutcome.TheVariants as says
 use Rattle.fs_chain.specs.declared.chain_handle.ChainHandle.{ChainHandle}
 use Rattle.fs_live.specs.Handles.{HandleAsks, HandleWalks, IsHeld, IsOut, IsReached, IsSessionOf, live_of}
-use Rattle.fs_live.specs.Live.{Abandons, Answers, Asks, Happens, LiveEvent, LiveRun, LiveState, OutChain, Walks, after_answer, after_asking, after_loss, after_walk, asked_chain, calls_among, new_chain}
+use Rattle.fs_live.specs.Live.{Abandons, Answers, Asks, Happens, LiveEvent, LiveRun, LiveState, OutChain, Walks, after_answer, after_asking}
+use Rattle.fs_live.specs.Live.{after_loss, after_walk, asked_chain, calls_among, new_chain}
 use Rattle.fs_live.specs.Others.{HandleAbandons}
 use Rattle.worked_callers.proofs.ServedBeside.{chain_is, reached_by}
 
-module _ {F : Type 0} (may : May F) (walks_law : HandleWalks may) (asks_law : HandleAsks may) (abandons_law : HandleAbandons may) (old one two : ChainHandle) (before after : QueueState) (head n r : ℕ)
-    (session : Session) (request : List ℕ) (made : made_call.FileCall) (goes : before.stopped ≡ None) (walks : IsWalked old one before after (wents.On (says.Chain head n r)))
+module _ {F : Type 0} (may : May F) (walks_law : HandleWalks may) (asks_law : HandleAsks may) (abandons_law : HandleAbandons may)
+    (old one two : ChainHandle) (before after : QueueState) (head n r : ℕ)
+    (session : Session) (request : List ℕ) (made : made_call.FileCall) (goes : before.stopped ≡ None)
+    (walks : IsWalked old one before after (wents.On (says.Chain head n r)))
     (asked : IsDecodedBy one session request request (asks.Call made) two) where
   abbrev call : FileCall
   call = call_of (drop 80 request) made
 
-  pub lost_asked : (s : LiveState F) (i : ℕ) → IsReached may s → slice_get s.queues i ≡ Some (live_of before) → s.places ≡ places_in old.regions → s.limit ≡ old.limit → s.limit ≤ 2 ^ 31 →
+  pub lost_asked : (s : LiveState F) (i : ℕ) → IsReached may s → slice_get s.queues i ≡ Some (live_of before) →
+      s.places ≡ places_in old.regions → s.limit ≡ old.limit → s.limit ≤ 2 ^ 31 →
       IsSessionOf s session →
-      ((es : List LiveEvent) × (end : LiveState F) × LiveRun may s es end × (calls_among es ≡ []) × (slice_get end.queues i ≡ Some (live_of after)))
+      ((es : List LiveEvent) × (end : LiveState F) × LiveRun may s es end × (calls_among es ≡ [])
+      × (slice_get end.queues i ≡ Some (live_of after)))
       × ((answer : FileAnswer) (files : F) → IsTrue (suits call answer) → may s.files call answer files →
-      (es : List LiveEvent) × (end : LiveState F) × LiveRun may s es end × (calls_among es ≡ (call, answer) ∷ []) × (end.files ≡ files) × (slice_get end.queues i ≡ Some (live_of after)))
+      (es : List LiveEvent) × (end : LiveState F) × LiveRun may s es end × (calls_among es ≡ (call, answer) ∷ []) × (end.files ≡ files)
+      × (slice_get end.queues i ≡ Some (live_of after)))
   lost_asked s i reached there places limit small in_session =
       let q = live_of before in
       let ds = one.descriptors.items in
@@ -40,16 +46,25 @@ module _ {F : Type 0} (may : May F) (walks_law : HandleWalks may) (asks_law : Ha
       let came = step.Chain head None in
       let c : OutChain = new_chain s i q loaded ds head None in
       let s₁ : LiveState F = after_walk s i q loaded ds came in
-      let first : Happens may s (Walks i loaded ds came) s₁ = subst (λ (k : comes.CourseStep). Happens may s (Walks i loaded ds k) (after_walk s i q loaded ds k)) is walk.4 in
-      let there₁ : slice_get s₁.queues i ≡ Some (live_of after) = subst (λ (k : comes.CourseStep). slice_get (after_walk s i q loaded ds k).queues i ≡ Some (live_of after)) is walk.5 in
+      let first : Happens may s (Walks i loaded ds came) s₁ =
+      subst (λ (k : comes.CourseStep). Happens may s (Walks i loaded ds k) (after_walk s i q loaded ds k)) is walk.4 in
+      let there₁ : slice_get s₁.queues i ≡ Some (live_of after) =
+      subst (λ (k : comes.CourseStep). slice_get (after_walk s i q loaded ds k).queues i ≡ Some (live_of after)) is walk.5 in
       let held : IsOut s.limit c one = subst (λ (k : comes.CourseStep). IsHeld s i q loaded k one) is walk.6 in
-      let asking = asks_law s₁ c s.outs [] one two session request request (asks.Call made) (reached_by may s s₁ (Walks i loaded ds came) reached first) small refl refl held in_session asked tt in
+      let asking = asks_law s₁ c s.outs [] one two session request request (asks.Call made)
+      (reached_by may s s₁ (Walks i loaded ds came) reached first) small refl refl held in_session asked tt in
       let s₂ : LiveState F = after_asking s₁ s.outs [] c request in
       let d : OutChain = asked_chain c request s.options [] in
       let end : LiveState F = after_loss s₂ s.outs [] d in
       let walked : LiveEvent = Walks i loaded ds came in
       let told : LiveEvent = Asks c request (call ∷ []) in (
-        (walked ∷ told ∷ Abandons d ∷ [], end, (s₁, first, (s₂, asking.0, (end, (abandons_law s₂ d s.outs [] refl).0, refl))), refl, there₁),
+        (
+          walked ∷ told ∷ Abandons d ∷ [],
+          end,
+          (s₁, first, (s₂, asking.0, (end, (abandons_law s₂ d s.outs [] refl).0, refl))),
+          refl,
+          there₁,
+        ),
         λ answer files fits so.
             let s₃ : LiveState F = after_answer s₂ s.outs [] d request s.options ((call, answer) ∷ []) files in
             let e : OutChain = asked_chain c request s.options ((call, answer) ∷ []) in

@@ -16,22 +16,28 @@ use Rattle.fs_chain.specs.declared.popping.PopOutcome.TheVariants as says
 use Rattle.fs_chain.specs.declared.chain_handle.ChainHandle.{ChainHandle}
 use Rattle.plain_machine.specs.StepBy.{Act}
 use Rattle.fs_live.specs.Handles.{HandleWalks, IsHeld, IsOut, IsReached, live_of}
-use Rattle.fs_live.specs.Live.{Happens, IfKeepsReturns, KeepsQueue, KeepsReturns, LiveEvent, LiveRun, LiveState, Maps, OutChain, Own, Replies, Returns, Walks, after_giving, after_own, after_walk, calls_among, new_chain, room_of}
+use Rattle.fs_live.specs.Live.{Happens, IfKeepsReturns, KeepsQueue, KeepsReturns, LiveEvent, LiveRun, LiveState, Maps, OutChain, Own}
+use Rattle.fs_live.specs.Live.{Replies, Returns, Walks, after_giving, after_own, after_walk, calls_among, new_chain, room_of}
 use Rattle.fs_live.specs.Others.{GoesBackOwn, HandleMaps, HandleReplies, HandleReturnsOwn, IsOwn}
 use Rattle.fs_live.specs.Several.{LiveQueue, took}
 use Rattle.fs_live.proofs.Queues.{same_some, there_same}
 use Rattle.worked_callers.proofs.OthersBeside.{own_kept}
 use Rattle.worked_callers.proofs.ServedBeside.{chain_is, reached_by, taken_of}
 
-pub mapped_amid : {F : Type 0} (may : May F) (walks_law : HandleWalks may) (maps_law : HandleMaps may) (replies_law : HandleReplies may) (returns_law : HandleReturnsOwn may) (old one two other : ChainHandle)
-    (before after : QueueState) (head n r serial : ℕ) (request reply : List ℕ) (notice : Bool) → before.stopped ≡ None → IsWalked old one before after (wents.On (says.Chain head n r))
+pub mapped_amid : {F : Type 0} (may : May F) (walks_law : HandleWalks may) (maps_law : HandleMaps may) (replies_law : HandleReplies may)
+    (returns_law : HandleReturnsOwn may) (old one two other : ChainHandle)
+    (before after : QueueState) (head n r serial : ℕ) (request reply : List ℕ) (notice : Bool) → before.stopped ≡ None
+    → IsWalked old one before after (wents.On (says.Chain head n r))
     → FromTaken one.state (λ out. out.request_len ≡ length request) → own_error one.state one.serial serial (length reply) ≡ None
     → IfUnanswered one.state (λ out. two ≡ record one { state = at.HasReply out (own_reply (length reply)) })
-    → ((room bytes : List ℕ) (last : ℕ) → (acts : List Act) × GoesBackOwn after room bytes two.state acts last notice) → (s : LiveState F) (i : ℕ) → IsReached may s → s.outs ≡ []
+    → ((room bytes : List ℕ) (last : ℕ) → (acts : List Act) × GoesBackOwn after room bytes two.state acts last notice)
+    → (s : LiveState F) (i : ℕ) → IsReached may s → s.outs ≡ []
     → slice_get s.queues i ≡ Some (live_of before) → s.places ≡ places_in old.regions → s.limit ≡ old.limit → s.limit ≤ 2 ^ 31
     → KeepsReturns s.places (places_in other.regions) (live_of before)
-    → (es : List LiveEvent) × (end : LiveState F) × LiveRun may s es end × (calls_among es ≡ []) × (end.outs ≡ []) × (end.places ≡ places_in other.regions)
-mapped_amid {F} may walks_law maps_law replies_law returns_law old one two other before after head n r serial request reply notice goes walks len clear is_kept back s i reached none there places limit small
+    → (es : List LiveEvent) × (end : LiveState F) × LiveRun may s es end × (calls_among es ≡ []) × (end.outs ≡ [])
+    × (end.places ≡ places_in other.regions)
+mapped_amid {F} may walks_law maps_law replies_law returns_law old one two other before after head n r serial request reply notice goes
+    walks len clear is_kept back s i reached none there places limit small
     keeps =
     let q = live_of before in
     let m : Memory = places_in other.regions in
@@ -42,14 +48,18 @@ mapped_amid {F} may walks_law maps_law replies_law returns_law old one two other
     let came = step.Chain head None in
     let c : OutChain = new_chain s i q loaded ds head None in
     let s₁ : LiveState F = after_walk s i q loaded ds came in
-    let first : Happens may s (Walks i loaded ds came) s₁ = subst (λ (k : comes.CourseStep). Happens may s (Walks i loaded ds k) (after_walk s i q loaded ds k)) is walk.4 in
-    let there₁ : slice_get s₁.queues i ≡ Some (live_of after) = subst (λ (k : comes.CourseStep). slice_get (after_walk s i q loaded ds k).queues i ≡ Some (live_of after)) is walk.5 in
+    let first : Happens may s (Walks i loaded ds came) s₁ =
+    subst (λ (k : comes.CourseStep). Happens may s (Walks i loaded ds k) (after_walk s i q loaded ds k)) is walk.4 in
+    let there₁ : slice_get s₁.queues i ≡ Some (live_of after) =
+    subst (λ (k : comes.CourseStep). slice_get (after_walk s i q loaded ds k).queues i ≡ Some (live_of after)) is walk.5 in
     let held : IsOut s.limit c one = subst (λ (k : comes.CourseStep). IsHeld s i q loaded k one) is walk.6 in
-    let taken_is : took q ≡ live_of after = same_some (took q) (live_of after) (sym (there_same s.queues i i (λ _. took q) q refl there) ∙ there₁) in
+    let taken_is : took q ≡ live_of after =
+    same_some (took q) (live_of after) (sym (there_same s.queues i i (λ _. took q) q refl there) ∙ there₁) in
     let kept_queue : KeepsReturns s.places m (took q) = record { returns = keeps.returns; event = keeps.event } in
     let kept_after : KeepsReturns s.places m (live_of after) = subst (λ (w : LiveQueue). KeepsReturns s.places m w) taken_is kept_queue in
     let keeps_c : KeepsQueue s₁ m c = subst (λ (w : Option LiveQueue). IfKeepsReturns s.places m w) (sym there₁) kept_after in
-    let all : AllByRecursion (KeepsQueue s₁ m) s₁.outs = subst (λ (outs : List OutChain). AllByRecursion (KeepsQueue s₁ m) (outs ++ c ∷ [])) (sym none) (keeps_c, tt) in
+    let all : AllByRecursion (KeepsQueue s₁ m) s₁.outs =
+    subst (λ (outs : List OutChain). AllByRecursion (KeepsQueue s₁ m) (outs ++ c ∷ [])) (sym none) (keeps_c, tt) in
     let s₂ : LiveState F = record s₁ { places = m } in
     let mapped : Happens may s₁ (Maps m) s₂ = maps_law s₁ other (inr all) in
     let reached₂ = reached_by may s₁ s₂ (Maps m) (reached_by may s s₁ (Walks i loaded ds came) reached first) mapped in
@@ -58,7 +68,8 @@ mapped_amid {F} may walks_law maps_law replies_law returns_law old one two other
     let s₃ : LiveState F = after_own s₂ s.outs [] c request reply s.options in
     let own : IsOwn d reply two.state = own_kept one.state one two d reply replied.1 is_kept in
     let goes_back = back (room_of d) reply 0 in
-    let next_used = returns_law s₃ d s.outs [] two.state after request reply goes_back.0 0 notice refl there₁ (taken_of before after goes taken_is) refl own goes_back.1 in
+    let next_used = returns_law s₃ d s.outs [] two.state after request reply goes_back.0 0 notice refl there₁
+    (taken_of before after goes taken_is) refl own goes_back.1 in
     let s₄ : LiveState F = after_giving s₃ s.outs [] d (live_of after) in (
       Walks i loaded ds came ∷ Maps m ∷ Replies c request reply s.options ∷ Returns d next_used.0 notice 0 next_used.1 next_used.2 ∷ [],
       s₄,

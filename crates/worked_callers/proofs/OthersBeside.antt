@@ -1,5 +1,6 @@
 -- A chain that is walked and given up, or replied by bytes of its caller's own, as a run beside whatever other chains are out.
-use Rattle.std.proofs.Common.{◌≡◌, ℕ, zero, suc, ◌≤◌, ◌<◌, ◌^◌, Bool, List, [], ◌∷◌, ◌++◌, append-nil, length, Some, None, Result, Ok, Err, OnOk, slice_get, refl, subst, sym, ap, ◌∙◌}
+use Rattle.std.proofs.Common.{◌≡◌, ℕ, zero, suc, ◌≤◌, ◌<◌, ◌^◌, Bool, List, [], ◌∷◌, ◌++◌, append-nil, length, Some, None, Result, Ok, Err}
+use Rattle.std.proofs.Common.{OnOk, slice_get, refl, subst, sym, ap, ◌∙◌}
 use Rattle.std.specs.Prelude.{if◌then◌else◌, false, is_some, Option, true}
 use Rattle.std.proofs.lemmas.List.Elements.{All-head}
 use Rattle.vm_memory.specs.Memory.{Memory}
@@ -29,16 +30,21 @@ use Rattle.fs_chain.specs.declared.popping.PopOutcome.TheVariants as says
 use Rattle.fs_chain.specs.declared.chain_handle.ChainHandle.{ChainHandle}
 use Rattle.plain_machine.specs.StepBy.{Act, reply_stores, return_acts}
 use Rattle.fs_live.specs.Handles.{HandleWalks, IsHeld, IsOut, IsReached, live_of}
-use Rattle.fs_live.specs.Live.{Abandons, Drops, Happens, IsEven, LiveEvent, LiveRun, LiveState, MayBeOut, Moves, OutChain, Own, Replies, Returns, Walks, after_drop, after_giving, after_loss, after_own, after_walk, calls_among, new_chain, room_of}
-use Rattle.fs_live.specs.Others.{AreBegunBy, GoesBackOwn, HandleAbandons, HandleDrops, HandleMoves, HandleReplies, HandleReturnsOwn, IfOut, IsOwn, recorded}
+use Rattle.fs_live.specs.Live.{Abandons, Drops, Happens, IsEven, LiveEvent, LiveRun, LiveState, MayBeOut, Moves, OutChain, Own, Replies}
+use Rattle.fs_live.specs.Live.{Returns, Walks, after_drop, after_giving, after_loss, after_own, after_walk, calls_among, new_chain, room_of}
+use Rattle.fs_live.specs.Others.{AreBegunBy, GoesBackOwn, HandleAbandons, HandleDrops, HandleMoves, HandleReplies, HandleReturnsOwn, IfOut}
+use Rattle.fs_live.specs.Others.{IsOwn, recorded}
 use Rattle.fs_live.specs.Several.{LiveQueue, took}
 use Rattle.fs_live.proofs.Queues.{same_some, there_same}
 use Rattle.worked_callers.proofs.ServedBeside.{chain_is, reached_by, taken_of}
 
-pub dropped_beside : {F : Type 0} (may : May F) (walks_law : HandleWalks may) (drops_law : HandleDrops may) (old one : ChainHandle) (before after last : QueueState) (head n r : ℕ) → before.stopped ≡ None
-    → IsWalked old one before after (wents.On (says.Chain head n r)) → give_up_error one.state after ≡ None → last ≡ (if is_out one.state then untook after else after) → (s : LiveState F) (i : ℕ)
+pub dropped_beside : {F : Type 0} (may : May F) (walks_law : HandleWalks may) (drops_law : HandleDrops may) (old one : ChainHandle)
+    (before after last : QueueState) (head n r : ℕ) → before.stopped ≡ None
+    → IsWalked old one before after (wents.On (says.Chain head n r)) → give_up_error one.state after ≡ None
+    → last ≡ (if is_out one.state then untook after else after) → (s : LiveState F) (i : ℕ)
     → slice_get s.queues i ≡ Some (live_of before) → s.places ≡ places_in old.regions → s.limit ≡ old.limit
-    → (es : List LiveEvent) × (end : LiveState F) × LiveRun may s es end × (end.outs ≡ s.outs) × (slice_get end.queues i ≡ Some (live_of last))
+    → (es : List LiveEvent) × (end : LiveState F) × LiveRun may s es end × (end.outs ≡ s.outs)
+    × (slice_get end.queues i ≡ Some (live_of last))
 dropped_beside {F} may walks_law drops_law old one before after last head n r goes walks clear left s i there places limit =
     let q = live_of before in
     let ds = one.descriptors.items in
@@ -48,17 +54,26 @@ dropped_beside {F} may walks_law drops_law old one before after last head n r go
     let came = step.Chain head None in
     let c : OutChain = new_chain s i q loaded ds head None in
     let s₁ : LiveState F = after_walk s i q loaded ds came in
-    let first : Happens may s (Walks i loaded ds came) s₁ = subst (λ (k : comes.CourseStep). Happens may s (Walks i loaded ds k) (after_walk s i q loaded ds k)) is walk.4 in
-    let there₁ : slice_get s₁.queues i ≡ Some (live_of after) = subst (λ (k : comes.CourseStep). slice_get (after_walk s i q loaded ds k).queues i ≡ Some (live_of after)) is walk.5 in
+    let first : Happens may s (Walks i loaded ds came) s₁ =
+    subst (λ (k : comes.CourseStep). Happens may s (Walks i loaded ds k) (after_walk s i q loaded ds k)) is walk.4 in
+    let there₁ : slice_get s₁.queues i ≡ Some (live_of after) =
+    subst (λ (k : comes.CourseStep). slice_get (after_walk s i q loaded ds k).queues i ≡ Some (live_of after)) is walk.5 in
     let held : IsOut s.limit c one = subst (λ (k : comes.CourseStep). IsHeld s i q loaded k one) is walk.6 in
     let dropped = drops_law s₁ c s.outs [] one after refl there₁ refl held clear in
     let s₂ : LiveState F = after_drop s₁ s.outs [] c (live_of after) in
     let out : is_out one.state ≡ true = ap is_out held.state in
-    let left_is : untook after ≡ last = sym (left ∙ ap (λ (b : Bool). if b then untook after else after) out) in
-    (Walks i loaded ds came ∷ Drops c ∷ [], s₂, (s₁, first, (s₂, dropped.0, refl)), append-nil s.outs, dropped.1 ∙ ap (λ (k : QueueState). Some (live_of k)) left_is)
+    let left_is : untook after ≡ last = sym (left ∙ ap (λ (b : Bool). if b then untook after else after) out) in (
+      Walks i loaded ds came ∷ Drops c ∷ [],
+      s₂,
+      (s₁, first, (s₂, dropped.0, refl)),
+      append-nil s.outs,
+      dropped.1 ∙ ap (λ (k : QueueState). Some (live_of k)) left_is,
+    )
 
-pub lost_beside : {F : Type 0} (may : May F) (walks_law : HandleWalks may) (abandons_law : HandleAbandons may) (old one : ChainHandle) (before after : QueueState) (head n r : ℕ) → before.stopped ≡ None
-    → IsWalked old one before after (wents.On (says.Chain head n r)) → (s : LiveState F) (i : ℕ) → slice_get s.queues i ≡ Some (live_of before) → s.places ≡ places_in old.regions → s.limit ≡ old.limit
+pub lost_beside : {F : Type 0} (may : May F) (walks_law : HandleWalks may) (abandons_law : HandleAbandons may) (old one : ChainHandle)
+    (before after : QueueState) (head n r : ℕ) → before.stopped ≡ None
+    → IsWalked old one before after (wents.On (says.Chain head n r)) → (s : LiveState F) (i : ℕ)
+    → slice_get s.queues i ≡ Some (live_of before) → s.places ≡ places_in old.regions → s.limit ≡ old.limit
     → (es : List LiveEvent) × (end : LiveState F) × LiveRun may s es end × (slice_get end.queues i ≡ Some (live_of after))
 lost_beside {F} may walks_law abandons_law old one before after head n r goes walks s i there places limit =
     let q = live_of before in
@@ -69,16 +84,21 @@ lost_beside {F} may walks_law abandons_law old one before after head n r goes wa
     let came = step.Chain head None in
     let c : OutChain = new_chain s i q loaded ds head None in
     let s₁ : LiveState F = after_walk s i q loaded ds came in
-    let first : Happens may s (Walks i loaded ds came) s₁ = subst (λ (k : comes.CourseStep). Happens may s (Walks i loaded ds k) (after_walk s i q loaded ds k)) is walk.4 in
-    let there₁ : slice_get s₁.queues i ≡ Some (live_of after) = subst (λ (k : comes.CourseStep). slice_get (after_walk s i q loaded ds k).queues i ≡ Some (live_of after)) is walk.5 in
+    let first : Happens may s (Walks i loaded ds came) s₁ =
+    subst (λ (k : comes.CourseStep). Happens may s (Walks i loaded ds k) (after_walk s i q loaded ds k)) is walk.4 in
+    let there₁ : slice_get s₁.queues i ≡ Some (live_of after) =
+    subst (λ (k : comes.CourseStep). slice_get (after_walk s i q loaded ds k).queues i ≡ Some (live_of after)) is walk.5 in
     let lost = abandons_law s₁ c s.outs [] refl in
     (Walks i loaded ds came ∷ Abandons c ∷ [], after_loss s₁ s.outs [] c, (s₁, first, (after_loss s₁ s.outs [] c, lost.0, refl)), there₁)
 
 -- a chain that its caller replied to goes back by what push told, with his bytes
-pub own_goes_back : (st : state.ChainState) (q : QueueState) (len : ℕ) (s : PushStores) (flags room reply : List ℕ) (last : ℕ) → return_error st q len ≡ None → length flags ≡ 2 →
+pub own_goes_back : (st : state.ChainState) (q : QueueState) (len : ℕ) (s : PushStores) (flags room reply : List ℕ) (last : ℕ) →
+    return_error st q len ≡ None → length flags ≡ 2 →
     IfHasReply st (λ out reply. PushesBy q out reply s) → (acts : List Act) × GoesBackOwn q room reply st acts last (tells_of q flags)
-own_goes_back (at.HasReply out r) q len s flags room reply last can two back =
-    (return_acts (reply_stores room reply last ++ stores_of s.used) flags, record { stores = s; flags = flags; flags_len = two; returns = (back, refl); notified = refl })
+own_goes_back (at.HasReply out r) q len s flags room reply last can two back = (
+  return_acts (reply_stores room reply last ++ stores_of s.used) flags,
+  record { stores = s; flags = flags; flags_len = two; returns = (back, refl); notified = refl },
+)
 own_goes_back at.Free q len s flags room reply last can two back = absurd (cc)
 own_goes_back (at.Walking course pop_id walk) q len s flags room reply last can two back = absurd (cc)
 own_goes_back (at.Taken out) q len s flags room reply last can two back = absurd (cc)
@@ -87,7 +107,8 @@ own_goes_back (at.Lists out l) q len s flags room reply last can two back = absu
 own_goes_back (at.Pushing out) q len s flags room reply last can two back = absurd (cc)
 
 -- the reply is kept
-pub own_kept : (st : state.ChainState) (one two : ChainHandle) (d : OutChain) (reply : List ℕ) → IfOut st (λ out. IsOwn d reply (at.HasReply out (own_reply (length reply)))) →
+pub own_kept : (st : state.ChainState) (one two : ChainHandle) (d : OutChain) (reply : List ℕ) →
+    IfOut st (λ out. IsOwn d reply (at.HasReply out (own_reply (length reply)))) →
     IfUnanswered st (λ out. two ≡ record one { state = at.HasReply out (own_reply (length reply)) }) → IsOwn d reply two.state
 own_kept (at.Taken out) one two d reply own is = subst (λ (w : ChainHandle). IsOwn d reply w.state) (sym is) own
 own_kept (at.Waits out w) one two d reply own is = subst (λ (w : ChainHandle). IsOwn d reply w.state) (sym is) own
@@ -103,15 +124,21 @@ changed_twice [] i x y = refl
 changed_twice (z ∷ zs) zero x y = refl
 changed_twice {A} (z ∷ zs) (suc i) x y = ap (λ (l : List A). z ∷ l) (changed_twice zs i x y)
 
-pub replied_beside : {F : Type 0} (may : May F) (walks_law : HandleWalks may) (replies_law : HandleReplies may) (returns_law : HandleReturnsOwn may) (old one two : ChainHandle)
-    (before after final : QueueState) (head n r serial : ℕ) (request reply : List ℕ) (notice : Bool) → before.stopped ≡ None → IsWalked old one before after (wents.On (says.Chain head n r))
+pub replied_beside : {F : Type 0} (may : May F) (walks_law : HandleWalks may) (replies_law : HandleReplies may)
+    (returns_law : HandleReturnsOwn may) (old one two : ChainHandle)
+    (before after final : QueueState) (head n r serial : ℕ) (request reply : List ℕ) (notice : Bool) → before.stopped ≡ None
+    → IsWalked old one before after (wents.On (says.Chain head n r))
     → FromTaken one.state (λ out. out.request_len ≡ length request) → own_error one.state one.serial serial (length reply) ≡ None
     → IfUnanswered one.state (λ out. two ≡ record one { state = at.HasReply out (own_reply (length reply)) })
-    → ((room bytes : List ℕ) (last : ℕ) → (acts : List Act) × GoesBackOwn after room bytes two.state acts last notice) → final ≡ gave after → (s : LiveState F) (i : ℕ)
-    → IsReached may s → slice_get s.queues i ≡ Some (live_of before) → s.places ≡ places_in old.regions → s.limit ≡ old.limit → s.limit ≤ 2 ^ 31
+    → ((room bytes : List ℕ) (last : ℕ) → (acts : List Act) × GoesBackOwn after room bytes two.state acts last notice) → final ≡ gave after
+    → (s : LiveState F) (i : ℕ)
+    → IsReached may s → slice_get s.queues i ≡ Some (live_of before) → s.places ≡ places_in old.regions → s.limit ≡ old.limit
+    → s.limit ≤ 2 ^ 31
     → (es : List LiveEvent) × (end : LiveState F) × LiveRun may s es end × (calls_among es ≡ []) × (end.outs ≡ s.outs)
-    × (end.queues ≡ changed_at s.queues i (λ _. live_of final)) × (end.options ≡ s.options) × (end.limit ≡ s.limit) × (end.places ≡ s.places)
-replied_beside {F} may walks_law replies_law returns_law old one two before after final head n r serial request reply notice goes walks len clear is_kept back final_is s i reached there places limit small =
+    × (end.queues ≡ changed_at s.queues i (λ _. live_of final)) × (end.options ≡ s.options) × (end.limit ≡ s.limit)
+    × (end.places ≡ s.places)
+replied_beside {F} may walks_law replies_law returns_law old one two before after final head n r serial request reply notice goes walks len
+    clear is_kept back final_is s i reached there places limit small =
     let q = live_of before in
     let ds = one.descriptors.items in
     let walk = walks_law s i walks.0 old one before after (says.Chain head n r) there places limit goes tt walks.1 tt in
@@ -120,23 +147,29 @@ replied_beside {F} may walks_law replies_law returns_law old one two before afte
     let came = step.Chain head None in
     let c : OutChain = new_chain s i q loaded ds head None in
     let s₁ : LiveState F = after_walk s i q loaded ds came in
-    let first : Happens may s (Walks i loaded ds came) s₁ = subst (λ (k : comes.CourseStep). Happens may s (Walks i loaded ds k) (after_walk s i q loaded ds k)) is walk.4 in
-    let there₁ : slice_get s₁.queues i ≡ Some (live_of after) = subst (λ (k : comes.CourseStep). slice_get (after_walk s i q loaded ds k).queues i ≡ Some (live_of after)) is walk.5 in
+    let first : Happens may s (Walks i loaded ds came) s₁ =
+    subst (λ (k : comes.CourseStep). Happens may s (Walks i loaded ds k) (after_walk s i q loaded ds k)) is walk.4 in
+    let there₁ : slice_get s₁.queues i ≡ Some (live_of after) =
+    subst (λ (k : comes.CourseStep). slice_get (after_walk s i q loaded ds k).queues i ≡ Some (live_of after)) is walk.5 in
     let held : IsOut s.limit c one = subst (λ (k : comes.CourseStep). IsHeld s i q loaded k one) is walk.6 in
-    let replied = replies_law s₁ c s.outs [] one serial s.options request reply (reached_by may s s₁ (Walks i loaded ds came) reached first) small refl refl held len clear in
+    let replied = replies_law s₁ c s.outs [] one serial s.options request reply (reached_by may s s₁ (Walks i loaded ds came) reached first)
+    small refl refl held len clear in
     let d : OutChain = record c { phase = Own request reply } in
     let s₂ : LiveState F = after_own s₁ s.outs [] c request reply s.options in
     let own : IsOwn d reply two.state = own_kept one.state one two d reply replied.1 is_kept in
-    let taken_is : took q ≡ live_of after = same_some (took q) (live_of after) (sym (there_same s.queues i i (λ _. took q) q refl there) ∙ there₁) in
+    let taken_is : took q ≡ live_of after =
+    same_some (took q) (live_of after) (sym (there_same s.queues i i (λ _. took q) q refl there) ∙ there₁) in
     let goes_back = back (room_of d) reply 0 in
-    let next_used = returns_law s₂ d s.outs [] two.state after request reply goes_back.0 0 notice refl there₁ (taken_of before after goes taken_is) refl own goes_back.1 in
+    let next_used = returns_law s₂ d s.outs [] two.state after request reply goes_back.0 0 notice refl there₁
+    (taken_of before after goes taken_is) refl own goes_back.1 in
     let s₃ : LiveState F = after_giving s₂ s.outs [] d (live_of after) in (
       Walks i loaded ds came ∷ Replies c request reply s.options ∷ Returns d next_used.0 notice 0 next_used.1 next_used.2 ∷ [],
       s₃,
       (s₁, first, (s₂, replied.0, (s₃, next_used.4, refl))),
       refl,
       append-nil s.outs,
-      changed_twice s.queues i (took q) (live_of (gave after)) ∙ ap (λ (k : QueueState). changed_at s.queues i (λ _. live_of k)) (sym final_is),
+      changed_twice s.queues i (took q) (live_of (gave after))
+          ∙ ap (λ (k : QueueState). changed_at s.queues i (λ _. live_of k)) (sym final_is),
       refl,
       refl,
       refl,
@@ -145,8 +178,18 @@ replied_beside {F} may walks_law replies_law returns_law old one two before afte
 -- a queue that is begun where it stands is as it was
 pub begun_same : (q : QueueState) → q.stopped ≡ None → q.next_used ≡ q.next_avail → live_of (reset_to q q.layout q.next_avail) ≡ live_of q
 begun_same q goes even =
-    ap (λ (r : ℕ). record { queue = record (at_position q.layout q.next_avail) { stopped = false }; next_used = r; max_in_flight = q.max_in_flight; event_index = q.event_index }) (sym even)
-    ∙ ap (λ (x : Option QueueError). record { queue = record (at_position q.layout q.next_avail) { stopped = is_some x }; next_used = q.next_used; max_in_flight = q.max_in_flight; event_index = q.event_index }) (sym goes)
+    ap (λ (r : ℕ). record {
+      queue = record (at_position q.layout q.next_avail) { stopped = false };
+      next_used = r;
+      max_in_flight = q.max_in_flight;
+      event_index = q.event_index;
+    }) (sym even)
+    ∙ ap (λ (x : Option QueueError). record {
+      queue = record (at_position q.layout q.next_avail) { stopped = is_some x };
+      next_used = q.next_used;
+      max_in_flight = q.max_in_flight;
+      event_index = q.event_index;
+    }) (sym goes)
 
 pub on_ok_two : {A E : Type 0} (r : Result A E) (P Q S : Type 0) → (P → Q → S) → OnOk r P → OnOk r Q → OnOk r S
 on_ok_two (Ok a) P Q S more p q = more p q
@@ -159,8 +202,10 @@ on_ok_any (Err e) P p = tt
 -- ---- moves
 
 -- a queue that is begun by that of a record stands as that
-pub begun_by : (q : QueueState) (layout : QueueLayout) (read : Queue) (stopped : Option QueueError) → layout.size ≡ read.size → layout.desc ≡ read.desc → layout.avail ≡ read.avail →
-    layout.used ≡ read.used → is_some stopped ≡ read.stopped → recorded (record (reset_to q layout read.position) { stopped = stopped }) ≡ read
+pub begun_by : (q : QueueState) (layout : QueueLayout) (read : Queue) (stopped : Option QueueError) → layout.size ≡ read.size →
+    layout.desc ≡ read.desc → layout.avail ≡ read.avail →
+    layout.used ≡ read.used → is_some stopped ≡ read.stopped →
+    recorded (record (reset_to q layout read.position) { stopped = stopped }) ≡ read
 begun_by q layout read stopped size desc avail used is =
     let made : (size desc avail used : ℕ) → Bool → Queue = λ size desc avail used stopped.
     record { size = size; desc = desc; avail = avail; used = used; position = read.position; stopped = stopped } in
@@ -170,19 +215,27 @@ begun_by q layout read stopped size desc avail used is =
     ∙ ap (λ (n : ℕ). made read.size read.desc read.avail n (is_some stopped)) used
     ∙ ap (λ (b : Bool). made read.size read.desc read.avail read.used b) is
 
-pub moved_by : {F : Type 0} (may : May F) (law : HandleMoves may) (q after : QueueState) (layout : QueueLayout) (read : Queue) (stopped : Option QueueError) → layout.size ≡ read.size →
-    layout.desc ≡ read.desc → layout.avail ≡ read.avail → layout.used ≡ read.used → is_some stopped ≡ read.stopped → after ≡ record (reset_to q layout read.position) { stopped = stopped } →
-    1 ≤ q.max_in_flight → q.max_in_flight ≤ read.size → (s : LiveState F) (here : QueueState) (m : Memory) (bytes : List ℕ) (v v' : Version) (options : ℕ) → s.outs ≡ [] →
+pub moved_by : {F : Type 0} (may : May F) (law : HandleMoves may) (q after : QueueState) (layout : QueueLayout) (read : Queue)
+    (stopped : Option QueueError) → layout.size ≡ read.size →
+    layout.desc ≡ read.desc → layout.avail ≡ read.avail → layout.used ≡ read.used → is_some stopped ≡ read.stopped →
+    after ≡ record (reset_to q layout read.position) { stopped = stopped } →
+    1 ≤ q.max_in_flight → q.max_in_flight ≤ read.size →
+    (s : LiveState F) (here : QueueState) (m : Memory) (bytes : List ℕ) (v v' : Version) (options : ℕ) → s.outs ≡ [] →
     s.queues ≡ live_of here ∷ [] → IsRecord bytes v s.options (recorded here ∷ []) → IsRecord bytes v' options (read ∷ []) →
-    (options ≡ s.options) × (next : LiveState F) × Happens may s (Moves m (live_of after ∷ [])) next × (next.queues ≡ live_of after ∷ []) × (next.places ≡ m) × (next.outs ≡ [])
+    (options ≡ s.options) × (next : LiveState F) × Happens may s (Moves m (live_of after ∷ [])) next × (next.queues ≡ live_of after ∷ [])
+    × (next.places ≡ m) × (next.outs ≡ [])
     × (next.options ≡ s.options) × (next.limit ≡ s.limit)
-moved_by {F} may law q after layout read stopped size desc avail used is after_is some few s here m bytes v v' options none queues made found =
+moved_by {F} may law q after layout read stopped size desc avail used is after_is some few s here m bytes v v' options none queues
+    made found =
     let small : read.position < 2 ^ 16 = (All-head IsSavedQueue read [] found.2.3).2 in
     let there : QueueState = record (reset_to q layout read.position) { stopped = stopped } in
     let begun : AreBegunBy (read ∷ []) (after ∷ []) = record {
       same = ap (λ (x : Queue). x ∷ []) (ap recorded after_is ∙ begun_by q layout read stopped size desc avail used is);
       even = (subst (λ (k : QueueState). IsEven (live_of k)) (sym after_is) (refl, small), tt);
-      few = (subst (λ (k : QueueState). MayBeOut (live_of k)) (sym after_is) (some, subst (λ (n : ℕ). q.max_in_flight ≤ n) (sym size) few), tt);
+      few = (
+        subst (λ (k : QueueState). MayBeOut (live_of k)) (sym after_is) (some, subst (λ (n : ℕ). q.max_in_flight ≤ n) (sym size) few),
+        tt,
+      );
     } in
     let moved = law s (here ∷ []) (after ∷ []) m bytes v v' options (read ∷ []) none queues made found begun in
     (moved.0, record s { places = m; queues = live_of after ∷ [] }, moved.1, refl, refl, none, refl, refl)

@@ -35,43 +35,50 @@ abbrev request_in : walked.PopOutcome → ℕ
 request_in (says.Chain head n r) = n
 request_in _ = 0
 
-by_came : (ds : List Descriptor) (came : comes.CourseStep) (course : Course) (pop_id : PopId) (st : state.ChainState) (head n r : ℕ) → says.Chain head n r ≡ told_of ds came → st ≡ state_after course pop_id ds came →
+by_came : (ds : List Descriptor) (came : comes.CourseStep) (course : Course) (pop_id : PopId) (st : state.ChainState) (head n r : ℕ) →
+    says.Chain head n r ≡ told_of ds came → st ≡ state_after course pop_id ds came →
     FromTaken st (λ out. out.request_len ≡ n)
 by_came ds (step.Load walk) course pop_id st head n r told is = absurd (subst IsAChain told tt)
 by_came ds step.Idle course pop_id st head n r told is = absurd (subst IsAChain told tt)
 by_came ds (step.Refused e) course pop_id st head n r told is = absurd (subst IsAChain told tt)
-by_came ds (step.Chain h None) course pop_id st head n r told is = subst (λ (s : state.ChainState). FromTaken s (λ out. out.request_len ≡ n)) (sym is) (sym (ap request_in told))
+by_came ds (step.Chain h None) course pop_id st head n r told is =
+    subst (λ (s : state.ChainState). FromTaken s (λ out. out.request_len ≡ n)) (sym is) (sym (ap request_in told))
 by_came ds (step.Chain h (Some fault)) course pop_id st head n r told is = absurd (subst IsAChain told tt)
 
 -- a chain that was walked has as many bytes of request as were told
-pub taken_so : (old new : ChainHandle) (before after : QueueState) (head n r : ℕ) → before.stopped ≡ None → IsWalked old new before after (wents.On (says.Chain head n r)) →
+pub taken_so : (old new : ChainHandle) (before after : QueueState) (head n r : ℕ) → before.stopped ≡ None →
+    IsWalked old new before after (wents.On (says.Chain head n r)) →
     FromTaken new.state (λ out. out.request_len ≡ n)
 taken_so old new before after head n r goes walked =
     let came = walk_comes walked.0 old new before after (says.Chain head n r) goes tt walked.1 in
     by_came new.descriptors.items came.2.0 (course_of before old.limit) (pop_id_of before) new.state head n r came.2.1.0 came.2.1.1
 
 -- a walk leaves where the next chain goes back, and the event index
-stays_there : (q : QueueState) (came : comes.CourseStep) → ((queue_after q came).next_used ≡ q.next_used) × ((queue_after q came).event_index ≡ q.event_index)
+stays_there : (q : QueueState) (came : comes.CourseStep) →
+    ((queue_after q came).next_used ≡ q.next_used) × ((queue_after q came).event_index ≡ q.event_index)
 stays_there q (step.Load walk) = (refl, refl)
 stays_there q step.Idle = (refl, refl)
 stays_there q (step.Refused e) = (refl, refl)
 stays_there q (step.Chain head fault) = (refl, refl)
 
-pub queue_keeps : (old new : ChainHandle) (before after : QueueState) (told : walked.PopOutcome) → before.stopped ≡ None → RefusalHasEvents told old before → IsWalked old new before after (wents.On told) →
+pub queue_keeps : (old new : ChainHandle) (before after : QueueState) (told : walked.PopOutcome) → before.stopped ≡ None →
+    RefusalHasEvents told old before → IsWalked old new before after (wents.On told) →
     (after.next_used ≡ before.next_used) × (after.event_index ≡ before.event_index)
 queue_keeps old new before after told goes events walked =
     let came = walk_comes walked.0 old new before after told goes events walked.1 in
     let there = stays_there before came.2.0 in
     (ap (λ (q : QueueState). q.next_used) came.2.1.2 ∙ there.0, ap (λ (q : QueueState). q.event_index) came.2.1.2 ∙ there.1)
 
-pub queue_stays : (old new : ChainHandle) (before after : QueueState) (head n r : ℕ) → before.stopped ≡ None → IsByFlags before → IsWalked old new before after (wents.On (says.Chain head n r)) →
+pub queue_stays : (old new : ChainHandle) (before after : QueueState) (head n r : ℕ) → before.stopped ≡ None → IsByFlags before →
+    IsWalked old new before after (wents.On (says.Chain head n r)) →
     (after.next_used ≡ before.next_used) × IsByFlags after
 queue_stays old new before after head n r goes by_flags walked =
     let keeps = queue_keeps old new before after (says.Chain head n r) goes tt walked in
     (keeps.0, keeps.1 ∙ by_flags)
 
 -- so the two bytes that are seen stand where they did, and tell the same
-pub told_before : (layout : QueueLayout) (before back : QueueState) (s : PushStores) (seen : List ℕ) (notice : Bool) → back.next_used ≡ before.next_used → back.event_index ≡ before.event_index →
+pub told_before : (layout : QueueLayout) (before back : QueueState) (s : PushStores) (seen : List ℕ) (notice : Bool) →
+    back.next_used ≡ before.next_used → back.event_index ≡ before.event_index →
     IsToldBySeen layout back s seen notice → (notice ≡ tells_of before seen) × (s.seen_at ≡ seen_at before.event_index layout)
 told_before layout before back s seen notice next_used event_index told =
     let same : tells_of back seen ≡ tells_of before seen = rw event_index (rw next_used refl) in
@@ -100,10 +107,15 @@ pub whole_front : (request : List ℕ) → IsRequestFront request request
 whole_front request = take_all (length request) request (omega arith)
 
 -- a chain whose reply is known goes back by what push told
-pub goes_back : (st : state.ChainState) (q : QueueState) (len : ℕ) (s : PushStores) (flags room behind : List ℕ) → return_error st q len ≡ None → length flags ≡ 2 →
-    IfHasReply st (λ out reply. PushesBy q out reply s) → (acts : List Act) × (last : ℕ) × GoesBackBy q room behind st acts last (tells_of q flags)
-goes_back (at.HasReply out reply) q len s flags room behind can two back =
-    (acts_of room reply behind s flags, front_len reply, record { stores = s; flags = flags; flags_len = two; returns = (back, (refl, refl)); notified = refl })
+pub goes_back : (st : state.ChainState) (q : QueueState) (len : ℕ) (s : PushStores) (flags room behind : List ℕ) →
+    return_error st q len ≡ None → length flags ≡ 2 →
+    IfHasReply st (λ out reply. PushesBy q out reply s) →
+    (acts : List Act) × (last : ℕ) × GoesBackBy q room behind st acts last (tells_of q flags)
+goes_back (at.HasReply out reply) q len s flags room behind can two back = (
+  acts_of room reply behind s flags,
+  front_len reply,
+  record { stores = s; flags = flags; flags_len = two; returns = (back, (refl, refl)); notified = refl },
+)
 goes_back at.Free q len s flags room behind can two back = absurd (cc)
 goes_back (at.Walking course pop_id walk) q len s flags room behind can two back = absurd (cc)
 goes_back (at.Taken out) q len s flags room behind can two back = absurd (cc)
@@ -112,11 +124,18 @@ goes_back (at.Lists out l) q len s flags room behind can two back = absurd (cc)
 goes_back (at.Pushing out) q len s flags room behind can two back = absurd (cc)
 
 -- these two bytes were loaded there
-pub goes_back_by : (st : state.ChainState) (q : QueueState) (len : ℕ) (s : PushStores) (flags room behind : List ℕ) → return_error st q len ≡ None → length flags ≡ 2 →
+pub goes_back_by : (st : state.ChainState) (q : QueueState) (len : ℕ) (s : PushStores) (flags room behind : List ℕ) →
+    return_error st q len ≡ None → length flags ≡ 2 →
     IfHasReply st (λ out reply. PushesBy q out reply s) →
-    (acts : List Act) × (last : ℕ) × (back : GoesBackBy q room behind st acts last (tells_of q flags)) × (back.flags ≡ flags) × (back.stores.seen_at ≡ s.seen_at)
-goes_back_by (at.HasReply out reply) q len s flags room behind can two back =
-    (acts_of room reply behind s flags, front_len reply, record { stores = s; flags = flags; flags_len = two; returns = (back, (refl, refl)); notified = refl }, refl, refl)
+    (acts : List Act) × (last : ℕ) × (back : GoesBackBy q room behind st acts last (tells_of q flags)) × (back.flags ≡ flags)
+    × (back.stores.seen_at ≡ s.seen_at)
+goes_back_by (at.HasReply out reply) q len s flags room behind can two back = (
+  acts_of room reply behind s flags,
+  front_len reply,
+  record { stores = s; flags = flags; flags_len = two; returns = (back, (refl, refl)); notified = refl },
+  refl,
+  refl,
+)
 goes_back_by at.Free q len s flags room behind can two back = absurd (cc)
 goes_back_by (at.Walking course pop_id walk) q len s flags room behind can two back = absurd (cc)
 goes_back_by (at.Taken out) q len s flags room behind can two back = absurd (cc)

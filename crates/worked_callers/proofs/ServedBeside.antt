@@ -1,5 +1,6 @@
 -- A chain that is walked, asked, answered and returned by a handle, as a run beside whatever other chains are out.
-use Rattle.std.proofs.Common.{◌≡◌, ℕ, ◌≤◌, ◌^◌, Bool, List, [], ◌∷◌, ◌++◌, append-nil, append_assoc, length, Some, None, slice_get, refl, subst, sym, ap, ◌∙◌}
+use Rattle.std.proofs.Common.{◌≡◌, ℕ, ◌≤◌, ◌^◌, Bool, List, [], ◌∷◌, ◌++◌, append-nil, append_assoc, length, Some, None, slice_get, refl}
+use Rattle.std.proofs.Common.{subst, sym, ap, ◌∙◌}
 use Rattle.std.specs.Prelude.{drop, false, true, IfSome, is_some, Option, option_map}
 use Rattle.std.specs.List.{AllByRecursion}
 use Rattle.vm_memory_core.specs.Host.{changed_at}
@@ -29,7 +30,8 @@ use Rattle.fs_chain.specs.declared.popping.PopOutcome.TheVariants as says
 use Rattle.fs_chain.specs.declared.chain_handle.ChainHandle.{ChainHandle}
 use Rattle.plain_machine.specs.Step.{Calls, EachSuits}
 use Rattle.plain_machine.specs.StepBy.{Act}
-use Rattle.fs_live.specs.Handles.{HandleAsks, HandleCalls, HandleFaulty, HandleReturns, HandleSleeps, HandleWalks, IsFaultyOut, IsHeld, IsKept, IsOut, IsReached, IsSessionOf, IsDecodedWhole, calls_told, live_of}
+use Rattle.fs_live.specs.Handles.{HandleAsks, HandleCalls, HandleFaulty, HandleReturns, HandleSleeps, HandleWalks, IsFaultyOut, IsHeld}
+use Rattle.fs_live.specs.Handles.{IsKept, IsOut, IsReached, IsSessionOf, IsDecodedWhole, calls_told, live_of}
 use Rattle.fs_live.specs.Live.{
   Answers,
   Asks,
@@ -67,14 +69,16 @@ use Rattle.fs_live.proofs.Queues.{same_some, there_same}
 -- ---- runs
 
 module _ {F : Type 0} (may : May F) where
-  pub run_more : (s mid after : LiveState F) (es : List LiveEvent) (e : LiveEvent) → LiveRun may s es mid → Happens may mid e after → LiveRun may s (es ++ e ∷ []) after
+  pub run_more : (s mid after : LiveState F) (es : List LiveEvent) (e : LiveEvent) → LiveRun may s es mid → Happens may mid e after →
+      LiveRun may s (es ++ e ∷ []) after
   run_more s mid after [] e run happens = (after, subst (λ (k : LiveState F). Happens may k e after) run happens, refl)
   run_more s mid after (x ∷ es) e run happens = (run.0, run.1, run_more run.0 mid after es e run.2 happens)
 
   pub reached_by : (s mid : LiveState F) (e : LiveEvent) → IsReached may s → Happens may s e mid → IsReached may mid
   reached_by s mid e reached happens = (reached.0, reached.1 ++ e ∷ [], reached.2, run_more reached.0 s mid reached.1 e reached.3 happens)
 
-calls_behind : (e : LiveEvent) (es fs : List LiveEvent) → calls_among (es ++ fs) ≡ calls_among es ++ calls_among fs → calls_among (e ∷ (es ++ fs)) ≡ calls_among (e ∷ es) ++ calls_among fs
+calls_behind : (e : LiveEvent) (es fs : List LiveEvent) → calls_among (es ++ fs) ≡ calls_among es ++ calls_among fs →
+    calls_among (e ∷ (es ++ fs)) ≡ calls_among (e ∷ es) ++ calls_among fs
 calls_behind (Walks i loaded ds came) es fs is = is
 calls_behind (Declines i e) es fs is = is
 calls_behind (Asks c request told) es fs is = is
@@ -103,7 +107,8 @@ abbrev head_in : walked.PopOutcome → ℕ
 head_in (says.Chain head n r) = head
 head_in _ = 0
 
-pub chain_is : (ds : List Descriptor) (came : comes.CourseStep) (head n r : ℕ) → says.Chain head n r ≡ told_of ds came → came ≡ step.Chain head None
+pub chain_is :
+    (ds : List Descriptor) (came : comes.CourseStep) (head n r : ℕ) → says.Chain head n r ≡ told_of ds came → came ≡ step.Chain head None
 chain_is ds (step.Load walk) head n r is = absurd (subst IsAChain is tt)
 chain_is ds step.Idle head n r is = absurd (subst IsAChain is tt)
 chain_is ds (step.Refused e) head n r is = absurd (subst IsAChain is tt)
@@ -132,12 +137,22 @@ told_with_reply asks.Nothing w w' given has = tt
 told_with_reply (asks.Fault e) w w' given has = tt
 
 pub kept_on : (page_size options : ℕ) (request : List ℕ) (c : OutChain) (earlier more : Calls) (made : told.Decoded) (w : ChainHandle)
-    → IsKept page_size options request (asked_chain c request options earlier) made w → IsKept page_size options request (asked_chain c request options more) made w
+    → IsKept page_size options request (asked_chain c request options earlier) made w
+    → IsKept page_size options request (asked_chain c request options more) made w
 kept_on page_size options request c earlier more made w kept =
-    record { out = kept.out; head = kept.head; taken = kept.taken; room = kept.room; small = kept.small; tells = kept.tells; session = kept.session }
+    record {
+      out = kept.out;
+      head = kept.head;
+      taken = kept.taken;
+      room = kept.room;
+      small = kept.small;
+      tells = kept.tells;
+      session = kept.session;
+    }
 
 -- the calls of a chain are answered one after another
-pub record AllAnswered {F : Type 0} (may : May F) (s : LiveState F) (before behind : List OutChain) (c : OutChain) (later : Calls) (files : F) : Type 0 where
+pub record AllAnswered {F : Type 0} (may : May F) (s : LiveState F) (before behind : List OutChain) (c : OutChain) (later : Calls)
+    (files : F) : Type 0 where
   pub es : List LiveEvent
   pub end : LiveState F
   pub run : LiveRun may s es end
@@ -148,12 +163,15 @@ pub record AllAnswered {F : Type 0} (may : May F) (s : LiveState F) (before behi
   pub anew : (i : ℕ) → AllByRecursion (NotAnew i) es
   pub files_are : end.files ≡ files
 
-module _ {F : Type 0} (may : May F) (law : HandleCalls may) (w w' : ChainHandle) (request : List ℕ) (options : ℕ) (made : told.Decoded) (given : ChainAnswer) (has : HasReply made w given w') where
+module _ {F : Type 0} (may : May F) (law : HandleCalls may) (w w' : ChainHandle) (request : List ℕ) (options : ℕ) (made : told.Decoded)
+    (given : ChainAnswer) (has : HasReply made w given w') where
   abbrev pub all : Calls
   all = file_calls (drop 80 request) made given
 
-  pub answered_all : (s : LiveState F) (c : OutChain) (before behind : List OutChain) (earlier later : Calls) (files : F) → s.outs ≡ before ++ asked_chain c request options earlier ∷ behind
-      → IsKept s.page_size options request (asked_chain c request options earlier) made w → all ≡ earlier ++ later → FileRun may s.files later files
+  pub answered_all : (s : LiveState F) (c : OutChain) (before behind : List OutChain) (earlier later : Calls) (files : F)
+      → s.outs ≡ before ++ asked_chain c request options earlier ∷ behind
+      → IsKept s.page_size options request (asked_chain c request options earlier) made w → all ≡ earlier ++ later
+      → FileRun may s.files later files
       → AllAnswered may s before behind (asked_chain c request options all) later files
   answered_all s c before behind earlier [] files out kept calls_are run = record {
     es = [];
@@ -170,7 +188,8 @@ module _ {F : Type 0} (may : May F) (law : HandleCalls may) (w w' : ChainHandle)
       let d = asked_chain c request options earlier in
       let more : Calls = earlier ++ (call, answer) ∷ [] in
       let next : LiveState F = after_answer s before behind d request options more run.0 in
-      let happens : Happens may s (Answers d call answer) next = (law s d before behind w w' request options made given earlier later call answer run.0 out refl kept has calls_are run.1 run.2).0 in
+      let happens : Happens may s (Answers d call answer) next =
+      (law s d before behind w w' request options made given earlier later call answer run.0 out refl kept has calls_are run.1 run.2).0 in
       let rest = answered_all next c before behind more later files refl (kept_on s.page_size options request c earlier more made w kept)
       (calls_are ∙ sym (append_assoc earlier ((call, answer) ∷ []) later)) run.3 in
       record {
@@ -197,12 +216,17 @@ pub record IsServed {F : Type 0} (may : May F) (s : LiveState F) (i : ℕ) (afte
   pub there : slice_get end.queues i ≡ Some (live_of (gave after))
   pub anew : AllByRecursion (NotAnew i) es
 
-module _ {F : Type 0} (may : May F) (walks_law : HandleWalks may) (asks_law : HandleAsks may) (calls_law : HandleCalls may) (returns_law : HandleReturns may) (old one two three : ChainHandle)
-    (before after : QueueState) (head n r : ℕ) (session : Session) (request : List ℕ) (made : told.Decoded) (given : ChainAnswer) (notice : Bool) (goes : before.stopped ≡ None)
+module _ {F : Type 0} (may : May F) (walks_law : HandleWalks may) (asks_law : HandleAsks may) (calls_law : HandleCalls may)
+    (returns_law : HandleReturns may) (old one two three : ChainHandle)
+    (before after : QueueState) (head n r : ℕ) (session : Session) (request : List ℕ) (made : told.Decoded) (given : ChainAnswer)
+    (notice : Bool) (goes : before.stopped ≡ None)
     (walks : IsWalked old one before after (wents.On (says.Chain head n r))) (asked : IsDecodedBy one session request request made two)
-    (has : HasReply made two given three) (back : (room behind : List ℕ) → (acts : List Act) × (last : ℕ) × GoesBackBy after room behind three.state acts last notice) where
-  pub served_beside : (s : LiveState F) (i : ℕ) (files : F) → IsReached may s → slice_get s.queues i ≡ Some (live_of before) → s.places ≡ places_in old.regions → s.limit ≡ old.limit
-      → s.limit ≤ 2 ^ 31 → IsSessionOf s session → FileRun may s.files (file_calls (drop 80 request) made given) files → IsServed may s i after (file_calls (drop 80 request) made given)
+    (has : HasReply made two given three) (back : (room behind : List ℕ)
+    → (acts : List Act) × (last : ℕ) × GoesBackBy after room behind three.state acts last notice) where
+  pub served_beside : (s : LiveState F) (i : ℕ) (files : F) → IsReached may s → slice_get s.queues i ≡ Some (live_of before)
+      → s.places ≡ places_in old.regions → s.limit ≡ old.limit
+      → s.limit ≤ 2 ^ 31 → IsSessionOf s session → FileRun may s.files (file_calls (drop 80 request) made given) files
+      → IsServed may s i after (file_calls (drop 80 request) made given)
   served_beside s i files reached there places limit small in_session run =
       let q = live_of before in
       let calls = file_calls (drop 80 request) made given in
@@ -214,20 +238,25 @@ module _ {F : Type 0} (may : May F) (walks_law : HandleWalks may) (asks_law : Ha
       let s₁ : LiveState F = after_walk s i q loaded ds (step.Chain head None) in
       let first : Happens may s (Walks i loaded ds (step.Chain head None)) s₁ =
       subst (λ (k : comes.CourseStep). Happens may s (Walks i loaded ds k) (after_walk s i q loaded ds k)) is walk.4 in
-      let there₁ : slice_get s₁.queues i ≡ Some (live_of after) = subst (λ (k : comes.CourseStep). slice_get (after_walk s i q loaded ds k).queues i ≡ Some (live_of after)) is walk.5 in
+      let there₁ : slice_get s₁.queues i ≡ Some (live_of after) =
+      subst (λ (k : comes.CourseStep). slice_get (after_walk s i q loaded ds k).queues i ≡ Some (live_of after)) is walk.5 in
       let held : IsOut s.limit c one = subst (λ (k : comes.CourseStep). IsHeld s i q loaded k one) is walk.6 in
-      let asking = asks_law s₁ c s.outs [] one two session request request made (reached_by may s s₁ (Walks i loaded ds (step.Chain head None)) reached first) small refl refl held in_session asked
+      let asking = asks_law s₁ c s.outs [] one two session request request made
+      (reached_by may s s₁ (Walks i loaded ds (step.Chain head None)) reached first) small refl refl held in_session asked
       (told_with_reply made two three given has) in
       let s₂ : LiveState F = after_asking s₁ s.outs [] c request in
       let kept : IsKept s₂.page_size s.options request (asked_chain c request s.options []) made two = asking.1 in
       let ans = answered_all may calls_law two three request s.options made given has s₂ c s.outs [] [] calls files refl kept refl run in
       let d : OutChain = asked_chain c request s.options calls in
-      let taken_is : took q ≡ live_of after = same_some (took q) (live_of after) (sym (there_same s.queues i i (λ _. took q) q refl there) ∙ there₁) in
+      let taken_is : took q ≡ live_of after =
+      same_some (took q) (live_of after) (sym (there_same s.queues i i (λ _. took q) q refl there) ∙ there₁) in
       let goes_back = back (room_of d) (data_behind given) in
       let there₃ : slice_get ans.end.queues i ≡ Some (live_of after) = ap (λ (l : List LiveQueue). slice_get l i) ans.queues_are ∙ there₁ in
       let kept₃ : IsKept ans.end.page_size s.options request d made two =
-      subst (λ (p : ℕ). IsKept p s.options request d made two) (sym ans.page_size) (kept_on s.page_size s.options request c [] calls made two kept) in
-      let next_used = returns_law ans.end d s.outs [] two three after request s.options made given goes_back.0 goes_back.1 notice ans.outs there₃ (taken_of before after goes taken_is) refl
+      subst (λ (p : ℕ). IsKept p s.options request d made two) (sym ans.page_size)
+      (kept_on s.page_size s.options request c [] calls made two kept) in
+      let next_used = returns_law ans.end d s.outs [] two three after request s.options made given goes_back.0 goes_back.1 notice ans.outs
+      there₃ (taken_of before after goes taken_is) refl
       (each_suits may s.files files calls run) kept₃ has goes_back.2 in
       let last = Returns d next_used.0 notice goes_back.1 next_used.1 next_used.2 in
       let s₄ : LiveState F = after_giving ans.end s.outs [] d (live_of after) in
@@ -244,12 +273,14 @@ module _ {F : Type 0} (may : May F) (walks_law : HandleWalks may) (asks_law : Ha
 -- ---- one event
 
 -- the options after an answer: those of this moment, or those that the handle's session has
-pub options_after : (changes : Bool) (now now' asked asked' left : ℕ) → left ≡ asked' → (changes ≡ false → (now' ≡ now) × (asked' ≡ asked)) × (changes ≡ true → now' ≡ asked')
+pub options_after : (changes : Bool) (now now' asked asked' left : ℕ) → left ≡ asked'
+    → (changes ≡ false → (now' ≡ now) × (asked' ≡ asked)) × (changes ≡ true → now' ≡ asked')
     → (changes ≡ false → (now' ≡ now) × (left ≡ asked)) × (changes ≡ true → now' ≡ left)
 options_after changes now now' asked asked' left is stays = (λ no. ((stays.0 no).0, is ∙ (stays.0 no).1), λ yes. stays.1 yes ∙ sym is)
 
 -- what is stored before a sleep
-pub sleep_is : {F : Type 0} (may : May F) (q : QueueState) (wanted : Bool) (told : Option NotificationStore) → HandleSleeps may → StoresStayThere may → option_map store_of told ≡ notification_store q wanted
+pub sleep_is : {F : Type 0} (may : May F) (q : QueueState) (wanted : Bool) (told : Option NotificationStore) → HandleSleeps may
+    → StoresStayThere may → option_map store_of told ≡ notification_store q wanted
     → IfSome told (λ store. (s : LiveState F) (i : ℕ) → slice_get s.queues i ≡ Some (live_of q) → HasPlace s.places store.address
     → (run : LiveRun may s (Sleeps i (store_of store) ∷ []) s) × EachStoresThere may s (Sleeps i (store_of store) ∷ []) s run)
 sleep_is may q wanted None law stores is = tt
@@ -270,17 +301,21 @@ abbrev fault_in : ChainFault → walked.PopOutcome → ChainFault
 fault_in f (says.Faulty head fault) = fault
 fault_in f _ = f
 
-faulty_is : (ds : List Descriptor) (came : comes.CourseStep) (head : ℕ) (fault : ChainFault) → says.Faulty head fault ≡ told_of ds came → came ≡ step.Chain head (Some fault)
+faulty_is : (ds : List Descriptor) (came : comes.CourseStep) (head : ℕ) (fault : ChainFault) → says.Faulty head fault ≡ told_of ds came →
+    came ≡ step.Chain head (Some fault)
 faulty_is ds (step.Load walk) head fault is = absurd (subst IsFaulty is tt)
 faulty_is ds step.Idle head fault is = absurd (subst IsFaulty is tt)
 faulty_is ds (step.Refused e) head fault is = absurd (subst IsFaulty is tt)
 faulty_is ds (step.Chain h None) head fault is = absurd (subst IsFaulty is tt)
 faulty_is ds (step.Chain h (Some why)) head fault is =
-    ap (λ (x : ℕ). step.Chain x (Some why)) (sym (ap faulty_head is)) ∙ ap (λ (x : ChainFault). step.Chain head (Some x)) (sym (ap (λ (w : walked.PopOutcome). fault_in fault w) is))
+    ap (λ (x : ℕ). step.Chain x (Some why)) (sym (ap faulty_head is))
+    ∙ ap (λ (x : ChainFault). step.Chain head (Some x)) (sym (ap (λ (w : walked.PopOutcome). fault_in fault w) is))
 
-pub faulty_beside : {F : Type 0} (may : May F) (walks_law : HandleWalks may) (faulty_law : HandleFaulty may) (old one : ChainHandle) (before after : QueueState) (head : ℕ) (fault : ChainFault)
+pub faulty_beside : {F : Type 0} (may : May F) (walks_law : HandleWalks may) (faulty_law : HandleFaulty may) (old one : ChainHandle)
+    (before after : QueueState) (head : ℕ) (fault : ChainFault)
     (notice : Bool) → before.stopped ≡ None → IsWalked old one before after (wents.On (says.Faulty head fault))
-    → ((room behind : List ℕ) → (acts : List Act) × (last : ℕ) × GoesBackBy after room behind one.state acts last notice) → (s : LiveState F) (i : ℕ) → slice_get s.queues i ≡ Some (live_of before)
+    → ((room behind : List ℕ) → (acts : List Act) × (last : ℕ) × GoesBackBy after room behind one.state acts last notice)
+    → (s : LiveState F) (i : ℕ) → slice_get s.queues i ≡ Some (live_of before)
     → s.places ≡ places_in old.regions → s.limit ≡ old.limit
     → (es : List LiveEvent) × (end : LiveState F) × LiveRun may s es end × (calls_among es ≡ []) × (end.outs ≡ s.outs)
 faulty_beside {F} may walks_law faulty_law old one before after head fault notice goes walks back s i there places limit =
@@ -292,11 +327,20 @@ faulty_beside {F} may walks_law faulty_law old one before after head fault notic
     let came = step.Chain head (Some fault) in
     let c : OutChain = new_chain s i q loaded ds head (Some fault) in
     let s₁ : LiveState F = after_walk s i q loaded ds came in
-    let first : Happens may s (Walks i loaded ds came) s₁ = subst (λ (k : comes.CourseStep). Happens may s (Walks i loaded ds k) (after_walk s i q loaded ds k)) is walk.4 in
-    let there₁ : slice_get s₁.queues i ≡ Some (live_of after) = subst (λ (k : comes.CourseStep). slice_get (after_walk s i q loaded ds k).queues i ≡ Some (live_of after)) is walk.5 in
+    let first : Happens may s (Walks i loaded ds came) s₁ =
+    subst (λ (k : comes.CourseStep). Happens may s (Walks i loaded ds k) (after_walk s i q loaded ds k)) is walk.4 in
+    let there₁ : slice_get s₁.queues i ≡ Some (live_of after) =
+    subst (λ (k : comes.CourseStep). slice_get (after_walk s i q loaded ds k).queues i ≡ Some (live_of after)) is walk.5 in
     let held : IsFaultyOut s.limit c one = subst (λ (k : comes.CourseStep). IsHeld s i q loaded k one) is walk.6 in
-    let taken_is : took q ≡ live_of after = same_some (took q) (live_of after) (sym (there_same s.queues i i (λ _. took q) q refl there) ∙ there₁) in
+    let taken_is : took q ≡ live_of after =
+    same_some (took q) (live_of after) (sym (there_same s.queues i i (λ _. took q) q refl there) ∙ there₁) in
     let goes_back = back [] [] in
-    let next_used = faulty_law s₁ c s.outs [] one after fault goes_back.0 goes_back.1 notice refl there₁ (taken_of before after goes taken_is) refl held goes_back.2 in
-    let s₂ : LiveState F = after_giving s₁ s.outs [] c (live_of after) in
-    (Walks i loaded ds came ∷ Returns c next_used.0 notice goes_back.1 next_used.1 next_used.2 ∷ [], s₂, (s₁, first, (s₂, next_used.4, refl)), refl, append-nil s.outs)
+    let next_used = faulty_law s₁ c s.outs [] one after fault goes_back.0 goes_back.1 notice refl there₁
+    (taken_of before after goes taken_is) refl held goes_back.2 in
+    let s₂ : LiveState F = after_giving s₁ s.outs [] c (live_of after) in (
+      Walks i loaded ds came ∷ Returns c next_used.0 notice goes_back.1 next_used.1 next_used.2 ∷ [],
+      s₂,
+      (s₁, first, (s₂, next_used.4, refl)),
+      refl,
+      append-nil s.outs,
+    )

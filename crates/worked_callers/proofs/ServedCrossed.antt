@@ -1,5 +1,6 @@
 -- Two chains of one queue that are asked by two handles, and of which the second one is answered and goes back first.
-use Rattle.std.proofs.Common.{◌≡◌, ℕ, ◌≤◌, ◌^◌, Bool, List, [], ◌∷◌, ◌++◌, append-nil, append_assoc, Some, None, slice_get, refl, subst, sym, ap, ◌∙◌}
+use Rattle.std.proofs.Common.{◌≡◌, ℕ, ◌≤◌, ◌^◌, Bool, List, [], ◌∷◌, ◌++◌, append-nil, append_assoc, Some, None, slice_get, refl, subst}
+use Rattle.std.proofs.Common.{sym, ap, ◌∙◌}
 use Rattle.std.specs.Prelude.{drop, false}
 use Rattle.fs_queue.specs.Queue.{Queue}
 use Rattle.fs_regions.specs.Places.{places_in}
@@ -19,14 +20,18 @@ use Rattle.fs_chain.specs.declared.popping.PopOutcome.TheVariants as says
 use Rattle.fs_chain.specs.declared.chain_handle.ChainHandle.{ChainHandle}
 use Rattle.plain_machine.specs.Step.{Calls}
 use Rattle.plain_machine.specs.StepBy.{Act}
-use Rattle.fs_live.specs.Handles.{HandleAsks, HandleCalls, HandleReturns, HandleWalks, IsHeld, IsKept, IsOut, IsReached, IsSessionOf, calls_told, live_of}
-use Rattle.fs_live.specs.Live.{Asks, Happens, LiveEvent, LiveRun, LiveState, OutChain, Returns, Walks, after_asking, after_giving, after_walk, asked_chain, calls_among, new_chain, room_of}
+use Rattle.fs_live.specs.Handles.{HandleAsks, HandleCalls, HandleReturns, HandleWalks, IsHeld, IsKept, IsOut, IsReached, IsSessionOf}
+use Rattle.fs_live.specs.Handles.{calls_told, live_of}
+use Rattle.fs_live.specs.Live.{Asks, Happens, LiveEvent, LiveRun, LiveState, OutChain, Returns, Walks, after_asking, after_giving}
+use Rattle.fs_live.specs.Live.{after_walk, asked_chain, calls_among, new_chain, room_of}
 use Rattle.fs_live.specs.Several.{LiveQueue, took}
 use Rattle.fs_live.proofs.Queues.{same_some, there_same}
 use Rattle.worked_callers.proofs.TakenTwo.{goes_still}
-use Rattle.worked_callers.proofs.ServedBeside.{answered_all, calls_of_both, chain_is, each_suits, kept_on, reached_by, taken_of, told_with_reply}
+use Rattle.worked_callers.proofs.ServedBeside.{answered_all, calls_of_both, chain_is, each_suits, kept_on, reached_by, taken_of}
+use Rattle.worked_callers.proofs.ServedBeside.{told_with_reply}
 
-pub run_both : {F : Type 0} (may : May F) (s mid after : LiveState F) (es fs : List LiveEvent) → LiveRun may s es mid → LiveRun may mid fs after → LiveRun may s (es ++ fs) after
+pub run_both : {F : Type 0} (may : May F) (s mid after : LiveState F) (es fs : List LiveEvent) → LiveRun may s es mid →
+    LiveRun may mid fs after → LiveRun may s (es ++ fs) after
 run_both {F} may s mid after [] fs run more = subst (λ (k : LiveState F). LiveRun may k fs after) run more
 run_both may s mid after (x ∷ es) fs run more = (run.0, run.1, run_both may run.0 mid after es fs run.2 more)
 
@@ -36,10 +41,14 @@ late_of : (before mid after : QueueState) → before.stopped ≡ None → took (
 late_of before mid after goes one two =
     taken_of before mid goes one ∙ ap (λ (k : LiveQueue). record (k.queue) { position = before.next_avail; stopped = false }) two
 
-module _ {F : Type 0} (may : May F) (walks_law : HandleWalks may) (asks_law : HandleAsks may) (calls_law : HandleCalls may) (returns_law : HandleReturns may) (old one one₂ one₃ old' two two₂ two₃ : ChainHandle)
-    (before mid after : QueueState) (head n r head' n' r' : ℕ) (session session' : Session) (request request' : List ℕ) (made made' : told.Decoded) (given given' : ChainAnswer) (notice notice' : Bool)
-    (goes : before.stopped ≡ None) (walks : IsWalked old one before mid (wents.On (says.Chain head n r))) (walks' : IsWalked old' two mid after (wents.On (says.Chain head' n' r')))
-    (asked : IsDecodedBy one session request request made one₂) (asked' : IsDecodedBy two session' request' request' made' two₂) (has : HasReply made one₂ given one₃) (has' : HasReply made' two₂ given' two₃)
+module _ {F : Type 0} (may : May F) (walks_law : HandleWalks may) (asks_law : HandleAsks may) (calls_law : HandleCalls may)
+    (returns_law : HandleReturns may) (old one one₂ one₃ old' two two₂ two₃ : ChainHandle)
+    (before mid after : QueueState) (head n r head' n' r' : ℕ) (session session' : Session) (request request' : List ℕ)
+    (made made' : told.Decoded) (given given' : ChainAnswer) (notice notice' : Bool)
+    (goes : before.stopped ≡ None) (walks : IsWalked old one before mid (wents.On (says.Chain head n r)))
+    (walks' : IsWalked old' two mid after (wents.On (says.Chain head' n' r')))
+    (asked : IsDecodedBy one session request request made one₂) (asked' : IsDecodedBy two session' request' request' made' two₂)
+    (has : HasReply made one₂ given one₃) (has' : HasReply made' two₂ given' two₃)
     (back : (room behind : List ℕ) → (acts : List Act) × (last : ℕ) × GoesBackBy (gave after) room behind one₃.state acts last notice)
     (back' : (room behind : List ℕ) → (acts : List Act) × (last : ℕ) × GoesBackBy after room behind two₃.state acts last notice') where
   abbrev late : Calls
@@ -48,8 +57,10 @@ module _ {F : Type 0} (may : May F) (walks_law : HandleWalks may) (asks_law : Ha
   abbrev early : Calls
   early = file_calls (drop 80 request') made' given'
 
-  pub served_crossed : (s : LiveState F) (i : ℕ) (between files : F) → IsReached may s → slice_get s.queues i ≡ Some (live_of before) → s.places ≡ places_in old.regions → s.places ≡ places_in old'.regions
-      → s.limit ≡ old.limit → s.limit ≡ old'.limit → s.limit ≤ 2 ^ 31 → IsSessionOf s session → IsSessionOf s session' → FileRun may s.files early between → FileRun may between late files
+  pub served_crossed : (s : LiveState F) (i : ℕ) (between files : F) → IsReached may s → slice_get s.queues i ≡ Some (live_of before)
+      → s.places ≡ places_in old.regions → s.places ≡ places_in old'.regions
+      → s.limit ≡ old.limit → s.limit ≡ old'.limit → s.limit ≤ 2 ^ 31 → IsSessionOf s session → IsSessionOf s session'
+      → FileRun may s.files early between → FileRun may between late files
       → (es : List LiveEvent) × (end : LiveState F) × LiveRun may s es end × (calls_among es ≡ early ++ late) × (end.outs ≡ s.outs)
   served_crossed s i between files reached there places places' limit limit' small in_session in_session' run' run =
       let q = live_of before in
@@ -61,8 +72,10 @@ module _ {F : Type 0} (may : May F) (walks_law : HandleWalks may) (asks_law : Ha
       let came = step.Chain head None in
       let c : OutChain = new_chain s i q walk.0 ds head None in
       let s₁ : LiveState F = after_walk s i q walk.0 ds came in
-      let first : Happens may s (Walks i walk.0 ds came) s₁ = subst (λ (k : comes.CourseStep). Happens may s (Walks i walk.0 ds k) (after_walk s i q walk.0 ds k)) is walk.4 in
-      let there₁ : slice_get s₁.queues i ≡ Some q' = subst (λ (k : comes.CourseStep). slice_get (after_walk s i q walk.0 ds k).queues i ≡ Some q') is walk.5 in
+      let first : Happens may s (Walks i walk.0 ds came) s₁ =
+      subst (λ (k : comes.CourseStep). Happens may s (Walks i walk.0 ds k) (after_walk s i q walk.0 ds k)) is walk.4 in
+      let there₁ : slice_get s₁.queues i ≡ Some q' =
+      subst (λ (k : comes.CourseStep). slice_get (after_walk s i q walk.0 ds k).queues i ≡ Some q') is walk.5 in
       let held : IsOut s.limit c one = subst (λ (k : comes.CourseStep). IsHeld s i q walk.0 k one) is walk.6 in
       let goes' : mid.stopped ≡ None = goes_still old one before mid head n r goes walks in
       let walk' = walks_law s₁ i walks'.0 old' two mid after (says.Chain head' n' r') there₁ places' limit' goes' tt walks'.1 tt in
@@ -70,41 +83,55 @@ module _ {F : Type 0} (may : May F) (walks_law : HandleWalks may) (asks_law : Ha
       let came' = step.Chain head' None in
       let c' : OutChain = new_chain s₁ i q' walk'.0 ds' head' None in
       let s₂ : LiveState F = after_walk s₁ i q' walk'.0 ds' came' in
-      let second : Happens may s₁ (Walks i walk'.0 ds' came') s₂ = subst (λ (k : comes.CourseStep). Happens may s₁ (Walks i walk'.0 ds' k) (after_walk s₁ i q' walk'.0 ds' k)) is' walk'.4 in
-      let there₂ : slice_get s₂.queues i ≡ Some (live_of after) = subst (λ (k : comes.CourseStep). slice_get (after_walk s₁ i q' walk'.0 ds' k).queues i ≡ Some (live_of after)) is' walk'.5 in
+      let second : Happens may s₁ (Walks i walk'.0 ds' came') s₂ =
+      subst (λ (k : comes.CourseStep). Happens may s₁ (Walks i walk'.0 ds' k) (after_walk s₁ i q' walk'.0 ds' k)) is' walk'.4 in
+      let there₂ : slice_get s₂.queues i ≡ Some (live_of after) =
+      subst (λ (k : comes.CourseStep). slice_get (after_walk s₁ i q' walk'.0 ds' k).queues i ≡ Some (live_of after)) is' walk'.5 in
       let held' : IsOut s.limit c' two = subst (λ (k : comes.CourseStep). IsHeld s₁ i q' walk'.0 k two) is' walk'.6 in
       let reached₂ = reached_by may s₁ s₂ (Walks i walk'.0 ds' came') (reached_by may s s₁ (Walks i walk.0 ds came) reached first) second in
-      let asking = asks_law s₂ c s.outs (c' ∷ []) one one₂ session request request made reached₂ small (append_assoc s.outs (c ∷ []) (c' ∷ [])) refl held in_session asked
+      let asking = asks_law s₂ c s.outs (c' ∷ []) one one₂ session request request made reached₂ small
+      (append_assoc s.outs (c ∷ []) (c' ∷ [])) refl held in_session asked
       (told_with_reply made one₂ one₃ given has) in
       let asks = Asks c request (calls_told (drop 80 request) made) in
       let s₃ : LiveState F = after_asking s₂ s.outs (c' ∷ []) c request in
       let d : OutChain = asked_chain c request s.options [] in
       let others : List OutChain = s.outs ++ d ∷ [] in
-      let asking' = asks_law s₃ c' others [] two two₂ session' request' request' made' (reached_by may s₂ s₃ asks reached₂ asking.0) small (sym (append_assoc s.outs (d ∷ []) (c' ∷ []))) refl held'
+      let asking' = asks_law s₃ c' others [] two two₂ session' request' request' made' (reached_by may s₂ s₃ asks reached₂ asking.0) small
+      (sym (append_assoc s.outs (d ∷ []) (c' ∷ []))) refl held'
       in_session' asked' (told_with_reply made' two₂ two₃ given' has') in
       let asks' = Asks c' request' (calls_told (drop 80 request') made') in
       let s₄ : LiveState F = after_asking s₃ others [] c' request' in
       let kept : IsKept s.page_size s.options request d made one₂ = asking.1 in
       let kept' : IsKept s.page_size s.options request' (asked_chain c' request' s.options []) made' two₂ = asking'.1 in
-      let ans' = answered_all may calls_law two₂ two₃ request' s.options made' given' has' s₄ c' others [] [] early between refl kept' refl run' in
+      let ans' = answered_all may calls_law two₂ two₃ request' s.options made' given' has' s₄ c' others [] [] early between refl kept'
+      refl run' in
       let e' : OutChain = asked_chain c' request' s.options early in
       let taken : took q ≡ q' = same_some (took q) q' (sym (there_same s.queues i i (λ _. took q) q refl there) ∙ there₁) in
-      let taken' : took q' ≡ live_of after = same_some (took q') (live_of after) (sym (there_same s₁.queues i i (λ _. took q') q' refl there₁) ∙ there₂) in
+      let taken' : took q' ≡ live_of after =
+      same_some (took q') (live_of after) (sym (there_same s₁.queues i i (λ _. took q') q' refl there₁) ∙ there₂) in
       let goes_back' = back' (room_of e') (data_behind given') in
       let kept₄ : IsKept ans'.end.page_size s.options request' e' made' two₂ =
-      subst (λ (p : ℕ). IsKept p s.options request' e' made' two₂) (sym ans'.page_size) (kept_on s.page_size s.options request' c' [] early made' two₂ kept') in
-      let returned' = returns_law ans'.end e' others [] two₂ two₃ after request' s.options made' given' goes_back'.0 goes_back'.1 notice' ans'.outs
-      (ap (λ (l : List LiveQueue). slice_get l i) ans'.queues_are ∙ there₂) (taken_of mid after goes' taken') refl (each_suits may s.files between early run') kept₄ has' goes_back'.2 in
+      subst (λ (p : ℕ). IsKept p s.options request' e' made' two₂) (sym ans'.page_size)
+      (kept_on s.page_size s.options request' c' [] early made' two₂ kept') in
+      let returned' = returns_law ans'.end e' others [] two₂ two₃ after request' s.options made' given' goes_back'.0 goes_back'.1
+      notice' ans'.outs
+      (ap (λ (l : List LiveQueue). slice_get l i) ans'.queues_are ∙ there₂) (taken_of mid after goes' taken') refl
+      (each_suits may s.files between early run') kept₄ has' goes_back'.2 in
       let s₅ : LiveState F = after_giving ans'.end others [] e' (live_of after) in
-      let kept₅ : IsKept s₅.page_size s.options request d made one₂ = subst (λ (p : ℕ). IsKept p s.options request d made one₂) (sym ans'.page_size) kept in
-      let ans = answered_all may calls_law one₂ one₃ request s.options made given has s₅ c s.outs [] [] late files (append-nil others) kept₅ refl
+      let kept₅ : IsKept s₅.page_size s.options request d made one₂ =
+      subst (λ (p : ℕ). IsKept p s.options request d made one₂) (sym ans'.page_size) kept in
+      let ans = answered_all may calls_law one₂ one₃ request s.options made given has s₅ c s.outs [] [] late files
+      (append-nil others) kept₅ refl
       (subst (λ (f : F). FileRun may f late files) (sym ans'.files_are) run) in
       let e : OutChain = asked_chain c request s.options late in
       let goes_back = back (room_of e) (data_behind given) in
       let kept₆ : IsKept ans.end.page_size s.options request e made one₂ =
-      subst (λ (p : ℕ). IsKept p s.options request e made one₂) (sym (ans.page_size ∙ ans'.page_size)) (kept_on s.page_size s.options request c [] late made one₂ kept) in
-      let next_used = returns_law ans.end e s.outs [] one₂ one₃ (gave after) request s.options made given goes_back.0 goes_back.1 notice ans.outs
-      (ap (λ (l : List LiveQueue). slice_get l i) ans.queues_are ∙ returned'.5) (late_of before mid after goes taken taken') refl (each_suits may between files late run) kept₆ has goes_back.2 in
+      subst (λ (p : ℕ). IsKept p s.options request e made one₂) (sym (ans.page_size ∙ ans'.page_size))
+      (kept_on s.page_size s.options request c [] late made one₂ kept) in
+      let next_used = returns_law ans.end e s.outs [] one₂ one₃ (gave after) request s.options made given goes_back.0 goes_back.1
+      notice ans.outs
+      (ap (λ (l : List LiveQueue). slice_get l i) ans.queues_are ∙ returned'.5) (late_of before mid after goes taken taken') refl
+      (each_suits may between files late run) kept₆ has goes_back.2 in
       let s₆ : LiveState F = after_giving ans.end s.outs [] e (live_of (gave after)) in
       let last' = Returns e' returned'.0 notice' goes_back'.1 returned'.1 returned'.2 in
       let last = Returns e next_used.0 notice goes_back.1 next_used.1 next_used.2 in

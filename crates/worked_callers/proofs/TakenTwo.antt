@@ -28,7 +28,8 @@ head_in (says.Chain head n r) = head
 head_in _ = 0
 
 -- a walk that told a chain took it: places and limit stay
-pub took_so : {F : Type 0} (may : May F) (s next : LiveState F) (i : ℕ) (loaded : Loaded) (ds : List Descriptor) (came : comes.CourseStep) (head n r : ℕ) → says.Chain head n r ≡ told_of ds came
+pub took_so : {F : Type 0} (may : May F) (s next : LiveState F) (i : ℕ) (loaded : Loaded) (ds : List Descriptor) (came : comes.CourseStep)
+    (head n r : ℕ) → says.Chain head n r ≡ told_of ds came
     → Happens may s (Walks i loaded ds came) next → (came ≡ step.Chain head None) × (next.places ≡ s.places) × (next.limit ≡ s.limit)
 took_so may s next i loaded ds (step.Load walk) head n r told happens = absurd (subst IsAChain told tt)
 took_so may s next i loaded ds step.Idle head n r told happens = absurd (subst IsAChain told tt)
@@ -40,25 +41,29 @@ took_so {F} may s next i loaded ds (step.Chain h None) head n r told happens = (
 )
 took_so may s next i loaded ds (step.Chain h (Some fault)) head n r told happens = absurd (subst IsAChain told tt)
 
-after_chain_goes : (q : QueueState) (ds : List Descriptor) (came : comes.CourseStep) (head n r : ℕ) → says.Chain head n r ≡ told_of ds came → (queue_after q came).stopped ≡ q.stopped
+after_chain_goes : (q : QueueState) (ds : List Descriptor) (came : comes.CourseStep) (head n r : ℕ) →
+    says.Chain head n r ≡ told_of ds came → (queue_after q came).stopped ≡ q.stopped
 after_chain_goes q ds (step.Load walk) head n r told = refl
 after_chain_goes q ds step.Idle head n r told = refl
 after_chain_goes q ds (step.Refused e) head n r told = absurd (subst IsAChain told tt)
 after_chain_goes q ds (step.Chain h fault) head n r told = refl
 
 -- and its queue goes on
-pub goes_still : (old new : ChainHandle) (before after : QueueState) (head n r : ℕ) → before.stopped ≡ None → IsWalked old new before after (wents.On (says.Chain head n r)) → after.stopped ≡ None
+pub goes_still : (old new : ChainHandle) (before after : QueueState) (head n r : ℕ) → before.stopped ≡ None →
+    IsWalked old new before after (wents.On (says.Chain head n r)) → after.stopped ≡ None
 goes_still old new before after head n r goes walked =
     let came = walk_comes walked.0 old new before after (says.Chain head n r) goes tt walked.1 in
     ap (λ (q : QueueState). q.stopped) came.2.1.2 ∙ after_chain_goes before new.descriptors.items came.2.0 head n r came.2.1.0 ∙ goes
 
 -- two takes on one queue
 takes_two : (i head other : ℕ) (one two : Loaded) (ds more : List Descriptor) → (i == i) ≡ true
-    → (heads_taken (events_on i (Walks i one ds (step.Chain head None) ∷ Walks i two more (step.Chain other None) ∷ [])) ≡ head ∷ other ∷ [])
+    → (heads_taken (events_on i (Walks i one ds (step.Chain head None) ∷ Walks i two more (step.Chain other None) ∷ []))
+    ≡ head ∷ other ∷ [])
     × (heads_ended (events_on i (Walks i one ds (step.Chain head None) ∷ Walks i two more (step.Chain other None) ∷ [])) ≡ [])
 takes_two i head other one two ds more same = (rw same refl, rw same refl)
 
 pub two_takes : (i head other : ℕ) (one two : Loaded) (ds more : List Descriptor)
-    → (heads_taken (events_on i (Walks i one ds (step.Chain head None) ∷ Walks i two more (step.Chain other None) ∷ [])) ≡ head ∷ other ∷ [])
+    → (heads_taken (events_on i (Walks i one ds (step.Chain head None) ∷ Walks i two more (step.Chain other None) ∷ []))
+    ≡ head ∷ other ∷ [])
     × (heads_ended (events_on i (Walks i one ds (step.Chain head None) ∷ Walks i two more (step.Chain other None) ∷ [])) ≡ [])
 two_takes i head other one two ds more = takes_two i head other one two ds more (eq-eqb i i refl)

@@ -8,16 +8,21 @@ use Rattle.plain_machine.specs.Examples.{blank, descriptor_bytes, put}
 use Rattle.plain_machine.specs.Step.{Exchange}
 use Rattle.plain_machine.specs.StepBy.{after_stores, stores_among}
 use Rattle.fs_live.specs.Live.{Answers, Asked, Asks, OutChain, acts_of}
-use Rattle.fs_live.specs.Overlap.{destroy, first, first_loads, first_table, second, second_loads, second_table, unknown}
+use Rattle.fs_live.specs.Overlap.{destroy, first, first_loads, first_table, second, second_loads}
+use Rattle.fs_live.specs.Overlap.{second_table, unknown}
 use Rattle.fs_live.specs.Serial.{Single, return_in}
 
 -- the table's four descriptors
 abbrev pub table : List ℕ
-table = (descriptor_bytes 0x1000 40 1 1 ++ descriptor_bytes 0x2000 16 2 0) ++ (descriptor_bytes 0x3000 40 1 3 ++ descriptor_bytes 0x4000 16 2 0)
+table =
+    (descriptor_bytes 0x1000 40 1 1 ++ descriptor_bytes 0x2000 16 2 0)
+    ++ (descriptor_bytes 0x3000 40 1 3 ++ descriptor_bytes 0x4000 16 2 0)
 
 -- both requests, the table, and an available ring with flags 0, index 2, and the heads 0 and 2
 abbrev pub with_both : Memory
-with_both = put (put (put (put blank 0x1000 unknown) 0x3000 destroy) 0 table) 0x100 (le16 0 ++ le16 2 ++ le16 0 ++ le16 2)
+with_both =
+    put (put (put (put blank 0x1000 unknown) 0x3000 destroy) 0 table) 0x100
+    (le16 0 ++ le16 2 ++ le16 0 ++ le16 2)
 
 -- the first chain, once it was asked in the options 1: it makes no call
 abbrev pub first_asked : OutChain
@@ -33,7 +38,13 @@ second_answered = record second { phase = Asked destroy 1 ((Destroy, Done) ∷ [
 
 -- ENOSYS
 abbrev pub first_exchange : Exchange
-first_exchange = record { head = 0; request = unknown; reply = 0x10 ∷ 0 ∷ 0 ∷ 0 ∷ 0xda ∷ 0xff ∷ 0xff ∷ 0xff ∷ 2 ∷ zeros 7; fault = None }
+first_exchange =
+    record {
+      head = 0;
+      request = unknown;
+      reply = 0x10 ∷ 0 ∷ 0 ∷ 0 ∷ 0xda ∷ 0xff ∷ 0xff ∷ 0xff ∷ 2 ∷ zeros 7;
+      fault = None;
+    }
 
 -- no reply to DESTROY
 abbrev pub second_exchange : Exchange
@@ -41,10 +52,14 @@ second_exchange = record { head = 2; request = destroy; reply = []; fault = None
 
 -- head, length and index: the used ring's first element, and its second one
 abbrev pub first_used : List Store
-first_used = record { address = 0x204; bytes = le32 0 } ∷ record { address = 0x208; bytes = le32 16 } ∷ record { address = 0x202; bytes = le16 1 } ∷ []
+first_used =
+    record { address = 0x204; bytes = le32 0 } ∷ record { address = 0x208; bytes = le32 16 }
+    ∷ record { address = 0x202; bytes = le16 1 } ∷ []
 
 abbrev pub second_used : List Store
-second_used = record { address = 0x20c; bytes = le32 2 } ∷ record { address = 0x210; bytes = le32 0 } ∷ record { address = 0x202; bytes = le16 2 } ∷ []
+second_used =
+    record { address = 0x20c; bytes = le32 2 } ∷ record { address = 0x210; bytes = le32 0 }
+    ∷ record { address = 0x202; bytes = le16 2 } ∷ []
 
 -- the first chain from its walk to its return
 abbrev pub one : Single

@@ -16,7 +16,8 @@ use fs_live::law_handles;
 use fs_queue::QueueError;
 use fuse_fs::FileSystem;
 
-/// A walk whose index is given once bytes were refused is idle: that is an event, and the queue stays. If it wants more, that has a place.
+/// A walk whose index is given once bytes were refused is idle: that is an event, and the queue stays. If it
+/// wants more, that has a place.
 pub fn look_after_refusal<F: FileSystem>(
     handle: &mut ChainHandle,
     queue: &mut QueueState,
@@ -25,10 +26,18 @@ pub fn look_after_refusal<F: FileSystem>(
 ) -> Result<LoadOutcome, ChainError>
     requires free { handle.old.state ≡ at.Free }
     requires goes { queue.old.stopped ≡ None }
-    ensures idle { result ≡ Ok (LoadOutcome.On PopOutcome.Idle) → (s : LiveState F) (i : ℕ) → slice_get s.queues i ≡ Some (live_of queue.old)
-        → s.places ≡ places_in handle.old.regions → s.limit ≡ handle.old.limit
-        → (es : List LiveEvent) × (end : LiveState F) × LiveRun F.may s es end × (slice_get end.queues i ≡ Some (live_of queue.new)) }
-    ensures wants { (n : ℕ) → result ≡ Ok (LoadOutcome.On (PopOutcome.Load n)) → HasNoPlace handle.new (came handle.new) → ⊥ }
+    ensures idle { result ≡ Ok (LoadOutcome.On PopOutcome.Idle)
+        → (s : LiveState F) (i : ℕ)
+        → slice_get s.queues i ≡ Some (live_of queue.old)
+        → s.places ≡ places_in handle.old.regions
+        → s.limit ≡ handle.old.limit
+        → (es : List LiveEvent) × (end : LiveState F)
+        × LiveRun F.may s es end
+        × (slice_get end.queues i ≡ Some (live_of queue.new)) }
+    ensures wants { (n : ℕ)
+        → result ≡ Ok (LoadOutcome.On (PopOutcome.Load n))
+        → HasNoPlace handle.new (came handle.new)
+        → ⊥ }
 {
     law_handles::<F>();
     let begun = handle.pop(queue, &[])?;
@@ -41,15 +50,22 @@ pub fn look_after_refusal<F: FileSystem>(
     }
 }
 
-/// A walk that finds its queue stopped meanwhile is declined, and leaves the queue of the run as it leaves the kept one.
+/// A walk that finds its queue stopped meanwhile is declined, and leaves the queue of the run as it leaves
+/// the kept one.
 pub fn find_stopped<F: FileSystem>(
     handle: &mut ChainHandle,
     queue: &mut QueueState,
     bytes: &[u8],
 ) -> Result<LoadOutcome, ChainError>
-    ensures stopped { (told : PopOutcome) (why : QueueError) → result ≡ Ok (LoadOutcome.On told) → IsWalking handle.old.state → queue.old.stopped ≡ Some why
-        → (s : LiveState F) (i : ℕ) → slice_get s.queues i ≡ Some (live_of queue.old)
-        → (told ≡ PopOutcome.Refused QueueError.Stopped) × (next : LiveState F) × Happens F.may s (Declines i QueueError.Stopped) next
+    ensures stopped { (told : PopOutcome) (why : QueueError)
+        → result ≡ Ok (LoadOutcome.On told)
+        → IsWalking handle.old.state
+        → queue.old.stopped ≡ Some why
+        → (s : LiveState F) (i : ℕ)
+        → slice_get s.queues i ≡ Some (live_of queue.old)
+        → (told ≡ PopOutcome.Refused QueueError.Stopped)
+        × (next : LiveState F)
+        × Happens F.may s (Declines i QueueError.Stopped) next
         × (slice_get next.queues i ≡ Some (live_of queue.new)) }
 {
     law_handles::<F>();

@@ -1,6 +1,7 @@
 //! A chain whose answer has data, and one that lists a directory, beside other chains in flight.
 
-ghost use Rattle.std.specs.Prelude.{◌≡◌, ◌≤◌, ◌^◌, ℕ, [], ◌∷◌, drop, IfOk, length, List, None, OnOk, Some, slice_get, true};
+ghost use Rattle.std.specs.Prelude.{◌≡◌, ◌≤◌, ◌^◌, ℕ, [], ◌∷◌, drop, IfOk, length, List, None, OnOk, Some};
+ghost use Rattle.std.specs.Prelude.{slice_get, true};
 ghost use Rattle.fs_regions.specs.Places.{places_in};
 ghost use Rattle.fuse_fs.specs.Answers.{listed};
 ghost use Rattle.fuse_fs.specs.Calls.{Bytes, FileRun};
@@ -24,7 +25,8 @@ use server_phases::Session;
 
 /// Answers the pending call by data, which the caller stores in the reply buffer behind the reply's front.
 pub fn give_data(handle: &mut ChainHandle, bytes: &[u8]) -> Result<(), ChainError>
-    ensures { OnOk result ((told : Replied) × IsAnsweredBy handle.old (FileAnswer.Bytes (length bytes.now)) bytes.now told handle.new) }
+    ensures { OnOk result ((told : Replied)
+        × IsAnsweredBy handle.old (FileAnswer.Bytes (length bytes.now)) bytes.now told handle.new) }
 {
     let serial = handle.serial();
     let answer = FileAnswer::Bytes { len: bytes.len() };
@@ -46,10 +48,19 @@ pub fn read_beside<F: FileSystem>(
 ) -> Result<bool, ChainError>
     requires free { handle.old.state ≡ at.Free }
     requires goes { queue.old.stopped ≡ None }
-    ensures run { IfOk result (λ notice. (s : LiveState F) (i : ℕ) (files : F) → IsReached F.may s → slice_get s.queues i ≡ Some (live_of queue.old)
-        → s.places ≡ places_in handle.old.regions → s.limit ≡ handle.old.limit → s.limit ≤ 2 ^ 31 → IsSessionOf s session
-        → (made : value.FileCall) × (more : Calls) × (FileRun F.may s.files ((call_of (drop 80 request.now) made, Bytes bytes.now) ∷ more) files
-        → (es : List LiveEvent) × (end : LiveState F) × LiveRun F.may s es end × (calls_among es ≡ (call_of (drop 80 request.now) made, Bytes bytes.now) ∷ more) × (end.outs ≡ s.outs))) }
+    ensures run { IfOk result (λ notice. (s : LiveState F) (i : ℕ) (files : F)
+        → IsReached F.may s
+        → slice_get s.queues i ≡ Some (live_of queue.old)
+        → s.places ≡ places_in handle.old.regions
+        → s.limit ≡ handle.old.limit
+        → s.limit ≤ 2 ^ 31
+        → IsSessionOf s session
+        → (made : value.FileCall) × (more : Calls)
+        × (FileRun F.may s.files ((call_of (drop 80 request.now) made, Bytes bytes.now) ∷ more) files
+        → (es : List LiveEvent) × (end : LiveState F)
+        × LiveRun F.may s es end
+        × (calls_among es ≡ (call_of (drop 80 request.now) made, Bytes bytes.now) ∷ more)
+        × (end.outs ≡ s.outs))) }
 {
     law_handles::<F>();
     let (_, request_len, _) = walk_chain(handle, queue, given)?;
@@ -75,12 +86,20 @@ pub fn list_beside<F: FileSystem>(
 ) -> Result<bool, ChainError>
     requires free { handle.old.state ≡ at.Free }
     requires goes { queue.old.stopped ≡ None }
-    ensures run { IfOk result (λ notice. (s : LiveState F) (i : ℕ) (files : F) → IsReached F.may s → slice_get s.queues i ≡ Some (live_of queue.old)
-        → s.places ≡ places_in handle.old.regions → s.limit ≡ handle.old.limit → s.limit ≤ 2 ^ 31 → IsSessionOf s session
+    ensures run { IfOk result (λ notice. (s : LiveState F) (i : ℕ) (files : F)
+        → IsReached F.may s
+        → slice_get s.queues i ≡ Some (live_of queue.old)
+        → s.places ≡ places_in handle.old.regions
+        → s.limit ≡ handle.old.limit
+        → s.limit ≤ 2 ^ 31
+        → IsSessionOf s session
         → (made : value.FileCall) × (let calls = listing_calls (call_of (drop 80 request.now) made) true
         ((listed entries.now.first, nodes.0) ∷ (listed entries.now.second, nodes.1) ∷ []) EndsThere in
         FileRun F.may s.files calls files
-        → (es : List LiveEvent) × (end : LiveState F) × LiveRun F.may s es end × (calls_among es ≡ calls) × (end.outs ≡ s.outs))) }
+        → (es : List LiveEvent) × (end : LiveState F)
+        × LiveRun F.may s es end
+        × (calls_among es ≡ calls)
+        × (end.outs ≡ s.outs))) }
 {
     law_handles::<F>();
     let (_, request_len, _) = walk_chain(handle, queue, given)?;

@@ -1,6 +1,7 @@
 //! What calls of a handle are in a run, beside whatever other chains are out and a guest that writes.
 
-ghost use Rattle.std.specs.Prelude.{◌≡◌, ◌≤◌, ◌+◌, ◌^◌, ℕ, [], ◌∷◌, ◌++◌, drop, false, IfOk, IfSome, length, List, None, Ok, OnOk, Some, slice_get, true};
+ghost use Rattle.std.specs.Prelude.{◌≡◌, ◌≤◌, ◌+◌, ◌^◌, ℕ, [], ◌∷◌, ◌++◌, drop, false, IfOk, IfSome, length};
+ghost use Rattle.std.specs.Prelude.{List, None, Ok, OnOk, Some, slice_get, true};
 ghost use Rattle.std.specs.List.{AllByRecursion};
 ghost use Rattle.fs_queue.specs.declared.fault.QueueError.{QueueError};
 ghost use Rattle.fs_regions.specs.Places.{places_in};
@@ -17,7 +18,9 @@ ghost use Rattle.fs_chain.specs.declared.decoding.Decoded.TheVariants as asks;
 ghost use Rattle.fs_chain.specs.declared.state.ChainState.TheVariants as at;
 ghost use Rattle.plain_machine.specs.Step.{Calls};
 ghost use Rattle.fs_live.specs.Handles.{IsKept, IsReached, IsSessionOf, changes_options, live_of, load_count};
-ghost use Rattle.fs_live.specs.Live.{Answers, Asked, Begins, Declines, Happens, HasPlace, LiveEvent, LiveRun, LiveState, NoneWaits, OutChain, Sleeps, calls_among, room_of, why_declined};
+ghost use Rattle.fs_live.specs.Live.{Answers, Asked, Begins, Declines, Happens, HasPlace, LiveEvent, LiveRun};
+ghost use Rattle.fs_live.specs.Live.{LiveState, NoneWaits, OutChain, Sleeps, calls_among, room_of};
+ghost use Rattle.fs_live.specs.Live.{why_declined};
 ghost use Rattle.fs_live.specs.Runs.{EachStoresThere, events_on, going, tickets_on};
 ghost use Rattle.fs_live.specs.Several.{LiveQueue, RunsOver, UsedFrom, returns_among};
 
@@ -29,8 +32,8 @@ use fuse_fs::FileSystem;
 use fuse_values::FileAnswer;
 use server_phases::Session;
 
-/// A chain from its walk to its return, whatever other chains are out: its calls are those of the run and are one of the file system, its stores stay
-/// where they may be, and its queue is as a queue alone.
+/// A chain from its walk to its return, whatever other chains are out: its calls are those of the run and are
+/// one of the file system, its stores stay where they may be, and its queue is as a queue alone.
 pub fn serve_beside<F: FileSystem>(
     handle: &mut ChainHandle,
     queue: &mut QueueState,
@@ -42,12 +45,25 @@ pub fn serve_beside<F: FileSystem>(
     requires free { handle.old.state ≡ at.Free }
     requires goes { queue.old.stopped ≡ None }
     requires data { TellsBytes [] answer }
-    ensures run { IfOk result (λ notice. (s : LiveState F) (i : ℕ) (files : F) → IsReached F.may s → slice_get s.queues i ≡ Some (live_of queue.old)
-        → s.places ≡ places_in handle.old.regions → s.limit ≡ handle.old.limit → s.limit ≤ 2 ^ 31 → IsSessionOf s session
-        → (calls : Calls) × (FileRun F.may s.files calls files → (es : List LiveEvent) × (end : LiveState F) × (run : LiveRun F.may s es end) × (calls_among es ≡ calls)
-        × (end.outs ≡ s.outs) × FileRun F.may s.files (calls_among es) end.files × EachStoresThere F.may s es end run
-        × UsedFrom (going (live_of queue.old)) (returns_among (events_on i es)) × ((w : LiveQueue) × (slice_get end.queues i ≡ Some w)
-        × RunsOver (going (live_of queue.old)) (tickets_on i s.outs) (events_on i es) (going w) (tickets_on i end.outs)))) }
+    ensures run { IfOk result (λ notice. (s : LiveState F) (i : ℕ) (files : F)
+        → IsReached F.may s
+        → slice_get s.queues i ≡ Some (live_of queue.old)
+        → s.places ≡ places_in handle.old.regions
+        → s.limit ≡ handle.old.limit
+        → s.limit ≤ 2 ^ 31
+        → IsSessionOf s session
+        → (calls : Calls)
+        × (FileRun F.may s.files calls files
+        → (es : List LiveEvent) × (end : LiveState F) × (run : LiveRun F.may s es end)
+        × (calls_among es ≡ calls)
+        × (end.outs ≡ s.outs)
+        × FileRun F.may s.files (calls_among es) end.files
+        × EachStoresThere F.may s es end run
+        × UsedFrom (going (live_of queue.old)) (returns_among (events_on i es))
+        × ((w : LiveQueue)
+        × (slice_get end.queues i ≡ Some w)
+        × RunsOver (going (live_of queue.old)) (tickets_on i s.outs) (events_on i es) (going w)
+        (tickets_on i end.outs)))) }
 {
     law_handles::<F>();
     law_runs::<F, F>();
@@ -59,20 +75,26 @@ pub fn serve_beside<F: FileSystem>(
     give_back(handle, queue)
 }
 
-/// A call without data is answered, by the options of its asking: the run's options after it are those of this moment, but after DESTROY, or an INIT that is
-/// agreed on, those that the handle's session has then.
+/// A call without data is answered, by the options of its asking: the run's options after it are those of
+/// this moment, but after DESTROY, or an INIT that is agreed on, those that the handle's session has then.
 pub fn answer_beside<F: FileSystem>(
     handle: &mut ChainHandle,
     serial: u32,
     answer: FileAnswer,
 ) -> Result<(), ChainError>
     requires data { TellsBytes [] answer }
-    ensures answers { OnOk result ((s : LiveState F) (c : OutChain) (before behind : List OutChain) (request : List ℕ) (options : ℕ) (made : value.FileCall) (files : F)
-        → s.outs ≡ before ++ c ∷ behind → c.phase ≡ Asked request options [] → IsKept s.page_size options request c (asks.Call made) handle.old
+    ensures answers { OnOk result ((s : LiveState F) (c : OutChain) (before behind : List OutChain)
+        (request : List ℕ) (options : ℕ) (made : value.FileCall) (files : F)
+        → s.outs ≡ before ++ c ∷ behind
+        → c.phase ≡ Asked request options []
+        → IsKept s.page_size options request c (asks.Call made) handle.old
         → F.may s.files (call_of (drop 80 request) made) (answer_of [] answer) files
-        → (next : LiveState F) × Happens F.may s (Answers c (call_of (drop 80 request) made) (answer_of [] answer)) next
-        × (changes_options (meaning options request (length (room_of c))) (answer_of [] answer ∷ []) ≡ false → (next.options ≡ s.options) × (handle.new.session.options.0 ≡ options))
-        × (changes_options (meaning options request (length (room_of c))) (answer_of [] answer ∷ []) ≡ true → next.options ≡ handle.new.session.options.0)) }
+        → (next : LiveState F)
+        × Happens F.may s (Answers c (call_of (drop 80 request) made) (answer_of [] answer)) next
+        × (changes_options (meaning options request (length (room_of c))) (answer_of [] answer ∷ []) ≡ false
+        → (next.options ≡ s.options) × (handle.new.session.options.0 ≡ options))
+        × (changes_options (meaning options request (length (room_of c))) (answer_of [] answer ∷ []) ≡ true
+        → next.options ≡ handle.new.session.options.0)) }
 {
     law_handles::<F>();
     match handle.answer(serial, answer) {
@@ -88,7 +110,8 @@ pub fn walk_to_end(
     given: &[&[u8]],
 ) -> Result<PopOutcome, ChainError>
     requires free { handle.old.state ≡ at.Free }
-    ensures walked { IfOk result (λ told. IsWalked handle.old handle.new queue.old queue.new (LoadOutcome.On told)) }
+    ensures walked { IfOk result
+        (λ told. IsWalked handle.old handle.new queue.old queue.new (LoadOutcome.On told)) }
 {
     match walk_by(handle, queue, given)? {
         LoadOutcome::On(told) => Ok(told),
@@ -104,14 +127,17 @@ pub fn walk_in_few_loads<F: FileSystem>(
 ) -> Result<PopOutcome, ChainError>
     requires free { handle.old.state ≡ at.Free }
     requires goes { queue.old.stopped ≡ None }
-    ensures few { IfOk result (λ told. (loads : List (List ℕ)) × (walks : WalksBy loads handle.old handle.new queue.old queue.new (LoadOutcome.On told))
-        × (load_count loads handle.old handle.new queue.old queue.new (LoadOutcome.On told) walks ≤ queue.old.layout.size + 4)) }
+    ensures few { IfOk result (λ told. (loads : List (List ℕ))
+        × (walks : WalksBy loads handle.old handle.new queue.old queue.new (LoadOutcome.On told))
+        × (load_count loads handle.old handle.new queue.old queue.new (LoadOutcome.On told) walks
+        ≤ queue.old.layout.size + 4)) }
 {
     law_handles::<F>();
     walk_to_end(handle, queue, given)
 }
 
-/// A walk that is refused by what it loaded, or by the queue, leaves the queue of the run as it leaves the kept one.
+/// A walk that is refused by what it loaded, or by the queue, leaves the queue of the run as it leaves the
+/// kept one.
 pub fn refuse_beside<F: FileSystem>(
     handle: &mut ChainHandle,
     queue: &mut QueueState,
@@ -119,12 +145,24 @@ pub fn refuse_beside<F: FileSystem>(
 ) -> Result<PopOutcome, ChainError>
     requires free { handle.old.state ≡ at.Free }
     requires goes { queue.old.stopped ≡ None }
-    ensures loaded { (e : QueueError) → result ≡ Ok (PopOutcome.Refused e) → (s : LiveState F) (i : ℕ) → slice_get s.queues i ≡ Some (live_of queue.old)
-        → s.places ≡ places_in handle.old.regions → s.limit ≡ handle.old.limit → HasEvents handle.old queue.old
-        → (es : List LiveEvent) × (end : LiveState F) × LiveRun F.may s es end × (slice_get end.queues i ≡ Some (live_of queue.new)) }
-    ensures declined { IfOk result (λ told. (s : LiveState F) (i : ℕ) (e : QueueError) → slice_get s.queues i ≡ Some (live_of queue.old)
-        → s.places ≡ places_in handle.old.regions → why_declined s.places (live_of queue.old) ≡ Some e
-        → (told ≡ PopOutcome.Refused e) × (next : LiveState F) × Happens F.may s (Declines i e) next × (slice_get next.queues i ≡ Some (live_of queue.new))) }
+    ensures loaded { (e : QueueError)
+        → result ≡ Ok (PopOutcome.Refused e)
+        → (s : LiveState F) (i : ℕ)
+        → slice_get s.queues i ≡ Some (live_of queue.old)
+        → s.places ≡ places_in handle.old.regions
+        → s.limit ≡ handle.old.limit
+        → HasEvents handle.old queue.old
+        → (es : List LiveEvent) × (end : LiveState F)
+        × LiveRun F.may s es end
+        × (slice_get end.queues i ≡ Some (live_of queue.new)) }
+    ensures declined { IfOk result (λ told. (s : LiveState F) (i : ℕ) (e : QueueError)
+        → slice_get s.queues i ≡ Some (live_of queue.old)
+        → s.places ≡ places_in handle.old.regions
+        → why_declined s.places (live_of queue.old) ≡ Some e
+        → (told ≡ PopOutcome.Refused e)
+        × (next : LiveState F)
+        × Happens F.may s (Declines i e) next
+        × (slice_get next.queues i ≡ Some (live_of queue.new))) }
 {
     law_handles::<F>();
     walk_to_end(handle, queue, given)
@@ -137,7 +175,8 @@ pub fn take_faulty(
     given: &[&[u8]],
 ) -> Result<(u16, ChainFault), ChainError>
     requires free { handle.old.state ≡ at.Free }
-    ensures walked { IfOk result (λ c. IsWalked handle.old handle.new queue.old queue.new (LoadOutcome.On (PopOutcome.Faulty c.0 c.1))) }
+    ensures walked { IfOk result (λ c. IsWalked handle.old handle.new queue.old queue.new
+        (LoadOutcome.On (PopOutcome.Faulty c.0 c.1))) }
 {
     match walk_to_end(handle, queue, given)? {
         PopOutcome::Faulty { head, fault } => Ok((head, fault)),
@@ -153,8 +192,14 @@ pub fn give_faulty_beside<F: FileSystem>(
 ) -> Result<bool, ChainError>
     requires free { handle.old.state ≡ at.Free }
     requires goes { queue.old.stopped ≡ None }
-    ensures run { IfOk result (λ notice. (s : LiveState F) (i : ℕ) → slice_get s.queues i ≡ Some (live_of queue.old) → s.places ≡ places_in handle.old.regions
-        → s.limit ≡ handle.old.limit → (es : List LiveEvent) × (end : LiveState F) × LiveRun F.may s es end × (calls_among es ≡ []) × (end.outs ≡ s.outs)) }
+    ensures run { IfOk result (λ notice. (s : LiveState F) (i : ℕ)
+        → slice_get s.queues i ≡ Some (live_of queue.old)
+        → s.places ≡ places_in handle.old.regions
+        → s.limit ≡ handle.old.limit
+        → (es : List LiveEvent) × (end : LiveState F)
+        × LiveRun F.may s es end
+        × (calls_among es ≡ [])
+        × (end.outs ≡ s.outs)) }
 {
     law_handles::<F>();
     let (_, _fault) = take_faulty(handle, queue, given)?;
@@ -163,8 +208,11 @@ pub fn give_faulty_beside<F: FileSystem>(
 
 /// What the device stores before it sleeps, where it has a place, is an event, and stays where it may be.
 pub fn sleep_beside<F: FileSystem>(queue: &QueueState, wanted: bool) -> Option<NotificationStore>
-    ensures sleeps { IfSome result (λ store. (s : LiveState F) (i : ℕ) → slice_get s.queues i ≡ Some (live_of queue.now) → HasPlace s.places store.address
-        → (run : LiveRun F.may s (Sleeps i (store_of store) ∷ []) s) × EachStoresThere F.may s (Sleeps i (store_of store) ∷ []) s run) }
+    ensures sleeps { IfSome result (λ store. (s : LiveState F) (i : ℕ)
+        → slice_get s.queues i ≡ Some (live_of queue.now)
+        → HasPlace s.places store.address
+        → (run : LiveRun F.may s (Sleeps i (store_of store) ∷ []) s)
+        × EachStoresThere F.may s (Sleeps i (store_of store) ∷ []) s run) }
 {
     law_handles::<F>();
     law_runs::<F, F>();
@@ -173,9 +221,14 @@ pub fn sleep_beside<F: FileSystem>(queue: &QueueState, wanted: bool) -> Option<N
 
 /// A queue that is begun anew once no call of its chains waits is an event.
 pub fn begin_beside<F: FileSystem>(queue: &mut QueueState, layout: QueueLayout, position: u16)
-    ensures begins { (s : LiveState F) (i : ℕ) → slice_get s.queues i ≡ Some (live_of queue.old) → 1 ≤ queue.old.max_in_flight → queue.old.max_in_flight ≤ layout.size
+    ensures begins { (s : LiveState F) (i : ℕ)
+        → slice_get s.queues i ≡ Some (live_of queue.old)
+        → 1 ≤ queue.old.max_in_flight
+        → queue.old.max_in_flight ≤ layout.size
         → AllByRecursion (λ c. NoneWaits s.page_size i c c.phase) s.outs
-        → (next : LiveState F) × Happens F.may s (Begins i (live_of queue.new)) next × (slice_get next.queues i ≡ Some (live_of queue.new)) }
+        → (next : LiveState F)
+        × Happens F.may s (Begins i (live_of queue.new)) next
+        × (slice_get next.queues i ≡ Some (live_of queue.new)) }
 {
     law_handles::<F>();
     queue.reset(layout, position);

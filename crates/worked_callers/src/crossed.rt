@@ -43,14 +43,26 @@ pub fn serve_crossed<F: FileSystem>(
     requires first_free { first.old.state ≡ at.Free }
     requires second_free { second.old.state ≡ at.Free }
     requires goes { queue.old.stopped ≡ None }
-    ensures run { IfOk result (λ notices. (s : LiveState F) (i : ℕ) → IsReached F.may s → slice_get s.queues i ≡ Some (live_of queue.old)
-        → s.places ≡ places_in first.old.regions → s.places ≡ places_in second.old.regions → s.limit ≡ first.old.limit → s.limit ≡ second.old.limit → s.limit ≤ 2 ^ 31
-        → IsSessionOf s sessions.0 → IsSessionOf s sessions.1
+    ensures run { IfOk result (λ notices. (s : LiveState F) (i : ℕ)
+        → IsReached F.may s
+        → slice_get s.queues i ≡ Some (live_of queue.old)
+        → s.places ≡ places_in first.old.regions
+        → s.places ≡ places_in second.old.regions
+        → s.limit ≡ first.old.limit
+        → s.limit ≡ second.old.limit
+        → s.limit ≤ 2 ^ 31
+        → IsSessionOf s sessions.0
+        → IsSessionOf s sessions.1
         → (made : value.FileCall) × (other : value.FileCall) × (more : Calls) × (rest : Calls)
         × (let early = (call_of (drop 80 two.now.request.now) other, Bytes two.now.bytes.now) ∷ rest in
         let late = (call_of (drop 80 one.now.request.now) made, Bytes one.now.bytes.now) ∷ more in
-        (between files : F) → FileRun F.may s.files early between → FileRun F.may between late files
-        → (es : List LiveEvent) × (end : LiveState F) × LiveRun F.may s es end × (calls_among es ≡ early ++ late) × (end.outs ≡ s.outs))) }
+        (between files : F)
+        → FileRun F.may s.files early between
+        → FileRun F.may between late files
+        → (es : List LiveEvent) × (end : LiveState F)
+        × LiveRun F.may s es end
+        × (calls_among es ≡ early ++ late)
+        × (end.outs ≡ s.outs))) }
 {
     law_handles::<F>();
     let (of_first, of_second) = sessions;

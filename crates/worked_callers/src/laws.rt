@@ -21,9 +21,14 @@ pub fn begin(
     handle: &mut ChainHandle,
     queue: &mut QueueState,
 ) -> Result<Option<PopOutcome>, ChainError>
-    ensures offered { IfOk result (λ on. IfSome on (λ told. (h : Host) → queue.old.stopped ≡ None → RefusalHasEvents told handle.old queue.old → handle.old.state ≡ at.Free
-        → HasLoaded (memory_over h handle.old.regions) (queue_of (course_of queue.old handle.old.limit)) nothing []
-        → TellsOffer (memory_over h handle.old.regions) (course_of queue.old handle.old.limit) handle.new told [])) }
+    ensures offered { IfOk result (λ on. IfSome on (λ told. (h : Host)
+        → queue.old.stopped ≡ None
+        → RefusalHasEvents told handle.old queue.old
+        → handle.old.state ≡ at.Free
+        → HasLoaded (memory_over h handle.old.regions)
+        (queue_of (course_of queue.old handle.old.limit)) nothing []
+        → TellsOffer (memory_over h handle.old.regions) (course_of queue.old handle.old.limit)
+        handle.new told [])) }
 {
     law_walks();
     match handle.pop(queue, &[]) {
@@ -39,8 +44,10 @@ pub fn go_on(
     queue: &mut QueueState,
     bytes: &[u8],
 ) -> Result<Option<PopOutcome>, ChainError>
-    ensures offered { IfOk result (λ on. IfSome on (λ told. (loaded : Loaded) (course : Course) (pop_id : PopId) (walk : QueueWalk)
-        → queue.old.stopped ≡ None → handle.old.state ≡ at.Walking course pop_id walk
+    ensures offered { IfOk result
+        (λ on. IfSome on (λ told. (loaded : Loaded) (course : Course) (pop_id : PopId) (walk : QueueWalk)
+        → queue.old.stopped ≡ None
+        → handle.old.state ≡ at.Walking course pop_id walk
         → IsWalkAt (places_in handle.old.regions) (queue_of course) loaded handle.old.descriptors.items walk
         → GoesOnByLoads loaded course walk (whole handle.old bytes.now) handle.old handle.new told)) }
 {

@@ -1,6 +1,8 @@
-//! A directory that is listed entry by entry, from a chain's walk to its return, is a step of the plain machine.
+//! A directory that is listed entry by entry, from a chain's walk to its return, is a step of the plain
+//! machine.
 
-ghost use Rattle.std.specs.Prelude.{◌≡◌, ℕ, List, [], ◌∷◌, length, take, drop, None, Ok, IfOk, OnOk, false, true};
+ghost use Rattle.std.specs.Prelude.{◌≡◌, ℕ, List, [], ◌∷◌, length, take, drop, None, Ok, IfOk, OnOk, false};
+ghost use Rattle.std.specs.Prelude.{true};
 ghost use Rattle.fuse_fs.specs.Answers.{listed};
 ghost use Rattle.fuse_fs.specs.Calls.{FileRun};
 ghost use Rattle.fuse_values.specs.Values.{call_of};
@@ -36,7 +38,8 @@ pub fn ask_call(
     request: &[u8],
 ) -> Result<(), ChainError>
     requires taken { FromTaken handle.old.state (λ out. out.request_len ≡ length request.now) }
-    ensures asked { OnOk result ((made : value.FileCall) × IsDecodedBy handle.old session request.now request.now (asks.Call made) handle.new) }
+    ensures asked { OnOk result ((made : value.FileCall)
+        × IsDecodedBy handle.old session request.now request.now (asks.Call made) handle.new) }
 {
     match handle.decode(session, request)? {
         Decoded::Call(_) => Ok(()),
@@ -51,7 +54,8 @@ pub fn bring(
     entry: &DirEntry<'_>,
     node: Entry<u64>,
 ) -> Result<(), ChainError>
-    ensures brought { OnOk result (BringsEntry handle.old list.old (listed entry.now, node) (Ok Added.In) handle.new list.new) }
+    ensures brought { OnOk result
+        (BringsEntry handle.old list.old (listed entry.now, node) (Ok Added.In) handle.new list.new) }
     ensures kind { OnOk result (FromLists handle.old.state (λ l. l.with_nodes ≡ true)) }
 {
     let serial = handle.serial();
@@ -61,7 +65,8 @@ pub fn bring(
     }
 }
 
-/// Two entries are brought with their nodes, and the directory has ended: how many bytes of the list are the data.
+/// Two entries are brought with their nodes, and the directory has ended: how many bytes of the list are the
+/// data.
 pub fn list_two(
     handle: &mut ChainHandle,
     list: &mut [u8],
@@ -69,7 +74,8 @@ pub fn list_two(
     nodes: (Entry<u64>, Entry<u64>),
 ) -> Result<usize, ChainError>
     ensures { IfOk result (λ n. IsListedBy handle.old true
-        ((listed entries.now.first, nodes.0) ∷ (listed entries.now.second, nodes.1) ∷ []) EndsThere (take n list.new) handle.new) }
+        ((listed entries.now.first, nodes.0) ∷ (listed entries.now.second, nodes.1) ∷ []) EndsThere
+        (take n list.new) handle.new) }
 {
     let (first, second) = nodes;
     bring(handle, list, &entries.first, first)?;
@@ -78,7 +84,8 @@ pub fn list_two(
     handle.end(serial)
 }
 
-/// A chain that is out alone and lists two entries with their nodes is a step by the listing and its look-ups.
+/// A chain that is out alone and lists two entries with their nodes is a step by the listing and its
+/// look-ups.
 pub fn serve_two<F: FileSystem>(
     handle: &mut ChainHandle,
     queue: &mut QueueState,
@@ -93,11 +100,16 @@ pub fn serve_two<F: FileSystem>(
     requires goes { queue.old.stopped ≡ None }
     requires none_out { queue.old.next_used ≡ queue.old.next_avail }
     requires by_flags { queue.old.event_index ≡ false }
-    ensures step { IfOk result (λ notice. (i : ℕ) (m : State F) (files : F) → IsMachineBefore handle.old queue.old i m → IsSession session m
+    ensures step { IfOk result (λ notice. (i : ℕ) (m : State F) (files : F)
+        → IsMachineBefore handle.old queue.old i m
+        → IsSession session m
         → (made : value.FileCall) × (let calls = listing_calls (call_of (drop 80 request.now) made) true
         ((listed entries.now.first, nodes.0) ∷ (listed entries.now.second, nodes.1) ∷ []) EndsThere in
-        FileRun F.may m.files calls files → (l : StepLoads) × (x : Exchange) × (e : Effects) × (x.request ≡ request.now)
-        × StepBy F.may m i l calls (Exchanged x notice) e (after_chain m i (queue_of (course_of queue.old handle.old.limit)) handle.new.session.options.0 files))) }
+        FileRun F.may m.files calls files
+        → (l : StepLoads) × (x : Exchange) × (e : Effects)
+        × (x.request ≡ request.now)
+        × StepBy F.may m i l calls (Exchanged x notice) e (after_chain m i
+        (queue_of (course_of queue.old handle.old.limit)) handle.new.session.options.0 files))) }
 {
     law_chains::<F>();
     let (_, request_len, _) = walk_chain(handle, queue, given)?;

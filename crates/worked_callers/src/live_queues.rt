@@ -16,16 +16,23 @@ use fuse_fs::FileSystem;
 
 /// Of two chains that are taken, if the first one goes back first, each goes back where it was taken.
 pub fn oldest_first()
-    ensures { (w : LiveQueue) (first second n m : ℕ) (stores more : List Store) → w.next_used ≡ w.queue.position → w.queue.position < 2 ^ 16
-        → AtTheirPlaces w (((w.queue.position, first), n, stores) ∷ ((next_position w.queue, second), m, more) ∷ []) }
+    ensures { (w : LiveQueue) (first second n m : ℕ) (stores more : List Store)
+        → w.next_used ≡ w.queue.position
+        → w.queue.position < 2 ^ 16
+        → AtTheirPlaces w
+        (((w.queue.position, first), n, stores) ∷ ((next_position w.queue, second), m, more) ∷ []) }
 {
     law_queues();
 }
 
 /// Two chains on one queue, one after the other, are a kick of two.
 pub fn two_in_a_row<F: FileSystem>()
-    ensures { (s after : LiveState F) (one two : Single) (m m' : Memory) (i : ℕ) (w : LiveQueue) → s.outs ≡ [] → slice_get s.queues i ≡ Some w → IsAtRest w
-        → SerialRun F.may i m s (one ∷ two ∷ []) m' after → KickRun F.may (plain s m) i 2 (turn_of one ∷ turn_of two ∷ []) None (plain after m') }
+    ensures { (s after : LiveState F) (one two : Single) (m m' : Memory) (i : ℕ) (w : LiveQueue)
+        → s.outs ≡ []
+        → slice_get s.queues i ≡ Some w
+        → IsAtRest w
+        → SerialRun F.may i m s (one ∷ two ∷ []) m' after
+        → KickRun F.may (plain s m) i 2 (turn_of one ∷ turn_of two ∷ []) None (plain after m') }
 {
     law_serial::<F>();
 }
@@ -33,8 +40,10 @@ pub fn two_in_a_row<F: FileSystem>()
 /// Two chains of one queue, one after the other, over a memory that has their bytes: a kick of the plain
 /// machine, of these two turns.
 pub fn served_in_a_row<F: FileSystem>()
-    ensures { (before after : F) → F.may before Destroy Done after
-        → KickRun F.may (plain (state before (at_positions 0 0) 1 []) with_both) 0 2 (turn_of one ∷ turn_of two ∷ []) None (plain (state after (at_positions 2 2) 0 []) after_both) }
+    ensures { (before after : F)
+        → F.may before Destroy Done after
+        → KickRun F.may (plain (state before (at_positions 0 0) 1 []) with_both) 0 2
+        (turn_of one ∷ turn_of two ∷ []) None (plain (state after (at_positions 2 2) 0 []) after_both) }
 {
     law_serial::<F>();
 }

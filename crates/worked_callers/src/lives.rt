@@ -23,9 +23,15 @@ pub fn take_two<F: FileSystem>(
     requires first_free { first.old.state ≡ at.Free }
     requires second_free { second.old.state ≡ at.Free }
     requires goes { queue.old.stopped ≡ None }
-    ensures out { IfOk result (λ heads. (s : LiveState F) (i : ℕ) → s.outs ≡ [] → slice_get s.queues i ≡ Some (live_of queue.old)
-        → s.places ≡ places_in first.old.regions → s.places ≡ places_in second.old.regions → s.limit ≡ first.old.limit → s.limit ≡ second.old.limit
-        → (es : List LiveEvent) × (next : LiveState F) × LiveRun F.may s es next
+    ensures out { IfOk result (λ heads. (s : LiveState F) (i : ℕ)
+        → s.outs ≡ []
+        → slice_get s.queues i ≡ Some (live_of queue.old)
+        → s.places ≡ places_in first.old.regions
+        → s.places ≡ places_in second.old.regions
+        → s.limit ≡ first.old.limit
+        → s.limit ≡ second.old.limit
+        → (es : List LiveEvent) × (next : LiveState F)
+        × LiveRun F.may s es next
         × IsPermutation (map (λ t. t.1) (tickets_on i next.outs)) (heads.0 ∷ heads.1 ∷ [])) }
 {
     law_handles::<F>();

@@ -1,6 +1,7 @@
 //! A handle that is freed while the call of its chain waits, and the call's answer, which comes late.
 
-ghost use Rattle.std.specs.Prelude.{◌≡◌, ◌≤◌, ◌^◌, ℕ, [], ◌∷◌, drop, IsTrue, List, None, OnOk, Some, slice_get};
+ghost use Rattle.std.specs.Prelude.{◌≡◌, ◌≤◌, ◌^◌, ℕ, [], ◌∷◌, drop, IsTrue, List, None, OnOk, Some};
+ghost use Rattle.std.specs.Prelude.{slice_get};
 ghost use Rattle.fs_regions.specs.Places.{places_in};
 ghost use Rattle.fuse_fs.specs.Calls as file;
 ghost use Rattle.fuse_values.specs.Values.{call_of};
@@ -30,12 +31,25 @@ pub fn lose_asked<F: FileSystem>(
     requires free { handle.old.state ≡ at.Free }
     requires goes { queue.old.stopped ≡ None }
     ensures again { OnOk result (handle.new.state ≡ at.Free) }
-    ensures run { OnOk result ((s : LiveState F) (i : ℕ) → IsReached F.may s → slice_get s.queues i ≡ Some (live_of queue.old)
-        → s.places ≡ places_in handle.old.regions → s.limit ≡ handle.old.limit → s.limit ≤ 2 ^ 31 → IsSessionOf s session
+    ensures run { OnOk result ((s : LiveState F) (i : ℕ)
+        → IsReached F.may s
+        → slice_get s.queues i ≡ Some (live_of queue.old)
+        → s.places ≡ places_in handle.old.regions
+        → s.limit ≡ handle.old.limit
+        → s.limit ≤ 2 ^ 31
+        → IsSessionOf s session
         → (made : value.FileCall)
-        × ((es : List LiveEvent) × (end : LiveState F) × LiveRun F.may s es end × (calls_among es ≡ []) × (slice_get end.queues i ≡ Some (live_of queue.new)))
-        × ((answer : file.FileAnswer) (files : F) → IsTrue (file.suits (call_of (drop 80 request.now) made) answer) → F.may s.files (call_of (drop 80 request.now) made) answer files
-        → (es : List LiveEvent) × (end : LiveState F) × LiveRun F.may s es end × (calls_among es ≡ (call_of (drop 80 request.now) made, answer) ∷ []) × (end.files ≡ files)
+        × ((es : List LiveEvent) × (end : LiveState F)
+        × LiveRun F.may s es end
+        × (calls_among es ≡ [])
+        × (slice_get end.queues i ≡ Some (live_of queue.new)))
+        × ((answer : file.FileAnswer) (files : F)
+        → IsTrue (file.suits (call_of (drop 80 request.now) made) answer)
+        → F.may s.files (call_of (drop 80 request.now) made) answer files
+        → (es : List LiveEvent) × (end : LiveState F)
+        × LiveRun F.may s es end
+        × (calls_among es ≡ (call_of (drop 80 request.now) made, answer) ∷ [])
+        × (end.files ≡ files)
         × (slice_get end.queues i ≡ Some (live_of queue.new)))) }
 {
     law_handles::<F>();

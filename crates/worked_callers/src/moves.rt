@@ -25,7 +25,9 @@ pub fn save_one<S: RecordSink>(
     queue: &QueueState,
 ) -> Result<(), ChainError>
     requires known { HasKnownBits options.0 }
-    ensures { OnOk result ((sent : List ℕ) × (v : Version) × Appends (S.sent sink.old) (S.sent sink.new) sent × IsRecord sent v options.0 (recorded queue.now ∷ [])) }
+    ensures { OnOk result ((sent : List ℕ) × (v : Version)
+        × Appends (S.sent sink.old) (S.sent sink.new) sent
+        × IsRecord sent v options.0 (recorded queue.now ∷ [])) }
 {
     let saved = [Queue::resume(queue.layout, queue.next_avail, queue.stopped.is_some())];
     match save_record(sink, options, &saved, 4096, 0x101000) {
@@ -50,7 +52,9 @@ pub fn restore_one<T: RecordSource>(
     alloc: Global,
     source: &mut T,
 ) -> Result<(FsOptions, Vec<Queue>), ChainError>
-    ensures { IfOk result (λ v. (taken : List ℕ) × (v' : Version) × Consumes (T.left source.old) (T.left source.new) taken × IsRecord taken v' v.0.0 v.1.items) }
+    ensures { IfOk result (λ v. (taken : List ℕ) × (v' : Version)
+        × Consumes (T.left source.old) (T.left source.new) taken
+        × IsRecord taken v' v.0.0 v.1.items) }
 {
     match restore_record(alloc, source, 4096, 0x101000) {
         Ok(read) => Ok(read),
@@ -78,11 +82,25 @@ pub fn move_amid<F: FileSystem, S: RecordSink, T: RecordSource>(
     requires goes { queue.old.stopped ≡ None }
     requires some { 1 ≤ moved.old.max_in_flight }
     requires known { HasKnownBits options.0 }
-    ensures run { IfOk result (λ notice. (s : LiveState F) → IsReached F.may s → s.outs ≡ [] → s.queues ≡ live_of queue.old ∷ [] → s.options ≡ options.0
-        → s.places ≡ places_in here.old.regions → s.limit ≡ here.old.limit → s.limit ≡ there.old.limit → s.limit ≤ 2 ^ 31
-        → (sent : List ℕ) × (taken : List ℕ) × Appends (S.sent sink.old) (S.sent sink.new) sent × Consumes (T.left source.old) (T.left source.new) taken
-        × (taken ≡ sent → (es : List LiveEvent) × (end : LiveState F) × LiveRun F.may s es end × (end.outs ≡ []) × (end.queues ≡ live_of moved.new ∷ [])
-        × (end.options ≡ options.0) × (end.places ≡ places_in there.old.regions))) }
+    ensures run { IfOk result (λ notice. (s : LiveState F)
+        → IsReached F.may s
+        → s.outs ≡ []
+        → s.queues ≡ live_of queue.old ∷ []
+        → s.options ≡ options.0
+        → s.places ≡ places_in here.old.regions
+        → s.limit ≡ here.old.limit
+        → s.limit ≡ there.old.limit
+        → s.limit ≤ 2 ^ 31
+        → (sent : List ℕ) × (taken : List ℕ)
+        × Appends (S.sent sink.old) (S.sent sink.new) sent
+        × Consumes (T.left source.old) (T.left source.new) taken
+        × (taken ≡ sent
+        → (es : List LiveEvent) × (end : LiveState F)
+        × LiveRun F.may s es end
+        × (end.outs ≡ [])
+        × (end.queues ≡ live_of moved.new ∷ [])
+        × (end.options ≡ options.0)
+        × (end.places ≡ places_in there.old.regions))) }
 {
     reply_beside::<F>(here, queue, one.given, one.request, one.bytes)?;
     save_one(sink, options, queue)?;

@@ -18,7 +18,8 @@ pub fn notify_by_event(
     used_event: u16,
 ) -> Result<bool, ChainError>
     requires by_event { queue.old.event_index ≡ true }
-    ensures { IfOk result (λ notice. notice ≡ passes used_event queue.old.next_used (next_position (returning (live_of queue.old)))) }
+    ensures { IfOk result (λ notice. notice
+        ≡ passes used_event queue.old.next_used (next_position (returning (live_of queue.old)))) }
 {
     law_queues();
     let _returned = queue.next_used;

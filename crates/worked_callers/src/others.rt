@@ -1,6 +1,8 @@
-//! What calls of a handle that answer nothing are in a run: chains that are given up, and replied by bytes of the caller's own; other regions; and a queue that is begun where it stands.
+//! What calls of a handle that answer nothing are in a run: chains that are given up, and replied by bytes of
+//! the caller's own; other regions; and a queue that is begun where it stands.
 
-ghost use Rattle.std.specs.Prelude.{◌≡◌, ◌≤◌, ◌^◌, ℕ, [], ◌∷◌, IfOk, is_some, List, None, OnOk, Some, slice_get};
+ghost use Rattle.std.specs.Prelude.{◌≡◌, ◌≤◌, ◌^◌, ℕ, [], ◌∷◌, IfOk, is_some, List, None, OnOk, Some};
+ghost use Rattle.std.specs.Prelude.{slice_get};
 ghost use Rattle.std.specs.List.{AllByRecursion};
 ghost use Rattle.vm_memory.specs.Memory.{Memory};
 ghost use Rattle.vm_memory_core.specs.Host.{changed_at};
@@ -10,7 +12,8 @@ ghost use Rattle.fs_chain.specs.Queues.{gave};
 ghost use Rattle.fs_chain.specs.declared.state.ChainState.TheVariants as at;
 ghost use Rattle.plain_machine.specs.StepBy.{Act};
 ghost use Rattle.fs_live.specs.Handles.{IsReached, live_of};
-ghost use Rattle.fs_live.specs.Live.{Begins, Happens, LiveEvent, LiveRun, LiveState, Maps, Moves, NoneWaits, calls_among};
+ghost use Rattle.fs_live.specs.Live.{Begins, Happens, LiveEvent, LiveRun, LiveState, Maps, Moves, NoneWaits};
+ghost use Rattle.fs_live.specs.Live.{calls_among};
 ghost use Rattle.fs_live.specs.Others.{GoesBackOwn, recorded};
 ghost use Rattle.fs_live.specs.Runs.{IsEven, tickets_on};
 
@@ -21,7 +24,8 @@ use fs_queue::{Queue, QueueError};
 use fs_regions::GuestMap;
 use fuse_fs::FileSystem;
 
-/// A chain that is walked and given up: the chains that are out are those of before, and the queue is as the call left it.
+/// A chain that is walked and given up: the chains that are out are those of before, and the queue is as the
+/// call left it.
 pub fn drop_beside<F: FileSystem>(
     handle: &mut ChainHandle,
     queue: &mut QueueState,
@@ -29,8 +33,13 @@ pub fn drop_beside<F: FileSystem>(
 ) -> Result<(), ChainError>
     requires free { handle.old.state ≡ at.Free }
     requires goes { queue.old.stopped ≡ None }
-    ensures run { OnOk result ((s : LiveState F) (i : ℕ) → slice_get s.queues i ≡ Some (live_of queue.old) → s.places ≡ places_in handle.old.regions
-        → s.limit ≡ handle.old.limit → (es : List LiveEvent) × (end : LiveState F) × LiveRun F.may s es end × (end.outs ≡ s.outs)
+    ensures run { OnOk result ((s : LiveState F) (i : ℕ)
+        → slice_get s.queues i ≡ Some (live_of queue.old)
+        → s.places ≡ places_in handle.old.regions
+        → s.limit ≡ handle.old.limit
+        → (es : List LiveEvent) × (end : LiveState F)
+        × LiveRun F.may s es end
+        × (end.outs ≡ s.outs)
         × (slice_get end.queues i ≡ Some (live_of queue.new))) }
 {
     law_handles::<F>();
@@ -46,8 +55,13 @@ pub fn lose_beside<F: FileSystem>(
 ) -> Result<(), ChainError>
     requires free { handle.old.state ≡ at.Free }
     requires goes { queue.old.stopped ≡ None }
-    ensures run { OnOk result ((s : LiveState F) (i : ℕ) → slice_get s.queues i ≡ Some (live_of queue.old) → s.places ≡ places_in handle.old.regions
-        → s.limit ≡ handle.old.limit → (es : List LiveEvent) × (end : LiveState F) × LiveRun F.may s es end × (slice_get end.queues i ≡ Some (live_of queue.new))) }
+    ensures run { OnOk result ((s : LiveState F) (i : ℕ)
+        → slice_get s.queues i ≡ Some (live_of queue.old)
+        → s.places ≡ places_in handle.old.regions
+        → s.limit ≡ handle.old.limit
+        → (es : List LiveEvent) × (end : LiveState F)
+        × LiveRun F.may s es end
+        × (slice_get end.queues i ≡ Some (live_of queue.new))) }
     ensures again { OnOk result (handle.new.state ≡ at.Free) }
 {
     law_handles::<F>();
@@ -58,7 +72,8 @@ pub fn lose_beside<F: FileSystem>(
 
 /// A chain that its caller replied to goes back with his bytes, to a driver that wants to be told.
 pub fn give_own_back(handle: &mut ChainHandle, queue: &mut QueueState) -> Result<bool, ChainError>
-    ensures back { IfOk result (λ notice. (room reply : List ℕ) (last : ℕ) → (acts : List Act) × GoesBackOwn queue.old room reply handle.old.state acts last notice) }
+    ensures back { IfOk result (λ notice. (room reply : List ℕ) (last : ℕ) → (acts : List Act)
+        × GoesBackOwn queue.old room reply handle.old.state acts last notice) }
     ensures queue { OnOk result (queue.new ≡ gave queue.old) }
 {
     let mut front = [0u8; 160];
@@ -66,7 +81,8 @@ pub fn give_own_back(handle: &mut ChainHandle, queue: &mut QueueState) -> Result
     handle.pushed(queue, [0, 0])
 }
 
-/// A chain is walked, replied by bytes of the caller's own, and goes back with them: no call is made, and the other chains are out still.
+/// A chain is walked, replied by bytes of the caller's own, and goes back with them: no call is made, and the
+/// other chains are out still.
 pub fn reply_beside<F: FileSystem>(
     handle: &mut ChainHandle,
     queue: &mut QueueState,
@@ -76,10 +92,20 @@ pub fn reply_beside<F: FileSystem>(
 ) -> Result<bool, ChainError>
     requires free { handle.old.state ≡ at.Free }
     requires goes { queue.old.stopped ≡ None }
-    ensures run { IfOk result (λ notice. (s : LiveState F) (i : ℕ) → IsReached F.may s → slice_get s.queues i ≡ Some (live_of queue.old)
-        → s.places ≡ places_in handle.old.regions → s.limit ≡ handle.old.limit → s.limit ≤ 2 ^ 31
-        → (es : List LiveEvent) × (end : LiveState F) × LiveRun F.may s es end × (calls_among es ≡ []) × (end.outs ≡ s.outs)
-        × (end.queues ≡ changed_at s.queues i (λ _. live_of queue.new)) × (end.options ≡ s.options) × (end.limit ≡ s.limit) × (end.places ≡ s.places)) }
+    ensures run { IfOk result (λ notice. (s : LiveState F) (i : ℕ)
+        → IsReached F.may s
+        → slice_get s.queues i ≡ Some (live_of queue.old)
+        → s.places ≡ places_in handle.old.regions
+        → s.limit ≡ handle.old.limit
+        → s.limit ≤ 2 ^ 31
+        → (es : List LiveEvent) × (end : LiveState F)
+        × LiveRun F.may s es end
+        × (calls_among es ≡ [])
+        × (end.outs ≡ s.outs)
+        × (end.queues ≡ changed_at s.queues i (λ _. live_of queue.new))
+        × (end.options ≡ s.options)
+        × (end.limit ≡ s.limit)
+        × (end.places ≡ s.places)) }
 {
     law_handles::<F>();
     let (_, request_len, _) = walk_chain(handle, queue, given)?;
@@ -97,8 +123,12 @@ pub fn map_beside<F: FileSystem>(
     regions: GuestMap,
     limit: u32,
 ) -> Result<(), ChainError>
-    ensures maps { OnOk result ((s : LiveState F) → s.outs ≡ [] → (next : LiveState F) × Happens F.may s (Maps (places_in handle.new.regions)) next
-        × (next.places ≡ places_in handle.new.regions) × (next.queues ≡ s.queues)) }
+    ensures maps { OnOk result ((s : LiveState F)
+        → s.outs ≡ []
+        → (next : LiveState F)
+        × Happens F.may s (Maps (places_in handle.new.regions)) next
+        × (next.places ≡ places_in handle.new.regions)
+        × (next.queues ≡ s.queues)) }
 {
     law_handles::<F>();
     handle.set_memory(regions, limit)
@@ -115,14 +145,25 @@ pub fn stopped_by(read: &Queue) -> Option<QueueError>
     }
 }
 
-/// The one queue of a device is begun by that of a record, as it stood where the record was made: that is the event of a move, and the options are those of before.
+/// The one queue of a device is begun by that of a record, as it stood where the record was made: that is the
+/// event of a move, and the options are those of before.
 pub fn begin_by_record<F: FileSystem>(queue: &mut QueueState, read: &Queue)
     requires some { 1 ≤ queue.old.max_in_flight }
     requires few { queue.old.max_in_flight ≤ read.now.size }
-    ensures moves { (s : LiveState F) (here : QueueState) (m : Memory) (bytes : List ℕ) (v v' : Version) (options : ℕ) → s.outs ≡ [] → s.queues ≡ live_of here ∷ []
-        → IsRecord bytes v s.options (recorded here ∷ []) → IsRecord bytes v' options (read.now ∷ [])
-        → (options ≡ s.options) × (next : LiveState F) × Happens F.may s (Moves m (live_of queue.new ∷ [])) next × (next.queues ≡ live_of queue.new ∷ []) × (next.places ≡ m)
-        × (next.outs ≡ []) × (next.options ≡ s.options) × (next.limit ≡ s.limit) }
+    ensures moves { (s : LiveState F) (here : QueueState) (m : Memory) (bytes : List ℕ) (v v' : Version)
+        (options : ℕ)
+        → s.outs ≡ []
+        → s.queues ≡ live_of here ∷ []
+        → IsRecord bytes v s.options (recorded here ∷ [])
+        → IsRecord bytes v' options (read.now ∷ [])
+        → (options ≡ s.options)
+        × (next : LiveState F)
+        × Happens F.may s (Moves m (live_of queue.new ∷ [])) next
+        × (next.queues ≡ live_of queue.new ∷ [])
+        × (next.places ≡ m)
+        × (next.outs ≡ [])
+        × (next.options ≡ s.options)
+        × (next.limit ≡ s.limit) }
 {
     law_handles::<F>();
     let layout = read.layout();
@@ -132,12 +173,20 @@ pub fn begin_by_record<F: FileSystem>(queue: &mut QueueState, read: &Queue)
     queue.stopped = stopped;
 }
 
-/// A queue of which no chain is out, and which is begun where it stands, as after GET_VRING_BASE and SET_VRING_BASE, goes on as if it weren't begun.
+/// A queue of which no chain is out, and which is begun where it stands, as after GET_VRING_BASE and
+/// SET_VRING_BASE, goes on as if it weren't begun.
 pub fn begin_again<F: FileSystem>(queue: &mut QueueState)
     requires goes { queue.old.stopped ≡ None }
-    ensures stands { (start now : LiveState F) (es : List LiveEvent) (i : ℕ) → start.outs ≡ [] → AllByRecursion IsEven start.queues → LiveRun F.may start es now
-        → slice_get now.queues i ≡ Some (live_of queue.old) → tickets_on i now.outs ≡ [] → 1 ≤ queue.old.max_in_flight → queue.old.max_in_flight ≤ queue.old.layout.size
-        → AllByRecursion (λ c. NoneWaits now.page_size i c c.phase) now.outs → Happens F.may now (Begins i (live_of queue.new)) now }
+    ensures stands { (start now : LiveState F) (es : List LiveEvent) (i : ℕ)
+        → start.outs ≡ []
+        → AllByRecursion IsEven start.queues
+        → LiveRun F.may start es now
+        → slice_get now.queues i ≡ Some (live_of queue.old)
+        → tickets_on i now.outs ≡ []
+        → 1 ≤ queue.old.max_in_flight
+        → queue.old.max_in_flight ≤ queue.old.layout.size
+        → AllByRecursion (λ c. NoneWaits now.page_size i c c.phase) now.outs
+        → Happens F.may now (Begins i (live_of queue.new)) now }
 {
     law_handles::<F>();
     law_runs::<F, F>();

@@ -28,9 +28,19 @@ pub fn map_amid<F: FileSystem>(
 ) -> Result<bool, ChainError>
     requires free { first.old.state ≡ at.Free }
     requires goes { queue.old.stopped ≡ None }
-    ensures run { IfOk result (λ notice. (s : LiveState F) (i : ℕ) → IsReached F.may s → s.outs ≡ [] → slice_get s.queues i ≡ Some (live_of queue.old)
-        → s.places ≡ places_in first.old.regions → s.limit ≡ first.old.limit → s.limit ≤ 2 ^ 31 → KeepsReturns s.places (places_in second.new.regions) (live_of queue.old)
-        → (es : List LiveEvent) × (end : LiveState F) × LiveRun F.may s es end × (calls_among es ≡ []) × (end.outs ≡ []) × (end.places ≡ places_in second.new.regions)) }
+    ensures run { IfOk result (λ notice. (s : LiveState F) (i : ℕ)
+        → IsReached F.may s
+        → s.outs ≡ []
+        → slice_get s.queues i ≡ Some (live_of queue.old)
+        → s.places ≡ places_in first.old.regions
+        → s.limit ≡ first.old.limit
+        → s.limit ≤ 2 ^ 31
+        → KeepsReturns s.places (places_in second.new.regions) (live_of queue.old)
+        → (es : List LiveEvent) × (end : LiveState F)
+        × LiveRun F.may s es end
+        × (calls_among es ≡ [])
+        × (end.outs ≡ [])
+        × (end.places ≡ places_in second.new.regions)) }
 {
     law_handles::<F>();
     let (_, request_len, _) = walk_chain(first, queue, given)?;

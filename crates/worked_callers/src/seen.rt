@@ -1,5 +1,5 @@
-//! A chain of a queue with the event index is a step of the plain machine, which takes what is seen for its flags; the driver is told by used_event
-//! (VIRTIO 1.2, 2.7.7.2).
+//! A chain of a queue with the event index is a step of the plain machine, which takes what is seen for its
+//! flags; the driver is told by used_event (VIRTIO 1.2, 2.7.7.2).
 
 ghost use Rattle.std.specs.Prelude.{◌≡◌, ℕ, List, [], length, None, Some, Ok, IfOk, OnOk, true};
 ghost use Rattle.fuse_fs.specs.Calls.{FileRun};
@@ -21,14 +21,17 @@ use fuse_fs::FileSystem;
 use fuse_values::FileAnswer;
 use server_phases::Session;
 
-/// A chain whose reply is known goes back, and these two bytes are seen then: whether the driver is told, and where they stand.
+/// A chain whose reply is known goes back, and these two bytes are seen then: whether the driver is told, and
+/// where they stand.
 pub fn give_back_by(
     handle: &mut ChainHandle,
     queue: &mut QueueState,
     seen: [u8; 2],
 ) -> Result<(bool, u64), ChainError>
-    ensures back { IfOk result (λ told. (room behind : List ℕ) → (acts : List Act) × (last : ℕ) × (back : GoesBackBy queue.old room behind handle.old.state acts last told.0)
-        × (back.flags ≡ seen) × (back.stores.seen_at ≡ told.1)) }
+    ensures back { IfOk result (λ told. (room behind : List ℕ) → (acts : List Act) × (last : ℕ)
+        × (back : GoesBackBy queue.old room behind handle.old.state acts last told.0)
+        × (back.flags ≡ seen)
+        × (back.stores.seen_at ≡ told.1)) }
     ensures session { OnOk result (handle.new.session ≡ handle.old.session) }
 {
     let mut front = [0u8; 160];
@@ -39,8 +42,8 @@ pub fn give_back_by(
     }
 }
 
-/// A chain that is out alone, whose answer has no data and which lists nothing, is a step by the two bytes that are seen; whether the driver is told, and
-/// where they stand.
+/// A chain that is out alone, whose answer has no data and which lists nothing, is a step by the two bytes
+/// that are seen; whether the driver is told, and where they stand.
 pub fn serve_by<F: FileSystem>(
     handle: &mut ChainHandle,
     queue: &mut QueueState,
@@ -54,10 +57,16 @@ pub fn serve_by<F: FileSystem>(
     requires goes { queue.old.stopped ≡ None }
     requires none_out { queue.old.next_used ≡ queue.old.next_avail }
     requires data { TellsBytes [] answer }
-    ensures told { IfOk result (λ told. (told.0 ≡ tells_of queue.old seen) × (told.1 ≡ seen_at queue.old.event_index queue.old.layout)) }
-    ensures step { IfOk result (λ told. (i : ℕ) (m : State F) (files : F) → IsMachineBefore handle.old queue.old i m → IsSession session m
-        → (calls : Calls) × (FileRun F.may m.files calls files → (l : StepLoads) × (x : Exchange) × (e : Effects) × (x.request ≡ request.now)
-        × StepBy F.may m i l calls (Exchanged x (tells seen)) e (after_chain m i (queue_of (course_of queue.old handle.old.limit)) handle.new.session.options.0 files))) }
+    ensures told { IfOk result (λ told. (told.0 ≡ tells_of queue.old seen)
+        × (told.1 ≡ seen_at queue.old.event_index queue.old.layout)) }
+    ensures step { IfOk result (λ told. (i : ℕ) (m : State F) (files : F)
+        → IsMachineBefore handle.old queue.old i m
+        → IsSession session m
+        → (calls : Calls)
+        × (FileRun F.may m.files calls files → (l : StepLoads) × (x : Exchange) × (e : Effects)
+        × (x.request ≡ request.now)
+        × StepBy F.may m i l calls (Exchanged x (tells seen)) e (after_chain m i
+        (queue_of (course_of queue.old handle.old.limit)) handle.new.session.options.0 files))) }
 {
     law_chains::<F>();
     let (_, request_len, _) = walk_chain(handle, queue, given)?;
@@ -75,7 +84,8 @@ pub fn walk_faulty(
     given: &[&[u8]],
 ) -> Result<(u16, ChainFault), ChainError>
     requires free { handle.old.state ≡ at.Free }
-    ensures walked { IfOk result (λ c. IsWalked handle.old handle.new queue.old queue.new (LoadOutcome.On (PopOutcome.Faulty c.0 c.1))) }
+    ensures walked { IfOk result (λ c. IsWalked handle.old handle.new queue.old queue.new
+        (LoadOutcome.On (PopOutcome.Faulty c.0 c.1))) }
 {
     match walk_by(handle, queue, given)? {
         LoadOutcome::On(PopOutcome::Faulty { head, fault }) => Ok((head, fault)),
@@ -93,9 +103,13 @@ pub fn serve_faulty<F: FileSystem>(
     requires free { handle.old.state ≡ at.Free }
     requires goes { queue.old.stopped ≡ None }
     requires none_out { queue.old.next_used ≡ queue.old.next_avail }
-    ensures told { IfOk result (λ told. (told.0 ≡ tells_of queue.old seen) × (told.1 ≡ seen_at queue.old.event_index queue.old.layout)) }
-    ensures step { IfOk result (λ told. (i : ℕ) (m : State F) → IsMachineBefore handle.old queue.old i m → (l : StepLoads) × (x : Exchange) × (e : Effects)
-        × StepBy F.may m i l [] (Exchanged x (tells seen)) e (after_chain m i (queue_of (course_of queue.old handle.old.limit)) m.options m.files)) }
+    ensures told { IfOk result (λ told. (told.0 ≡ tells_of queue.old seen)
+        × (told.1 ≡ seen_at queue.old.event_index queue.old.layout)) }
+    ensures step { IfOk result (λ told. (i : ℕ) (m : State F)
+        → IsMachineBefore handle.old queue.old i m
+        → (l : StepLoads) × (x : Exchange) × (e : Effects)
+        × StepBy F.may m i l [] (Exchanged x (tells seen)) e
+        (after_chain m i (queue_of (course_of queue.old handle.old.limit)) m.options m.files)) }
 {
     law_chains::<F>();
     let (_, _) = walk_faulty(handle, queue, given)?;

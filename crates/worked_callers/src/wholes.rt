@@ -13,7 +13,9 @@ ghost use Rattle.fs_regions.specs.Walks.{queue_of};
 ghost use Rattle.fs_chain.specs.Events.{event_fault};
 ghost use Rattle.fs_chain.specs.Queues.{gave};
 ghost use Rattle.fs_chain.specs.Walks.{HasEvents, course_of};
-ghost use Rattle.fs_chain.specs.Whole.{FromTaken, ChainAnswer, GoesBackBy, HasReply, IsDecodedBy, IsMachineBefore, IsSession, IsWalked, WantsBytes, after_chain, data_behind, no_effects};
+ghost use Rattle.fs_chain.specs.Whole.{FromTaken, ChainAnswer, GoesBackBy, HasReply, IsDecodedBy};
+ghost use Rattle.fs_chain.specs.Whole.{IsMachineBefore, IsSession, IsWalked, WantsBytes, after_chain};
+ghost use Rattle.fs_chain.specs.Whole.{data_behind, no_effects};
 ghost use Rattle.fs_chain.specs.declared.decoding.Decoded as told;
 ghost use Rattle.fs_chain.specs.declared.state.ChainState.TheVariants as at;
 
@@ -53,20 +55,30 @@ pub fn walk_by(
     Ok(told)
 }
 
-/// A walk that finds nothing is an idle step, and one that is refused a step that stops the queue, if its event index has places; without them it is
-/// refused by that, whatever waits, and stops it too.
+/// A walk that finds nothing is an idle step, and one that is refused a step that stops the queue, if its
+/// event index has places; without them it is refused by that, whatever waits, and stops it too.
 pub fn look<F: FileSystem>(
     handle: &mut ChainHandle,
     queue: &mut QueueState,
     given: &[&[u8]],
 ) -> Result<LoadOutcome, ChainError>
     requires free { handle.old.state ≡ at.Free }
-    ensures idle { result ≡ Ok (LoadOutcome.On PopOutcome.Idle) → (i : ℕ) (m : State F) → IsMachineBefore handle.old queue.old i m
+    ensures idle { result ≡ Ok (LoadOutcome.On PopOutcome.Idle)
+        → (i : ℕ) (m : State F)
+        → IsMachineBefore handle.old queue.old i m
         → (l : StepLoads) × StepBy F.may m i l [] Idle no_effects m }
-    ensures refused { (e : QueueError) (i : ℕ) (m : State F) → result ≡ Ok (LoadOutcome.On (PopOutcome.Refused e)) → IsMachineBefore handle.old queue.old i m → HasEvents handle.old queue.old
-        → (l : StepLoads) × StepBy F.may m i l [] (Refused (device.Queue e)) no_effects (with_queue m i (after_refusal (queue_of (course_of queue.old handle.old.limit)) e)) }
-    ensures unplaced { IfOk result (λ told. (e : QueueError) → queue.old.stopped ≡ None → event_fault (places_in handle.old.regions) queue.old ≡ Some e
-        → (told ≡ LoadOutcome.On (PopOutcome.Refused e)) × (queue.new ≡ record queue.old { stopped = Some e })) }
+    ensures refused { (e : QueueError) (i : ℕ) (m : State F)
+        → result ≡ Ok (LoadOutcome.On (PopOutcome.Refused e))
+        → IsMachineBefore handle.old queue.old i m
+        → HasEvents handle.old queue.old
+        → (l : StepLoads)
+        × StepBy F.may m i l [] (Refused (device.Queue e)) no_effects
+        (with_queue m i (after_refusal (queue_of (course_of queue.old handle.old.limit)) e)) }
+    ensures unplaced { IfOk result (λ told. (e : QueueError)
+        → queue.old.stopped ≡ None
+        → event_fault (places_in handle.old.regions) queue.old ≡ Some e
+        → (told ≡ LoadOutcome.On (PopOutcome.Refused e))
+        × (queue.new ≡ record queue.old { stopped = Some e })) }
 {
     law_chains::<F>();
     walk_by(handle, queue, given)
@@ -79,7 +91,8 @@ pub fn walk_chain(
     given: &[&[u8]],
 ) -> Result<(u16, usize, usize), ChainError>
     requires free { handle.old.state ≡ at.Free }
-    ensures walked { IfOk result (λ c. IsWalked handle.old handle.new queue.old queue.new (LoadOutcome.On (PopOutcome.Chain c.0 c.1 c.2))) }
+    ensures walked { IfOk result (λ c. IsWalked handle.old handle.new queue.old queue.new
+        (LoadOutcome.On (PopOutcome.Chain c.0 c.1 c.2))) }
 {
     match walk_by(handle, queue, given)? {
         LoadOutcome::On(
@@ -103,7 +116,9 @@ pub fn reply(
     requires taken { FromTaken handle.old.state (λ out. out.request_len ≡ length request.now) }
     requires data { TellsBytes [] answer }
     ensures replied { OnOk result ((made : told.Decoded) × (asked : ChainHandle) × (given : ChainAnswer)
-        × IsDecodedBy handle.old session request.now request.now made asked × HasReply made asked given handle.new × (data_behind given ≡ [])) }
+        × IsDecodedBy handle.old session request.now request.now made asked
+        × HasReply made asked given handle.new
+        × (data_behind given ≡ [])) }
 {
     match handle.decode(session, request)? {
         Decoded::Call(_) => {
@@ -121,7 +136,8 @@ pub fn reply(
 
 /// A chain whose reply is known goes back to a driver that wants to be told.
 pub fn give_back(handle: &mut ChainHandle, queue: &mut QueueState) -> Result<bool, ChainError>
-    ensures back { IfOk result (λ notice. (room behind : List ℕ) → (acts : List Act) × (last : ℕ) × GoesBackBy queue.old room behind handle.old.state acts last notice) }
+    ensures back { IfOk result (λ notice. (room behind : List ℕ) → (acts : List Act) × (last : ℕ)
+        × GoesBackBy queue.old room behind handle.old.state acts last notice) }
     ensures session { OnOk result (handle.new.session ≡ handle.old.session) }
     ensures queue { OnOk result (queue.new ≡ gave queue.old) }
 {
@@ -130,7 +146,8 @@ pub fn give_back(handle: &mut ChainHandle, queue: &mut QueueState) -> Result<boo
     handle.pushed(queue, [0, 0])
 }
 
-/// A chain that is out alone from its walk to its return, whose answer has no data and which lists nothing, is a step.
+/// A chain that is out alone from its walk to its return, whose answer has no data and which lists nothing,
+/// is a step.
 pub fn serve<F: FileSystem>(
     handle: &mut ChainHandle,
     queue: &mut QueueState,
@@ -144,9 +161,14 @@ pub fn serve<F: FileSystem>(
     requires none_out { queue.old.next_used ≡ queue.old.next_avail }
     requires by_flags { queue.old.event_index ≡ false }
     requires data { TellsBytes [] answer }
-    ensures step { IfOk result (λ notice. (i : ℕ) (m : State F) (files : F) → IsMachineBefore handle.old queue.old i m → IsSession session m
-        → (calls : Calls) × (FileRun F.may m.files calls files → (l : StepLoads) × (x : Exchange) × (e : Effects) × (x.request ≡ request.now)
-        × StepBy F.may m i l calls (Exchanged x notice) e (after_chain m i (queue_of (course_of queue.old handle.old.limit)) handle.new.session.options.0 files))) }
+    ensures step { IfOk result (λ notice. (i : ℕ) (m : State F) (files : F)
+        → IsMachineBefore handle.old queue.old i m
+        → IsSession session m
+        → (calls : Calls)
+        × (FileRun F.may m.files calls files → (l : StepLoads) × (x : Exchange) × (e : Effects)
+        × (x.request ≡ request.now)
+        × StepBy F.may m i l calls (Exchanged x notice) e (after_chain m i
+        (queue_of (course_of queue.old handle.old.limit)) handle.new.session.options.0 files))) }
 {
     law_chains::<F>();
     let (_, request_len, _) = walk_chain(handle, queue, given)?;

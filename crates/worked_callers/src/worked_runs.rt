@@ -19,8 +19,12 @@ use fuse_fs::FileSystem;
 /// DESTROY's chain, behind which another one was taken and went back, is a step by its own loads.
 pub fn overlapped<F: FileSystem>()
     ensures { (before after : F) → F.may before Destroy Done after → (now : LiveState F)
-        × ((m : State F) (files : F) → IsBefore now first_answered m → FileRun F.may m.files ((Destroy, Done) ∷ []) files
-        → (lost : List Load) × (e : Effects) × StepBy F.may m 0 (chain_loads first_answered lost) ((Destroy, Done) ∷ []) (Exchanged first_exchange true) e (after_alone m first_answered files)) }
+        × ((m : State F) (files : F)
+        → IsBefore now first_answered m
+        → FileRun F.may m.files ((Destroy, Done) ∷ []) files
+        → (lost : List Load) × (e : Effects)
+        × StepBy F.may m 0 (chain_loads first_answered lost) ((Destroy, Done) ∷ [])
+        (Exchanged first_exchange true) e (after_alone m first_answered files)) }
 {
     law_examples::<F>();
     law_runs::<F, F>();
@@ -28,7 +32,11 @@ pub fn overlapped<F: FileSystem>()
 
 /// Where it goes back there are places, though another one that was taken later went back before.
 pub fn placed<F: FileSystem>()
-    ensures { (before after : F) → F.may before Destroy Done after → (now : LiveState F) × (w : LiveQueue) × (slice_get now.queues 0 ≡ Some w) × ReturnHasPlaces blank w first_answered }
+    ensures { (before after : F)
+        → F.may before Destroy Done after
+        → (now : LiveState F) × (w : LiveQueue)
+        × (slice_get now.queues 0 ≡ Some w)
+        × ReturnHasPlaces blank w first_answered }
 {
     law_examples::<F>();
     law_runs::<F, F>();
@@ -37,9 +45,12 @@ pub fn placed<F: FileSystem>()
 /// The chain whose ring's entry was rewritten is a step by what was loaded of it.
 pub fn kept<F: FileSystem>()
     ensures { (before after : F) → F.may before rewritten.told Done after → (now : LiveState F)
-        × ((m : State F) (files : F) → IsBefore now rewritten.first_answered m → FileRun F.may m.files ((rewritten.told, Done) ∷ []) files
+        × ((m : State F) (files : F)
+        → IsBefore now rewritten.first_answered m
+        → FileRun F.may m.files ((rewritten.told, Done) ∷ []) files
         → (lost : List Load) × (e : Effects)
-        × StepBy F.may m 0 (chain_loads rewritten.first_answered lost) ((rewritten.told, Done) ∷ []) (Exchanged rewritten.exchange true) e (after_alone m rewritten.first_answered files)) }
+        × StepBy F.may m 0 (chain_loads rewritten.first_answered lost) ((rewritten.told, Done) ∷ [])
+        (Exchanged rewritten.exchange true) e (after_alone m rewritten.first_answered files)) }
 {
     law_examples::<F>();
     law_runs::<F, F>();
@@ -47,10 +58,16 @@ pub fn kept<F: FileSystem>()
 
 /// LOOKUP's chain, which was asked before INIT was answered, is a step by the options of its asking.
 pub fn asked_before<F: FileSystem>()
-    ensures { (before between after : F) → F.may before init.starts (Wants 0) between → F.may between init.looks (Failed 2) after → (now : LiveState F)
-        × ((m : State F) (files : F) → IsBefore now init.first_answered m → FileRun F.may m.files ((init.looks, Failed 2) ∷ []) files
+    ensures { (before between after : F)
+        → F.may before init.starts (Wants 0) between
+        → F.may between init.looks (Failed 2) after
+        → (now : LiveState F)
+        × ((m : State F) (files : F)
+        → IsBefore now init.first_answered m
+        → FileRun F.may m.files ((init.looks, Failed 2) ∷ []) files
         → (lost : List Load) × (e : Effects)
-        × StepBy F.may m 0 (chain_loads init.first_answered lost) ((init.looks, Failed 2) ∷ []) (Exchanged init.first_exchange true) e (after_alone m init.first_answered files)) }
+        × StepBy F.may m 0 (chain_loads init.first_answered lost) ((init.looks, Failed 2) ∷ [])
+        (Exchanged init.first_exchange true) e (after_alone m init.first_answered files)) }
 {
     law_examples::<F>();
     law_runs::<F, F>();
@@ -58,8 +75,13 @@ pub fn asked_before<F: FileSystem>()
 
 /// Once both of its chains went back the device moves: whatever it does there it could have done here.
 pub fn moved<F: FileSystem>()
-    ensures { (before after : F) → F.may before Destroy Done after → (later : List LiveEvent) (end : LiveState F) → LiveRun F.may (state after (at_positions 2 2) 0 []) later end
-        → (es : List LiveEvent) × LiveRun F.may (state before (at_positions 0 0) 1 []) (es ++ Moves blank (at_positions 2 2 ∷ []) ∷ later) end
+    ensures { (before after : F)
+        → F.may before Destroy Done after
+        → (later : List LiveEvent) (end : LiveState F)
+        → LiveRun F.may (state after (at_positions 2 2) 0 []) later end
+        → (es : List LiveEvent)
+        × LiveRun F.may (state before (at_positions 0 0) 1 [])
+        (es ++ Moves blank (at_positions 2 2 ∷ []) ∷ later) end
         × LiveRun F.may (state before (at_positions 0 0) 1 []) (es ++ later) end }
 {
     law_examples::<F>();
@@ -68,8 +90,12 @@ pub fn moved<F: FileSystem>()
 
 /// The pages that its events mark are those that they tell.
 pub fn marked<F: FileSystem>()
-    ensures { (before after : F) → F.may before Destroy Done after → (es : List LiveEvent) × (run : LiveRun F.may (state before (at_positions 0 0) 1 []) es (state after (at_positions 2 2) 0 []))
-        × EachIsTold F.may (state before (at_positions 0 0) 1 []) es (state after (at_positions 2 2) 0 []) run }
+    ensures { (before after : F)
+        → F.may before Destroy Done after
+        → (es : List LiveEvent) × (run : LiveRun F.may (state before (at_positions 0 0) 1 []) es
+        (state after (at_positions 2 2) 0 []))
+        × EachIsTold F.may (state before (at_positions 0 0) 1 []) es
+        (state after (at_positions 2 2) 0 []) run }
 {
     law_examples::<F>();
     law_runs::<F, F>();

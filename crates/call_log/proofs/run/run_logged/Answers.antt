@@ -17,6 +17,10 @@ returns-clause-log g c =
 
 pub returns-clause-books : goal.returns-clause-books
 returns-clause-books g c =
-    IfOk-weaker c.run.result _ _ (λ answers ran.
-    (ran.0, ran.1, λ n some. c.law_books.ensures (machine_of c.args.machine.now) (machine_of c.run.new.self) (zip (map command_of c.args.commands.items) (map answer_of answers.items)) ran.0 n some ran.1))
+    IfOk-weaker c.run.result _ _ (λ answers ran. (
+      ran.0,
+      ran.1,
+      λ n some. c.law_books.ensures (machine_of c.args.machine.now) (machine_of c.run.new.self)
+          (zip (map command_of c.args.commands.items) (map answer_of answers.items)) ran.0 n some ran.1,
+    ))
     c.run.ensures.run

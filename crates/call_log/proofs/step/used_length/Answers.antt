@@ -7,12 +7,14 @@ use Rattle.call_log.proofs.step.used_length.Goals as goal
 pub returns-in-Ok-Some-clause-told : goal.returns-in-Ok-Some-clause-told
 returns-in-Ok-Some-clause-told g c =
     leaves _ c.args.queue _ (exchange_of c.in-Ok-Some.exchanged.0) _ (omega (arith, c.len.ensures, c.in-Ok-Some.exchanged.0.reply.ok.0))
-    (c.law_used_length.ensures _ _ c.args.queue _ (exchange_of c.in-Ok-Some.exchanged.0) _ (rw c.in-Ok-Some.field-0-is at c.in-Ok-Some.ensures.step.1))
+    (c.law_used_length.ensures _ _ c.args.queue _ (exchange_of c.in-Ok-Some.exchanged.0) _
+    (rw c.in-Ok-Some.field-0-is at c.in-Ok-Some.ensures.step.1))
 
 pub returns-in-Ok-Some-clause-step : goal.returns-in-Ok-Some-clause-step
 returns-in-Ok-Some-clause-step g c =
     let made = c.in-Ok-Some.ensures.step in
-    let is : c.len.result ≡ length (exchange_of c.in-Ok-Some.exchanged.0).reply = omega (arith, c.len.ensures, c.in-Ok-Some.exchanged.0.reply.ok.0) in (
+    let is : c.len.result ≡ length (exchange_of c.in-Ok-Some.exchanged.0).reply =
+    omega (arith, c.len.ensures, c.in-Ok-Some.exchanged.0.reply.ok.0) in (
       made.0,
       Exchanged (exchange_of c.in-Ok-Some.exchanged.0) c.in-Ok-Some.exchanged.1,
       rw c.in-Ok-Some.field-0-is at made.1,

@@ -1,4 +1,5 @@
-use Rattle.fs_chain.proofs.WholeChains.{chain_is_answered_by, chain_is_step_by, faulty_is_answered_by, faulty_is_step_by, idle_is_step_by, refusal_is_step_by}
+use Rattle.fs_chain.proofs.WholeChains.{chain_is_answered_by, chain_is_step_by, faulty_is_answered_by, faulty_is_step_by, idle_is_step_by}
+use Rattle.fs_chain.proofs.WholeChains.{refusal_is_step_by}
 use Rattle.fs_chain.proofs.WholeMemory.{chain_is_step}
 use Rattle.fs_chain.proofs.WholeSeen.{returns_are_told_by_seen}
 use Rattle.fs_chain.proofs.WholeWalks.{event_fault_refuses, wanted_has_a_place}

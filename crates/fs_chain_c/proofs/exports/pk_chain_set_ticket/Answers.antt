@@ -4,4 +4,5 @@ use Rattle.fs_chain_c.proofs.exports.pk_chain_set_ticket.Goals as goal
 
 pub returns : goal.returns
 returns c =
-    on_handle _ _ c.args.chain.now.value c.of_box.result.value c.deref_mut.result.now c.number_handle-status.new.handle (search rules) (search rules) c.number_handle-status.ensures
+    on_handle _ _ c.args.chain.now.value c.of_box.result.value c.deref_mut.result.now c.number_handle-status.new.handle (search rules)
+    (search rules) c.number_handle-status.ensures

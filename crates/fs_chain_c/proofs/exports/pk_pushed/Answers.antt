@@ -4,4 +4,5 @@ use Rattle.fs_chain_c.proofs.exports.pk_pushed.Goals as goal
 
 pub returns : goal.returns
 returns c =
-    on_handle _ _ c.args.chain.now.value c.of_box.result.value c.deref_mut.result.now c.end_handle_push-told.new.handle (search rules) (search rules) c.end_handle_push-told.ensures
+    on_handle _ _ c.args.chain.now.value c.of_box.result.value c.deref_mut.result.now c.end_handle_push-told.new.handle (search rules)
+    (search rules) c.end_handle_push-told.ensures

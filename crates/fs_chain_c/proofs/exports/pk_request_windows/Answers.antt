@@ -4,4 +4,5 @@ use Rattle.fs_chain_c.proofs.exports.pk_request_windows.Goals as goal
 
 pub returns : goal.returns
 returns c =
-    on_handle _ _ c.args.chain.now.value c.of_box.result.value c.in-Some.handle.value c.in-Some.handle.value (search rules) (search rules) (search rules, refl)
+    on_handle _ _ c.args.chain.now.value c.of_box.result.value c.in-Some.handle.value c.in-Some.handle.value (search rules) (search rules)
+    (search rules, refl)

@@ -7,7 +7,8 @@ use Rattle.fs_chain_c.proofs.memory.stand_apart.Goals as goal
 
 pub returns-then-regions-at-clause-fault : goal.returns-then-regions-at-clause-fault
 returns-then-regions-at-clause-fault c =
-    λ no. at_fault c.args.regions.now c.requires.are c.loop-at.at c.loop-at.auto.at c.loop-at-test.true c.if-regions-at.true c.loop-at.invariant
+    λ no. at_fault c.args.regions.now c.requires.are c.loop-at.at c.loop-at.auto.at c.loop-at-test.true c.if-regions-at.true
+    c.loop-at.invariant
 
 pub loop-at-preserved : goal.loop-at-preserved
 loop-at-preserved c =

@@ -8,5 +8,7 @@ pub returns : goal.returns
 returns c =
     let asked = c.set_notification-status.result in
     let same : c.deref.result.now ≡ c.in-Some.handle.value = search rules in
-    let asks = subst (λ (b : ChainHandle). SetsNotification b c.args.queue.now c.args.enabled asked.0 asked.1) same c.set_notification-status.ensures in
-    on_handle _ _ c.args.chain.now.value c.of_box.result.value c.in-Some.handle.value c.in-Some.handle.value (search rules) (search rules) (asks, refl)
+    let asks = subst (λ (b : ChainHandle). SetsNotification b c.args.queue.now c.args.enabled asked.0 asked.1) same
+    c.set_notification-status.ensures in
+    on_handle _ _ c.args.chain.now.value c.of_box.result.value c.in-Some.handle.value c.in-Some.handle.value (search rules) (search rules)
+    (asks, refl)

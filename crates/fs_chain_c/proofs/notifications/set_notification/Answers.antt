@@ -10,7 +10,8 @@ returns-in_default-notification_store c =
       c.in-Some.ensures.is,
       c.in-Some.kept,
       c.in-Some.ensures.kept,
-      subst (λ (o : Option Store). TellsStore c.args.handle.now.regions o told 0) c.in_default-notification_store.ensures (refl, c.nothing-in_default-notification_store.ensures),
+      subst (λ (o : Option Store). TellsStore c.args.handle.now.regions o told 0) c.in_default-notification_store.ensures
+          (refl, c.nothing-in_default-notification_store.ensures),
     )
 
 pub returns-in-Some-here : goal.returns-in-Some-here
@@ -19,7 +20,8 @@ returns-in-Some-here c =
       c.in-Some.ensures.is,
       c.in-Some.kept,
       c.in-Some.ensures.kept,
-      subst (λ (o : Option Store). TellsStore c.args.handle.now.regions o (record { at = c.in-Some-here.at; value = c.in-Some-notification_store.store.value; len = 2 }) 0)
+      subst (λ (o : Option Store). TellsStore c.args.handle.now.regions o
+          (record { at = c.in-Some-here.at; value = c.in-Some-notification_store.store.value; len = 2 }) 0)
           c.in-Some-notification_store.ensures (inl (refl, c.in-Some-here.ensures.some, refl, refl)),
     )
 
@@ -30,5 +32,6 @@ returns-in-None c =
       c.in-Some.ensures.is,
       c.in-Some.kept,
       c.in-Some.ensures.kept,
-      subst (λ (o : Option Store). TellsStore c.args.handle.now.regions o told 77) c.in-Some-notification_store.ensures (inr (refl, c.in-None.ensures.none refl, c.nothing-in-None.ensures)),
+      subst (λ (o : Option Store). TellsStore c.args.handle.now.regions o told 77) c.in-Some-notification_store.ensures
+          (inr (refl, c.in-None.ensures.none refl, c.nothing-in-None.ensures)),
     )

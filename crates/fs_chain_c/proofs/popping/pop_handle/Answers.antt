@@ -7,4 +7,5 @@ returns-in-Ok c =
 
 pub returns-in-Err : goal.returns-in-Err
 returns-in-Err c =
-    inr (search rules, c.in-Some.kept, search rules, inr (c.in-Err.error, search rules, search rules, search rules, search rules, search rules))
+    inr
+    (search rules, c.in-Some.kept, search rules, inr (c.in-Err.error, search rules, search rules, search rules, search rules, search rules))

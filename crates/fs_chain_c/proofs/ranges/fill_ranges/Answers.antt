@@ -14,7 +14,8 @@ loop-k-preserved c =
       count = length-append inv.found (s ∷ []) ∙ omega (arith, inv.count);
       fits = search rules;
       put = put_next inv.found c.args.ranges.now c.loop-k.ranges c.loop-k.k s inv.count inv.put (search rules);
-      are = ranges_next c.args.handle.now c.args.from _ inv.found s c.loop-k.at c.loop-k.left inv.are inv.at inv.left c.in-Some.ensures.some;
+      are = ranges_next c.args.handle.now c.args.from _ inv.found s c.loop-k.at c.loop-k.left inv.are inv.at inv.left
+          c.in-Some.ensures.some;
       left = omega (arith, more, inv.left, c.in-Some.ensures.low);
       at = omega (arith, more, inv.at);
     }

@@ -6,14 +6,28 @@ pub returns-then-len-queues : goal.returns-then-len-queues
 returns-then-len-queues c = (
   NoPlace c.in-Ok.options.0 c.in-Ok.restored.items,
   search rules,
-  (search rules, (c.in-Ok.ensures.ok.0, c.restore_record.new.source.0.now, search rules, c.in-Ok.ensures.ok.2), search rules, search rules, refl, refl),
+  (
+    search rules,
+    (c.in-Ok.ensures.ok.0, c.restore_record.new.source.0.now, search rules, c.in-Ok.ensures.ok.2),
+    search rules,
+    search rules,
+    refl,
+    refl,
+  ),
 )
 
 pub returns-else-len-queues : goal.returns-else-len-queues
 returns-else-len-queues c = (
   Read c.in-Ok.options.0 c.in-Ok.restored.items,
   refl,
-  (search rules, (c.in-Ok.ensures.ok.0, c.restore_record.new.source.0.now, search rules, c.in-Ok.ensures.ok.2), search rules, search rules, search rules, search rules),
+  (
+    search rules,
+    (c.in-Ok.ensures.ok.0, c.restore_record.new.source.0.now, search rules, c.in-Ok.ensures.ok.2),
+    search rules,
+    search rules,
+    search rules,
+    search rules,
+  ),
 )
 
 pub returns-in-Err : goal.returns-in-Err

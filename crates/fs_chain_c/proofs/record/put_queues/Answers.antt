@@ -10,6 +10,7 @@ loop-k-preserved c =
     let few = c.requires in record {
       few = search rules;
       fits = search rules;
-      are = over_next c.args.queues.now c.loop-k.queues c.args.restored.now c.loop-k.k _ c.numbers_over.result c.index-restored-k.result inv.are (omega (arith, fits, test, few)) test
+      are = over_next c.args.queues.now c.loop-k.queues c.args.restored.now c.loop-k.k _ c.numbers_over.result c.index-restored-k.result
+          inv.are (omega (arith, fits, test, few)) test
           c.index-restored-k.is c.numbers_over.ensures;
     }

@@ -7,4 +7,5 @@ returns-then-not-is_lawful-clause-refused c = inl (refl, search rules)
 
 pub returns-in-Ok-clause-refused : goal.returns-in-Ok-clause-refused
 returns-in-Ok-clause-refused c =
-    state_refuses c.args.handle.now c.args.device.now c.args.regions.now _ c.set_memory.result (search rules) c.in-Ok.ensures.ok c.set_memory.ensures.error
+    state_refuses c.args.handle.now c.args.device.now c.args.regions.now _ c.set_memory.result (search rules) c.in-Ok.ensures.ok
+    c.set_memory.ensures.error

@@ -9,12 +9,14 @@ pub unreachable-requires : goal.unreachable-requires
 unreachable-requires g c =
     let h = g.H.HostBlocks.host c.args.host.now in
     let ps = places c.args.chain.now.readable.items in
-    let all : joined c.in_ok-segments.segments.items ≡ map (byte_in h) ps = rw c.deref.ensures at c.in_ok-segments.ensures ∙ front_and_rest h ps c.args.front.now c.requires.front.bytes in
+    let all : joined c.in_ok-segments.segments.items ≡ map (byte_in h) ps =
+    rw c.deref.ensures at c.in_ok-segments.ensures ∙ front_and_rest h ps c.args.front.now c.requires.front.bytes in
     absurd (omega (arith, ap length all, length-map ps (byte_in h), c.in-Err.ensures.err.1))
 
 pub returns-clause-answered : goal.returns-clause-answered
 returns-clause-answered g c =
     let h = g.H.HostBlocks.host c.args.host.now in
     let ps = places c.args.chain.now.readable.items in
-    let all : joined c.in_ok-segments.segments.items ≡ map (byte_in h) ps = rw c.deref.ensures at c.in_ok-segments.ensures ∙ front_and_rest h ps c.args.front.now c.requires.front.bytes in
+    let all : joined c.in_ok-segments.segments.items ≡ map (byte_in h) ps =
+    rw c.deref.ensures at c.in_ok-segments.ensures ∙ front_and_rest h ps c.args.front.now c.requires.front.bytes in
     rw (c.in-Ok.ensures.ok.0 ∙ all) at c.answer.ensures.answered

@@ -15,7 +15,8 @@ returns-then-not-are_apart c =
     let decide = windows_decide w part c.requires.some any in
     let none : are_apart w part ≡ false = sym c.are_apart.ensures ∙ c.if-not-are_apart.true in (
       λ no. absurd (cc),
-      λ a. absurd (part_denies (Apart (places_of w) (drop c.args.count (places c.args.windows.now))) (places_of w) c.loop-rest.rest.places (places_of part) part.len c.front-part.ensures.front.places
+      λ a. absurd (part_denies (Apart (places_of w) (drop c.args.count (places c.args.windows.now))) (places_of w) c.loop-rest.rest.places
+          (places_of part) part.len c.front-part.ensures.front.places
           c.loop-rest.invariant.decides (λ p. let yes : are_apart w part ≡ true = decide.1 p in absurd (cc)) a),
     )
 
@@ -27,17 +28,20 @@ loop-rest-preserved c =
     let any : 0 < part.len = omega (arith, c.front-part.ensures.front.len, c.front-part.ensures.front.some) in
     let yes : are_apart w part ≡ true = sym c.are_apart.ensures ∙ c.if-not-are_apart.false in
     let left : c.advance.new.self.places ≡ drop part.len c.loop-rest.rest.places =
-    c.advance.ensures.places ∙ ap (λ n. drop n c.front-part.new.self.places) c.len-in-loop-rest.ensures.len ∙ ap (λ (r : RoomLeft). drop part.len r.places) c.front-part.ensures.same in
+    c.advance.ensures.places ∙ ap (λ n. drop n c.front-part.new.self.places) c.len-in-loop-rest.ensures.len
+    ∙ ap (λ (r : RoomLeft). drop part.len r.places) c.front-part.ensures.same in
     record {
       decides = subst (λ (ps : List Place). all ↔ Apart (places_of w) ps) (sym left)
-          (rest_decides all (places_of w) c.loop-rest.rest.places (places_of part) part.len c.front-part.ensures.front.places c.loop-rest.invariant.decides
+          (rest_decides all (places_of w) c.loop-rest.rest.places (places_of part) part.len c.front-part.ensures.front.places
+          c.loop-rest.invariant.decides
           ((windows_decide w part c.requires.some any).0 yes));
     }
 
 pub returns : goal.returns
 returns c =
     let w = c.args.window.now in (
-      λ yes. nothing_left (Apart (places_of w) (drop c.args.count (places c.args.windows.now))) (places_of w) c.loop-rest.rest.places c.loop-rest.invariant.decides
+      λ yes. nothing_left (Apart (places_of w) (drop c.args.count (places c.args.windows.now))) (places_of w) c.loop-rest.rest.places
+          c.loop-rest.invariant.decides
           (omega (arith, c.loop-rest-test.false, c.len.ensures.len)),
       λ a. refl,
     )

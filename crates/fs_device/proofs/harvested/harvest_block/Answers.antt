@@ -8,7 +8,8 @@ pub loop-page-preserved : goal.loop-page-preserved
 loop-page-preserved c =
     let added : map page_view c.push.new.self.items ≡ map page_view c.loop-page.pages.items ++ page_view c.in_ok-copy_page.field-0 ∷ [] =
     ap (map page_view) c.in_ok-push.ensures.items ∙ map-append page_view c.loop-page.pages.items (c.in_ok-copy_page.field-0 ∷ []) in
-    rw added (next_added c.args.block c.args.bytes.now c.loop-page.from c.in-Some.page c.args.bitmap.now.marks (map page_view c.loop-page.pages.items) _ _ c.in-Some.ensures c.in_ok-copy_page.ensures
+    rw added (next_added c.args.block c.args.bytes.now c.loop-page.from c.in-Some.page c.args.bitmap.now.marks
+    (map page_view c.loop-page.pages.items) _ _ c.in-Some.ensures c.in_ok-copy_page.ensures
     c.loop-page.invariant)
 
 pub returns : goal.returns

@@ -8,7 +8,8 @@ pub returns-clause-catches_up : goal.returns-clause-catches_up
 returns-clause-catches_up g c s after copy events last r = image_catches_up g.F.FileSystemBase.may s after copy events last r
 
 pub returns-clause-last : goal.returns-clause-last
-returns-clause-last g c s after copy events last bytes options queues r here there = moved_is_last g.F.FileSystemBase.may s after copy events last bytes options queues r here there
+returns-clause-last g c s after copy events last bytes options queues r here there =
+    moved_is_last g.F.FileSystemBase.may s after copy events last bytes options queues r here there
 
 pub returns-clause-places : goal.returns-clause-places
 returns-clause-places g c s after copy events r = pages_have_places g.F.FileSystemBase.may s after copy events r

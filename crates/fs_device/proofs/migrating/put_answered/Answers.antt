@@ -19,12 +19,15 @@ loop-answer-preserved c =
     elim c.match-answer.branch [
       | in-Pages w ↦
           let has : pages_of_answer (answer_of a) ≡ map page_view w.deref.result.now = Prim.search rules in
-          rw w.copy-is (answered_put first now w.apply.new.host _ c.args.answers.now c.loop-answer.answer-index a w.deref.result.now w.apply.result c.loop-answer-test.true c.answer-item.is has
+          rw w.copy-is (answered_put first now w.apply.new.host _ c.args.answers.now c.loop-answer.answer-index a w.deref.result.now
+          w.apply.result c.loop-answer-test.true c.answer-item.is has
           w.apply.ensures.outcome w.apply.ensures.ok w.apply.ensures.shape c.loop-answer.invariant)
       | in_default w ↦
           let none : pages_of_answer (answer_of a) ≡ [] = Prim.search rules in
-          rw w.copy-is (answered_passed first now _ c.args.answers.now c.loop-answer.answer-index a c.loop-answer-test.true c.answer-item.is none c.loop-answer.invariant)
+          rw w.copy-is (answered_passed first now _ c.args.answers.now c.loop-answer.answer-index a c.loop-answer-test.true c.answer-item.is
+          none c.loop-answer.invariant)
     ]
 
 pub returns-clause-put : goal.returns-clause-put
-returns-clause-put c = answered_all c.args.copy.now c.loop-answer.copy _ c.args.answers.now c.loop-answer.answer-index c.loop-answer-test.false c.loop-answer.invariant
+returns-clause-put c = answered_all c.args.copy.now c.loop-answer.copy _ c.args.answers.now c.loop-answer.answer-index
+    c.loop-answer-test.false c.loop-answer.invariant

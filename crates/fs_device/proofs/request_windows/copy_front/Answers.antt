@@ -16,7 +16,8 @@ loop-window-preserved g c =
     let is : k ≡ min w.len (length l.buffer - l.done) = omega (arith, c.min-count.ensures, c.bytes-bytes.ensures.len) in
     let piece = take k c.bytes-bytes.result.now in
     let long : length piece ≡ k = length-take-le k c.bytes-bytes.result.now (omega (arith, is, c.bytes-bytes.ensures.len)) in
-    let more = copy_more (g.H.HostBlocks.host c.args.host.now) ws l.window-index (length l.buffer - l.done) k l.done w l.buffer c.put_at.new.buffer piece next is long
+    let more = copy_more (g.H.HostBlocks.host c.args.host.now) ws l.window-index (length l.buffer - l.done) k l.done w l.buffer
+    c.put_at.new.buffer piece next is long
     (omega (arith, is, l.invariant.within)) (ap (take k) c.bytes-bytes.ensures.bytes) c.put_at.ensures.stored in
     let rest : length c.put_at.new.buffer - (l.done + k) ≡ length l.buffer - l.done - k = omega (arith, size) in
     record {

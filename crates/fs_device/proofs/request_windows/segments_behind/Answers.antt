@@ -14,9 +14,11 @@ loop-window-preserved g c =
     let is : k ≡ min l.left w.len = omega (arith, c.min-count.ensures, c.bytes-bytes.ensures.len) in
     let p = c.push_segment-in-loop-window.ensures in
     let bytes = c.bytes-bytes.result.now in
-    let all : take (length bytes - k) (drop k bytes) ≡ drop k bytes = take_all (length bytes - k) (drop k bytes) (omega (arith, length-drop k bytes)) in
+    let all : take (length bytes - k) (drop k bytes) ≡ drop k bytes =
+    take_all (length bytes - k) (drop k bytes) (omega (arith, length-drop k bytes)) in
     record {
       capacity = omega (arith, l.invariant.capacity, p.len, p.capacity, c.loop-window-test.true);
-      got = segment_there (g.H.HostBlocks.host c.args.host.now) ws l.window-index l.left k w l.segments.items c.push_segment-in-loop-window.new.segments.items next is
+      got = segment_there (g.H.HostBlocks.host c.args.host.now) ws l.window-index l.left k w l.segments.items
+          c.push_segment-in-loop-window.new.segments.items next is
           (p.joined ∙ ap (λ x. joined l.segments.items ++ x) (all ∙ ap (drop k) c.bytes-bytes.ensures.bytes)) ∙ l.invariant.got;
     }

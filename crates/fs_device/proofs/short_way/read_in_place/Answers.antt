@@ -9,7 +9,12 @@ use Rattle.fs_device.proofs.short_way.read_in_place.Goals as goal
 pub returns-then-request_len-ne-REQUEST_FRONT-clause-taken : goal.returns-then-request_len-ne-REQUEST_FRONT-clause-taken
 returns-then-request_len-ne-REQUEST_FRONT-clause-taken g c = (
   λ no. absurd (cc),
-  λ reads. absurd (omega (arith, reads_eighty (g.H.HostBlocks.host c.args.host.now) c.args.chain.now reads.1, c.request_len.ensures, c.if-request_len-ne-REQUEST_FRONT.true)),
+  λ reads. absurd (omega (
+    arith,
+    reads_eighty (g.H.HostBlocks.host c.args.host.now) c.args.chain.now reads.1,
+    c.request_len.ensures,
+    c.if-request_len-ne-REQUEST_FRONT.true,
+  )),
 )
 
 pub returns-clause-some : goal.returns-clause-some
@@ -22,7 +27,8 @@ returns-clause-some g c =
     let e = c.in_ok-room.ensures in
     let has = rw c.deref.ensures at e.some.0 refl in
     let r = c.read_to_room-reply.ensures.read in
-    answers_read g.F.FileSystemBase.may c.args.server.now c.read_to_room-reply.new.server h (g.H.HostBlocks.host c.read_to_room-reply.new.host) ps (places c.args.chain.now.writable.items)
+    answers_read g.F.FileSystemBase.may c.args.server.now c.read_to_room-reply.new.server h
+    (g.H.HostBlocks.host c.read_to_room-reply.new.host) ps (places c.args.chain.now.writable.items)
     c.in_ok-room.room.places r.1 c.read_to_room-reply.result r.0 c.in_ok-request.request
     (λ options n le. ap (λ (l : List ℕ). meaning options l n) (sym all) ∙ c.in_ok-request.ensures.means options n le)
     has (rw c.deref.ensures at e.places) r.2 (omega arith) r.3 r.4

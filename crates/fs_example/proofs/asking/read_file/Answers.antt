@@ -10,6 +10,7 @@ returns c =
       machine_of_monitor c.in_ok-monitor.monitor,
       machine_of_monitor c.read_file.new.self,
       c.in_ok-monitor.ensures.machine,
-      subst (λ (n : ℕ). ReadsFile (machine_of_monitor c.in_ok-monitor.monitor) n c.args.name.now contents.items (machine_of_monitor c.read_file.new.self)) c.in_ok-monitor.ensures.chains reads,
+      subst (λ (n : ℕ). ReadsFile (machine_of_monitor c.in_ok-monitor.monitor) n c.args.name.now contents.items
+          (machine_of_monitor c.read_file.new.self)) c.in_ok-monitor.ensures.chains reads,
     ))
     c.read_file.ensures

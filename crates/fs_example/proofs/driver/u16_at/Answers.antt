@@ -10,5 +10,6 @@ returns c =
     let m = memory_of c.args.host.now c.args.mem.now in
     let done = reached (place c.args.mem.now) (circular c.args.addr 2) in
     let all = all_done (record { 0 = c.args.addr }) 2 done (sym c.read_slice.ensures.result ∙ c.in_ok-read_slice.was) in
-    let is : c.read_slice.new.buffer ≡ bytes m c.args.addr 2 = c.read_slice.ensures.bytes ∙ read_whole m c.args.addr 2 done (0 ∷ 0 ∷ []) refl all c.requires.low in
+    let is : c.read_slice.new.buffer ≡ bytes m c.args.addr 2 =
+    c.read_slice.ensures.bytes ∙ read_whole m c.args.addr 2 done (0 ∷ 0 ∷ []) refl all c.requires.low in
     c.from_le_bytes.ensures ∙ ap (λ (l : List ℕ). slice_index l 0 + slice_index l 1 * 256) is

@@ -10,5 +10,7 @@ returns c =
     let m = memory_of c.args.host.now c.args.mem.now in
     let done = reached (place c.args.mem.now) (circular c.args.addr 4) in
     let all = all_done (record { 0 = c.args.addr }) 4 done (sym c.read_slice.ensures.result ∙ c.in_ok-read_slice.was) in
-    let is : c.read_slice.new.buffer ≡ bytes m c.args.addr 4 = c.read_slice.ensures.bytes ∙ read_whole m c.args.addr 4 done (0 ∷ 0 ∷ 0 ∷ 0 ∷ []) refl all c.requires.low in
-    c.from_le_bytes.ensures ∙ ap (λ (l : List ℕ). slice_index l 0 + slice_index l 1 * 256 + slice_index l 2 * 65536 + slice_index l 3 * 16777216) is
+    let is : c.read_slice.new.buffer ≡ bytes m c.args.addr 4 =
+    c.read_slice.ensures.bytes ∙ read_whole m c.args.addr 4 done (0 ∷ 0 ∷ 0 ∷ 0 ∷ []) refl all c.requires.low in
+    c.from_le_bytes.ensures
+    ∙ ap (λ (l : List ℕ). slice_index l 0 + slice_index l 1 * 256 + slice_index l 2 * 65536 + slice_index l 3 * 16777216) is

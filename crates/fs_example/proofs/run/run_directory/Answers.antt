@@ -21,5 +21,6 @@ returns-clause-guest g c =
     let before = machine_of c.args.machine.now in
     let after = machine_of c.run.new.self in
     let events = zip (map command_of c.args.commands.items) (map answer_of answers.items) in
-    run_gives before after events ran.0 ran.1 c.args.machine.now.held.0 (λ end part told way. (c.law_calls.ensures before end part told way).0))
+    run_gives before after events ran.0 ran.1 c.args.machine.now.held.0
+    (λ end part told way. (c.law_calls.ensures before end part told way).0))
     c.run.ensures.run

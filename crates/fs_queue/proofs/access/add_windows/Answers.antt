@@ -9,8 +9,10 @@ use Rattle.fs_queue.proofs.access.add_windows.Goals as goal
 pub returns-clause-found : goal.returns-clause-found
 returns-clause-found g c =
     subst (λ (o : Option (List Place)). IfOk c.push_windows.result
-    (λ (found : Bool). after (places c.args.windows.now.items) o ≡ (if found then Some (places c.push_windows.new.windows.items) else None)))
-    (places_from-is (g.M.GuestMemory.memory c.args.mem.now (g.H.HostBlocks.host c.args.host.now)) c.args.access c.args.addr c.args.len c.requires.fits) c.push_windows.ensures.found
+    (λ (found : Bool). after (places c.args.windows.now.items) o
+    ≡ (if found then Some (places c.push_windows.new.windows.items) else None)))
+    (places_from-is (g.M.GuestMemory.memory c.args.mem.now (g.H.HostBlocks.host c.args.host.now)) c.args.access c.args.addr c.args.len
+    c.requires.fits) c.push_windows.ensures.found
 
 pub returns-clause-lie : goal.returns-clause-lie
 returns-clause-lie g c = c.push_windows.ensures.held c.requires.held

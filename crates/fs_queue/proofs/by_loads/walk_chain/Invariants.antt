@@ -9,7 +9,8 @@ use Rattle.fs_queue.proofs.by_loads.walk_chain.Given as goal
 abbrev pub invariant-steps : goal.invariant-steps
 invariant-steps g l = record {
   came :
-      CameKept (g.M.GuestMemory.memory l.mem (g.H.HostBlocks.host l.host)) l.fn.layout.size (ahead_at l.fn.layout.size (first_visit (at_position l.fn.layout 0) l.fn.head))
+      CameKept (g.M.GuestMemory.memory l.mem (g.H.HostBlocks.host l.host)) l.fn.layout.size
+      (ahead_at l.fn.layout.size (first_visit (at_position l.fn.layout 0) l.fn.head))
       l.fn.descriptors.capacity l.kept l.descriptors.items (ahead_of l.progress);
   capacity : l.fn.descriptors.capacity ≤ l.descriptors.capacity;
   size : IfWants l.progress (λ w. w.size ≡ l.fn.layout.size);

@@ -33,7 +33,8 @@ is_entry (says.Chain head progress) e = absurd (cc)
 is_entry says.Idle e = absurd (cc)
 is_entry (says.Refused x) e = absurd (cc)
 
-told_alone : (r : code.Walk) (n k : NextAvail) → ((w : RingEntryWalk) → r ≡ says.RingEntry w → ⊥) → stage_of r ≡ stage_at n → (asks_entry n ≡ false → n ≡ k) → stage_of r ≡ Told k
+told_alone : (r : code.Walk) (n k : NextAvail) → ((w : RingEntryWalk) → r ≡ says.RingEntry w → ⊥) → stage_of r ≡ stage_at n →
+    (asks_entry n ≡ false → n ≡ k) → stage_of r ≡ Told k
 told_alone r n k other e same = by_test (asks_entry n) refl e
   where
     by_test : (b : Bool) → asks_entry n ≡ b → stage_of r ≡ (if b then AsksEntry else Told n) → stage_of r ≡ Told k
@@ -46,18 +47,22 @@ returns-in-RingEntry-clause-told g c =
     let q = at_position c.args.layout c.args.position in
     let here = placed _ _ _ _ c.new.ensures.layout c.new.ensures.position in
     let there = placed _ _ _ _ c.in-RingEntry.ensures.same.0 c.in-RingEntry.ensures.same.1 ∙ here in
-    let asks = asked (by_index q c.load_from_ring-index.result) (c.in-RingEntry.ensures.stage ∙ ap (λ x. stage_at (by_index x c.load_from_ring-index.result)) here) in
+    let asks = asked (by_index q c.load_from_ring-index.result)
+    (c.in-RingEntry.ensures.stage ∙ ap (λ x. stage_at (by_index x c.load_from_ring-index.result)) here) in
     let tells = subst (λ (x : Queue). (index : List ℕ) → length index ≡ 2 → asks_entry (by_index x (Some index)) ≡ true →
-    stage_of c.give-in-RingEntry.result ≡ Told (by_entry x (Some index) c.load_from_ring-entry.result)) there c.give-in-RingEntry.ensures.tells in
+    stage_of c.give-in-RingEntry.result ≡ Told (by_entry x (Some index) c.load_from_ring-entry.result)) there
+    c.give-in-RingEntry.ensures.tells in
     asked_told m q c.load_from_ring-index.result c.load_from_ring-entry.result _ c.load_from_ring-index.ensures
-    (c.load_from_ring-entry.ensures ∙ ap (λ a. if reach m Read a 2 then Some (bytes m a 2) else None) c.entry_offset-offset.ensures.at) asks tells
+    (c.load_from_ring-entry.ensures ∙ ap (λ a. if reach m Read a 2 then Some (bytes m a 2) else None) c.entry_offset-offset.ensures.at) asks
+    tells
 
 pub returns-in_default : goal.returns-in_default
 returns-in_default g c =
     let m = g.M.GuestMemory.memory c.args.mem.now (g.H.HostBlocks.host c.args.host.now) in
     let q = at_position c.args.layout c.args.position in
     let here = placed _ _ _ _ c.new.ensures.layout c.new.ensures.position in
-    let still = ring_is_still m q c.load_from_ring-index.result (if reach m Read (ring_entry_at q) 2 then Some (bytes m (ring_entry_at q) 2) else None) c.load_from_ring-index.ensures refl in
+    let still = ring_is_still m q c.load_from_ring-index.result (if reach m Read (ring_entry_at q) 2 then Some (bytes m (ring_entry_at q) 2)
+    else None) c.load_from_ring-index.ensures refl in
     record {
       told =
           told_alone c.give.result (by_index q c.load_from_ring-index.result) (next_avail m q) c.in_default.not-RingEntry

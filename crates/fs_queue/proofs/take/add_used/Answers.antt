@@ -15,7 +15,8 @@ returns-then-not-branch-clause-found g c =
     let f = location (g.M.GuestMemory.memory c.args.mem.now (g.H.HostBlocks.host c.args.host.now)) Write in
     let q = at_position c.args.layout c.args.position in
     located-lost (addresses (element_at q) 8) (addresses (index_at q) 2) f
-    (after_missing (located f (addresses (element_at q) 8)) (rw (c.requires.none, c.if-not-branch.true, c.used.ensures, c.from.ensures, c.size.ensures) at c.in_ok-add_windows.ensures.found))
+    (after_missing (located f (addresses (element_at q) 8))
+    (rw (c.requires.none, c.if-not-branch.true, c.used.ensures, c.from.ensures, c.size.ensures) at c.in_ok-add_windows.ensures.found))
 
 pub returns-clause-found : goal.returns-clause-found
 returns-clause-found g c =
@@ -23,14 +24,19 @@ returns-clause-found g c =
     let q = at_position c.args.layout c.args.position in
     let element = after_empty (located f (addresses (element_at q) 8)) _
     (rw (c.requires.none, c.if-not-branch.false, c.used.ensures, c.from.ensures, c.size.ensures) at c.in_ok-add_windows.ensures.found) in
-    subst (λ (o : Option (List Place)). IfOk c.add_windows-2.result (λ (found : Bool). o ≡ (if found then Some (places c.add_windows-2.new.windows.items) else None)))
-    (sym (located-append (addresses (element_at q) 8) (addresses (index_at q) 2) f _ element)) (rw c.used-index.ensures at c.add_windows-2.ensures.found)
+    subst (λ (o : Option (List Place)). IfOk c.add_windows-2.result
+    (λ (found : Bool). o ≡ (if found then Some (places c.add_windows-2.new.windows.items) else None)))
+    (sym (located-append (addresses (element_at q) 8) (addresses (index_at q) 2) f _ element))
+    (rw c.used-index.ensures at c.add_windows-2.ensures.found)
 
 pub returns-in_err-add_windows-clause-lie : goal.returns-in_err-add_windows-clause-lie
-returns-in_err-add_windows-clause-lie g c = c.add_windows.ensures.lie (rw c.requires.none (none_lies (lengths (g.H.HostBlocks.host c.args.host.now))))
+returns-in_err-add_windows-clause-lie g c =
+    c.add_windows.ensures.lie (rw c.requires.none (none_lies (lengths (g.H.HostBlocks.host c.args.host.now))))
 
 pub returns-then-not-branch-clause-lie : goal.returns-then-not-branch-clause-lie
-returns-then-not-branch-clause-lie g c = c.add_windows.ensures.lie (rw c.requires.none (none_lies (lengths (g.H.HostBlocks.host c.args.host.now))))
+returns-then-not-branch-clause-lie g c =
+    c.add_windows.ensures.lie (rw c.requires.none (none_lies (lengths (g.H.HostBlocks.host c.args.host.now))))
 
 pub returns-clause-lie : goal.returns-clause-lie
-returns-clause-lie g c = c.add_windows-2.ensures.lie (c.add_windows.ensures.lie (rw c.requires.none (none_lies (lengths (g.H.HostBlocks.host c.args.host.now)))))
+returns-clause-lie g c =
+    c.add_windows-2.ensures.lie (c.add_windows.ensures.lie (rw c.requires.none (none_lies (lengths (g.H.HostBlocks.host c.args.host.now)))))

@@ -8,7 +8,8 @@ use Rattle.fs_queue.proofs.take.add_used_and_flags.Goals as goal
 pub returns-clause-lie : goal.returns-clause-lie
 returns-clause-lie g c =
     let m = g.M.GuestMemory.memory c.args.mem.now (g.H.HostBlocks.host c.args.host.now) in
-    let flags = after_empty (located (location m Read) (addresses c.avail-flags.result 2)) _ (rw (c.requires.none.1, c.if-not-branch-2.false) at c.in_ok-add_windows.ensures.found) in
+    let flags = after_empty (located (location m Read) (addresses c.avail-flags.result 2)) _
+    (rw (c.requires.none.1, c.if-not-branch-2.false) at c.in_ok-add_windows.ensures.found) in
     record {
       used = c.add_used.ensures.lie;
       flags = c.add_windows.ensures.lie (rw c.requires.none.1 (none_lies (lengths (g.H.HostBlocks.host c.args.host.now))));

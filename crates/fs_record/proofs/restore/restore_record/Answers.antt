@@ -12,7 +12,8 @@ returns-in-Err-clause-err g c =
     let head = c.in_ok-head.head in (
       before.0 ++ stopped.0,
       Consumes-trans _ _ _ before.0 stopped.0 before.1 stopped.1,
-      queue_refuses before.0 stopped.0 c.args.page_size c.args.limit (told_by head.version c.args.page_size c.args.limit) head.options.0 head.count c.loop-index.index c.loop-index.queues.items c.in-Err.error
+      queue_refuses before.0 stopped.0 c.args.page_size c.args.limit (told_by head.version c.args.page_size c.args.limit) head.options.0
+          head.count c.loop-index.index c.loop-index.queues.items c.in-Err.error
           (goes_with head.version c.args.page_size c.args.limit) before.2 c.loop-index.invariant.so_far c.loop-index-test.true stopped.2,
       leaves_too c.in-Err.error _ _ _ _ c.loop-index.invariant.failed stopped.3,
     )
@@ -29,7 +30,8 @@ loop-index-preserved g c =
       read = (
         before.0 ++ queue_bytes q,
         Consumes-trans _ _ _ before.0 (queue_bytes q) before.1 got.0,
-        rw pushed (front_more before.0 (told_by head.version c.args.page_size c.args.limit) head.options.0 head.count c.loop-index.queues.items q before.2 short got.1),
+        rw pushed (front_more before.0 (told_by head.version c.args.page_size c.args.limit) head.options.0 head.count
+            c.loop-index.queues.items q before.2 short got.1),
       );
       failed = Prim.search rules;
       so_far = Prim.search rules;
@@ -64,11 +66,13 @@ returns-in-Ok-read_end-clause-ok g c =
     let before = c.loop-index.invariant.read in
     let head = c.in_ok-head.head in
     let end = end_bytes (told_by head.version 0 c.args.limit) in
-    let all : length c.loop-index.queues.items ≡ head.count = omega (arith, c.loop-index.invariant.so_far, c.loop-index.invariant.within, c.loop-index-test.false) in
+    let all : length c.loop-index.queues.items ≡ head.count =
+    omega (arith, c.loop-index.invariant.so_far, c.loop-index.invariant.within, c.loop-index-test.false) in
     let read = c.in-Ok-read_end.ensures.ok in (
       before.0 ++ end,
       Consumes-trans _ _ _ before.0 end before.1 read.0,
-      whole_record before.0 head.version c.args.page_size c.args.limit head.options.0 head.count c.loop-index.queues.items (omega (arith, c.ranges.page_size.fits)) (omega (arith, c.ranges.limit.fits)) before.2 all,
+      whole_record before.0 head.version c.args.page_size c.args.limit head.options.0 head.count c.loop-index.queues.items
+          (omega (arith, c.ranges.page_size.fits)) (omega (arith, c.ranges.limit.fits)) before.2 all,
       Prim.search rules,
     )
 
@@ -76,10 +80,12 @@ pub returns-in-Err-read_end-clause-err : goal.returns-in-Err-read_end-clause-err
 returns-in-Err-read_end-clause-err g c =
     let before = c.loop-index.invariant.read in
     let head = c.in_ok-head.head in
-    let all : length c.loop-index.queues.items ≡ head.count = omega (arith, c.loop-index.invariant.so_far, c.loop-index.invariant.within, c.loop-index-test.false) in
+    let all : length c.loop-index.queues.items ≡ head.count =
+    omega (arith, c.loop-index.invariant.so_far, c.loop-index.invariant.within, c.loop-index-test.false) in
     let stopped = c.in-Err-read_end.ensures.err in (
       before.0 ++ stopped.0,
       Consumes-trans _ _ _ before.0 stopped.0 before.1 stopped.1,
-      end_refuses before.0 stopped.0 head.version c.args.page_size c.args.limit head.options.0 head.count c.loop-index.queues.items c.in-Err-read_end.error before.2 all stopped.2,
+      end_refuses before.0 stopped.0 head.version c.args.page_size c.args.limit head.options.0 head.count c.loop-index.queues.items
+          c.in-Err-read_end.error before.2 all stopped.2,
       leaves_too c.in-Err-read_end.error _ _ _ _ c.loop-index.invariant.failed stopped.3,
     )

@@ -13,7 +13,8 @@ returns-in_default c =
     let table = table_kept c.args.table.now in
     let end = c.args.addr + c.args.len in
     let some = c.pieces-test.true in
-    sym (c.pieces.invariant.same ∙ stops c.pieces.next (end - c.pieces.next) table c.args.access c.args.regions.now (omega (arith, some)) (c.piece_at.ensures.none c.in_default.is))
+    sym (c.pieces.invariant.same ∙ stops c.pieces.next (end - c.pieces.next) table c.args.access c.args.regions.now (omega (arith, some))
+    (c.piece_at.ensures.none c.in_default.is))
 
 pub returns-then-not-reaches : goal.returns-then-not-reaches
 returns-then-not-reaches c =
@@ -24,8 +25,10 @@ returns-then-not-reaches c =
     let p = c.in-Some.piece in
     let first = first_piece left c.pieces.next table p _ (omega (arith, some)) c.in-Some.ensures.piece.1 in
     let few = run_len-most left c.pieces.next table in
-    let step = piece_reaches c.pieces.next left p.length p.base.0 false table c.args.access c.args.regions.now (omega (arith, first.1, few)) c.in-Some.ensures.fits.0 first.0
-    (run_told p.length left c.pieces.next table first.1) (told_may p.length left c.pieces.next table c.args.access first.1 c.in-Some.ensures.some) (c.if-not-reaches.ensures c.args.access) in
+    let step = piece_reaches c.pieces.next left p.length p.base.0 false table c.args.access c.args.regions.now (omega (arith, first.1, few))
+    c.in-Some.ensures.fits.0 first.0
+    (run_told p.length left c.pieces.next table first.1)
+    (told_may p.length left c.pieces.next table c.args.access first.1 c.in-Some.ensures.some) (c.if-not-reaches.ensures c.args.access) in
     sym (c.pieces.invariant.same ∙ step)
 
 pub pieces-smaller : goal.pieces-smaller
@@ -46,17 +49,21 @@ pieces-preserved c =
     let p = c.in-Some.piece in
     let first = first_piece left c.pieces.next table p _ (omega (arith, some)) c.in-Some.ensures.piece.1 in
     let few = run_len-most left c.pieces.next table in
-    let step = piece_reaches c.pieces.next left p.length p.base.0 true table c.args.access c.args.regions.now (omega (arith, first.1, few)) c.in-Some.ensures.fits.0 first.0
-    (run_told p.length left c.pieces.next table first.1) (told_may p.length left c.pieces.next table c.args.access first.1 c.in-Some.ensures.some)
+    let step = piece_reaches c.pieces.next left p.length p.base.0 true table c.args.access c.args.regions.now (omega (arith, first.1, few))
+    c.in-Some.ensures.fits.0 first.0
+    (run_told p.length left c.pieces.next table first.1)
+    (told_may p.length left c.pieces.next table c.args.access first.1 c.in-Some.ensures.some)
     (c.if-not-reaches.ensures c.args.access) in
     let count : left - p.length ≡ end - (c.pieces.next + p.length) = omega arith in
     record {
       order = omega (arith, some, first.1, few);
-      same = c.pieces.invariant.same ∙ step ∙ ap (λ n. list_all (λ a. is_some (translated c.args.regions.now table 0 c.args.access a)) (addresses (c.pieces.next + p.length) n)) count;
+      same = c.pieces.invariant.same ∙ step ∙ ap (λ n. list_all (λ a. is_some (translated c.args.regions.now table 0 c.args.access a))
+          (addresses (c.pieces.next + p.length) n)) count;
     }
 
 pub returns : goal.returns
 returns c =
     let done = c.pieces-test.false in
     let table = table_kept c.args.table.now in
-    sym (c.pieces.invariant.same ∙ none_more c.pieces.next (c.args.addr + c.args.len - c.pieces.next) (translated c.args.regions.now table 0 c.args.access) (omega (arith, done)))
+    sym (c.pieces.invariant.same ∙ none_more c.pieces.next (c.args.addr + c.args.len - c.pieces.next)
+    (translated c.args.regions.now table 0 c.args.access) (omega (arith, done)))

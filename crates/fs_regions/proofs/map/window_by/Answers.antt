@@ -9,7 +9,8 @@ use Rattle.fs_regions.proofs.map.window_by.Goals as goal
 
 pub returns-in_default-clause-none : goal.returns-in_default-clause-none
 returns-in_default-clause-none c = λ none.
-    denied c.args.regions.now 0 c.args.addr c.args.access (table_kept c.args.table.now c.args.addr) (c.piece_at.ensures.none c.in_default.is)
+    denied c.args.regions.now 0 c.args.addr c.args.access (table_kept c.args.table.now c.args.addr)
+    (c.piece_at.ensures.none c.in_default.is)
 
 pub window_at-requires : goal.window_at-requires
 window_at-requires c =
@@ -41,7 +42,8 @@ returns-in-Some-window_at-clause-longest c =
     let p = c.in-Some.piece in
     let first = first_piece c.args.most c.args.addr table p _ c.requires c.in-Some.ensures.piece.1 in
     rw c.replace_bitmap.ensures.window
-    (left_told c.args.most c.args.addr p.length c.in-Some-window_at.window.len (left_at c.args.regions.now p.base.0) table c.args.regions.now c.in-Some.ensures.fits.1 first.1
+    (left_told c.args.most c.args.addr p.length c.in-Some-window_at.window.len (left_at c.args.regions.now p.base.0) table
+    c.args.regions.now c.in-Some.ensures.fits.1 first.1
     (ap (left_at c.args.regions.now) first.0) c.in-Some-window_at.ensures.longest)
 
 pub returns-in-None-clause-none : goal.returns-in-None-clause-none
@@ -51,4 +53,5 @@ returns-in-None-clause-none c = λ none.
     let first = first_piece c.args.most c.args.addr table p _ c.requires c.in-Some.ensures.piece.1 in
     let some : 0 < p.length = rw first.1 (run_len-some c.args.most c.args.addr table c.requires) in
     let all = told_may p.length c.args.most c.args.addr table c.args.access first.1 c.in-Some.ensures.some in
-    first_lost p.length c.args.addr table c.args.access c.args.regions.now 0 some all (sym (ap (place c.args.regions.now) first.0) ∙ c.window_at.ensures.none c.in-None.is)
+    first_lost p.length c.args.addr table c.args.access c.args.regions.now 0 some all
+    (sym (ap (place c.args.regions.now) first.0) ∙ c.window_at.ensures.none c.in-None.is)

@@ -5,10 +5,13 @@ use Rattle.fs_regions.proofs.stretch.read_entry.Goals as goal
 
 pub returns-in-Some-clause-brings : goal.returns-in-Some-clause-brings
 returns-in-Some-clause-brings c =
-    entry_read c.args.walk c.args.bytes.now c.args.offset _ c.give-given.result.joins c.give-given.result.then c.args.descriptors.now.items _ c.requires.inside c.entry_of.ensures
-    c.give-given.ensures.joins c.give-given.ensures.then (c.push_reserved.ensures.items ∙ sym (ap (with_joining c.args.descriptors.now.items) c.in-Some.is))
+    entry_read c.args.walk c.args.bytes.now c.args.offset _ c.give-given.result.joins c.give-given.result.then c.args.descriptors.now.items
+    _ c.requires.inside c.entry_of.ensures
+    c.give-given.ensures.joins c.give-given.ensures.then
+    (c.push_reserved.ensures.items ∙ sym (ap (with_joining c.args.descriptors.now.items) c.in-Some.is))
 
 pub returns-in-None-clause-brings : goal.returns-in-None-clause-brings
 returns-in-None-clause-brings c =
-    entry_read c.args.walk c.args.bytes.now c.args.offset _ c.give-given.result.joins c.give-given.result.then c.args.descriptors.now.items _ c.requires.inside c.entry_of.ensures
+    entry_read c.args.walk c.args.bytes.now c.args.offset _ c.give-given.result.joins c.give-given.result.then c.args.descriptors.now.items
+    _ c.requires.inside c.entry_of.ensures
     c.give-given.ensures.joins c.give-given.ensures.then (sym (ap (with_joining c.args.descriptors.now.items) c.in-None.is))

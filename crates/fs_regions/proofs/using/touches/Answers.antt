@@ -10,5 +10,9 @@ returns-then-iova-descriptor-2-clause-yes c = λ yes.
     let len = ap (λ (d : Descriptor). d.len) c.descriptor.view_is in
     let low = c.if-iova-descriptor.false in
     let within = c.if-iova-descriptor-2.true in
-    let long = c.from.ensures in
-    (c.args.iova - c.args.descriptor.now.addr, omega (arith, at, len, low, within, long), omega (arith, at, low), omega (arith, at, low, some))
+    let long = c.from.ensures in (
+      c.args.iova - c.args.descriptor.now.addr,
+      omega (arith, at, len, low, within, long),
+      omega (arith, at, low),
+      omega (arith, at, low, some),
+    )

@@ -11,6 +11,9 @@ returns-clause-keeps g c =
     let after = machine_of c.set_layout.new.self in
     let first = c.layout_event.ensures in
     let second = c.layout_event-2.ensures in
-    let done = layout_performed g.F.FileSystemBase.may before after c.args.layout (answer_of c.set_layout.result) c.requires c.set_layout.ensures in
-    layout_keeps g.F.FileSystemBase.may before after c.args.layout (record { entry = c.layout_event.result; receipt = c.layout_event-2.result }) done
-    (first.command ∙ ap SetLayout c.in_ok-first.ensures.same, first.outcome, first.pages) (second.command ∙ ap SetLayout c.in_ok-second.ensures.same, second.outcome, second.pages)
+    let done = layout_performed g.F.FileSystemBase.may before after c.args.layout (answer_of c.set_layout.result) c.requires
+    c.set_layout.ensures in
+    layout_keeps g.F.FileSystemBase.may before after c.args.layout
+    (record { entry = c.layout_event.result; receipt = c.layout_event-2.result }) done
+    (first.command ∙ ap SetLayout c.in_ok-first.ensures.same, first.outcome, first.pages)
+    (second.command ∙ ap SetLayout c.in_ok-second.ensures.same, second.outcome, second.pages)

@@ -9,10 +9,12 @@ pub loop-receipt-preserved : goal.loop-receipt-preserved
 loop-receipt-preserved c =
     let P = λ (r : Receipt). MatchesJournal c.args.journal.now r in
     let told : P c.receipt-item.result = c.is_told.ensures.0 c.if-not-is_told.false in
-    All-more P c.args.receipts.now c.loop-receipt.receipt-index c.receipt-item.result c.loop-receipt-test.true c.loop-receipt.invariant (subst P c.receipt-item.is told)
+    All-more P c.args.receipts.now c.loop-receipt.receipt-index c.receipt-item.result c.loop-receipt-test.true c.loop-receipt.invariant
+    (subst P c.receipt-item.is told)
 
 pub returns : goal.returns
 returns c = (
-  λ _. subst (λ (rs : List Receipt). All (MatchesJournal c.args.journal.now) rs) (take_all c.loop-receipt.receipt-index c.args.receipts.now c.loop-receipt-test.false) c.loop-receipt.invariant,
+  λ _. subst (λ (rs : List Receipt). All (MatchesJournal c.args.journal.now) rs)
+      (take_all c.loop-receipt.receipt-index c.args.receipts.now c.loop-receipt-test.false) c.loop-receipt.invariant,
   λ _. refl,
 )

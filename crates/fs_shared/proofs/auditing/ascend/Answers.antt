@@ -16,15 +16,18 @@ loop-receipt-preserved c =
     let here : i < length rs = c.loop-receipt-test.true in
     let has : (number : ℕ) → Receipt → Bool = λ number x. x.number == number in
     let other : (number : ℕ) → (r.number ≡ number → ⊥) → times number (take (i + 1) rs) ≡ times number (take i rs) =
-    λ number apart. count_by_more_no (has number) rs i r here (subst (λ (x : Receipt). (x.number == number) ≡ false) c.receipt-item.is (ne_eqb r.number number apart)) in
+    λ number apart. count_by_more_no (has number) rs i r here
+    (subst (λ (x : Receipt). (x.number == number) ≡ false) c.receipt-item.is (ne_eqb r.number number apart)) in
     let own : (number : ℕ) → r.number ≡ number → times number (take (i + 1) rs) ≡ times number (take i rs) + 1 =
-    λ number same. count_by_more_yes (has number) rs i r here (subst (λ (x : Receipt). (x.number == number) ≡ true) c.receipt-item.is (eq-eqb r.number number same)) in
+    λ number same. count_by_more_yes (has number) rs i r here
+    (subst (λ (x : Receipt). (x.number == number) ≡ true) c.receipt-item.is (eq-eqb r.number number same)) in
     record {
       at = omega (arith, so_far.at);
       once =
           λ number below. ⊎_elim
           (λ (less : number < next). other number (λ e. omega (arith, e, c.if-receipt-next.false, less)) ∙ so_far.once number less)
-          (λ (rest : next ≤ number). own number (omega (arith, c.if-receipt-next.false, below, rest)) ∙ ap (λ n. n + 1) (so_far.none number rest))
+          (λ (rest : next ≤ number). own number (omega (arith, c.if-receipt-next.false, below, rest))
+          ∙ ap (λ n. n + 1) (so_far.none number rest))
           (cases_lt number next);
       none =
           λ number above. other number (λ e. omega (arith, e, c.if-receipt-next.false, above)) ∙ so_far.none number (omega (arith, above));

@@ -6,7 +6,8 @@ use Rattle.fs_shared.proofs.kicking.kick_kept.Goals as goal
 pub returns-in-Err-kept_refusal : goal.returns-in-Err-kept_refusal
 returns-in-Err-kept_refusal g c =
     let no = c.in-Err-kept_refusal.ensures.err in
-    rw no.0 (refusal_leaves g.F.FileSystemBase.may (machine_of c.args.machine.now) _ c.args.queue c.in-Err.error no.1 c.in-Err.ensures.takes)
+    rw no.0 (refusal_leaves g.F.FileSystemBase.may (machine_of c.args.machine.now) _ c.args.queue c.in-Err.error no.1
+    c.in-Err.ensures.takes)
 
 pub returns-in-Err-exchange_kept : goal.returns-in-Err-exchange_kept
 returns-in-Err-exchange_kept g c =

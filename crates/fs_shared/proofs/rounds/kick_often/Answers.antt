@@ -6,7 +6,8 @@ use Rattle.fs_shared.proofs.rounds.kick_often.Goals as goal
 
 pub returns-then-not-kick_once-clause-since : goal.returns-then-not-kick_once-clause-since
 returns-then-not-kick_once-clause-since g c =
-    since_then c.args.share.now.pass.counts.pages c.loop.share.pass.counts.pages c.kick_once.new.share.pass.counts.pages c.args.receipts.now.items c.loop.receipts.items c.kick_once.new.receipts.items
+    since_then c.args.share.now.pass.counts.pages c.loop.share.pass.counts.pages c.kick_once.new.share.pass.counts.pages
+    c.args.receipts.now.items c.loop.receipts.items c.kick_once.new.receipts.items
     c.loop.invariant.since c.kick_once.ensures.since
 
 pub returns-then-not-kick_once-clause-more : goal.returns-then-not-kick_once-clause-more
@@ -21,7 +22,8 @@ loop-preserved g c =
     record {
       own = done.own;
       marked = done.marked;
-      since = since_then c.args.share.now.pass.counts.pages c.loop.share.pass.counts.pages new c.args.receipts.now.items c.loop.receipts.items c.kick_once.new.receipts.items kept.since done.since;
+      since = since_then c.args.share.now.pass.counts.pages c.loop.share.pass.counts.pages new c.args.receipts.now.items
+          c.loop.receipts.items c.kick_once.new.receipts.items kept.since done.since;
       more = goes_on c.args.receipts.now.items c.loop.receipts.items c.kick_once.new.receipts.items kept.more done.more;
       parts = done.parts ∙ kept.parts;
       pass = done.pass ∙ ap (λ (q : Pass). counting q new) kept.pass;

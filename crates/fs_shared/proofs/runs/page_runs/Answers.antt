@@ -32,11 +32,13 @@ loop-window-preserved g c =
     let done = places (take c.loop-window.window-index c.args.windows.now) in
     record {
       from = omega (arith, more, was, c.len-from.ensures.len);
-      runs = subst (λ xs. AreRuns xs c.push_runs.new.runs.items) (sym (windows_more ls c.args.windows.now c.loop-window.window-index c.window-item.result c.loop-window-test.true c.window-item.is))
+      runs = subst (λ xs. AreRuns xs c.push_runs.new.runs.items) (sym (windows_more ls c.args.windows.now c.loop-window.window-index
+          c.window-item.result c.loop-window-test.true c.window-item.is))
           (c.in_ok-push_runs.ensures (map (page_of ls) done) (length-map done (page_of ls) ∙ sym was) c.loop-window.invariant.runs);
     }
 
 pub returns : goal.returns
 returns g c =
     let all = take_all c.loop-window.window-index c.args.windows.now c.loop-window-test.false in
-    subst (λ ws. AreRuns (map (page_of (lengths (g.H.HostBlocks.host c.args.host.now))) (places ws)) c.loop-window.runs.items) all c.loop-window.invariant.runs
+    subst (λ ws. AreRuns (map (page_of (lengths (g.H.HostBlocks.host c.args.host.now))) (places ws)) c.loop-window.runs.items) all
+    c.loop-window.invariant.runs

@@ -1,4 +1,5 @@
-use Rattle.std.proofs.Common.{rules, ◌≡◌, ◌+◌, ◌/◌, ◌%◌, ◌<◌, ◌≤◌, ◌++◌, [], ◌∷◌, ℕ, List, map, append-nil, length, refl, sym, subst, ap, ◌∙◌, arith}
+use Rattle.std.proofs.Common.{rules, ◌≡◌, ◌+◌, ◌/◌, ◌%◌, ◌<◌, ◌≤◌, ◌++◌, [], ◌∷◌, ℕ, List, map, append-nil, length, refl, sym, subst, ap}
+use Rattle.std.proofs.Common.{◌∙◌, arith}
 use Rattle.vm_memory_core.specs.Host.{lengths}
 use Rattle.vm_memory_core.specs.Window.{span}
 use Rattle.fs_shared.specs.declared.runs.PageRun.{PageRun}
@@ -25,8 +26,10 @@ loop-done-preserved g c =
     let fits : (w.offset + c.loop-done.done) % 4096 + c.min-count.result ≤ 4096 = search rules in
     record {
       within = search rules;
-      runs = λ before long is. subst (λ (rs : List PageRun). AreRuns (before ++ map (page_of ls) (span w.block w.offset w.io (c.loop-done.done + c.min-count.result))) rs) (sym pushed) (
-          next_run ls w.block w.offset w.io c.loop-done.done c.min-count.result c.args.from before c.loop-done.runs.items run (c.loop-done.invariant.runs before long is) long refl
+      runs = λ before long is. subst (λ (rs : List PageRun).
+          AreRuns (before ++ map (page_of ls) (span w.block w.offset w.io (c.loop-done.done + c.min-count.result))) rs) (sym pushed) (
+          next_run ls w.block w.offset w.io c.loop-done.done c.min-count.result c.args.from before c.loop-done.runs.items run
+          (c.loop-done.invariant.runs before long is) long refl
           (page ∙ ap (λ n. n + (w.offset + c.loop-done.done) / 4096) (c.in_ok-first.ensures ∙ ap (first_page ls) c.block.ensures)) some fits
           );
     }
@@ -36,5 +39,6 @@ returns g c =
     let all : c.loop-done.done ≡ c.args.window.len = search rules in
     subst
     (λ n. (before : List ℕ) → length before ≡ c.args.from → AreRuns before c.args.runs.now.items
-    → AreRuns (before ++ map (page_of (lengths (g.H.HostBlocks.host c.args.host.now))) (span c.args.window.block c.args.window.offset c.args.window.io n)) c.loop-done.runs.items)
+    → AreRuns (before ++ map (page_of (lengths (g.H.HostBlocks.host c.args.host.now)))
+    (span c.args.window.block c.args.window.offset c.args.window.io n)) c.loop-done.runs.items)
     all c.loop-done.invariant.runs

@@ -9,7 +9,8 @@ abbrev pub invariant-loop-done : goal.invariant-loop-done
 invariant-loop-done g l = record {
   within : l.done ≤ l.window.len;
   runs : (before : List ℕ) → length before ≡ l.from → AreRuns before l.initial.runs.items
-      → AreRuns (before ++ map (page_of (lengths (g.H.HostBlocks.host l.host))) (span l.window.block l.window.offset l.window.io l.done)) l.runs.items;
+      → AreRuns (before ++ map (page_of (lengths (g.H.HostBlocks.host l.host))) (span l.window.block l.window.offset l.window.io l.done))
+      l.runs.items;
 }
 
 abbrev pub decreases-loop-done : goal.decreases-loop-done

@@ -18,6 +18,8 @@ returns-clause-all c page =
     let before = c.args.pages.now.items in
     let sorted = c.sort_unstable.new.self.items in
     let left = dedup_is eqb sorted c.dedup.new.self.items c.dedup.ensures.filtered in (
-      (λ has. Contains-permutation sorted before page (IsPermutation-sym before sorted c.sort_unstable.ensures.permutation) (Contains-from_dedup eqb sorted page (subst (λ (xs : List ℕ). Contains xs page) left has))),
-      (λ has. subst (λ (xs : List ℕ). Contains xs page) (sym left) (Contains-dedup_nat sorted page (Contains-permutation before sorted page c.sort_unstable.ensures.permutation has))),
+      (λ has. Contains-permutation sorted before page (IsPermutation-sym before sorted c.sort_unstable.ensures.permutation)
+          (Contains-from_dedup eqb sorted page (subst (λ (xs : List ℕ). Contains xs page) left has))),
+      (λ has. subst (λ (xs : List ℕ). Contains xs page) (sym left)
+          (Contains-dedup_nat sorted page (Contains-permutation before sorted page c.sort_unstable.ensures.permutation has))),
     )

@@ -8,7 +8,9 @@ loop-number-preserved g c =
     let queues = c.args.device.now.queues in
     let n = c.loop-number.number in
     let same : c.resume.result ≡ c.in-Some.queue.now =
-    c.resume.ensures ∙ rw (c.layout.ensures.size, c.layout.ensures.desc, c.layout.ensures.avail, c.layout.ensures.used, c.position.ensures, c.is_stopped.ensures) refl in
+    c.resume.ensures ∙ rw
+    (c.layout.ensures.size, c.layout.ensures.desc, c.layout.ensures.avail, c.layout.ensures.used, c.position.ensures, c.is_stopped.ensures)
+    refl in
     c.in_ok-push.ensures.items
     ∙ ap (λ (qs : List Queue). qs ++ c.resume.result ∷ []) c.loop-number.invariant
     ∙ ap (λ (q : Queue). take n queues ++ q ∷ []) same

@@ -33,6 +33,7 @@ returns-then-available_bytes-wanted g c =
       g.met.W.ZeroCopyWriter.puts_none c.args.w.now,
       omega arith,
       tt,
-      stays_out room (take c.args.size there) (omega (arith, c.available_bytes.ensures, c.if-available_bytes-wanted.true, c.min-wanted.ensures, long, length-take c.args.size there)),
+      stays_out room (take c.args.size there) (omega
+          (arith, c.available_bytes.ensures, c.if-available_bytes-wanted.true, c.min-wanted.ensures, long, length-take c.args.size there)),
       refl,
     )

@@ -9,5 +9,6 @@ use Rattle.fuse_memory.proofs.nodes.place_of.Goals as goal
 pub returns : goal.returns
 returns c =
     let named = is_named c.args.parent c.args.name.now in
-    position_from_yields_List (λ n. named (entry_of n)) _ _ c.position.result c.position.ensures.ran (YieldsList-from_slice c.args.names.now cc) (λ x b q k. search (rules, tests))
+    position_from_yields_List (λ n. named (entry_of n)) _ _ c.position.result c.position.ensures.ran
+    (YieldsList-from_slice c.args.names.now cc) (λ x b q k. search (rules, tests))
     ∙ position-map entry_of named c.args.names.now

@@ -10,17 +10,21 @@ pub returns-clause-pages : goal.returns-clause-pages
 returns-clause-pages c =
     let is = ap (λ (p : Pass). p.counts.pages) c.gather-found.ensures.pass in
     let beyond = subst (λ (n : ℕ). NoneBeyond n c.args.word c.gather-found.result) (sym c.requires.own.1) c.gather-found.ensures.past in
-    let both = gathers_more c.args.pass.now.counts.pages c.args.words.now c.args.word c.gather-found.result c.requires.inside beyond c.requires.taken in
+    let both = gathers_more c.args.pass.now.counts.pages c.args.words.now c.args.word c.gather-found.result c.requires.inside beyond
+    c.requires.taken in
     subst (Gathering c.args.pass.now.counts.pages) (sym is) both.1
 
 pub returns-clause-taken : goal.returns-clause-taken
 returns-clause-taken c =
     let is = ap (λ (p : Pass). p.counts.pages) c.gather-found.ensures.pass in
     let beyond = subst (λ (n : ℕ). NoneBeyond n c.args.word c.gather-found.result) (sym c.requires.own.1) c.gather-found.ensures.past in
-    let both = gathers_more c.args.pass.now.counts.pages c.args.words.now c.args.word c.gather-found.result c.requires.inside beyond c.requires.taken in
-    subst (λ (l : List Tally). HaveTaken l (set c.args.words.now c.args.word (bit_or (get_or c.args.words.now c.args.word 0) c.gather-found.result))) (sym is) both.0
+    let both = gathers_more c.args.pass.now.counts.pages c.args.words.now c.args.word c.gather-found.result c.requires.inside beyond
+    c.requires.taken in
+    subst (λ (l : List Tally).
+    HaveTaken l (set c.args.words.now c.args.word (bit_or (get_or c.args.words.now c.args.word 0) c.gather-found.result))) (sym is) both.0
 
 pub returns-clause-round : goal.returns-clause-round
 returns-clause-round c before =
     let is = ap (λ (p : Pass). p.counts.pages) c.gather-found.ensures.pass in
-    subst (λ (l : List Tally). IsTakenTo l (64 * c.args.word + 64)) (sym is) (taken_more c.args.pass.now.counts.pages c.args.word c.gather-found.result before)
+    subst (λ (l : List Tally). IsTakenTo l (64 * c.args.word + 64)) (sym is)
+    (taken_more c.args.pass.now.counts.pages c.args.word c.gather-found.result before)

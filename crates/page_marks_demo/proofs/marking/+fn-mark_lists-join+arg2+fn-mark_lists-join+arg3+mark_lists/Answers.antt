@@ -20,13 +20,15 @@ returns-clause-pages g t c =
     let told : c.meet_pass.new.other.counts ≡ kept_half v = ap (λ (p : Pass). p.counts) c.meet_pass.ensures.other ∙ kept in
     let new : c.unwrap-second.result ≡ record { name = c.args.pass.name; counts = new_half v } = search rules in
     let met : c.meet_pass.new.pass.counts ≡ with_pages (new_half v) (met_with v.pages (new_half v).pages) =
-    ap (λ (p : Pass). p.counts) c.meet_pass.ensures.pass ∙ (λ i. with_pages (new i).counts (met_with (kept i).pages (new i).counts.pages)) in
+    ap (λ (p : Pass). p.counts) c.meet_pass.ensures.pass
+    ∙ (λ i. with_pages (new i).counts (met_with (kept i).pages (new i).counts.pages)) in
     let joint : c.join_pass.new.pass.counts ≡ both_passes a b = ap (λ (p : Pass). p.counts) c.join_pass.ensures.pass in
     let split = λ (p : ℕ). ap (λ l. is_in_lists size len l p) c.split_at.ensures.by_index.0 ∙ in_lists-append size len left right p in
     let first_marks : MarksJust (is_in_lists size len left) v.pages a.pages =
     subst (λ (w : PageCounts). MarksJust (is_in_lists size len left) w.pages a.pages) told c.join-first.ensures.first.1.0 in
     subst (λ (w : PageCounts). MarksJust (is_in_lists size len c.args.lists.now) v.pages w.pages) (sym joint)
-    (both_halves (is_in_lists size len left) (is_in_lists size len right) (is_in_lists size len c.args.lists.now) v c.meet_pass.new.pass.counts a b split (ap (λ (w : PageCounts). w.pages) met)
+    (both_halves (is_in_lists size len left) (is_in_lists size len right) (is_in_lists size len c.args.lists.now) v
+    c.meet_pass.new.pass.counts a b split (ap (λ (w : PageCounts). w.pages) met)
     first_marks c.join-first.ensures.second.1.0)
 
 pub returns-clause-part : goal.returns-clause-part
@@ -38,7 +40,8 @@ returns-clause-part g t c =
     let told : c.meet_pass.new.other.counts ≡ kept_half v = ap (λ (p : Pass). p.counts) c.meet_pass.ensures.other ∙ kept in
     let new : c.unwrap-second.result ≡ record { name = c.args.pass.name; counts = new_half v } = search rules in
     let met : c.meet_pass.new.pass.counts ≡ with_pages (new_half v) (met_with v.pages (new_half v).pages) =
-    ap (λ (p : Pass). p.counts) c.meet_pass.ensures.pass ∙ (λ i. with_pages (new i).counts (met_with (kept i).pages (new i).counts.pages)) in
+    ap (λ (p : Pass). p.counts) c.meet_pass.ensures.pass
+    ∙ (λ i. with_pages (new i).counts (met_with (kept i).pages (new i).counts.pages)) in
     let joint : c.join_pass.new.pass.counts ≡ both_passes a b = ap (λ (p : Pass). p.counts) c.join_pass.ensures.pass in
     let first_part : HaveSamePart (kept_half v) a = subst (λ (w : PageCounts). HaveSamePart w a) told c.join-first.ensures.first.1.1 in
     let second_part : HaveSamePart (new_half v) b = subst (λ (w : PageCounts). HaveSamePart w b) met c.join-first.ensures.second.1.1 in

@@ -9,6 +9,7 @@ invariant-loop-range l = record {
   own : IsPassOf l.bitmap l.pass;
   pass : l.pass ≡ counting l.initial.pass l.pass.counts.pages;
   pages :
-      Left (is_in_ranges l.bitmap.page_size l.bitmap.len (drop l.range-index l.ranges)) (is_in_ranges l.bitmap.page_size l.bitmap.len l.ranges)
+      Left (is_in_ranges l.bitmap.page_size l.bitmap.len (drop l.range-index l.ranges))
+      (is_in_ranges l.bitmap.page_size l.bitmap.len l.ranges)
       l.initial.pass.counts.pages l.pass.counts.pages;
 }

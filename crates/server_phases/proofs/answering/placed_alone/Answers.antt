@@ -7,5 +7,6 @@ use Rattle.server_phases.proofs.answering.placed_alone.Goals as goal
 
 pub returns : goal.returns
 returns c = λ options call.
-    sym (ap (λ (l : List FileCall). replied c.args.room (call ∷ l) options c.args.front) (none_back (nat_lt c.args.room (length c.args.front)) [] refl))
+    sym (ap (λ (l : List FileCall). replied c.args.room (call ∷ l) options c.args.front)
+    (none_back (nat_lt c.args.room (length c.args.front)) [] refl))
     ∙ c.placed.ensures options call

@@ -20,7 +20,8 @@ returns-in-Ok-clause-told c = λ page_size options request len is.
     let joined : drop 40 (drop 40 request) ≡ drop 80 request = drop-drop 40 40 request in
     let count : c.args.len - 80 ≡ length (drop 40 (drop 40 request)) = rw (joined, length-drop 80 request, len) refl in
     rw (meaning_head options c.args.room request (drop 40 request) head begins, sym joined)
-    (c.ask_write_head.ensures.told page_size options (drop 40 request) (subst (λ (x : List ℕ). BeginsRecord x (drop 40 request)) same (record_begins front request is long)) count)
+    (c.ask_write_head.ensures.told page_size options (drop 40 request)
+    (subst (λ (x : List ℕ). BeginsRecord x (drop 40 request)) same (record_begins front request is long)) count)
 
 pub returns-in-Ok-clause-asker : goal.returns-in-Ok-clause-asker
 returns-in-Ok-clause-asker c = λ request is.
@@ -28,5 +29,6 @@ returns-in-Ok-clause-asker c = λ request is.
     let head = c.in-Ok.head in
     let long = c.requires.front in
     let reads : Ok (head, c.record.new.self.bytes.now) ≡ reading_of in_header front = c.in-Ok.ensures.reads in
-    let begins = record_by_front in_header front request c.record.new.self.bytes.now head (front_begins 40 front request is (omega arith)) reads in
+    let begins = record_by_front in_header front request c.record.new.self.bytes.now head
+    (front_begins 40 front request is (omega arith)) reads in
     has_asker request (drop 40 request) head c.ask_write_head.result begins c.ask_write_head.ensures.asker

@@ -8,7 +8,8 @@ use Rattle.server_phases.proofs.asking.ask_write_head.Goals as goal
 
 pub returns-then-head-gt-MAX_REQUEST_LEN-clause-told : goal.returns-then-head-gt-MAX_REQUEST_LEN-clause-told
 returns-then-head-gt-MAX_REQUEST_LEN-clause-told c = λ page_size options bytes begins len.
-    c.refused.ensures.told page_size options _ (drop 40 bytes) (meant_long (given c.args.head.now options c.args.room) bytes c.if-head-gt-MAX_REQUEST_LEN.true)
+    c.refused.ensures.told page_size options _ (drop 40 bytes)
+    (meant_long (given c.args.head.now options c.args.room) bytes c.if-head-gt-MAX_REQUEST_LEN.true)
 
 pub returns-clause-told : goal.returns-clause-told
 unfolding row

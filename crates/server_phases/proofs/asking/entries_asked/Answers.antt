@@ -9,7 +9,8 @@ pub returns-clause-told : goal.returns-clause-told
 returns-clause-told c = λ page_size options bytes. (
   Lists c.args.head.now.unique (listing_of c.args.with_nodes c.args.head.now c.args.request.now),
   refl,
-  ap (λ (who : Context). Readdir who c.args.head.now.nodeid c.args.request.now.fh c.args.request.now.size c.args.request.now.offset) c.from-context.ensures,
+  ap (λ (who : Context). Readdir who c.args.head.now.nodeid c.args.request.now.fh c.args.request.now.size c.args.request.now.offset)
+      c.from-context.ensures,
   tt,
   (refl, refl, sym c.from-context.ensures, c.requires.size, c.requires.enough),
   refl,

@@ -4,4 +4,5 @@ use Rattle.server_phases.proofs.asking.init_asked.Goals as goal
 
 pub returns-clause-told : goal.returns-clause-told
 returns-clause-told c = λ s m bytes place asks.
-    rw (asks, c.bits.ensures) (Starts c.args.head.now.unique c.args.capable.0 c.args.readahead, refl, refl, tt, (refl, refl, c.requires), sym place)
+    rw (asks, c.bits.ensures)
+    (Starts c.args.head.now.unique c.args.capable.0 c.args.readahead, refl, refl, tt, (refl, refl, c.requires), sym place)

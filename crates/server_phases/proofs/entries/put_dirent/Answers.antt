@@ -14,4 +14,11 @@ returns c =
     let name = c.split_at_mut-name.ensures.back_len in
     let count : z ≡ dirent_len n - (24 + n) = omega arith in
     let zeros = take-replicate {X = ℕ} z 8 0 (omega arith) in
-    rw (c.copy_from_slice.ensures.after, c.dirent_head.ensures, c.copy_from_slice-2.ensures.after, c.copy_from_slice-3.ensures.after, zeros, count) refl
+    rw (
+      c.copy_from_slice.ensures.after,
+      c.dirent_head.ensures,
+      c.copy_from_slice-2.ensures.after,
+      c.copy_from_slice-3.ensures.after,
+      zeros,
+      count,
+    ) refl

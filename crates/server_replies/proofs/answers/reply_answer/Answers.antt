@@ -7,10 +7,12 @@ pub returns-then-data-gt-MOST_DATA_LEN-clause-sent : goal.returns-then-data-gt-M
 returns-then-data-gt-MOST_DATA_LEN-clause-sent g c =
     let answer = g.A.GoodAnswer.said (Ok c.in-Ok.good) in
     let len = ap length c.parts-front.ensures.data in
-    sym (told_long c.args.w.now.free g.A.GoodAnswer.silent c.args.unique answer c.requires.room (omega (arith, len, c.if-data-gt-MOST_DATA_LEN.true)))
+    sym (told_long c.args.w.now.free g.A.GoodAnswer.silent c.args.unique answer c.requires.room
+    (omega (arith, len, c.if-data-gt-MOST_DATA_LEN.true)))
     ∙ ap (λ a. whole_or_none c.args.w.now.free (told_bytes g.A.GoodAnswer.silent c.args.unique (g.A.GoodAnswer.said a))) (sym c.in-Ok.is)
 
 pub returns-in-Err-clause-sent : goal.returns-in-Err-clause-sent
 returns-in-Err-clause-sent g c =
     let failed = ap g.A.GoodAnswer.said c.in-Err.is ∙ g.A.GoodAnswer.fails c.in-Err.error in
-    c.reply_error.ensures.sent ∙ ap (whole_or_none c.args.w.now.free) (sym (failure_told g.A.GoodAnswer.silent c.args.unique c.in-Err.error _ failed))
+    c.reply_error.ensures.sent
+    ∙ ap (whole_or_none c.args.w.now.free) (sym (failure_told g.A.GoodAnswer.silent c.args.unique c.in-Err.error _ failed))

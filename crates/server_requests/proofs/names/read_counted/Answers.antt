@@ -16,7 +16,8 @@ pub returns-then-left-count-clause-fault :
 returns-then-left-count-clause-fault c =
     let s = c.in-Some.ensures in
     let h : 40 + c.args.fixed ≤ c.args.len = omega arith in
-    let few : length c.args.r.now.left < c.args.len - (40 + c.args.fixed) = omega (arith, c.available_bytes-left.ensures.left, c.if-left-count.true) in
+    let few : length c.args.r.now.left < c.args.len - (40 + c.args.fixed) =
+    omega (arith, c.available_bytes-left.ensures.left, c.if-left-count.true) in
     λ other. sym (counted_short _ _ _ h few)
 
 pub returns-clause-bytes : goal.returns-clause-bytes
@@ -29,7 +30,8 @@ pub returns-clause-in_place : goal.returns-clause-in_place
 returns-clause-in_place c = λ whole.
     let s = c.in-Some.ensures in
     split_memory c.read_bytes.result c.args.r.now.segments c.in-Some.count (c.args.len - 40 - c.args.fixed) c.read_bytes.ensures.err
-    (omega (arith, c.available_bytes-left.ensures.left, c.available_bytes-left.ensures.segments.0, c.if-left-count.false)) (omega arith) whole
+    (omega (arith, c.available_bytes-left.ensures.left, c.available_bytes-left.ensures.segments.0, c.if-left-count.false))
+    (omega arith) whole
 
 pub returns-clause-segments : goal.returns-clause-segments
 returns-clause-segments c = past_zero_of _ c.available_bytes-left.ensures.segments.1

@@ -4,5 +4,7 @@ use Rattle.server_requests.proofs.new_names.new_link.Goals as goal
 
 pub returns-in-Err-received_extensions-clause-fault :
     goal.returns-in-Err-received_extensions-clause-fault
-returns-in-Err-received_extensions-clause-fault c =
-    (sym (link_refused _ _ _ _ _ _ _ _ _ c.in-Ok.ensures.reads c.in-Ok-front_name.ensures.reads c.in-Err-received_extensions.ensures.reads), c.in-Err-received_extensions.ensures.fault)
+returns-in-Err-received_extensions-clause-fault c = (
+  sym (link_refused _ _ _ _ _ _ _ _ _ c.in-Ok.ensures.reads c.in-Ok-front_name.ensures.reads c.in-Err-received_extensions.ensures.reads),
+  c.in-Err-received_extensions.ensures.fault,
+)

@@ -3,11 +3,13 @@ use Rattle.server_requests.proofs.source.record_and_bytes.Goals as goal
 
 pub returns-in-Ok-counted-clause-reads : goal.returns-in-Ok-counted-clause-reads
 returns-in-Ok-counted-clause-reads g c =
-    with_both g.T.InRecord.shape g.T.ByteValued.SIZE _ _ _ _ c.in-Ok.record c.in-Ok.ensures.reads (rw c.SIZE.ensures at c.in-Ok-counted.ensures.bytes)
+    with_both g.T.InRecord.shape g.T.ByteValued.SIZE _ _ _ _ c.in-Ok.record c.in-Ok.ensures.reads
+    (rw c.SIZE.ensures at c.in-Ok-counted.ensures.bytes)
 
 pub returns-in-Ok-clause-fault : goal.returns-in-Ok-clause-fault
 returns-in-Ok-clause-fault g c = λ other.
-    with_few g.T.InRecord.shape g.T.ByteValued.SIZE _ _ _ c.in-Ok.record _ c.in-Ok.ensures.reads (rw c.SIZE.ensures at (c.in-Err-counted.ensures.fault other))
+    with_few g.T.InRecord.shape g.T.ByteValued.SIZE _ _ _ c.in-Ok.record _ c.in-Ok.ensures.reads
+    (rw c.SIZE.ensures at (c.in-Err-counted.ensures.fault other))
 
 pub returns-clause-fault : goal.returns-clause-fault
 returns-clause-fault g c = λ other. with_short g.T.InRecord.shape g.T.ByteValued.SIZE _ _ _ c.in-Err.ensures.reads

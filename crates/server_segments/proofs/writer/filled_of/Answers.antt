@@ -6,7 +6,8 @@ pub loop-size-preserved : goal.loop-size-preserved
 loop-size-preserved c =
     let l = c.loop-size in
     record {
-      items = filled_more c.args.lengths.now l.segments.items c.push_filled.new.segments.items l.size-index _ c.push_filled.ensures.items l.invariant.items c.loop-size-test.true refl;
+      items = filled_more c.args.lengths.now l.segments.items c.push_filled.new.segments.items l.size-index _ c.push_filled.ensures.items
+          l.invariant.items c.loop-size-test.true refl;
       few = omega (arith, c.push_filled.ensures.len, l.invariant.few);
       room = omega (arith, c.push_filled.ensures.capacity, l.invariant.room);
     }

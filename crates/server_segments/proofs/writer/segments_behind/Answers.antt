@@ -13,5 +13,6 @@ pub returns-clause-ok : goal.returns-clause-ok
 returns-clause-ok c =
     let p = c.args.place in
     let some : p.segment < length c.args.segments.now = omega (arith, c.requires.there) in
-    let all : c.extend_from_slice.new.self.items ≡ (get_or c.args.segments.now p.segment 0 - p.used) ∷ drop (p.segment + 1) c.args.segments.now = grind (arith, common_steps, places) in
+    let all : c.extend_from_slice.new.self.items ≡ (get_or c.args.segments.now p.segment 0 - p.used)
+    ∷ drop (p.segment + 1) c.args.segments.now = grind (arith, common_steps, places) in
     all ∙ sym (behind_some c.args.segments.now p.segment p.used c.requires some)

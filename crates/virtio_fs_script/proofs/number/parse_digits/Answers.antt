@@ -10,7 +10,8 @@ returns-in_err-checked_mul c =
     rw c.from_residual-in_err-checked_mul.ensures (λ p.
     let ds = c.args.digits.now in
     let n = c.loop-digit.value in
-    let least : n * c.args.radix + digit_value (get_or ds c.loop-digit.digit-index 0) ≤ digits_value_after c.args.radix n (drop c.loop-digit.digit-index ds)
+    let least : n * c.args.radix + digit_value (get_or ds c.loop-digit.digit-index 0)
+    ≤ digits_value_after c.args.radix n (drop c.loop-digit.digit-index ds)
     = next_at_least c.args.radix n ds c.loop-digit.digit-index (omega arith) (omega arith) in
     let same : n * c.from-in-loop-digit.result ≡ n * c.args.radix = ap (λ x. n * x) c.from-in-loop-digit.ensures in
     c.in_err-checked_mul.ensures (omega (arith, p.1, c.loop-digit.invariant.1)))
@@ -20,7 +21,8 @@ returns-in_err-value c =
     rw c.from_residual-in_err-value.ensures (λ p.
     let ds = c.args.digits.now in
     let n = c.loop-digit.value in
-    let least : n * c.args.radix + digit_value (get_or ds c.loop-digit.digit-index 0) ≤ digits_value_after c.args.radix n (drop c.loop-digit.digit-index ds)
+    let least : n * c.args.radix + digit_value (get_or ds c.loop-digit.digit-index 0)
+    ≤ digits_value_after c.args.radix n (drop c.loop-digit.digit-index ds)
     = next_at_least c.args.radix n ds c.loop-digit.digit-index (omega arith) (omega arith) in
     let same : n * c.from-in-loop-digit.result ≡ n * c.args.radix = ap (λ x. n * x) c.from-in-loop-digit.ensures in
     let digit : digit_value c.from.result ≡ digit_value (get_or ds c.loop-digit.digit-index 0) = ap digit_value c.from.ensures in

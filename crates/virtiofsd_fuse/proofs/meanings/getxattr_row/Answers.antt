@@ -16,15 +16,18 @@ returns-in-Ok-last_name g c = λ room.
     let parts = λ (x : Given) (r : GetxattrIn). at_most_a_mebibyte r.size >> last_name in
     call_read g.S.Source.splits _ c.args.head.now _ (getxattr_call c.args.head.now c.in-Ok.front.record _) _
     (bytes_read (given c.args.head.now c.args.options.0 room) front parts getxattr_call _ c.in-Ok.front.record _ c.in-Ok.ensures.reads
-    ∙ ap (ask_of c.args.head.now.unique (getxattr_call c.args.head.now c.in-Ok.front.record)) (sized _ last_name _ c.if-front-gt-MAX_BUFFER_SIZE.false ∙ sym c.in-Ok-last_name.ensures.ok))
+    ∙ ap (ask_of c.args.head.now.unique (getxattr_call c.args.head.now c.in-Ok.front.record))
+    (sized _ last_name _ c.if-front-gt-MAX_BUFFER_SIZE.false ∙ sym c.in-Ok-last_name.ensures.ok))
     c.value.ensures refl (refl, tt)
 
 pub returns-in-Err-last_name : goal.returns-in-Err-last_name
 returns-in-Err-last_name g c = λ room.
     let front = λ (x : Given). with_bytes getxattr_in 8 x.header.len in
     let parts = λ (x : Given) (r : GetxattrIn). at_most_a_mebibyte r.size >> last_name in (
-      λ other. bytes_read (given c.args.head.now c.args.options.0 room) front parts getxattr_call _ c.in-Ok.front.record _ c.in-Ok.ensures.reads
-          ∙ ap (ask_of c.args.head.now.unique (getxattr_call c.args.head.now c.in-Ok.front.record)) (sized _ last_name _ c.if-front-gt-MAX_BUFFER_SIZE.false ∙ sym c.in-Err-last_name.ensures.err.0),
+      λ other. bytes_read (given c.args.head.now c.args.options.0 room) front parts getxattr_call _ c.in-Ok.front.record _
+          c.in-Ok.ensures.reads
+          ∙ ap (ask_of c.args.head.now.unique (getxattr_call c.args.head.now c.in-Ok.front.record))
+          (sized _ last_name _ c.if-front-gt-MAX_BUFFER_SIZE.false ∙ sym c.in-Err-last_name.ensures.err.0),
       λ none. c.in-Err-last_name.ensures.err.1,
     )
 
@@ -41,4 +44,5 @@ returns-then-front-gt-MAX_BUFFER_SIZE g c = λ room.
     let front = λ (x : Given). with_bytes getxattr_in 8 x.header.len in
     let parts = λ (x : Given) (r : GetxattrIn). at_most_a_mebibyte r.size >> last_name in
     bytes_read (given c.args.head.now c.args.options.0 room) front parts getxattr_call _ c.in-Ok.front.record _ c.in-Ok.ensures.reads
-    ∙ ap (ask_of c.args.head.now.unique (getxattr_call c.args.head.now c.in-Ok.front.record)) (too_large _ last_name _ c.if-front-gt-MAX_BUFFER_SIZE.true)
+    ∙ ap (ask_of c.args.head.now.unique (getxattr_call c.args.head.now c.in-Ok.front.record))
+    (too_large _ last_name _ c.if-front-gt-MAX_BUFFER_SIZE.true)

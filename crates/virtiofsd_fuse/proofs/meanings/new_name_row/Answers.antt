@@ -12,21 +12,26 @@ returns-in-Ok-new_name g c = λ room.
     let front = λ (x : Given). with_bytes g.R.Record.InRecord.shape g.R.Record.ByteValued.SIZE x.header.len in
     let says = g.R.NewNameValue.says c.args.head.now c.in-Ok.front.record _ in
     made_read g.S.Source.splits _ c.args.head.now _ (g.R.NewNameValue.call c.args.head.now c.in-Ok.front.record _) _
-    (bytes_read (given c.args.head.now c.args.options.0 room) front (λ x r. new_name x.options) g.R.NewNameValue.call _ c.in-Ok.front.record _ c.in-Ok.ensures.reads
+    (bytes_read (given c.args.head.now c.args.options.0 room) front (λ x r. new_name x.options) g.R.NewNameValue.call _ c.in-Ok.front.record
+    _ c.in-Ok.ensures.reads
     ∙ ap (ask_of c.args.head.now.unique (g.R.NewNameValue.call c.args.head.now c.in-Ok.front.record)) (sym c.in-Ok-new_name.ensures.reads))
     c.value-call.ensures says.1
 
 pub returns-in-Err-new_name : goal.returns-in-Err-new_name
 returns-in-Err-new_name g c = λ room.
     let front = λ (x : Given). with_bytes g.R.Record.InRecord.shape g.R.Record.ByteValued.SIZE x.header.len in (
-      λ other. bytes_read (given c.args.head.now c.args.options.0 room) front (λ x r. new_name x.options) g.R.NewNameValue.call _ c.in-Ok.front.record _ c.in-Ok.ensures.reads
-          ∙ ap (ask_of c.args.head.now.unique (g.R.NewNameValue.call c.args.head.now c.in-Ok.front.record)) (sym c.in-Err-new_name.ensures.fault.0),
+      λ other. bytes_read (given c.args.head.now c.args.options.0 room) front (λ x r. new_name x.options) g.R.NewNameValue.call _
+          c.in-Ok.front.record _ c.in-Ok.ensures.reads
+          ∙ ap (ask_of c.args.head.now.unique (g.R.NewNameValue.call c.args.head.now c.in-Ok.front.record))
+          (sym c.in-Err-new_name.ensures.fault.0),
       λ none. c.in-Err-new_name.ensures.fault.1,
     )
 
 pub returns-in-Err : goal.returns-in-Err
 returns-in-Err g c = λ room.
     let front = λ (x : Given). with_bytes g.R.Record.InRecord.shape g.R.Record.ByteValued.SIZE x.header.len in (
-      λ other. bytes_fault (given c.args.head.now c.args.options.0 room) front (λ x r. new_name x.options) g.R.NewNameValue.call _ _ (c.in-Err.ensures.fault other),
-      λ none. c.in-Err.ensures.in_place (split_none g.S.Source.splits _ (counted_split c.args.head.now.len g.R.Record.ByteValued.SIZE (g.S.Source.segments c.args.source)) none),
+      λ other. bytes_fault (given c.args.head.now c.args.options.0 room) front (λ x r. new_name x.options) g.R.NewNameValue.call _ _
+          (c.in-Err.ensures.fault other),
+      λ none. c.in-Err.ensures.in_place (split_none g.S.Source.splits _
+          (counted_split c.args.head.now.len g.R.Record.ByteValued.SIZE (g.S.Source.segments c.args.source)) none),
     )

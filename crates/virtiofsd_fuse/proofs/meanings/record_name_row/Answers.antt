@@ -11,22 +11,27 @@ pub returns-in-Ok-last_name : goal.returns-in-Ok-last_name
 returns-in-Ok-last_name g c = λ room.
     let front = λ (x : Given). with_bytes g.R.Record.InRecord.shape g.R.Record.ByteValued.SIZE x.header.len in
     let says = g.R.RecordNameValue.says c.args.head.now c.in-Ok.front.record _ in
-    call_read g.S.Source.splits _ c.args.head.now _ (g.R.RecordNameValue.call c.args.head.now c.in-Ok.front.record c.in-Ok-last_name.name.now) _
-    (bytes_read (given c.args.head.now c.args.options.0 room) front (λ x r. last_name) g.R.RecordNameValue.call _ c.in-Ok.front.record _ c.in-Ok.ensures.reads
+    call_read g.S.Source.splits _ c.args.head.now _
+    (g.R.RecordNameValue.call c.args.head.now c.in-Ok.front.record c.in-Ok-last_name.name.now) _
+    (bytes_read (given c.args.head.now c.args.options.0 room) front (λ x r. last_name) g.R.RecordNameValue.call _ c.in-Ok.front.record _
+    c.in-Ok.ensures.reads
     ∙ ap (ask_of c.args.head.now.unique (g.R.RecordNameValue.call c.args.head.now c.in-Ok.front.record)) (sym c.in-Ok-last_name.ensures.ok))
     c.value.ensures (ap is_made says.0) says.1
 
 pub returns-in-Err-last_name : goal.returns-in-Err-last_name
 returns-in-Err-last_name g c = λ room.
     let front = λ (x : Given). with_bytes g.R.Record.InRecord.shape g.R.Record.ByteValued.SIZE x.header.len in (
-      λ other. bytes_read (given c.args.head.now c.args.options.0 room) front (λ x r. last_name) g.R.RecordNameValue.call _ c.in-Ok.front.record _ c.in-Ok.ensures.reads
-          ∙ ap (ask_of c.args.head.now.unique (g.R.RecordNameValue.call c.args.head.now c.in-Ok.front.record)) (sym c.in-Err-last_name.ensures.err.0),
+      λ other. bytes_read (given c.args.head.now c.args.options.0 room) front (λ x r. last_name) g.R.RecordNameValue.call _
+          c.in-Ok.front.record _ c.in-Ok.ensures.reads
+          ∙ ap (ask_of c.args.head.now.unique (g.R.RecordNameValue.call c.args.head.now c.in-Ok.front.record))
+          (sym c.in-Err-last_name.ensures.err.0),
       λ none. c.in-Err-last_name.ensures.err.1,
     )
 
 pub returns-in-Err : goal.returns-in-Err
 returns-in-Err g c = λ room.
     let front = λ (x : Given). with_bytes g.R.Record.InRecord.shape g.R.Record.ByteValued.SIZE x.header.len in (
-      λ other. bytes_fault (given c.args.head.now c.args.options.0 room) front (λ x r. last_name) g.R.RecordNameValue.call _ _ (c.in-Err.ensures.fault other),
+      λ other. bytes_fault (given c.args.head.now c.args.options.0 room) front (λ x r. last_name) g.R.RecordNameValue.call _ _
+          (c.in-Err.ensures.fault other),
       λ none. c.in-Err.ensures.in_place none,
     )

@@ -15,6 +15,7 @@ returns-in-Ok g c = λ room.
 
 pub returns : goal.returns
 returns g c = λ room. (
-  λ other. ended_fault c.args.head.now.unique (λ x. one (given c.args.head.now c.args.options.0 room) (g.R.RecordValue.call c.args.head.now x.0) x.1) _ _ (ap value_of c.in-Err.ensures.reads),
+  λ other. ended_fault c.args.head.now.unique (λ x. one (given c.args.head.now c.args.options.0 room)
+      (g.R.RecordValue.call c.args.head.now x.0) x.1) _ _ (ap value_of c.in-Err.ensures.reads),
   λ none. rw c.in-Err.ensures.fault refl,
 )

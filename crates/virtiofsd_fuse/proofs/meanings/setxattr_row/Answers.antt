@@ -22,8 +22,10 @@ pub returns-in-Err-name_and_value : goal.returns-in-Err-name_and_value
 returns-in-Err-name_and_value g c = λ room.
     let front = λ (x : Given). setxattr_front x.options x.header.len in
     let parts = λ (x : Given) (r : SetxattrIn). name_and_value r.size in (
-      λ other. bytes_read (given c.args.head.now c.args.options.0 room) front parts setxattr_call _ c.in-Ok.front.record _ c.in-Ok.ensures.reads
-          ∙ ap (ask_of c.args.head.now.unique (setxattr_call c.args.head.now c.in-Ok.front.record)) (sym c.in-Err-name_and_value.ensures.err.0),
+      λ other. bytes_read (given c.args.head.now c.args.options.0 room) front parts setxattr_call _ c.in-Ok.front.record _
+          c.in-Ok.ensures.reads
+          ∙ ap (ask_of c.args.head.now.unique (setxattr_call c.args.head.now c.in-Ok.front.record))
+          (sym c.in-Err-name_and_value.ensures.err.0),
       λ none. c.in-Err-name_and_value.ensures.err.1,
     )
 

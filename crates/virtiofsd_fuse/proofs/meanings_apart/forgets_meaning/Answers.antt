@@ -6,13 +6,16 @@ use Rattle.virtiofsd_fuse.proofs.meanings_apart.forgets_meaning.Goals as goal
 
 pub returns-else-request-gt-MAX_FORGETS : goal.returns-else-request-gt-MAX_FORGETS
 returns-else-request-gt-MAX_FORGETS g c = λ h options room.
-    let at = given h options room in
-    (sym (ap (λ r. ended h.unique (and_then r (λ x. forgets_asked x.0.count at x.1))) c.in-Ok.ensures.reads), c.if-request-gt-MAX_FORGETS.false)
+    let at = given h options room in (
+      sym (ap (λ r. ended h.unique (and_then r (λ x. forgets_asked x.0.count at x.1))) c.in-Ok.ensures.reads),
+      c.if-request-gt-MAX_FORGETS.false,
+    )
 
 pub returns-then-request-gt-MAX_FORGETS : goal.returns-then-request-gt-MAX_FORGETS
 returns-then-request-gt-MAX_FORGETS g c = λ h options room.
     let at = given h options room in
-    sym (ap (λ r. ended h.unique (and_then r (λ x. forgets_asked x.0.count at x.1))) c.in-Ok.ensures.reads) ∙ forgets_long _ at _ c.if-request-gt-MAX_FORGETS.true
+    sym (ap (λ r. ended h.unique (and_then r (λ x. forgets_asked x.0.count at x.1))) c.in-Ok.ensures.reads)
+    ∙ forgets_long _ at _ c.if-request-gt-MAX_FORGETS.true
 
 pub returns-in-Err : goal.returns-in-Err
 returns-in-Err g c = λ h options room. (batch_short (given h options room) _ _ c.in-Err.ensures.reads, rw c.in-Err.ensures.fault refl)

@@ -15,8 +15,10 @@ returns-in-Ok-flags2 g c = λ h options room.
     (c.started.ensures at _)
 
 pub returns-in-Ok : goal.returns-in-Ok
-returns-in-Ok g c = λ h options room.
-    (init_short_later (given h options room) _ _ _ _ c.in-Ok.ensures.reads c.in-Err-flags2.ensures.reads, rw c.in-Err-flags2.ensures.fault refl)
+returns-in-Ok g c = λ h options room. (
+  init_short_later (given h options room) _ _ _ _ c.in-Ok.ensures.reads c.in-Err-flags2.ensures.reads,
+  rw c.in-Err-flags2.ensures.fault refl,
+)
 
 pub returns : goal.returns
 returns g c = λ h options room. (init_short (given h options room) _ _ c.in-Err.ensures.reads, rw c.in-Err.ensures.fault refl)

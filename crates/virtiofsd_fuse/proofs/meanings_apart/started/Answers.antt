@@ -12,11 +12,13 @@ returns-then-request-gt-KERNEL_VERSION c = λ g more.
 
 pub returns-then-request-lt-MIN_KERNEL_MINOR_VERSION : goal.returns-then-request-lt-MIN_KERNEL_MINOR_VERSION
 returns-then-request-lt-MIN_KERNEL_MINOR_VERSION c = λ g more.
-    start_minor g c.args.request.now c.args.flags2 more c.if-request-lt-KERNEL_VERSION.false c.if-request-gt-KERNEL_VERSION.false c.if-request-lt-MIN_KERNEL_MINOR_VERSION.true
+    start_minor g c.args.request.now c.args.flags2 more c.if-request-lt-KERNEL_VERSION.false c.if-request-gt-KERNEL_VERSION.false
+    c.if-request-lt-MIN_KERNEL_MINOR_VERSION.true
 
 pub returns : goal.returns
 returns c = λ g more. (
-  start_asks g c.args.request.now c.args.flags2 more c.if-request-lt-KERNEL_VERSION.false c.if-request-gt-KERNEL_VERSION.false c.if-request-lt-MIN_KERNEL_MINOR_VERSION.false
+  start_asks g c.args.request.now c.args.flags2 more c.if-request-lt-KERNEL_VERSION.false c.if-request-gt-KERNEL_VERSION.false
+      c.if-request-lt-MIN_KERNEL_MINOR_VERSION.false
       ∙ ap (λ k. Asks (Starts g.header.unique k c.args.request.now.max_readahead)) (sym c.known-capable.ensures.options),
   c.known-capable.ensures.known,
 )

@@ -8,4 +8,5 @@ returns-then-mark c =
 
 pub returns-else-mark : goal.returns-else-mark
 returns-else-mark c =
-    rw c.if-mark.false (clear_bits c.args.word c.args.from c.args.to c.mask-run.result (omega arith) (omega arith) c.requires.ordered c.requires.within c.mask-run.ensures)
+    rw c.if-mark.false (clear_bits c.args.word c.args.from c.args.to c.mask-run.result (omega arith) (omega arith) c.requires.ordered
+    c.requires.within c.mask-run.ensures)

@@ -5,7 +5,8 @@ use Rattle.vm_bitmaps.proofs.summary.first_in_word.Goals as goal
 pub overflow_add-result : goal.overflow_add-result
 overflow_add-result c =
     let fits : (w : ℕ) → get_or c.args.words.now w 0 < 2 ^ 64 = search rules in
-    let below : c.args.from % 64 + c.lowest_bit.result < 64 = rest_below c.args.words.now c.args.from _ c.lowest_bit.result (fits (c.args.from / 64)) refl c.lowest_bit.ensures.set in
+    let below : c.args.from % 64 + c.lowest_bit.result < 64 =
+    rest_below c.args.words.now c.args.from _ c.lowest_bit.result (fits (c.args.from / 64)) refl c.lowest_bit.ensures.set in
     omega (arith, below, c.ranges.from.fits)
 
 pub returns-then-rest-eq0 : goal.returns-then-rest-eq0
@@ -14,4 +15,5 @@ returns-then-rest-eq0 c = rest_none c.args.words.now c.args.from _ refl c.if-res
 pub returns-else-rest-eq0 : goal.returns-else-rest-eq0
 returns-else-rest-eq0 c =
     let fits : (w : ℕ) → get_or c.args.words.now w 0 < 2 ^ 64 = search rules in
-    rest_some c.args.words.now c.args.from _ c.lowest_bit.result (fits (c.args.from / 64)) refl c.lowest_bit.ensures.set c.lowest_bit.ensures.lowest
+    rest_some c.args.words.now c.args.from _ c.lowest_bit.result (fits (c.args.from / 64)) refl c.lowest_bit.ensures.set
+    c.lowest_bit.ensures.lowest

@@ -12,6 +12,8 @@ invariant-loop-range l = record {
   first : EndsAbove l.next (values_of l.range-iterator);
   ranges : AreRanges (values_of l.range-iterator);
   rest : (table : Table) → Agree table (values_of l.fn.ranges) l.iova l.end → Agree table (values_of l.range-iterator) l.next l.end;
-  misses : (table : Table) → Agree table (values_of l.fn.ranges) l.iova l.end → l.misses.items ++ missing table l.next (l.end - l.next) ≡ missing table l.iova (l.end - l.iova);
-  access : (table : Table) → Agree table (values_of l.fn.ranges) l.iova l.end → l.access_fails.items ++ lacking table l.access l.next (l.end - l.next) ≡ lacking table l.access l.iova (l.end - l.iova);
+  misses : (table : Table) → Agree table (values_of l.fn.ranges) l.iova l.end →
+      l.misses.items ++ missing table l.next (l.end - l.next) ≡ missing table l.iova (l.end - l.iova);
+  access : (table : Table) → Agree table (values_of l.fn.ranges) l.iova l.end →
+      l.access_fails.items ++ lacking table l.access l.next (l.end - l.next) ≡ lacking table l.access l.iova (l.end - l.iova);
 }

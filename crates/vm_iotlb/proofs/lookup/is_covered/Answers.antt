@@ -19,7 +19,8 @@ returns-then-next-range c = λ table agree.
     let l : List IotlbRange = values_of c.next.new.self in
     let are : AreRanges (r ∷ l) = rw c.in-Some.ensures.steps at c.loop-range.invariant.ranges in
     let rest : Agree table (r ∷ l) c.loop-range.next c.args.end = rw c.in-Some.ensures.steps at (c.loop-range.invariant.rest table agree) in
-    let none = rest c.loop-range.next (omega arith) (omega arith) ∙ table_before (r ∷ l) r.start c.loop-range.next are (omega arith) (omega arith) in
+    let none = rest c.loop-range.next (omega arith) (omega arith)
+    ∙ table_before (r ∷ l) r.start c.loop-range.next are (omega arith) (omega arith) in
     let denied : may_pass c.args.access (table c.loop-range.next) ≡ false = rw none refl in
     sym (c.loop-range.invariant.all table agree ∙ may_stop table c.args.access c.loop-range.next c.args.end (omega arith) denied)
 
@@ -47,11 +48,14 @@ loop-range-preserved c =
       first = above_rest r l c.min-next.result are (omega arith);
       ranges = are.2;
       rest = λ table agree.
-          let rest : Agree table (r ∷ l) c.loop-range.next c.args.end = rw c.in-Some.ensures.steps at (c.loop-range.invariant.rest table agree) in
+          let rest : Agree table (r ∷ l) c.loop-range.next c.args.end =
+          rw c.in-Some.ensures.steps at (c.loop-range.invariant.rest table agree) in
           agree_rest table r l c.loop-range.next c.min-next.result c.args.end rest (omega arith) (λ left. omega arith);
       all = λ table agree.
-          let rest : Agree table (r ∷ l) c.loop-range.next c.args.end = rw c.in-Some.ensures.steps at (c.loop-range.invariant.rest table agree) in
-          c.loop-range.invariant.all table agree ∙ may_range table c.args.access r l c.loop-range.next c.min-next.result c.args.end rest (omega arith) (omega arith)
+          let rest : Agree table (r ∷ l) c.loop-range.next c.args.end =
+          rw c.in-Some.ensures.steps at (c.loop-range.invariant.rest table agree) in
+          c.loop-range.invariant.all table agree
+          ∙ may_range table c.args.access r l c.loop-range.next c.min-next.result c.args.end rest (omega arith) (omega arith)
           (omega arith) (omega arith) allowed;
     }
 

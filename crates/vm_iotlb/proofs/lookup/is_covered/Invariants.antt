@@ -12,5 +12,6 @@ invariant-loop-range l = record {
   first : EndsAbove l.next (values_of l.range-iterator);
   ranges : AreRanges (values_of l.range-iterator);
   rest : (table : Table) → Agree table (values_of l.fn.ranges) l.iova l.end → Agree table (values_of l.range-iterator) l.next l.end;
-  all : (table : Table) → Agree table (values_of l.fn.ranges) l.iova l.end → may_all table l.access l.iova (l.end - l.iova) ≡ may_all table l.access l.next (l.end - l.next);
+  all : (table : Table) → Agree table (values_of l.fn.ranges) l.iova l.end →
+      may_all table l.access l.iova (l.end - l.iova) ≡ may_all table l.access l.next (l.end - l.next);
 }

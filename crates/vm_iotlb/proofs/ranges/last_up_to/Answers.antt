@@ -14,7 +14,8 @@ returns-in-Some c =
     let low = le_from_not_gt entry.0 c.args.addr is.0.1 in (
       omega arith,
       ap (range_at c.args.ranges.now.entries) (sym key) ∙ is.1,
-      λ k s at within. let most = part.4 entry c.next_back.new.self c.in-Some.ensures.steps k (tt, not_gt k c.args.addr within) (some_is _ s at) in
+      λ k s at within. let most = part.4 entry c.next_back.new.self c.in-Some.ensures.steps k (tt, not_gt k c.args.addr within)
+          (some_is _ s at) in
           let below = ge_from_not_lt entry.0 k most in omega arith,
     )
 
@@ -22,5 +23,6 @@ pub returns-in-None : goal.returns-in-None
 returns-in-None c = λ k s at.
     elim (cases_lt c.args.addr k) [
       | inl above ↦ above
-      | inr within ↦ absurd (none_some s (sym ((c.range.ensures.in_range tt).5 c.in-None.ensures.steps.0 k (tt, not_gt k c.args.addr within)) ∙ at))
+      | inr within ↦
+          absurd (none_some s (sym ((c.range.ensures.in_range tt).5 c.in-None.ensures.steps.0 k (tt, not_gt k c.args.addr within)) ∙ at))
     ]

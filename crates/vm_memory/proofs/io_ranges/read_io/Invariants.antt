@@ -10,8 +10,10 @@ invariant-loop-done g l = record {
   left : AreLeft (table_in (g.H.HostBlocks.host l.h) l.table) (l.addr + l.done) (length l.initial.buffer - l.done) l.left.piece l.left.rest;
   count : l.done + reached (location (io_memory (g.H.HostBlocks.host l.h) (g.M.GuestMemoryBackend.layout l.backend) l.table l.set) Read)
       (circular (l.addr + l.done) (length l.initial.buffer - l.done)) ≡ reached
-      (location (io_memory (g.H.HostBlocks.host l.h) (g.M.GuestMemoryBackend.layout l.backend) l.table l.set) Read) (circular l.addr (length l.initial.buffer));
-  front : take l.done l.buffer ≡ map (byte (io_memory (g.H.HostBlocks.host l.h) (g.M.GuestMemoryBackend.layout l.backend) l.table l.set)) (take l.done (circular l.addr (length l.initial.buffer)));
+      (location (io_memory (g.H.HostBlocks.host l.h) (g.M.GuestMemoryBackend.layout l.backend) l.table l.set) Read)
+      (circular l.addr (length l.initial.buffer));
+  front : take l.done l.buffer ≡ map (byte (io_memory (g.H.HostBlocks.host l.h) (g.M.GuestMemoryBackend.layout l.backend) l.table l.set))
+      (take l.done (circular l.addr (length l.initial.buffer)));
   back : drop l.done l.buffer ≡ drop l.done l.initial.buffer;
 }
 

@@ -13,7 +13,8 @@ invariant-loop-done g l = let f = location (io_memory l.initial.h (g.M.GuestMemo
   same_shape : shape l.h ≡ shape l.initial.h;
   same_tables : l.h.tables ≡ l.initial.h.tables;
   count : l.done + reached f (circular (l.addr + l.done) (length l.bytes - l.done)) ≡ reached f (circular l.addr (length l.bytes));
-  stored : put_all l.h (zip (places_at f (circular (l.addr + l.done) (length l.bytes - l.done))) (drop l.done l.bytes)) ≡ put_all l.initial.h
+  stored : put_all l.h (zip (places_at f (circular (l.addr + l.done) (length l.bytes - l.done))) (drop l.done l.bytes))
+      ≡ put_all l.initial.h
       (zip (places_at f (circular l.addr (length l.bytes))) l.bytes);
 }
 

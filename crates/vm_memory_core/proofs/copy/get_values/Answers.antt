@@ -14,5 +14,6 @@ loop-k-preserved g c =
       place = omega arith;
       read = read_more g.T.ByteValued.fields c.loop-k.out c.loop-k.k c.get_bytes.result c.args.bytes.now c.loop-k.at c.SIZE-at.result _
           (omega arith) one c.loop-k.invariant.read c.get_bytes.ensures.bytes;
-      fits = fits_more g.T.ByteValued.fields c.loop-k.out c.loop-k.k c.get_bytes.result (omega arith) c.loop-k.invariant.fits c.get_bytes.ensures.fits;
+      fits = fits_more g.T.ByteValued.fields c.loop-k.out c.loop-k.k c.get_bytes.result (omega arith) c.loop-k.invariant.fits
+          c.get_bytes.ensures.fits;
     }

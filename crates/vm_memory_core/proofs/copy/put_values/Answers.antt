@@ -26,7 +26,8 @@ loop-k-preserved g c =
     record {
       place = omega arith;
       count = ap length more ∙ all ∙ omega arith;
-      stored = put_more (front ++ done) c.loop-k.buffer c.args.buffer.now c.put_bytes.new.out c.loop-k.place _ (omega arith) c.loop-k.invariant.stored
+      stored = put_more (front ++ done) c.loop-k.buffer c.args.buffer.now c.put_bytes.new.out c.loop-k.place _ (omega arith)
+          c.loop-k.invariant.stored
           ∙ ap (λ m. ((front ++ done) ++ c.put_bytes.new.out) ++ drop (c.loop-k.place + m) c.args.buffer.now) one
           ∙ ap (λ o. ((front ++ done) ++ o) ++ rest) c.put_bytes.ensures.bytes
           ∙ ap (λ b. b ++ rest) (append_assoc front done (spelled (f v)) ∙ ap (λ b. front ++ b) (sym more));

@@ -14,14 +14,17 @@ pub loop-k-preserved : goal.loop-k-preserved
 unfolding Fits
 loop-k-preserved g c = record {
   place = omega arith;
-  bytes = c.put.ensures.bytes ∙ ap (λ s. s ++ field_bytes (d (slice_index c.args.values.now c.loop-k.k))) c.loop-k.invariant.bytes ∙ more_array g.row.N c.loop-k.k c.args.values.now
+  bytes = c.put.ensures.bytes ∙ ap (λ s. s ++ field_bytes (d (slice_index c.args.values.now c.loop-k.k))) c.loop-k.invariant.bytes
+      ∙ more_array g.row.N c.loop-k.k c.args.values.now
       (take c.args.at.now c.args.out.now) (omega arith);
-  behind = behind_both c.loop-k.at c.put.new.at c.put.new.out c.loop-k.out c.args.out.now (omega (arith, c.put.ensures.place)) c.put.ensures.behind c.loop-k.invariant.behind;
+  behind = behind_both c.loop-k.at c.put.new.at c.put.new.out c.loop-k.out c.args.out.now (omega (arith, c.put.ensures.place))
+      c.put.ensures.behind c.loop-k.invariant.behind;
   fits = below_more (λ j. slice_index c.args.values.now j < 2 ^ 32) c.loop-k.k c.loop-k.invariant.fits c.put.ensures.fits.0;
 }
 
 pub returns-clause-bytes : goal.returns-clause-bytes
-returns-clause-bytes g c = c.loop-k.invariant.bytes ∙ ap (λ s. take c.args.at.now c.args.out.now ++ field_bytes (array w32 g.row.N s)) (take_all c.loop-k.k c.args.values.now (omega arith))
+returns-clause-bytes g c = c.loop-k.invariant.bytes
+    ∙ ap (λ s. take c.args.at.now c.args.out.now ++ field_bytes (array w32 g.row.N s)) (take_all c.loop-k.k c.args.values.now (omega arith))
 
 pub returns-clause-whole : goal.returns-clause-whole
 returns-clause-whole g c = whole _ _ _ (returns-clause-bytes g c)

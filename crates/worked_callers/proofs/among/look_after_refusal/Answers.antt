@@ -24,17 +24,20 @@ IsALoad (says.Load n) = Unit {0}
 IsALoad _ = ⊥
 
 -- a first call that wants bytes leaves the queue
-load_keeps : (before after : QueueState) (ds : List Descriptor) (came : comes.CourseStep) (n : ℕ) → says.Load n ≡ told_of ds came → after ≡ queue_after before came → after ≡ before
+load_keeps : (before after : QueueState) (ds : List Descriptor) (came : comes.CourseStep) (n : ℕ) → says.Load n ≡ told_of ds came →
+    after ≡ queue_after before came → after ≡ before
 load_keeps before after ds (step.Load walk) n told left = left
 load_keeps before after ds step.Idle n told left = absurd (subst IsALoad told tt)
 load_keeps before after ds (step.Refused e) n told left = absurd (subst IsALoad told tt)
 load_keeps before after ds (step.Chain head None) n told left = absurd (subst IsALoad told tt)
 load_keeps before after ds (step.Chain head (Some fault)) n told left = absurd (subst IsALoad told tt)
 
-keeps_queue : (old new : ChainHandle) (before after : QueueState) (told : went.LoadOutcome) → before.stopped ≡ None → WantsBytes told → BeginsPopBy old new before after told → after ≡ before
+keeps_queue : (old new : ChainHandle) (before after : QueueState) (told : went.LoadOutcome) → before.stopped ≡ None → WantsBytes told →
+    BeginsPopBy old new before after told → after ≡ before
 keeps_queue old new before after wents.Part goes wants by = by.1.5
 keeps_queue old new before after (wents.On (says.Load n)) goes wants by =
-    let made = walk_comes [] old new before after (says.Load n) goes tt by in load_keeps before after new.descriptors.items made.2.0 n made.2.1.0 made.2.1.2
+    let made = walk_comes [] old new before after (says.Load n) goes tt by in
+    load_keeps before after new.descriptors.items made.2.0 n made.2.1.0 made.2.1.2
 keeps_queue old new before after (wents.On says.Idle) goes wants by = absurd wants
 keeps_queue old new before after (wents.On (says.Refused e)) goes wants by = absurd wants
 keeps_queue old new before after (wents.On (says.Chain head n r)) goes wants by = absurd wants
@@ -56,16 +59,19 @@ returns-in-Err g c =
     let yes : c.wants_bytes.result ≡ true = Prim.search in
     let wants : WantsBytes told = c.wants_bytes.ensures yes in
     let same : now ≡ before = c.in-Err.ensures.same.1 ∙ keeps_queue old w before left told c.requires.goes wants first in
-    let walks_so : (out : walked.PopOutcome) → c.pop-in-Err.result ≡ Ok (wents.On out) → WalksAmong (index ∷ []) old new before now after (wents.On out) = λ out is.
+    let walks_so : (out : walked.PopOutcome) → c.pop-in-Err.result ≡ Ok (wents.On out) →
+    WalksAmong (index ∷ []) old new before now after (wents.On out) = λ out is.
     let goes : GoesSo v now index (wents.On out) new after =
     subst (λ (r : Result LoadOutcome ChainError). IfOk r (λ went. GoesSo v now index went new after)) is c.pop-in-Err.ensures.goes in
     (w, v, before, left, told, (refl, first), wants, c.in-Err.ensures.same.0, goes) in
     record {
       idle = λ is s i there places limit.
           let walks = walks_so says.Idle is in
-          let law = c.law_handles.ensures.among s i (index ∷ []) old new before now after says.Idle (there ∙ ap (λ (q : QueueState). Some (live_of q)) (sym same)) places limit c.requires.goes
+          let law = c.law_handles.ensures.among s i (index ∷ []) old new before now after says.Idle
+          (there ∙ ap (λ (q : QueueState). Some (live_of q)) (sym same)) places limit c.requires.goes
           (ap (λ (q : QueueState). q.stopped) same ∙ c.requires.goes) (ap (λ (q : QueueState). q.event_index) same) tt walks tt in
           let end = after_walk s i (live_of now) law.0 new.descriptors.items law.2 in
           (Walks i law.0 new.descriptors.items law.2 ∷ [], end, (end, law.4, refl), law.5);
-      wants = λ n is lacks. c.law_handles.ensures.wanted_among (index ∷ []) old new before now after (wents.On (says.Load n)) c.requires.goes (walks_so (says.Load n) is) tt lacks;
+      wants = λ n is lacks. c.law_handles.ensures.wanted_among (index ∷ []) old new before now after (wents.On (says.Load n))
+          c.requires.goes (walks_so (says.Load n) is) tt lacks;
     }

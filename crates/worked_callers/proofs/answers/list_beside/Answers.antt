@@ -16,7 +16,8 @@ ask_call-requires g c =
     let same : n ≡ length c.args.request.now = grind (arith, nat_tests, test) in
     record {
       taken = more_taken c.walk_chain.new.handle.state _ _ (λ out is. is ∙ same)
-          (taken_so c.args.handle.now c.walk_chain.new.handle c.args.queue.now c.walk_chain.new.queue c.in_ok-request_len.field-0-0 n c.in_ok-request_len.field-0-2
+          (taken_so c.args.handle.now c.walk_chain.new.handle c.args.queue.now c.walk_chain.new.queue c.in_ok-request_len.field-0-0 n
+          c.in_ok-request_len.field-0-2
           c.requires.goes c.in_ok-request_len.ensures.walked);
     }
 
@@ -32,9 +33,12 @@ returns g c =
           (λ notice back s i files reached there places limit small session. (
             asked.0,
             λ files_run.
-                let so = served_beside may handles.walks handles.asks handles.calls handles.returns c.args.handle.now c.walk_chain.new.handle c.ask_call.new.handle
-                c.list_two.new.handle c.args.queue.now c.walk_chain.new.queue c.in_ok-request_len.field-0-0 c.in_ok-request_len.request_len c.in_ok-request_len.field-0-2
-                c.args.session c.args.request.now (asks.Call asked.0) (ByEntries true es EndsThere bytes) notice c.requires.goes c.in_ok-request_len.ensures.walked
+                let so = served_beside may handles.walks handles.asks handles.calls handles.returns c.args.handle.now
+                c.walk_chain.new.handle c.ask_call.new.handle
+                c.list_two.new.handle c.args.queue.now c.walk_chain.new.queue c.in_ok-request_len.field-0-0 c.in_ok-request_len.request_len
+                c.in_ok-request_len.field-0-2
+                c.args.session c.args.request.now (asks.Call asked.0) (ByEntries true es EndsThere bytes) notice c.requires.goes
+                c.in_ok-request_len.ensures.walked
                 asked.1 c.in_ok-_len.ensures back s i files reached there places limit small session files_run in
                 (so.es, so.end, so.run, so.calls_are, so.outs),
           ))

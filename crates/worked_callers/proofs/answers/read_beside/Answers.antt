@@ -17,7 +17,8 @@ ask_call-requires g c =
     let same : n ≡ length c.args.request.now = grind (arith, nat_tests, test) in
     record {
       taken = more_taken c.walk_chain.new.handle.state _ _ (λ out is. is ∙ same)
-          (taken_so c.args.handle.now c.walk_chain.new.handle c.args.queue.now c.walk_chain.new.queue c.in_ok-request_len.field-0-0 n c.in_ok-request_len.field-0-2
+          (taken_so c.args.handle.now c.walk_chain.new.handle c.args.queue.now c.walk_chain.new.queue c.in_ok-request_len.field-0-0 n
+          c.in_ok-request_len.field-0-2
           c.requires.goes c.in_ok-request_len.ensures.walked);
     }
 
@@ -35,9 +36,12 @@ returns g c =
             asked.0,
             map (λ (call : FileCall). (call, Done)) (forget_call told.0.forget),
             λ files_run.
-                let so = served_beside may handles.walks handles.asks handles.calls handles.returns c.args.handle.now c.walk_chain.new.handle c.ask_call.new.handle
-                c.give_data.new.handle c.args.queue.now c.walk_chain.new.queue c.in_ok-request_len.field-0-0 c.in_ok-request_len.request_len c.in_ok-request_len.field-0-2
-                c.args.session request (asks.Call asked.0) (OneAnswer (value.Bytes (length bytes)) bytes told.0) notice c.requires.goes c.in_ok-request_len.ensures.walked
+                let so = served_beside may handles.walks handles.asks handles.calls handles.returns c.args.handle.now
+                c.walk_chain.new.handle c.ask_call.new.handle
+                c.give_data.new.handle c.args.queue.now c.walk_chain.new.queue c.in_ok-request_len.field-0-0 c.in_ok-request_len.request_len
+                c.in_ok-request_len.field-0-2
+                c.args.session request (asks.Call asked.0) (OneAnswer (value.Bytes (length bytes)) bytes told.0) notice c.requires.goes
+                c.in_ok-request_len.ensures.walked
                 asked.1 told.1 back s i files reached there places limit small session files_run in
                 (so.es, so.end, so.run, so.calls_are, so.outs),
           ))

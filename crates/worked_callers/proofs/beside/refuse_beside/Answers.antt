@@ -16,8 +16,10 @@ returns-clause-loaded g c e is s i there places limit events =
     let before = c.args.queue.now in
     let after = c.walk_to_end.new.queue in
     let walks : IsWalked old new before after (wents.On (says.Refused e)) =
-    subst (λ (r : Result walked.PopOutcome ChainError). IfOk r (λ told. IsWalked old new before after (wents.On told))) is c.walk_to_end.ensures.walked in
-    let walk = c.law_handles.ensures.walks s i walks.0 old new before after (says.Refused e) there places limit c.requires.goes events walks.1 tt in
+    subst (λ (r : Result walked.PopOutcome ChainError). IfOk r (λ told. IsWalked old new before after (wents.On told))) is
+    c.walk_to_end.ensures.walked in
+    let walk = c.law_handles.ensures.walks s i walks.0 old new before after (says.Refused e) there places limit c.requires.goes events
+    walks.1 tt in
     let end = after_walk s i (live_of before) walk.0 new.descriptors.items walk.2 in
     (Walks i walk.0 new.descriptors.items walk.2 ∷ [], end, (end, walk.4, refl), walk.5)
 

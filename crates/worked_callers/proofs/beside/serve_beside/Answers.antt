@@ -13,7 +13,8 @@ reply-requires-clause-taken g c =
     let test = c.if-request_len-request.false in
     let same : n ≡ length c.args.request.now = grind (arith, nat_tests, test) in
     more_taken c.walk_chain.new.handle.state _ _ (λ out is. is ∙ same)
-    (taken_so c.args.handle.now c.walk_chain.new.handle c.args.queue.now c.walk_chain.new.queue c.in_ok-request_len.field-0-0 n c.in_ok-request_len.field-0-2
+    (taken_so c.args.handle.now c.walk_chain.new.handle c.args.queue.now c.walk_chain.new.queue c.in_ok-request_len.field-0-0 n
+    c.in_ok-request_len.field-0-2
     c.requires.goes c.in_ok-request_len.ensures.walked)
 
 pub returns : goal.returns
@@ -34,8 +35,10 @@ returns g c =
           (λ notice back s i files reached there places limit small session. (
             calls,
             λ files_run.
-                let so = served_beside may handles.walks handles.asks handles.calls handles.returns old one replied.1 c.reply.new.handle before after
-                c.in_ok-request_len.field-0-0 c.in_ok-request_len.request_len c.in_ok-request_len.field-0-2 c.args.session request replied.0 replied.2 notice c.requires.goes walked.walked
+                let so = served_beside may handles.walks handles.asks handles.calls handles.returns old one replied.1 c.reply.new.handle
+                before after
+                c.in_ok-request_len.field-0-0 c.in_ok-request_len.request_len c.in_ok-request_len.field-0-2 c.args.session request replied.0
+                replied.2 notice c.requires.goes walked.walked
                 replied.3 replied.4 back s i files reached there places limit small session files_run in (
                   so.es,
                   so.end,

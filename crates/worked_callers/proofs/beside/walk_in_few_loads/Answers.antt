@@ -9,6 +9,7 @@ returns g c =
     let before = c.args.queue.now in
     let after = c.walk_to_end.new.queue in
     record {
-      few = if_ok c.walk_to_end.result _ _ (λ told walks. (walks.0, walks.1, c.law_handles.ensures.loads walks.0 old new before after (wents.On told) c.requires.goes walks.1))
+      few = if_ok c.walk_to_end.result _ _ (λ told walks.
+          (walks.0, walks.1, c.law_handles.ensures.loads walks.0 old new before after (wents.On told) c.requires.goes walks.1))
           c.walk_to_end.ensures.walked;
     }

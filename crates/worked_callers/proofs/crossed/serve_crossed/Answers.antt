@@ -20,7 +20,8 @@ ask_call-requires g c =
     let same : n ≡ length c.args.one.now.request.now = grind (arith, nat_tests, test) in
     record {
       taken = more_taken c.walk_chain.new.handle.state _ _ (λ out is. is ∙ same)
-          (taken_so c.args.first.now c.walk_chain.new.handle c.args.queue.now c.walk_chain.new.queue c.in_ok-first_len.field-0-0 n c.in_ok-first_len.field-0-2
+          (taken_so c.args.first.now c.walk_chain.new.handle c.args.queue.now c.walk_chain.new.queue c.in_ok-first_len.field-0-0 n
+          c.in_ok-first_len.field-0-2
           c.requires.goes c.in_ok-first_len.ensures.walked);
     }
 
@@ -29,11 +30,13 @@ ask_call-requires-2 g c =
     let n = c.in_ok-second_len.second_len in
     let test = c.if-second_len-two.false in
     let same : n ≡ length c.args.two.now.request.now = grind (arith, nat_tests, test) in
-    let goes = goes_still c.args.first.now c.walk_chain.new.handle c.args.queue.now c.walk_chain.new.queue c.in_ok-first_len.field-0-0 c.in_ok-first_len.first_len c.in_ok-first_len.field-0-2
+    let goes = goes_still c.args.first.now c.walk_chain.new.handle c.args.queue.now c.walk_chain.new.queue c.in_ok-first_len.field-0-0
+    c.in_ok-first_len.first_len c.in_ok-first_len.field-0-2
     c.requires.goes c.in_ok-first_len.ensures.walked in
     record {
       taken = more_taken c.walk_chain-2.new.handle.state _ _ (λ out is. is ∙ same)
-          (taken_so c.args.second.now c.walk_chain-2.new.handle c.walk_chain.new.queue c.walk_chain-2.new.queue c.in_ok-second_len.field-0-0 n c.in_ok-second_len.field-0-2
+          (taken_so c.args.second.now c.walk_chain-2.new.handle c.walk_chain.new.queue c.walk_chain-2.new.queue c.in_ok-second_len.field-0-0
+          n c.in_ok-second_len.field-0-2
           goes c.in_ok-second_len.ensures.walked);
     }
 
@@ -56,13 +59,20 @@ returns g c =
         map (λ (call : FileCall). (call, Done)) (forget_call told.0.forget),
         map (λ (call : FileCall). (call, Done)) (forget_call told'.0.forget),
         λ between files early late.
-            served_crossed may handles.walks handles.asks handles.calls handles.returns c.args.first.now c.walk_chain.new.handle c.ask_call.new.handle c.give_data-2.new.handle
-            c.args.second.now c.walk_chain-2.new.handle c.ask_call-2.new.handle c.give_data.new.handle c.args.queue.now c.walk_chain.new.queue after
-            c.in_ok-first_len.field-0-0 c.in_ok-first_len.first_len c.in_ok-first_len.field-0-2 c.in_ok-second_len.field-0-0 c.in_ok-second_len.second_len c.in_ok-second_len.field-0-2
-            c.args.sessions.0 c.args.sessions.1 one.request.now two.request.now (asks.Call asked.0) (asks.Call asked'.0) (OneAnswer (value.Bytes (length one.bytes.now)) one.bytes.now told.0)
-            (OneAnswer (value.Bytes (length two.bytes.now)) two.bytes.now told'.0) c.in_ok-late.late c.in_ok-early.early c.requires.goes c.in_ok-first_len.ensures.walked
+            served_crossed may handles.walks handles.asks handles.calls handles.returns c.args.first.now c.walk_chain.new.handle
+            c.ask_call.new.handle c.give_data-2.new.handle
+            c.args.second.now c.walk_chain-2.new.handle c.ask_call-2.new.handle c.give_data.new.handle c.args.queue.now
+            c.walk_chain.new.queue after
+            c.in_ok-first_len.field-0-0 c.in_ok-first_len.first_len c.in_ok-first_len.field-0-2 c.in_ok-second_len.field-0-0
+            c.in_ok-second_len.second_len c.in_ok-second_len.field-0-2
+            c.args.sessions.0 c.args.sessions.1 one.request.now two.request.now (asks.Call asked.0) (asks.Call asked'.0)
+            (OneAnswer (value.Bytes (length one.bytes.now)) one.bytes.now told.0)
+            (OneAnswer (value.Bytes (length two.bytes.now)) two.bytes.now told'.0) c.in_ok-late.late c.in_ok-early.early c.requires.goes
+            c.in_ok-first_len.ensures.walked
             c.in_ok-second_len.ensures.walked asked.1 asked'.1 told.1 told'.1
-            (subst (λ (k : QueueState). (room behind : List ℕ) → (acts : List Act) × (last : ℕ) × GoesBackBy k room behind st acts last c.in_ok-late.late) c.in_ok-early.ensures.queue
-            c.in_ok-late.ensures.back) c.in_ok-early.ensures.back s i between files reached there places places' limit limit' small session session' early late,
+            (subst (λ (k : QueueState). (room behind : List ℕ) →
+            (acts : List Act) × (last : ℕ) × GoesBackBy k room behind st acts last c.in_ok-late.late) c.in_ok-early.ensures.queue
+            c.in_ok-late.ensures.back) c.in_ok-early.ensures.back s i between files reached there places places' limit limit' small session
+            session' early late,
       );
     }

@@ -14,5 +14,6 @@ returns-in-Ok-On c =
     subst (λ (x : LoadOutcome). GoesSo w q bytes x c.pop.new.self c.pop.new.queue) c.in-Ok-On.field-0-is c.in-Ok-On.ensures.goes in
     record {
       offered = λ loaded course pop_id walk goes here stands.
-          c.law_walks.ensures.goes_on loaded course pop_id walk (whole w bytes) w c.pop.new.self q c.pop.new.queue told goes here on.4 stands;
+          c.law_walks.ensures.goes_on loaded course pop_id walk (whole w bytes) w c.pop.new.self q c.pop.new.queue told goes here
+          on.4 stands;
     }

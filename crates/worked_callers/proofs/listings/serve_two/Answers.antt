@@ -23,7 +23,8 @@ ask_call-requires g c =
     let same : n ≡ length c.args.request.now = grind (arith, nat_tests, test) in
     record {
       taken = more_taken c.walk_chain.new.handle.state _ _ (λ out is. is ∙ same)
-          (taken_so c.args.handle.now c.walk_chain.new.handle c.args.queue.now c.walk_chain.new.queue c.in_ok-request_len.field-0-0 n c.in_ok-request_len.field-0-2
+          (taken_so c.args.handle.now c.walk_chain.new.handle c.args.queue.now c.walk_chain.new.queue c.in_ok-request_len.field-0-0 n
+          c.in_ok-request_len.field-0-2
           c.requires.goes c.in_ok-request_len.ensures.walked);
     }
 
@@ -43,7 +44,8 @@ returns g c =
     let calls = listing_calls (call_of (drop 80 request) asked.0) true es EndsThere in
     let q = queue_of (course_of before old.limit) in
     let back_queue = c.walk_chain.new.queue in
-    let stays = queue_stays old popped_handle before back_queue head c.in_ok-request_len.request_len c.in_ok-request_len.field-0-2 c.requires.goes c.requires.by_flags walked in
+    let stays = queue_stays old popped_handle before back_queue head c.in_ok-request_len.request_len c.in_ok-request_len.field-0-2
+    c.requires.goes c.requires.by_flags walked in
     let in_order = stays.0 ∙ c.requires.none_out in
     record {
       step = if_ok_so c.give_back.result _ _ _
@@ -66,15 +68,19 @@ returns g c =
                   back = back_queue;
                   returns = goes.2;
                 } in
-                let law = c.law_chains.ensures.served walked.0 request calls goes.0 goes.1 head i notice old new before c.args.session m files run first in_order session files_run in
-                let told = c.law_chains.ensures.told.of_chain walked.0 request calls goes.0 goes.1 head notice old new before c.args.session c.requires.goes run in (
+                let law = c.law_chains.ensures.served walked.0 request calls goes.0 goes.1 head i notice old new before c.args.session m
+                files run first in_order session files_run in
+                let told = c.law_chains.ensures.told.of_chain walked.0 request calls goes.0 goes.1 head notice old new before c.args.session
+                c.requires.goes run in (
                   step_loads law.0 law.2 request,
                   law.4,
                   record { acts = goes.0; last = goes.1 },
                   law.6,
-                  subst (λ (s : Session). StepBy g.F.FileSystemBase.may m i (step_loads law.0 law.2 request) calls (Exchanged law.4 notice) (record { acts = goes.0; last = goes.1 })
+                  subst (λ (s : Session). StepBy g.F.FileSystemBase.may m i (step_loads law.0 law.2 request) calls (Exchanged law.4 notice)
+                      (record { acts = goes.0; last = goes.1 })
                       (after_chain m i q s.options.0 files)) (sym session_is)
-                      (subst (λ (n : Bool). StepBy g.F.FileSystemBase.may m i (step_loads law.0 law.2 request) calls (Exchanged law.4 n) (record { acts = goes.0; last = goes.1 })
+                      (subst (λ (n : Bool). StepBy g.F.FileSystemBase.may m i (step_loads law.0 law.2 request) calls (Exchanged law.4 n)
+                      (record { acts = goes.0; last = goes.1 })
                       (after_chain m i q new.session.options.0 files)) (sym (told.by_flags stays.1)) law.7),
                 ),
           ))

@@ -6,4 +6,5 @@ use Rattle.worked_callers.proofs.live_queues.oldest_first.Goals as goal
 pub returns : goal.returns
 returns c w first second n m stores more same small =
     c.law_queues.ensures.order w
-    (Takes first ∷ Takes second ∷ Returns (w.queue.position, first) n stores ∷ Returns (next_position w.queue, second) m more ∷ []) same small (refl, (refl, tt))
+    (Takes first ∷ Takes second ∷ Returns (w.queue.position, first) n stores ∷ Returns (next_position w.queue, second) m more ∷ []) same
+    small (refl, (refl, tt))

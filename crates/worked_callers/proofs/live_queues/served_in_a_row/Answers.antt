@@ -6,5 +6,6 @@ use Rattle.worked_callers.proofs.live_queues.served_in_a_row.Goals as goal
 
 pub returns : goal.returns
 returns g c before after so =
-    c.law_serial.ensures.kick (state before (at_positions 0 0) 1 []) (state after (at_positions 2 2) 0 []) (one ∷ two ∷ []) with_both after_both 0 (at_positions 0 0) refl refl (refl, refl)
+    c.law_serial.ensures.kick (state before (at_positions 0 0) 1 []) (state after (at_positions 2 2) 0 []) (one ∷ two ∷ []) with_both
+    after_both 0 (at_positions 0 0) refl refl (refl, refl)
     (in_a_row g.F.FileSystemBase.may before after so)

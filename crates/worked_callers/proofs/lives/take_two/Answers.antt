@@ -23,13 +23,17 @@ returns g c =
     let more = c.walk_chain-2.new.handle.descriptors.items in
     record {
       out = λ s i none there places places' limit limit'.
-          let one = c.law_handles.ensures.walks s i first.walked.0 c.args.first.now c.walk_chain.new.handle before mid (says.Chain head c.in_ok-head.field-0-1 c.in_ok-head.field-0-2)
+          let one = c.law_handles.ensures.walks s i first.walked.0 c.args.first.now c.walk_chain.new.handle before mid
+          (says.Chain head c.in_ok-head.field-0-1 c.in_ok-head.field-0-2)
           there places limit c.requires.goes tt first.walked.1 tt in
           let s₁ = after_walk s i (live_of before) one.0 ds one.2 in
           let took = took_so may s s₁ i one.0 ds one.2 head c.in_ok-head.field-0-1 c.in_ok-head.field-0-2 one.3 one.4 in
-          let goes = goes_still c.args.first.now c.walk_chain.new.handle before mid head c.in_ok-head.field-0-1 c.in_ok-head.field-0-2 c.requires.goes first.walked in
-          let two = c.law_handles.ensures.walks s₁ i second.walked.0 c.args.second.now c.walk_chain-2.new.handle mid c.walk_chain-2.new.queue
-          (says.Chain other c.in_ok-other.field-0-1 c.in_ok-other.field-0-2) one.5 (took.1 ∙ places') (took.2 ∙ limit') goes tt second.walked.1 tt in
+          let goes = goes_still c.args.first.now c.walk_chain.new.handle before mid head c.in_ok-head.field-0-1 c.in_ok-head.field-0-2
+          c.requires.goes first.walked in
+          let two = c.law_handles.ensures.walks s₁ i second.walked.0 c.args.second.now c.walk_chain-2.new.handle mid
+          c.walk_chain-2.new.queue
+          (says.Chain other c.in_ok-other.field-0-1 c.in_ok-other.field-0-2) one.5 (took.1 ∙ places') (took.2 ∙ limit') goes tt
+          second.walked.1 tt in
           let s₂ = after_walk s₁ i (live_of mid) two.0 more two.2 in
           let took' = took_so may s₁ s₂ i two.0 more two.2 other c.in_ok-other.field-0-1 c.in_ok-other.field-0-2 two.3 two.4 in
           let es : List LiveEvent = Walks i one.0 ds (step.Chain head None) ∷ Walks i two.0 more (step.Chain other None) ∷ [] in
@@ -38,12 +42,14 @@ returns g c =
             subst (λ (k : comes.CourseStep). Happens may s (Walks i one.0 ds k) s₁) took.0 one.4,
             (s₂, subst (λ (k : comes.CourseStep). Happens may s₁ (Walks i two.0 more k) s₂) took'.0 two.4, refl),
           ) in
-          let once = c.law_runs.ensures.once s s₂ es i (live_of before) there (ap (λ (l : List OutChain). tickets_on i l) none) (tt, (tt, tt)) run in
+          let once = c.law_runs.ensures.once s s₂ es i (live_of before) there (ap (λ (l : List OutChain). tickets_on i l) none)
+          (tt, (tt, tt)) run in
           let heads = two_takes i head other one.0 two.0 ds more in (
             es,
             s₂,
             run,
             subst (λ (taken : List ℕ). IsPermutation (map (λ (t : InFlightId). t.1) (tickets_on i s₂.outs)) taken) heads.0
-                (subst (λ (back : List ℕ). IsPermutation (back ++ map (λ (t : InFlightId). t.1) (tickets_on i s₂.outs)) (heads_taken (events_on i es))) heads.1 once),
+                (subst (λ (back : List ℕ). IsPermutation (back ++ map (λ (t : InFlightId). t.1) (tickets_on i s₂.outs))
+                (heads_taken (events_on i es))) heads.1 once),
           );
     }

@@ -32,19 +32,24 @@ returns g c =
             saved.2,
             found.2,
             λ same.
-                let one = c.in_ok-reply_beside.ensures.run s 0 reached (ap (λ (l : List LiveQueue). slice_get l 0) queues) places limit small in
+                let one = c.in_ok-reply_beside.ensures.run s 0 reached (ap (λ (l : List LiveQueue). slice_get l 0) queues) places
+                limit small in
                 let s₁ = one.1 in
-                let queues₁ : s₁.queues ≡ live_of left ∷ [] = one.5 ∙ ap (λ (l : List LiveQueue). changed_at l 0 (λ _. live_of left)) queues in
+                let queues₁ : s₁.queues ≡ live_of left ∷ [] =
+                one.5 ∙ ap (λ (l : List LiveQueue). changed_at l 0 (λ _. live_of left)) queues in
                 let made : IsRecord saved.0 saved.1 s₁.options (recorded left ∷ []) =
                 subst (λ (o : ℕ). IsRecord saved.0 saved.1 o (recorded left ∷ [])) (sym (one.6 ∙ options)) saved.3 in
                 let read : IsRecord saved.0 found.1 read_options (q ∷ []) =
                 subst (λ (bytes : List ℕ). IsRecord bytes found.1 read_options (q ∷ [])) same
-                (subst (λ (qs : List Queue). IsRecord found.0 found.1 read_options qs) (sym c.deref.ensures.value ∙ c.in-Some.ensures) found.3) in
-                let moved = c.begin_by_record.ensures.moves s₁ left m saved.0 saved.1 found.1 read_options (one.4 ∙ none) queues₁ made read in
+                (subst (λ (qs : List Queue). IsRecord found.0 found.1 read_options qs)
+                (sym c.deref.ensures.value ∙ c.in-Some.ensures) found.3) in
+                let moved = c.begin_by_record.ensures.moves s₁ left m saved.0 saved.1 found.1 read_options (one.4 ∙ none) queues₁
+                made read in
                 let s₂ = moved.1 in
                 let event : LiveEvent = Moves m (live_of begun ∷ []) in
                 let limit₂ = moved.7 ∙ one.7 in
-                let two = last s₂ 0 (reached_by may s₁ s₂ event (reached_run may s s₁ one.0 reached one.2) moved.2) (ap (λ (l : List LiveQueue). slice_get l 0) moved.3) moved.4 (limit₂ ∙ limit')
+                let two = last s₂ 0 (reached_by may s₁ s₂ event (reached_run may s s₁ one.0 reached one.2) moved.2)
+                (ap (λ (l : List LiveQueue). slice_get l 0) moved.3) moved.4 (limit₂ ∙ limit')
                 (subst (λ (n : ℕ). n ≤ 2 ^ 31) (sym limit₂) small) in (
                   one.0 ++ event ∷ two.0,
                   two.1,

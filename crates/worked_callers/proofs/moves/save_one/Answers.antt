@@ -10,7 +10,13 @@ pub returns-in-Ok : goal.returns-in-Ok
 returns-in-Ok g c =
     let q = c.args.queue.now in
     let v = Second 4096 0x101000 in
-    let same : c.resume.result ≡ recorded q = c.resume.ensures ∙ ap (λ (b : Bool). record (at_position q.layout q.next_avail) { stopped = b }) c.is_some.ensures in
-    subst (λ (k : Queue). (sent : List ℕ) × (v' : Version) × Appends (g.S.RecordSink.sent c.args.sink.now) (g.S.RecordSink.sent c.save_record.new.sink) sent
-    × IsRecord sent v' c.args.options.0 (k ∷ [])) same
-    (record_bytes v c.args.options.0 (c.resume.result ∷ []), v, c.in-Ok.ensures.goes_out.0, (refl, (omega arith, omega arith), c.in-Ok.ensures.savable))
+    let same : c.resume.result ≡ recorded q =
+    c.resume.ensures ∙ ap (λ (b : Bool). record (at_position q.layout q.next_avail) { stopped = b }) c.is_some.ensures in
+    subst (λ (k : Queue). (sent : List ℕ) × (v' : Version)
+    × Appends (g.S.RecordSink.sent c.args.sink.now) (g.S.RecordSink.sent c.save_record.new.sink) sent
+    × IsRecord sent v' c.args.options.0 (k ∷ [])) same (
+      record_bytes v c.args.options.0 (c.resume.result ∷ []),
+      v,
+      c.in-Ok.ensures.goes_out.0,
+      (refl, (omega arith, omega arith), c.in-Ok.ensures.savable),
+    )

@@ -17,7 +17,8 @@ returns c =
       back = if_ok c.pushed.result _ _
           (λ notice told room reply last.
           subst (λ (n : Bool). (acts : List Act) × GoesBackOwn q room reply st acts last n) (sym (told ∙ same))
-          (own_goes_back st q _ c.in_ok-_stores._stores (0 ∷ 0 ∷ []) room reply last c.in_ok-_stores.ensures.ok refl c.in_ok-_stores.ensures.stores))
+          (own_goes_back st q _ c.in_ok-_stores._stores (0 ∷ 0 ∷ []) room reply last c.in_ok-_stores.ensures.ok refl
+          c.in_ok-_stores.ensures.stores))
           c.pushed.ensures.tells;
       queue = on_ok_more c.pushed.result _ _ (λ is. is ∙ ap gave c.in_ok-_stores.ensures.queue) c.pushed.ensures.queue;
     }

@@ -7,5 +7,6 @@ pub returns : goal.returns
 returns g c =
     let w = c.set_memory.new.self in
     record {
-      maps = on_ok_any c.set_memory.result _ (λ s none. (record s { places = places_in w.regions }, c.law_handles.ensures.maps s w (inl none), refl, refl));
+      maps = on_ok_any c.set_memory.result _
+          (λ s none. (record s { places = places_in w.regions }, c.law_handles.ensures.maps s w (inl none), refl, refl));
     }

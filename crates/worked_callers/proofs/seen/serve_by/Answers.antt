@@ -20,7 +20,8 @@ reply-requires-clause-taken g c =
     let test = c.if-request_len-request.false in
     let same : n ≡ length c.args.request.now = grind (arith, nat_tests, test) in
     more_taken c.walk_chain.new.handle.state _ _ (λ out is. is ∙ same)
-    (taken_so c.args.handle.now c.walk_chain.new.handle c.args.queue.now c.walk_chain.new.queue c.in_ok-request_len.field-0-0 n c.in_ok-request_len.field-0-2
+    (taken_so c.args.handle.now c.walk_chain.new.handle c.args.queue.now c.walk_chain.new.queue c.in_ok-request_len.field-0-0 n
+    c.in_ok-request_len.field-0-2
     c.requires.goes c.in_ok-request_len.ensures.walked)
 
 pub returns : goal.returns
@@ -59,7 +60,8 @@ returns g c =
             back = back_queue;
             returns = goes.2;
           } in
-          let law = c.law_chains.ensures.told.of_chain walked.0 request calls goes.0 goes.1 head told.0 old new before c.args.session c.requires.goes run in
+          let law = c.law_chains.ensures.told.of_chain walked.0 request calls goes.0 goes.1 head told.0 old new before c.args.session
+          c.requires.goes run in
           let so = told_before before.layout before back_queue goes.2.stores goes.2.flags told.0 keeps.0 keeps.1 law in
           (subst (λ (bs : List ℕ). told.0 ≡ tells_of before bs) goes.3 so.0, sym goes.4 ∙ so.1))
           c.give_back_by.ensures.back;
@@ -83,14 +85,17 @@ returns g c =
                   back = back_queue;
                   returns = goes.2;
                 } in
-                let law = c.law_chains.ensures.served walked.0 request calls goes.0 goes.1 head i told.0 old new before c.args.session m files run first in_order session files_run in (
+                let law = c.law_chains.ensures.served walked.0 request calls goes.0 goes.1 head i told.0 old new before c.args.session m
+                files run first in_order session files_run in (
                   step_loads law.0 law.2 request,
                   law.4,
                   record { acts = goes.0; last = goes.1 },
                   law.6,
-                  subst (λ (s : Session). StepBy g.F.FileSystemBase.may m i (step_loads law.0 law.2 request) calls (Exchanged law.4 (tells c.args.seen)) (record { acts = goes.0; last = goes.1 })
+                  subst (λ (s : Session). StepBy g.F.FileSystemBase.may m i (step_loads law.0 law.2 request) calls
+                      (Exchanged law.4 (tells c.args.seen)) (record { acts = goes.0; last = goes.1 })
                       (after_chain m i q s.options.0 files)) (sym session_is)
-                      (subst (λ (bs : List ℕ). StepBy g.F.FileSystemBase.may m i (step_loads law.0 law.2 request) calls (Exchanged law.4 (tells bs)) (record { acts = goes.0; last = goes.1 })
+                      (subst (λ (bs : List ℕ). StepBy g.F.FileSystemBase.may m i (step_loads law.0 law.2 request) calls
+                      (Exchanged law.4 (tells bs)) (record { acts = goes.0; last = goes.1 })
                       (after_chain m i q new.session.options.0 files)) goes.3 law.7),
                 ),
           ))

@@ -41,7 +41,8 @@ returns g c =
             step_loads law.0 law.2 [],
             law.4,
             record { acts = goes.0; last = goes.1 },
-            subst (λ (bs : List ℕ). StepBy g.F.FileSystemBase.may m i (step_loads law.0 law.2 []) [] (Exchanged law.4 (tells bs)) (record { acts = goes.0; last = goes.1 })
+            subst (λ (bs : List ℕ). StepBy g.F.FileSystemBase.may m i (step_loads law.0 law.2 []) [] (Exchanged law.4 (tells bs))
+                (record { acts = goes.0; last = goes.1 })
                 (after_chain m i q m.options m.files)) goes.3 law.6,
           ))
           c.give_back_by.ensures.back;

@@ -13,7 +13,8 @@ returns-clause-back c =
     let q = c.args.queue.now in
     let same = ap (λ (k : QueueState). tells_of k (0 ∷ 0 ∷ [])) c.in_ok-_stores.ensures.queue in
     if_ok c.pushed.result _ _
-    (λ notice told room behind. subst (λ (n : Bool). (acts : List Act) × (last : ℕ) × GoesBackBy q room behind st acts last n) (sym (told ∙ same))
+    (λ notice told room behind. subst (λ (n : Bool). (acts : List Act) × (last : ℕ) × GoesBackBy q room behind st acts last n)
+    (sym (told ∙ same))
     (goes_back st q _ c.in_ok-_stores._stores (0 ∷ 0 ∷ []) room behind c.in_ok-_stores.ensures.ok refl c.in_ok-_stores.ensures.stores))
     c.pushed.ensures.tells
 

@@ -17,7 +17,8 @@ returns-in-Ok c =
         c.in_ok-decode.field-0,
         mid,
         given,
-        more_taken st _ _ (λ out both. (both.0, front, both.1 request both.0 front, c.in_ok-decode.ensures.same.1, c.in_ok-decode.ensures.session))
+        more_taken st _ _
+            (λ out both. (both.0, front, both.1 request both.0 front, c.in_ok-decode.ensures.same.1, c.in_ok-decode.ensures.session))
             (both_taken st _ _ c.requires.taken c.in_ok-decode.ensures.tells),
         subst (λ (t : told.Decoded). HasReply t mid given new) (sym c.in-Call.is)
             (c.in-Ok.ensures.taken.0, c.requires.data, c.in-Ok.ensures.stays.1, c.in-Ok.ensures.given),
@@ -36,7 +37,8 @@ returns-in-Nothing c =
         c.in_ok-decode.field-0,
         mid,
         NoAnswer,
-        more_taken st _ _ (λ out both. (both.0, front, both.1 request both.0 front, c.in_ok-decode.ensures.same.1, c.in_ok-decode.ensures.session))
+        more_taken st _ _
+            (λ out both. (both.0, front, both.1 request both.0 front, c.in_ok-decode.ensures.same.1, c.in_ok-decode.ensures.session))
             (both_taken st _ _ c.requires.taken c.in_ok-decode.ensures.tells),
         subst (λ (t : told.Decoded). HasReply t mid NoAnswer mid) (sym c.in-Nothing.is) refl,
         refl,
@@ -54,7 +56,8 @@ returns-in-Fault c =
         c.in_ok-decode.field-0,
         mid,
         NoAnswer,
-        more_taken st _ _ (λ out both. (both.0, front, both.1 request both.0 front, c.in_ok-decode.ensures.same.1, c.in_ok-decode.ensures.session))
+        more_taken st _ _
+            (λ out both. (both.0, front, both.1 request both.0 front, c.in_ok-decode.ensures.same.1, c.in_ok-decode.ensures.session))
             (both_taken st _ _ c.requires.taken c.in_ok-decode.ensures.tells),
         subst (λ (t : told.Decoded). HasReply t mid NoAnswer mid) (sym c.in-Fault.is) refl,
         refl,

@@ -11,7 +11,8 @@ returns-clause-adds c =
       (
         _,
         refl,
-        adds_by _ _ _ _ (listed c.args.entry.now, c.args.node) true _ _ add.outcome (found_kind c.args.listing (length c.args.list.now) (length c.args.entry.now.name.now))
+        adds_by _ _ _ _ (listed c.args.entry.now, c.args.node) true _ _ add.outcome
+            (found_kind c.args.listing (length c.args.list.now) (length c.args.entry.now.name.now))
             add.list add.holds add.full add.fails add.same add.stays,
       ),
     )

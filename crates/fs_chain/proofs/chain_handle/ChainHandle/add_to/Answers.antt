@@ -12,7 +12,8 @@ returns-clause-adds c =
       (
         _,
         refl,
-        adds_by _ _ _ _ (listed c.args.entry.now, no_node (listed c.args.entry.now)) false _ _ add.outcome (plain_kind c.args.listing (length c.args.list.now) (length c.args.entry.now.name.now))
+        adds_by _ _ _ _ (listed c.args.entry.now, no_node (listed c.args.entry.now)) false _ _ add.outcome
+            (plain_kind c.args.listing (length c.args.list.now) (length c.args.entry.now.name.now))
             add.list add.holds add.full add.fails add.same add.stays,
       ),
     )

@@ -1,4 +1,5 @@
 use Rattle.fs_chain.proofs.chain_handle.ChainHandle.ask_out.Goals as goal
 
 pub returns-clause-asker : goal.returns-clause-asker
-returns-clause-asker c = λ whole long front h more reads. c.keep_front.ensures.asker whole (c.ask_front-asked.ensures.asker whole long front) h more reads
+returns-clause-asker c =
+    λ whole long front h more reads. c.keep_front.ensures.asker whole (c.ask_front-asked.ensures.asker whole long front) h more reads

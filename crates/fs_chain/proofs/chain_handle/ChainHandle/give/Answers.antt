@@ -10,13 +10,15 @@ returns-in-Load-clause-walks c =
     walks_on c.in-Walking.course c.in-Walking.pop_id c.in-Walking.walk _ _ _ _ _ _ c.requires.goes c.in-Walking.is (
       step.Load c.in-Load.next,
       (ap tells.Load c.len-len.ensures.len, refl, refl, tt, (refl, refl, refl, refl)),
-      comes_taken c.in-Walking.course c.in-Walking.walk c.take-taken.result c.args.loaded.now (step.Load c.in-Load.next) w.regions w.descriptors.items c.give.new.descriptors.items
+      comes_taken c.in-Walking.course c.in-Walking.walk c.take-taken.result c.args.loaded.now (step.Load c.in-Load.next) w.regions
+          w.descriptors.items c.give.new.descriptors.items
           c.take-taken.ensures c.in-Load.ensures,
     )
 
 pub returns-in_default-give-clause-walks : goal.returns-in_default-give-clause-walks
 returns-in_default-give-clause-walks c =
-    let comes = comes_taken c.in-Walking.course c.in-Walking.walk c.take-taken.result c.args.loaded.now _ _ _ _ c.take-taken.ensures c.give.ensures in
+    let comes = comes_taken c.in-Walking.course c.in-Walking.walk c.take-taken.result c.args.loaded.now _ _ _ _ c.take-taken.ensures
+    c.give.ensures in
     let settled = c.settle.ensures in
     walks_on c.in-Walking.course c.in-Walking.pop_id c.in-Walking.walk _ _ _ _ _ _ c.requires.goes c.in-Walking.is (
       c.give.result,

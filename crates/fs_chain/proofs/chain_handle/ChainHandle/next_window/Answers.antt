@@ -4,10 +4,12 @@ use Rattle.fs_chain.proofs.chain_handle.ChainHandle.next_window.Goals as goal
 
 pub returns-clause-some : goal.returns-clause-some
 returns-clause-some c =
-    windows_passed c.args.self.now.regions c.args.write_only c.args.self.now.descriptors.items c.left-left.result.now c.pass_to.new.self c.args.from c.window_from.result (search rules)
+    windows_passed c.args.self.now.regions c.args.write_only c.args.self.now.descriptors.items c.left-left.result.now c.pass_to.new.self
+    c.args.from c.window_from.result (search rules)
     c.pass_to.ensures.below (search rules) c.window_from.ensures.some
 
 pub returns-clause-none : goal.returns-clause-none
 returns-clause-none c = λ none out all.
-    end_passed c.args.self.now.regions c.args.write_only c.args.self.now.descriptors.items c.left-left.result.now c.pass_to.new.self c.args.from (search rules) c.pass_to.ensures.below
+    end_passed c.args.self.now.regions c.args.write_only c.args.self.now.descriptors.items c.left-left.result.now c.pass_to.new.self
+    c.args.from (search rules) c.pass_to.ensures.below
     (search rules) (c.window_from.ensures.none none) all

@@ -8,9 +8,11 @@ returns-in-Ok-clause-goes c = (
   search rules,
   search rules,
   search rules,
-  walks_apart c.args.self.now c.args.self.now c.walk_load.new.self c.clear_part.new.self _ _ _ c.args.loaded.now _ refl c.clear_part.ensures.apart (sym c.requires.whole) c.in-Ok.ensures.walks,
+  walks_apart c.args.self.now c.args.self.now c.walk_load.new.self c.clear_part.new.self _ _ _ c.args.loaded.now _ refl
+      c.clear_part.ensures.apart (sym c.requires.whole) c.in-Ok.ensures.walks,
 )
 
 pub returns-in-Err-clause-error : goal.returns-in-Err-clause-error
 returns-in-Err-clause-error c =
-    refuses_walk c.args.self.now c.args.queue.now c.args.loaded.now c.in-Err.error c.requires.due c.requires.len c.requires.whole c.in-Err.ensures.error c.in-Err.ensures.memory
+    refuses_walk c.args.self.now c.args.queue.now c.args.loaded.now c.in-Err.error c.requires.due c.requires.len c.requires.whole
+    c.in-Err.ensures.error c.in-Err.ensures.memory

@@ -13,7 +13,9 @@ invariant-loop g l = record {
   room : l.most ≤ vec_capacity l.done;
   kept : shape (g.H.HostBlocks.host l.host) ≡ shape (g.H.HostBlocks.host l.initial.host);
   run : (rest : List (Exchange × Bool)) (refused : Option DeviceError) (after : State _) →
-      KickLists g.F.FileSystemBase.may (state_of (g.M.GuestMemory.memory l.mem (g.H.HostBlocks.host l.host)) l.self) l.queue (l.most - l.counter) rest refused after →
-      KickLists g.F.FileSystemBase.may (state_of (g.M.GuestMemory.memory l.mem (g.H.HostBlocks.host l.initial.host)) l.initial.self) l.queue l.most
+      KickLists g.F.FileSystemBase.may (state_of (g.M.GuestMemory.memory l.mem (g.H.HostBlocks.host l.host)) l.self) l.queue
+      (l.most - l.counter) rest refused after →
+      KickLists g.F.FileSystemBase.may (state_of (g.M.GuestMemory.memory l.mem (g.H.HostBlocks.host l.initial.host)) l.initial.self)
+      l.queue l.most
       (map exchanged_of l.done.items ++ rest) refused after;
 }

@@ -22,8 +22,12 @@ returns-in_err-waits-clause-step g c =
 
 pub returns-then-not-waits-clause-step : goal.returns-then-not-waits-clause-step
 returns-then-not-waits-clause-step g c =
-    let server = c.self.inside.server in
-    ([], Idle, rw (← c.self.view_is) (rw c.if-not-waits.true at c.in_ok-waits.ensures.takes server.options.0 server.page_size server.fs), refl)
+    let server = c.self.inside.server in (
+      [],
+      Idle,
+      rw (← c.self.view_is) (rw c.if-not-waits.true at c.in_ok-waits.ensures.takes server.options.0 server.page_size server.fs),
+      refl,
+    )
 
 pub returns-in_err-answered-clause-step : goal.returns-in_err-answered-clause-step
 returns-in_err-answered-clause-step g c =
@@ -33,7 +37,8 @@ returns-in_err-answered-clause-step g c =
     let still = c.in_err-answered.ensures.err in (
       [],
       Refused (device.Queue stop.OutOfMemory),
-      rw (← c.self.view_is, still.0, still.1, still.2, c.answer_front.ensures.page_size) (lacks_taken g.F.FileSystemBase.may _ _ c.args.queue c.take_from.new.taken taken.0 taken.1),
+      rw (← c.self.view_is, still.0, still.1, still.2, c.answer_front.ensures.page_size)
+          (lacks_taken g.F.FileSystemBase.may _ _ c.args.queue c.take_from.new.taken taken.0 taken.1),
       failed,
     )
 
@@ -42,7 +47,8 @@ returns-clause-step g c =
     let m = g.M.GuestMemory.memory c.args.mem.now (g.H.HostBlocks.host c.args.host.now) in
     let host : m.host ≡ (g.H.HostBlocks.host c.args.host.now) = ap (λ (x : Memory). x.host)
     (g.met.M.GuestMemory.over c.args.mem.now (g.H.HostBlocks.host c.args.host.now) (g.H.HostBlocks.host c.args.host.now)) in
-    let over = g.met.M.GuestMemory.over c.args.mem.now (g.H.HostBlocks.host c.args.host.now) (g.H.HostBlocks.host c.give_back_front-notify.new.host) in
+    let over = g.met.M.GuestMemory.over c.args.mem.now (g.H.HostBlocks.host c.args.host.now)
+    (g.H.HostBlocks.host c.give_back_front-notify.new.host) in
     let server = c.self.inside.server in
     let fixed : Fixed = record { limit = c.self.inside.limit; page_size = server.page_size } in
     let taken = rw c.if-not-waits.false at c.in_ok-waits.ensures.takes server.options.0 server.page_size server.fs in
@@ -55,11 +61,15 @@ returns-clause-step g c =
     let answered = c.in_ok-answered.answered in
     let new = g.H.HostBlocks.host c.answer_front.new.host in
     let told = c.in_ok-answered.ensures.exchange m has.queue has.fetched host has.taken in
-    let put = subst (λ (h : Host). PutFrontLast h new (chain_places place.chain) (front_bytes answered.front) told.reply) (sym host) told.put in
-    let fronted = subst (λ (bytes : List ℕ). PutFrontLast m.host new (chain_places place.chain) bytes told.reply) (sym c.bytes-front.ensures) put in
-    told_return g.F.FileSystemBase.may fixed m _ _ c.self.inside.queues.items between c.args.queue c.index_mut.result.now c.give_back_front-notify.new.self
+    let put = subst (λ (h : Host). PutFrontLast h new (chain_places place.chain) (front_bytes answered.front) told.reply)
+    (sym host) told.put in
+    let fronted = subst (λ (bytes : List ℕ). PutFrontLast m.host new (chain_places place.chain) bytes told.reply)
+    (sym c.bytes-front.ensures) put in
+    told_return g.F.FileSystemBase.may fixed m _ _ c.self.inside.queues.items between c.args.queue c.index_mut.result.now
+    c.give_back_front-notify.new.self
     (server.options.0, server.fs) (server_state c.answer_front.new.server)
     place has (replied place.head has.fetched told.reply answered.fault) c.give_back_front-notify.result _ _ _ kept at told.served
     (λ taken. c.give_back_front-notify.ensures.stored m has.fetched told.reply fronted told.len taken)
     (λ taken. c.give_back_front-notify.ensures.told m has.fetched told.reply fronted taken) c.give_back_front-notify.ensures.queue
-    c.self.view_is over c.answer_front.ensures.page_size c.head-head.ensures (c.request_len-request_len.ensures m has.fetched has.taken.chain) (sym told.len) refl refl
+    c.self.view_is over c.answer_front.ensures.page_size c.head-head.ensures
+    (c.request_len-request_len.ensures m has.fetched has.taken.chain) (sym told.len) refl refl

@@ -5,14 +5,16 @@ use Rattle.fs_device.proofs.device.Device.take_from.Goals as goal
 
 pub returns-then-queue-len-clause-takes : goal.returns-then-queue-len-clause-takes
 returns-then-queue-len-clause-takes g c options page_size files =
-    misses g.F.FileSystemBase.may _ c.args.queue (slice_get_past c.args.queues.now.items c.args.queue (omega (arith, c.if-queue-len.true, c.len.ensures, c.args.queues.now.ok.0)))
+    misses g.F.FileSystemBase.may _ c.args.queue
+    (slice_get_past c.args.queues.now.items c.args.queue (omega (arith, c.if-queue-len.true, c.len.ensures, c.args.queues.now.ok.0)))
 
 pub returns-in-Ok-clause-takes : goal.returns-in-Ok-clause-takes
 returns-in-Ok-clause-takes g c options page_size files =
     let queues = c.args.queues.now in
     let there = slice_get_read queues.items (vec_len queues) c.args.queue _ queues.ok.0 (omega arith) c.index_mut.ensures.value in
     let fixed : Fixed = record { limit = c.args.limit; page_size = page_size } in
-    takes_or_ends g.F.FileSystemBase.may fixed (g.M.GuestMemory.memory c.args.mem.now (g.H.HostBlocks.host c.args.host.now)) queues.items c.args.queue
+    takes_or_ends g.F.FileSystemBase.may fixed (g.M.GuestMemory.memory c.args.mem.now (g.H.HostBlocks.host c.args.host.now)) queues.items
+    c.args.queue
     c.index_mut.result.now c.take.new.self (options, files) c.take.new.taken c.in-Ok.waits
     there c.in-Ok.ensures.takes c.in-Ok.ensures.queue
 
@@ -21,7 +23,8 @@ returns-in-Err-clause-takes g c options page_size files =
     let queues = c.args.queues.now in
     let there = slice_get_read queues.items (vec_len queues) c.args.queue _ queues.ok.0 (omega arith) c.index_mut.ensures.value in
     let fixed : Fixed = record { limit = c.args.limit; page_size = page_size } in
-    refuses g.F.FileSystemBase.may fixed (g.M.GuestMemory.memory c.args.mem.now (g.H.HostBlocks.host c.args.host.now)) queues.items c.args.queue c.index_mut.result.now
+    refuses g.F.FileSystemBase.may fixed (g.M.GuestMemory.memory c.args.mem.now (g.H.HostBlocks.host c.args.host.now)) queues.items
+    c.args.queue c.index_mut.result.now
     c.take.new.self (options, files) c.in-Err.error there
     c.in-Err.ensures.takes c.in-Err.ensures.queue
 

@@ -16,6 +16,7 @@ returns-then-len-eq0 g c = rw (sym c.reaches.ensures ∙ c.if-not-reaches.false,
 pub returns : goal.returns
 unfolding effect
 returns g c =
-    let items : (with_items c.in-Ok.bytes c.fill.new.buffer).items ≡ c.fill.new.buffer = with_items_is c.in-Ok.bytes c.fill.new.buffer (c.fill.auto.buffer ∙ c.deref_mut.ensures.len) in
+    let items : (with_items c.in-Ok.bytes c.fill.new.buffer).items ≡ c.fill.new.buffer =
+    with_items_is c.in-Ok.bytes c.fill.new.buffer (c.fill.auto.buffer ∙ c.deref_mut.ensures.len) in
     let size : length c.deref_mut.result.now ≡ c.args.len = Prim.search rules in
     rw (sym c.reaches.ensures ∙ c.if-not-reaches.false, items, c.fill.ensures, size) refl

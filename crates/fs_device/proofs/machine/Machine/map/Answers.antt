@@ -20,7 +20,8 @@ returns-in-Err-OutOfMemory g c =
     let s = machine_of c.args.self.now in
     let t = c.in-Err-OutOfMemory.ensures.changed in
     let why = rw c.in-Err-OutOfMemory.field-0-is at t.2 in (
-      wanted_to_map (table_of s.memory) (mapped c.args.iova c.args.target c.args.len c.args.perm (table_of s.memory)) c.args.iova c.args.target c.args.len why.0 why.1 why.2
+      wanted_to_map (table_of s.memory) (mapped c.args.iova c.args.target c.args.len c.args.perm (table_of s.memory)) c.args.iova
+          c.args.target c.args.len why.0 why.1 why.2
           (rw (c.table-number.ensures, c.iommu.ensures) at why.3),
       ap (λ (h : Host). with_host s h) (left_same c.args.self.now.host c.map_in.new.host c.table-number.result t.0 why.4 t.3),
     )

@@ -13,7 +13,8 @@ use Rattle.fs_device.proofs.machine.Machine.migrate.Goals as goal
 pub moved_onto-requires-clause-places : goal.moved_onto-requires-clause-places
 moved_onto-requires-clause-places g c =
     let run = c.in-Ok.run' in
-    subst (λ (ps : List Page). first_refused (lengths run.copy) 0 ps ≡ None) (all_pages c.args.commands.items run.answers.items (map page_view run.last.items) c.in-Ok.ensures.all)
+    subst (λ (ps : List Page). first_refused (lengths run.copy) 0 ps ≡ None)
+    (all_pages c.args.commands.items run.answers.items (map page_view run.last.items) c.in-Ok.ensures.all)
     (c.law_move.ensures.places (machine_of c.args.self) (machine_of c.run_from_image.new.self) run.copy _ c.in-Ok.ensures.from)
 
 pub moved_onto-requires-clause-caught_up : goal.moved_onto-requires-clause-caught_up
@@ -21,7 +22,8 @@ moved_onto-requires-clause-caught_up g c =
     let run = c.in-Ok.run' in
     let events = zip (map command_of c.args.commands.items) (map answer_of run.answers.items) in
     ap (pages_put run.copy) (sym (all_pages c.args.commands.items run.answers.items (map page_view run.last.items) c.in-Ok.ensures.all))
-    ∙ c.law_move.ensures.catches_up (machine_of c.args.self) (machine_of c.run_from_image.new.self) run.copy events (map page_view run.last.items) c.in-Ok.ensures.from
+    ∙ c.law_move.ensures.catches_up (machine_of c.args.self) (machine_of c.run_from_image.new.self) run.copy events
+    (map page_view run.last.items) c.in-Ok.ensures.from
 
 pub returns-clause-moved : goal.returns-clause-moved
 returns-clause-moved g c =
@@ -46,5 +48,6 @@ returns-clause-stayed g c =
     (λ m stayed same.
     subst (λ v. StaysHere may (machine_of c.args.self) (map command_of cs) (map answer_of v.items) (machine_of m.machine)) (sym same)
     (subst (λ (k : State _). StaysHere may (machine_of c.args.self) (map command_of cs) (map answer_of run.answers.items) k) (sym stayed)
-    (stays_after may (machine_of c.args.self) (machine_of c.run_from_image.new.self) run.copy cs run.answers.items (map page_view run.last.items) c.in-Ok.ensures.all c.in-Ok.ensures.from)))
+    (stays_after may (machine_of c.args.self) (machine_of c.run_from_image.new.self) run.copy cs run.answers.items
+    (map page_view run.last.items) c.in-Ok.ensures.all c.in-Ok.ensures.from)))
     c.moved_onto.ensures.stayed c.moved_onto.ensures.still_answers

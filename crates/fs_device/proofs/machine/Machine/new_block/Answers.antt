@@ -11,7 +11,8 @@ returns-then-len-eq0 g c = rw c.if-len-eq0.true refl
 
 pub invariant_of-self : goal.invariant_of-self
 invariant_of-self g c = record {
-  held = kept_behind (pages_of 4096) c.args.len c.args.self.now.host c.new_block.new.self c.args.self.now.mem.backend _ c.args.self.now.mem.io_bitmap c.new_block.result
+  held = kept_behind (pages_of 4096) c.args.len c.args.self.now.host c.new_block.new.self c.args.self.now.mem.backend _
+      c.args.self.now.mem.io_bitmap c.new_block.result
       c.new_block.ensures.ok c.new_block.ensures.err c.args.self.now.held;
 }
 

@@ -10,7 +10,10 @@ pub invariant_of-self : goal.invariant_of-self
 invariant_of-self g c =
     let held = c.args.self.now.held in
     let there = lengths c.args.self.now.host in
-    record { held = rw (c.set_backend.ensures, c.in-Ok.ensures.1, c.get_backend.ensures) (held_without there c.args.base c.args.size c.args.self.now.mem.backend held.0, held.1, held.2) }
+    record {
+      held = rw (c.set_backend.ensures, c.in-Ok.ensures.1, c.get_backend.ensures)
+          (held_without there c.args.base c.args.size c.args.self.now.mem.backend held.0, held.1, held.2);
+    }
 
 pub returns-in-Ok : goal.returns-in-Ok
 unfolding effect

@@ -11,7 +11,8 @@ returns-in-Ok g c =
     let d = c.args.self.now.device in
     let mem = c.args.self.now.mem in
     let m = memory_behind c.args.self.now.host mem.backend (g.I.Iommu.number mem.iommu) mem.io_bitmap mem.use_iommu in
-    rw c.in-Ok.ensures.there.1 (reset_there (record { limit = d.limit; page_size = d.page_size }) m d.queues (d.options, d.files) c.args.queue
+    rw c.in-Ok.ensures.there.1
+    (reset_there (record { limit = d.limit; page_size = d.page_size }) m d.queues (d.options, d.files) c.args.queue
     (fresh c.args.layout.size c.args.layout.desc c.args.layout.avail c.args.layout.used) c.in-Ok.ensures.there.0)
 
 pub returns-in-Err : goal.returns-in-Err

@@ -22,7 +22,8 @@ loop-command-preserved g c =
           );
       count = rw pushed (count_more at.yielded at.answers.items x c.perform-answer.result at.invariant.count);
       room = Prim.search rules;
-      run = rw pushed (run_more g.F.FileSystemBase.may command_of answer_of _ _ _ at.yielded at.answers.items x c.perform-answer.result at.invariant.count at.invariant.run c.perform-answer.ensures);
+      run = rw pushed (run_more g.F.FileSystemBase.may command_of answer_of _ _ _ at.yielded at.answers.items x c.perform-answer.result
+          at.invariant.count at.invariant.run c.perform-answer.ensures);
     }
 
 pub returns-clause-run : goal.returns-clause-run

@@ -15,5 +15,6 @@ invariant-loop-command g l = record {
   count : length l.answers.items ≡ length l.yielded;
   room : length (into_iter_items l.initial.command-iterator) ≤ vec_capacity l.answers;
   run : (events : List (Command × Answer)) (after : State _) → Run g.F.FileSystemBase.may (machine_of l.self) events after →
-      Run g.F.FileSystemBase.may (machine_of l.initial.self) (zip (map command_of l.yielded) (map answer_of l.answers.items) ++ events) after;
+      Run g.F.FileSystemBase.may (machine_of l.initial.self)
+      (zip (map command_of l.yielded) (map answer_of l.answers.items) ++ events) after;
 }

@@ -12,7 +12,8 @@ returns-in_default g c = record {
   all = tt;
   from = tt;
   stayed =
-      stays_at_once g.F.FileSystemBase.may (machine_of c.args.self.now) (machine_of c.image.new.self) (answer_of c.image.result) c.args.commands.items c.new.result.items c.new.ensures.items
+      stays_at_once g.F.FileSystemBase.may (machine_of c.args.self.now) (machine_of c.image.new.self) (answer_of c.image.result)
+      c.args.commands.items c.new.result.items c.new.ensures.items
       c.image.ensures.performs;
   off = ap (λ m. m.use_iommu) c.image.ensures.mem ∙ c.requires.off;
 }
@@ -21,8 +22,10 @@ pub returns-in_default-run-clause-stayed : goal.returns-in_default-run-clause-st
 returns-in_default-run-clause-stayed g c =
     let may = g.F.FileSystemBase.may in
     let answers = c.new-in_default-run.result.items in
-    subst (λ (k : State _). StaysHere may (machine_of c.args.self.now) (map command_of c.args.commands.items) (map answer_of answers) k) (sym c.in_default-run.ensures.err)
-    (stays_at_once may (machine_of c.args.self.now) (machine_of c.image.new.self) (answer_of c.image.result) c.args.commands.items answers c.new-in_default-run.ensures.items c.image.ensures.performs)
+    subst (λ (k : State _). StaysHere may (machine_of c.args.self.now) (map command_of c.args.commands.items) (map answer_of answers) k)
+    (sym c.in_default-run.ensures.err)
+    (stays_at_once may (machine_of c.args.self.now) (machine_of c.image.new.self) (answer_of c.image.result) c.args.commands.items answers
+    c.new-in_default-run.ensures.items c.image.ensures.performs)
 
 pub returns-in_default-harvest : goal.returns-in_default-harvest
 returns-in_default-harvest g c =
@@ -33,11 +36,13 @@ returns-in_default-harvest g c =
       all = tt;
       from = tt;
       stayed =
-          stays_at_last may (machine_of c.args.self.now) began mid (machine_of c.harvest.new.self) c.in-Copied.copy (answer_of c.harvest.result) c.args.commands.items answers c.in-Ok.ensures.all
+          stays_at_last may (machine_of c.args.self.now) began mid (machine_of c.harvest.new.self) c.in-Copied.copy
+          (answer_of c.harvest.result) c.args.commands.items answers c.in-Ok.ensures.all
           c.in-Copied.ensures.performs c.in-Ok.ensures.run c.harvest.ensures.performs;
       off =
           ap (λ m. m.use_iommu) c.harvest.ensures.mem
-          ∙ stays_off may (machine_of c.args.self.now) began mid c.in-Copied.copy c.args.commands.items answers c.law_move.ensures.again c.requires.off c.law_host_marks.ensures c.requires.follow
+          ∙ stays_off may (machine_of c.args.self.now) began mid c.in-Copied.copy c.args.commands.items answers c.law_move.ensures.again
+          c.requires.off c.law_host_marks.ensures c.requires.follow
           c.in-Copied.ensures.performs c.in-Ok.ensures.run;
     }
 
@@ -45,10 +50,12 @@ pub returns-clause-from : goal.returns-clause-from
 returns-clause-from g c =
     is_run_from_image g.F.FileSystemBase.may (machine_of c.args.self.now) (machine_of c.image.new.self) (machine_of c.run.new.self)
     (machine_of c.harvest.new.self) c.in-Copied.copy c.args.commands.items
-    c.in-Ok.answers.items (map page_view c.in-Pages.last.items) c.requires.off c.law_host_marks.ensures c.requires.follow c.in-Copied.ensures.performs c.in-Ok.ensures.run c.in-Pages.ensures.performs
+    c.in-Ok.answers.items (map page_view c.in-Pages.last.items) c.requires.off c.law_host_marks.ensures c.requires.follow
+    c.in-Copied.ensures.performs c.in-Ok.ensures.run c.in-Pages.ensures.performs
 
 pub returns-clause-off : goal.returns-clause-off
 returns-clause-off g c =
     ap (λ m. m.use_iommu) c.harvest.ensures.mem
-    ∙ stays_off g.F.FileSystemBase.may (machine_of c.args.self.now) (machine_of c.image.new.self) (machine_of c.run.new.self) c.in-Copied.copy c.args.commands.items c.in-Ok.answers.items
+    ∙ stays_off g.F.FileSystemBase.may (machine_of c.args.self.now) (machine_of c.image.new.self) (machine_of c.run.new.self)
+    c.in-Copied.copy c.args.commands.items c.in-Ok.answers.items
     c.law_move.ensures.again c.requires.off c.law_host_marks.ensures c.requires.follow c.in-Copied.ensures.performs c.in-Ok.ensures.run

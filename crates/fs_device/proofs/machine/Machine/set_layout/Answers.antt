@@ -5,7 +5,8 @@ use Rattle.fs_device.proofs.machine.Machine.set_layout.Goals as goal
 
 pub returns-then-not-holds : goal.returns-then-not-holds
 unfolding effect
-returns-then-not-holds g c = rw (not_known c.args.self.now.host c.args.layout (λ held. let no = c.if-not-holds.ensures.held.1 held in absurd (cc))) refl
+returns-then-not-holds g c =
+    rw (not_known c.args.self.now.host c.args.layout (λ held. let no = c.if-not-holds.ensures.held.1 held in absurd (cc))) refl
 
 pub returns : goal.returns
 unfolding effect

@@ -9,5 +9,6 @@ returns g c =
     let d = c.args.self.now.device in
     let mem = c.args.self.now.mem in
     ap (λ (m : Memory). state (record { limit = d.limit; page_size = d.page_size }) m d.queues (d.options, d.files))
-    (written c.args.self.now.host c.write_slice.new.host mem.backend (g.I.Iommu.number mem.iommu) mem.io_bitmap mem.use_iommu c.args.addr c.args.bytes.now c.requires
+    (written c.args.self.now.host c.write_slice.new.host mem.backend (g.I.Iommu.number mem.iommu) mem.io_bitmap mem.use_iommu c.args.addr
+    c.args.bytes.now c.requires
     (rw c.get_backend-layout.ensures at c.write_slice.ensures.stored))

@@ -17,7 +17,8 @@ pub returns-then-most-eq0-clause-once : goal.returns-then-most-eq0-clause-once
 returns-then-most-eq0-clause-once g c =
     let left = c.args.self.now.room.now in
     let e = c.len.ensures in
-    let none : min c.args.count (first left.rooms) ≡ 0 = omega (arith, c.min-most.ensures, c.if-most-eq0.true, e.len, e.rooms.0, first_within left.rooms) in (
+    let none : min c.args.count (first left.rooms) ≡ 0 =
+    omega (arith, c.min-most.ensures, c.if-most-eq0.true, e.len, e.rooms.0, first_within left.rooms) in (
       [],
       fills_none _ left.places,
       sym (past_zero_of left.rooms e.rooms.1),
@@ -31,11 +32,20 @@ returns-in-Ok-clause-once g c =
     let f = c.front-front.ensures in
     let part = c.front-front.result in
     let most : part.len ≤ length left.places = omega (arith, f.front.len, f.front.within) in
-    let places : c.advance.new.self.places ≡ drop c.in-Ok.n left.places = c.advance.ensures.places ∙ ap (λ (x : RoomLeft). drop c.in-Ok.n x.places) f.same in (
+    let places : c.advance.new.self.places ≡ drop c.in-Ok.n left.places =
+    c.advance.ensures.places ∙ ap (λ (x : RoomLeft). drop c.in-Ok.n x.places) f.same in (
       r.0,
-      fills_front _ _ left.places c.advance.new.self.places _ part.len c.in-Ok.n r.0 f.front.places most r.1 r.2 (omega (arith, r.2, r.3)) c.in-Ok.ensures.shape places,
+      fills_front _ _ left.places c.advance.new.self.places _ part.len c.in-Ok.n r.0 f.front.places most r.1 r.2 (omega (arith, r.2, r.3))
+          c.in-Ok.ensures.shape places,
       c.advance.ensures.rooms ∙ ap (λ (x : RoomLeft). past c.in-Ok.n x.rooms) f.same ∙ ap (λ n. past n left.rooms) (sym r.2),
-      (sym r.2, inr (omega (arith, f.front.some, f.front.len, c.if-most-eq0.false, c.min-most.ensures, c.len.ensures.len), omega (arith, r.3, f.front.len), rw f.front.len at r.4)),
+      (
+        sym r.2,
+        inr (
+          omega (arith, f.front.some, f.front.len, c.if-most-eq0.false, c.min-most.ensures, c.len.ensures.len),
+          omega (arith, r.3, f.front.len),
+          rw f.front.len at r.4,
+        ),
+      ),
     )
 
 pub returns-in-Err-clause-once : goal.returns-in-Err-clause-once
@@ -48,7 +58,15 @@ returns-in-Err-clause-once g c =
     let none : r.0 ≡ [] = nil_from_length r.0 r.2 in
     let all = c.len.ensures.rooms.1 in (
       r.0,
-      fills_front _ _ left.places c.front-front.new.self.places _ part.len 0 r.0 f.front.places most r.1 r.2 (omega arith) c.in-Err.ensures.shape (ap (λ (x : RoomLeft). x.places) f.same),
+      fills_front _ _ left.places c.front-front.new.self.places _ part.len 0 r.0 f.front.places most r.1 r.2 (omega arith)
+          c.in-Err.ensures.shape (ap (λ (x : RoomLeft). x.places) f.same),
       ap (λ (x : RoomLeft). x.rooms) f.same ∙ sym (past_zero_of left.rooms all) ∙ ap (λ n. past n left.rooms) (sym r.2),
-      (sym r.2, inr (omega (arith, f.front.some, f.front.len, c.if-most-eq0.false, c.min-most.ensures, c.len.ensures.len), omega (arith, r.3, f.front.len), rw f.front.len at r.4)),
+      (
+        sym r.2,
+        inr (
+          omega (arith, f.front.some, f.front.len, c.if-most-eq0.false, c.min-most.ensures, c.len.ensures.len),
+          omega (arith, r.3, f.front.len),
+          rw f.front.len at r.4,
+        ),
+      ),
     )

@@ -8,8 +8,10 @@ abbrev pub invariant-loop-done : goal.invariant-loop-done
 invariant-loop-done g l = record {
   offered : Offered (filling [] l.fn.self.room.now) l.count l.most;
   put :
-      (got : List ℕ) × Fills (g.H.HostBlocks.host l.fn.self.host.now) l.fn.self.room.now.places got (g.H.HostBlocks.host l.self.host.now) l.self.room.now.places
-      × SoFar g.F.PositionedFile.read_gives l.initial.file (filling [] l.fn.self.room.now) l.most l.off l.done (filling got l.self.room.now) l.file;
+      (got : List ℕ) × Fills (g.H.HostBlocks.host l.fn.self.host.now) l.fn.self.room.now.places got (g.H.HostBlocks.host l.self.host.now)
+      l.self.room.now.places
+      × SoFar g.F.PositionedFile.read_gives l.initial.file (filling [] l.fn.self.room.now) l.most l.off l.done
+      (filling got l.self.room.now) l.file;
   name : l.self.host.ghost_name ≡ l.fn.self.host.ghost_name;
 }
 

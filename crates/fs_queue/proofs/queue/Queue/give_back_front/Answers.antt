@@ -9,7 +9,8 @@ pub returns-clause-stored : goal.returns-clause-stored
 returns-clause-stored g c m fetched reply put long taken =
     returned_is m _ _ _ c.args.self.now fetched c.args.taken.now reply _ _ refl taken (c.write_reply.ensures.stored ∙ put)
     c.used_windows.ensures (rw long (rw (← c.self.view_is) (rw c.head.ensures at
-    (used_bytes_are c.new-back.result (at_position c.self.inside.layout c.self.inside.position) c.head.result c.args.len c.used_bytes.result c.new-back.ensures.stores
+    (used_bytes_are c.new-back.result (at_position c.self.inside.layout c.self.inside.position) c.head.result c.args.len c.used_bytes.result
+    c.new-back.ensures.stores
     c.used_bytes.ensures)))) c.write_windows.ensures.stored
 
 pub returns-clause-told : goal.returns-clause-told
@@ -23,10 +24,12 @@ pub returns-clause-puts : goal.returns-clause-puts
 returns-clause-puts g c =
     put_back_is _ _ _ c.args.self.now c.args.taken.now _ _ _ _ c.write_reply.ensures.stored
     c.used_windows.ensures (rw (← c.self.view_is) (rw c.head.ensures at
-    (used_bytes_are c.new-back.result (at_position c.self.inside.layout c.self.inside.position) c.head.result c.args.len c.used_bytes.result c.new-back.ensures.stores
+    (used_bytes_are c.new-back.result (at_position c.self.inside.layout c.self.inside.position) c.head.result c.args.len c.used_bytes.result
+    c.new-back.ensures.stores
     c.used_bytes.ensures))) c.write_windows.ensures.stored
 
 pub returns-clause-tells : goal.returns-clause-tells
 returns-clause-tells g c =
     c.tells.ensures
-    ∙ ap tells (c.read_windows.ensures ∙ ap (λ (ws : List Window). map (byte_in (g.H.HostBlocks.host c.write_windows.new.self)) (places ws)) c.flags_windows.ensures)
+    ∙ ap tells (c.read_windows.ensures
+    ∙ ap (λ (ws : List Window). map (byte_in (g.H.HostBlocks.host c.write_windows.new.self)) (places ws)) c.flags_windows.ensures)

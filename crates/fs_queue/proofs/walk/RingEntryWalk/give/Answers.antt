@@ -25,9 +25,11 @@ returns-in_default-clause-tells c = λ index len asks.
     sym (ap (λ (o : Option (List ℕ)). Told (next_avail (holding (index_load q (Some index) ∷ entry_load q o ∷ [])) q)) c.in_default.is
     ∙ ap Told (entry_tells q index None len (begins c.args.self.layout c.args.self.position) tt asks))
 
-told : (l : QueueLayout) (position : ℕ) (index bs : List ℕ) (came : Option (List ℕ)) (n : ℕ) → came ≡ Some bs → length bs ≡ 2 → n ≡ from_le_bytes w16 bs → length index ≡ 2 →
+told : (l : QueueLayout) (position : ℕ) (index bs : List ℕ) (came : Option (List ℕ)) (n : ℕ) → came ≡ Some bs → length bs ≡ 2 →
+    n ≡ from_le_bytes w16 bs → length index ≡ 2 →
     asks_entry (next_avail (holding (index_load (at_position l position) (Some index) ∷ [])) (at_position l position)) ≡ true →
-    entry_says (at_position l position) true n ≡ next_avail (holding (index_load (at_position l position) (Some index) ∷ entry_load (at_position l position) came ∷ [])) (at_position l position)
+    entry_says (at_position l position) true n ≡ next_avail
+    (holding (index_load (at_position l position) (Some index) ∷ entry_load (at_position l position) came ∷ [])) (at_position l position)
 told l position index bs came n is two read len asks =
     let q = at_position l position in
     sym (ap (λ (o : Option (List ℕ)). next_avail (holding (index_load q (Some index) ∷ entry_load q o ∷ [])) q) is
@@ -38,10 +40,12 @@ pub returns-then-head-size-clause-tells : goal.returns-then-head-size-clause-tel
 returns-then-head-size-clause-tells c = λ index len asks.
     let past : nat_le c.args.self.layout.size c.le16_number-head.result ≡ true = le-leb _ _ (omega arith) in
     ap (λ b. Told (if b then Refused HeadOutOfTable else Head c.le16_number-head.result)) (sym past)
-    ∙ ap Told (told c.args.self.layout c.args.self.position index c.in-Some.bytes c.args.came c.le16_number-head.result c.in-Some.is (omega arith) c.le16_number-head.ensures len asks)
+    ∙ ap Told (told c.args.self.layout c.args.self.position index c.in-Some.bytes c.args.came c.le16_number-head.result c.in-Some.is
+    (omega arith) c.le16_number-head.ensures len asks)
 
 pub returns-else-head-size-clause-tells : goal.returns-else-head-size-clause-tells
 returns-else-head-size-clause-tells c = λ index len asks.
     let inside : nat_le c.args.self.layout.size c.le16_number-head.result ≡ false = lt-leb _ _ (omega arith) in
     ap (λ b. Told (if b then Refused HeadOutOfTable else Head c.le16_number-head.result)) (sym inside)
-    ∙ ap Told (told c.args.self.layout c.args.self.position index c.in-Some.bytes c.args.came c.le16_number-head.result c.in-Some.is (omega arith) c.le16_number-head.ensures len asks)
+    ∙ ap Told (told c.args.self.layout c.args.self.position index c.in-Some.bytes c.args.came c.le16_number-head.result c.in-Some.is
+    (omega arith) c.le16_number-head.ensures len asks)

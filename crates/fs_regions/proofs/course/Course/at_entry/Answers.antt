@@ -13,7 +13,8 @@ use Rattle.fs_regions.proofs.course.Course.at_entry.Goals.{then-is_indirect, els
 pub returns-then-reaches-clause-comes : goal.returns-then-reaches-clause-comes
 returns-then-reaches-clause-comes c = λ loaded waits size brings.
     let there : reach (places_in c.args.regions.now) Read (entry_address (visit_of c.args.walk)) 16 ≡ true =
-    ap (λ a. reach (places_in c.args.regions.now) Read a 16) (sym c.address.ensures.address) ∙ sym c.reaches.ensures ∙ c.if-reaches.true in (
+    ap (λ a. reach (places_in c.args.regions.now) Read a 16) (sym c.address.ensures.address) ∙ sym c.reaches.ensures
+    ∙ c.if-reaches.true in (
       (waits, size, brings),
       c.stretch_len-entries.ensures.there there,
       (
@@ -45,7 +46,8 @@ returns-clause-comes c = λ loaded waits size brings.
       | else-is_indirect w ↦ w.walked-is ∙ ap lost_walked (sym (sym c.is_indirect.ensures ∙ w.if-is_indirect.false))
     ] in
     c.ended.ensures.comes loaded waits
-    (loses (places_in c.args.regions.now) (queue_of c.args.self.now) loaded c.args.head c.args.descriptors.now (visit_of c.args.walk) c.if-is_indirect.walked c.args.walk.inside away walked brings)
+    (loses (places_in c.args.regions.now) (queue_of c.args.self.now) loaded c.args.head c.args.descriptors.now (visit_of c.args.walk)
+    c.if-is_indirect.walked c.args.walk.inside away walked brings)
 
 pub returns-clause-asks : goal.returns-clause-asks
 returns-clause-asks c = asks_none c.args.walk c.if-is_indirect.walked _ c.ended.ensures.asks

@@ -9,9 +9,12 @@ use Rattle.fs_regions.proofs.course.Course.at_head.Goals as goal
 
 pub returns-in-Some : goal.returns-in-Some
 returns-in-Some c = λ loaded waits none.
-    on_lacking (places_in c.args.regions.now) c.args.self.now.limit (queue_of c.args.self.now) loaded c.args.head c.args.progress c.in-Some.error refl waits (sym c.return_fault.ensures ∙ c.in-Some.is)
+    on_lacking (places_in c.args.regions.now) c.args.self.now.limit (queue_of c.args.self.now) loaded c.args.head c.args.progress
+    c.in-Some.error refl waits (sym c.return_fault.ensures ∙ c.in-Some.is)
 
 pub returns-in-None : goal.returns-in-None
 returns-in-None c = λ loaded waits none.
-    c.at_progress.ensures.comes loaded (record { by_loads = waits.by_loads; asked = waits.asked; returns = sym c.return_fault.ensures ∙ c.in-None.is }) waits.begins.1
-    (rw (waits.no_entries, none) (brings_none c.args.self.now.layout.size (ahead_at c.args.self.now.layout.size (first_visit (queue_of c.args.self.now) c.args.head)) _ waits.begins.0))
+    c.at_progress.ensures.comes loaded
+    (record { by_loads = waits.by_loads; asked = waits.asked; returns = sym c.return_fault.ensures ∙ c.in-None.is }) waits.begins.1
+    (rw (waits.no_entries, none) (brings_none c.args.self.now.layout.size
+    (ahead_at c.args.self.now.layout.size (first_visit (queue_of c.args.self.now) c.args.head)) _ waits.begins.0))

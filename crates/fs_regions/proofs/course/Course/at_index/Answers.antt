@@ -33,7 +33,8 @@ returns-else-reaches c = λ index stands none.
     let away : reach m Read (ring_entry_at q) 2 ≡ false =
     ap (λ a. reach m Read a 2) (sym (c.address.ensures.at ∙ ap ring_entry_at at)) ∙ sym c.reaches.ensures ∙ c.if-reaches.false in
     c.told.ensures (record nothing { index = index })
-    (tells_both m q index None c.give.result stands.whole asks refl stands.asked (λ _. away) (begins_of w.layout w.position q c.give.result at c.give.ensures.chain)
+    (tells_both m q index None c.give.result stands.whole asks refl stands.asked (λ _. away)
+    (begins_of w.layout w.position q c.give.result at c.give.ensures.chain)
     (entry_told (at_position w.layout w.position) q index None came.0 c.give.result at came.1 came.2 asks c.give.ensures.tells)) none
 
 pub returns-in_default : goal.returns-in_default

@@ -17,4 +17,5 @@ returns-else-reaches-clause-comes c =
     let away : reach m Read (avail_index_at q) 2 ≡ false =
     ap (λ a. reach m Read a 2) (sym (c.address.ensures.at ∙ ap avail_index_at at)) ∙ sym c.reaches.ensures ∙ c.if-reaches.false in
     let comes = rw c.deref.ensures at c.at_index.ensures in
-    comes None (after_index m q w.layout w.position None c.give.result at refl (λ _. away) c.give.ensures.stage c.give.ensures.same c.give.ensures.chain) c.clear.ensures.items
+    comes None (after_index m q w.layout w.position None c.give.result at refl (λ _. away) c.give.ensures.stage c.give.ensures.same
+    c.give.ensures.chain) c.clear.ensures.items

@@ -16,9 +16,11 @@ returns-in-Index c = λ loaded stands.
     let long : length c.pair.result ≡ 2 = ap length c.pair.ensures ∙ (rw c.in-Index.is at c.requires.bytes) in
     let comes = rw c.deref.ensures at c.at_index.ensures in
     let here = comes (Some c.pair.result)
-    (after_index m q w.layout w.position (Some c.pair.result) c.give.result s.0 (eq-eqb (length c.pair.result) 2 long) (λ none. absurd (cc)) c.give.ensures.stage
+    (after_index m q w.layout w.position (Some c.pair.result) c.give.result s.0 (eq-eqb (length c.pair.result) 2 long) (λ none. absurd (cc))
+    c.give.ensures.stage
     c.give.ensures.same c.give.ensures.chain) s.2 in
-    rw c.in-Index.is (record { after = record loaded { index = Some c.args.bytes.now }; adds = refl; comes = rw s.1 (rw c.pair.ensures at here) })
+    rw c.in-Index.is
+    (record { after = record loaded { index = Some c.args.bytes.now }; adds = refl; comes = rw s.1 (rw c.pair.ensures at here) })
 
 pub returns-in-RingEntry : goal.returns-in-RingEntry
 returns-in-RingEntry c = λ loaded stands.
@@ -28,10 +30,17 @@ returns-in-RingEntry c = λ loaded stands.
     let s = rw c.in-RingEntry.is at stands in
     let long : length c.pair-in-RingEntry.result ≡ 2 = ap length c.pair-in-RingEntry.ensures ∙ (rw c.in-RingEntry.is at c.requires.bytes) in
     let index = loaded_pair loaded.index s.1 in
-    let told = entry_told (at_position w.layout w.position) q loaded.index (Some c.pair-in-RingEntry.result) index.0 c.give-in-RingEntry.result s.0 index.1 index.2 s.2
+    let told = entry_told (at_position w.layout w.position) q loaded.index (Some c.pair-in-RingEntry.result) index.0
+    c.give-in-RingEntry.result s.0 index.1 index.2 s.2
     c.give-in-RingEntry.ensures.tells in
-    let tells = tells_both m q loaded.index (Some c.pair-in-RingEntry.result) c.give-in-RingEntry.result (whole_pair loaded.index s.1) s.2 (eq-eqb (length c.pair-in-RingEntry.result) 2 long)
-    (λ none. not_none loaded.index s.1 none) (λ none. absurd (cc)) (begins_of w.layout w.position q c.give-in-RingEntry.result s.0 c.give-in-RingEntry.ensures.chain) told in
+    let tells = tells_both m q loaded.index (Some c.pair-in-RingEntry.result) c.give-in-RingEntry.result (whole_pair loaded.index s.1) s.2
+    (eq-eqb (length c.pair-in-RingEntry.result) 2 long)
+    (λ none. not_none loaded.index s.1 none) (λ none. absurd (cc))
+    (begins_of w.layout w.position q c.give-in-RingEntry.result s.0 c.give-in-RingEntry.ensures.chain) told in
     let comes = rw c.deref-in-RingEntry.ensures at c.told.ensures in
     let here = comes (record { index = loaded.index; entry = Some c.pair-in-RingEntry.result; entries = [] }) tells s.5 in
-    rw c.in-RingEntry.is (record { after = record loaded { entry = Some c.args.bytes.now }; adds = refl; comes = rw s.4 (rw c.pair-in-RingEntry.ensures at here) })
+    rw c.in-RingEntry.is (record {
+      after = record loaded { entry = Some c.args.bytes.now };
+      adds = refl;
+      comes = rw s.4 (rw c.pair-in-RingEntry.ensures at here);
+    })

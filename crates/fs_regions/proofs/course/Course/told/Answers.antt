@@ -9,9 +9,11 @@ use Rattle.fs_regions.proofs.course.Course.told.Goals as goal
 
 pub returns-in-Refused : goal.returns-in-Refused
 returns-in-Refused c = λ loaded tells none.
-    on_refused (places_in c.args.regions.now) c.args.self.now.limit (queue_of c.args.self.now) loaded c.in-Refused.error refl tells.no_entries tells.asked
+    on_refused (places_in c.args.regions.now) c.args.self.now.limit (queue_of c.args.self.now) loaded c.in-Refused.error refl
+    tells.no_entries tells.asked
     (tells.by_loads ∙ ap Some (sym (untold (Refused c.in-Refused.error) tells.next (ap stage_of (sym c.in-Refused.is) ∙ tells.tells))))
 
 pub returns-in-Chain : goal.returns-in-Chain
 returns-in-Chain c = λ loaded tells none. c.at_head.ensures loaded
-    (head_waits (places_in c.args.regions.now) (queue_of c.args.self.now) loaded c.in-Chain.head c.in-Chain.progress (rw c.in-Chain.is at tells)) none
+    (head_waits (places_in c.args.regions.now) (queue_of c.args.self.now) loaded c.in-Chain.head c.in-Chain.progress
+    (rw c.in-Chain.is at tells)) none

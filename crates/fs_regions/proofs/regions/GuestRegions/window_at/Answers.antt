@@ -15,19 +15,25 @@ overflow_sub-len c =
 
 pub returns-in-Ok-clause-some : goal.returns-in-Ok-clause-some
 returns-in-Ok-clause-some c = rw (← c.self.view_is) (
-    window_found c.self.inside.regions c.args.addr c.args.most c.start_addr.result.0 c.len.result _ c.in-Ok.window c.find_region.ensures.layout c.in-Some.ensures.found
+    window_found c.self.inside.regions c.args.addr c.args.most c.start_addr.result.0 c.len.result _ c.in-Ok.window
+    c.find_region.ensures.layout c.in-Some.ensures.found
     c.start_addr.ensures.start c.len.ensures.len c.requires (omega arith)
     (c.in-Ok.ensures ∙ ap (λ n. window_in c.in-Some.region.now (c.args.addr - c.start_addr.result.0) n) c.min-len.ensures))
 
 pub returns-in-Ok-clause-longest : goal.returns-in-Ok-clause-longest
 returns-in-Ok-clause-longest c = rw (← c.self.view_is) (
-    window_longest c.self.inside.regions c.args.addr c.args.most c.start_addr.result.0 c.len.result _ c.in-Ok.window c.in-Some.ensures.found c.start_addr.ensures.start
-    c.len.ensures.len (c.in-Ok.ensures ∙ ap (λ n. window_in c.in-Some.region.now (c.args.addr - c.start_addr.result.0) n) c.min-len.ensures))
+    window_longest c.self.inside.regions c.args.addr c.args.most c.start_addr.result.0 c.len.result _ c.in-Ok.window c.in-Some.ensures.found
+    c.start_addr.ensures.start
+    c.len.ensures.len (c.in-Ok.ensures
+    ∙ ap (λ n. window_in c.in-Some.region.now (c.args.addr - c.start_addr.result.0) n) c.min-len.ensures))
 
 pub returns-in-Err-clause-none : goal.returns-in-Err-clause-none
 returns-in-Err-clause-none c = λ none.
-    absurd (window_refused c.self.inside.regions c.args.addr c.args.most c.start_addr.result.0 c.len.result _ c.in-Err.field-0 c.in-Some.ensures.found
-    c.start_addr.ensures.start c.len.ensures.len (c.in-Err.ensures ∙ ap (λ n. window_in c.in-Some.region.now (c.args.addr - c.start_addr.result.0) n) c.min-len.ensures))
+    absurd (window_refused c.self.inside.regions c.args.addr c.args.most c.start_addr.result.0 c.len.result _ c.in-Err.field-0
+    c.in-Some.ensures.found
+    c.start_addr.ensures.start c.len.ensures.len
+    (c.in-Err.ensures ∙ ap (λ n. window_in c.in-Some.region.now (c.args.addr - c.start_addr.result.0) n) c.min-len.ensures))
 
 pub returns-in-None-clause-none : goal.returns-in-None-clause-none
-returns-in-None-clause-none c = λ none. rw (← c.self.view_is) (region_at-None c.self.inside.regions c.args.addr (sym c.in-None.ensures.found))
+returns-in-None-clause-none c =
+    λ none. rw (← c.self.view_is) (region_at-None c.self.inside.regions c.args.addr (sym c.in-None.ensures.found))

@@ -24,4 +24,5 @@ returns-then-is_counted-clause-count g c =
 pub returns-then-is_counted-clause-pages : goal.returns-then-is_counted-clause-pages
 returns-then-is_counted-clause-pages g c =
     let p = c.open.result in
-    journals_tell_pages (start_of p.start (fixed_of (machine_of p.machine))) (forget (machine_of p.machine)) (journal_of p.journal.items) c.open.ensures.replays
+    journals_tell_pages (start_of p.start (fixed_of (machine_of p.machine))) (forget (machine_of p.machine)) (journal_of p.journal.items)
+    c.open.ensures.replays

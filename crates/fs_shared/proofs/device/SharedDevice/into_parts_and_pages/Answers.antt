@@ -16,7 +16,8 @@ use Rattle.fs_shared.proofs.device.SharedDevice.into_parts_and_pages.Goals as go
 pub returns-clause-pages : goal.returns-clause-pages
 returns-clause-pages g c =
     let p = c.open.result in
-    journals_tell_pages (start_of p.start (fixed_of (machine_of p.machine))) (forget (machine_of p.machine)) (journal_of p.journal.items) c.open.ensures.replays
+    journals_tell_pages (start_of p.start (fixed_of (machine_of p.machine))) (forget (machine_of p.machine)) (journal_of p.journal.items)
+    c.open.ensures.replays
 
 pub returns-clause-gathered : goal.returns-clause-gathered
 returns-clause-gathered g c =
@@ -26,10 +27,13 @@ returns-clause-gathered g c =
     let told : c.into_pass.result ≡ share = c.into_pass.ensures ∙ ap (λ (s : Portion). s.pass) c.is_counted.ensures.share in
     let taken : c.take_in.new.self.pass.counts ≡ both_passes h.pass.counts share.counts =
     ap (λ (n : Harvest). n.pass.counts) c.take_in.ensures.harvest ∙ ap (λ (q : Pass). both_passes h.pass.counts q.counts) told in
-    let own : length c.take_in.new.self.pass.counts.pages ≡ h.bitmap.len = c.take_in.ensures.own.1 ∙ ap (λ (n : Harvest). n.bitmap.len) c.take_in.ensures.harvest in
+    let own : length c.take_in.new.self.pass.counts.pages ≡ h.bitmap.len =
+    c.take_in.ensures.own.1 ∙ ap (λ (n : Harvest). n.bitmap.len) c.take_in.ensures.harvest in
     let mine : length h.pass.counts.pages ≡ h.bitmap.len =
-    sym (length-each_tally (λ p t. both_of t (tally_of share.counts.pages p)) 0 h.pass.counts.pages) ∙ sym (ap (λ (v : PageCounts). length v.pages) taken) ∙ own in
-    let theirs : length share.counts.pages ≡ h.bitmap.len = c.requires.share.pass.1 ∙ sym (ap (λ (b : SharedPages). b.len) c.requires.harvest) in
+    sym (length-each_tally (λ p t. both_of t (tally_of share.counts.pages p)) 0 h.pass.counts.pages)
+    ∙ sym (ap (λ (v : PageCounts). length v.pages) taken) ∙ own in
+    let theirs : length share.counts.pages ≡ h.bitmap.len =
+    c.requires.share.pass.1 ∙ sym (ap (λ (b : SharedPages). b.len) c.requires.harvest) in
     accounts share h p.journal.items p.start.host p.machine.host c.gather_all.new.words mine theirs c.requires.share.none_cleared
     (subst (λ (v : PageCounts). SettlesAll v c.gather_all.new.words) taken c.gather_all.ensures.whole)
     (returns-clause-pages g c)
@@ -55,9 +59,11 @@ returns-clause-left g c =
     let told : c.into_pass.result ≡ share = c.into_pass.ensures ∙ ap (λ (s : Portion). s.pass) c.is_counted.ensures.share in
     let taken : c.take_in.new.self.pass.counts ≡ both_passes h.pass.counts share.counts =
     ap (λ (n : Harvest). n.pass.counts) c.take_in.ensures.harvest ∙ ap (λ (q : Pass). both_passes h.pass.counts q.counts) told in
-    let own : length c.take_in.new.self.pass.counts.pages ≡ h.bitmap.len = c.take_in.ensures.own.1 ∙ ap (λ (n : Harvest). n.bitmap.len) c.take_in.ensures.harvest in
+    let own : length c.take_in.new.self.pass.counts.pages ≡ h.bitmap.len =
+    c.take_in.ensures.own.1 ∙ ap (λ (n : Harvest). n.bitmap.len) c.take_in.ensures.harvest in
     let mine : length h.pass.counts.pages ≡ h.bitmap.len =
-    sym (length-each_tally (λ p t. both_of t (tally_of share.counts.pages p)) 0 h.pass.counts.pages) ∙ sym (ap (λ (v : PageCounts). length v.pages) taken) ∙ own in
+    sym (length-each_tally (λ p t. both_of t (tally_of share.counts.pages p)) 0 h.pass.counts.pages)
+    ∙ sym (ap (λ (v : PageCounts). length v.pages) taken) ∙ own in
     leaves_marked share h c.gather_all.new.words mine c.requires.share.none_cleared (returns-clause-settles g c)
 
 pub returns-clause-since : goal.returns-clause-since
@@ -65,5 +71,6 @@ returns-clause-since g c =
     let p = c.open.result in
     let share = c.args.share.pass in
     let h = c.args.harvest in
-    let theirs : length share.counts.pages ≡ h.bitmap.len = c.requires.share.pass.1 ∙ sym (ap (λ (b : SharedPages). b.len) c.requires.harvest) in
+    let theirs : length share.counts.pages ≡ h.bitmap.len =
+    c.requires.share.pass.1 ∙ sym (ap (λ (b : SharedPages). b.len) c.requires.harvest) in
     accounts_since share h p.journal.items (forget (machine_of p.machine)) c.gather_all.new.words theirs (returns-clause-left g c)

@@ -22,7 +22,8 @@ loop-word-init c = record {
 pub gather-requires : goal.gather-requires
 gather-requires c =
     let same : c.loop-word.self.bitmap.len ≡ c.args.self.now.bitmap.len = ap (λ (h : Harvest). h.bitmap.len) c.loop-word.invariant.self in
-    let there = c.words-word-end.ensures ∙ ap (λ (b : SharedPages). div_ceil b.len 64) (c.deref.ensures ∙ ap (λ (h : Harvest). h.bitmap) c.self.view_is) in
+    let there = c.words-word-end.ensures
+    ∙ ap (λ (b : SharedPages). div_ceil b.len 64) (c.deref.ensures ∙ ap (λ (h : Harvest). h.bitmap) c.self.view_is) in
     subst (λ (n : ℕ). c.loop-word.word < div_ceil n 64) (sym same) (subst (λ (n : ℕ). c.loop-word.word < n) there c.loop-word-test.true)
 
 pub loop-word-preserved : goal.loop-word-preserved
@@ -37,30 +38,37 @@ loop-word-preserved c =
     let kept = c.loop-word.invariant in
     let step = c.gather.ensures.harvest in
     let taken = cleared_by (in_word w) bits cur.pages in
-    let there = c.words-word-end.ensures ∙ ap (λ (b : SharedPages). div_ceil b.len 64) (c.deref.ensures ∙ ap (λ (h : Harvest). h.bitmap) c.self.view_is) in
+    let there = c.words-word-end.ensures
+    ∙ ap (λ (b : SharedPages). div_ceil b.len 64) (c.deref.ensures ∙ ap (λ (h : Harvest). h.bitmap) c.self.view_is) in
     let inside : w < length before = let t = c.loop-word-test.true in let r = kept.room in let room = c.requires in omega arith in
-    let runs = run_as (ByGathering before) (ByGathering after) first.pages cur.pages 0 (64 * w) (λ p t u low e. into_before before w bits p t u low e) kept.pages in
+    let runs = run_as (ByGathering before) (ByGathering after) first.pages cur.pages 0 (64 * w)
+    (λ p t u low e. into_before before w bits p t u low e) kept.pages in
     let word = gathers_word (ByGathering after) cur.pages w bits (λ p within here. is_gathered before w bits p _ inside here) in
-    let word' = subst (λ (l : List Tally). ChangesRun (ByGathering after) cur.pages l (64 * w) (64 * w + 64)) (sym (ap (λ (h : Harvest). h.pass.counts.pages) c.gather.ensures.harvest)) word in
-    let run = run_then (ByGathering after) first.pages cur.pages new 0 (64 * w) (64 * w) (64 * w + 64) runs word' (omega arith) (omega arith) (λ p a b. b) (omega arith) in
+    let word' = subst (λ (l : List Tally). ChangesRun (ByGathering after) cur.pages l (64 * w) (64 * w + 64))
+    (sym (ap (λ (h : Harvest). h.pass.counts.pages) c.gather.ensures.harvest)) word in
+    let run = run_then (ByGathering after) first.pages cur.pages new 0 (64 * w) (64 * w) (64 * w + 64) runs word' (omega arith)
+    (omega arith) (λ p a b. b) (omega arith) in
     let next : 64 * w + 64 ≡ 64 * (w + 1) = omega arith in
     record {
       room = length-set before w bits ∙ kept.room;
       self =
           step ∙ ap (λ (h : Harvest). record h { pass = counting h.pass taken }) kept.self
-          ∙ ap (λ (l : List Tally). record c.args.self.now { pass = counting c.args.self.now.pass l }) (sym (ap (λ (h : Harvest). h.pass.counts.pages) step));
+          ∙ ap (λ (l : List Tally). record c.args.self.now { pass = counting c.args.self.now.pass l })
+          (sym (ap (λ (h : Harvest). h.pass.counts.pages) step));
       pages = subst (ChangesRun (ByGathering after) first.pages new 0) next run;
       settled = λ whole p within low. settles_more first.pages cur.pages before w bits inside kept.pages
           (λ q here short. c.gather.ensures.word (subst (λ (h : Harvest). IsWhole h.pass.counts) (sym kept.self) whole) q short here)
           (kept.settled whole) p within (omega arith);
       past = λ p beyond low. past_more before w bits c.args.self.now.bitmap.len inside
-          (λ q short here. c.gather.ensures.past q (subst (λ (n : ℕ). n ≤ q) (sym (ap (λ (h : Harvest). h.bitmap.len) kept.self)) short) here)
+          (λ q short here. c.gather.ensures.past q
+          (subst (λ (n : ℕ). n ≤ q) (sym (ap (λ (h : Harvest). h.bitmap.len) kept.self)) short) here)
           kept.past p beyond (omega arith);
     }
 
 pub returns-clause-past : goal.returns-clause-past
 returns-clause-past c p beyond =
-    let there = c.words-word-end.ensures ∙ ap (λ (b : SharedPages). div_ceil b.len 64) (c.deref.ensures ∙ ap (λ (h : Harvest). h.bitmap) c.self.view_is) in
+    let there = c.words-word-end.ensures
+    ∙ ap (λ (b : SharedPages). div_ceil b.len 64) (c.deref.ensures ∙ ap (λ (h : Harvest). h.bitmap) c.self.view_is) in
     let over = c.loop-word-test.false in
     let room = c.loop-word.invariant.room in
     let asked = c.requires in
@@ -73,15 +81,18 @@ pub returns-clause-whole : goal.returns-clause-whole
 returns-clause-whole c whole p within =
     let there = c.words-word-end.ensures ∙ ap (λ (b : SharedPages). div_ceil b.len 64) c.deref.ensures in
     let own = c.self.invariant.0.1 in
-    let long : length c.args.self.now.pass.counts.pages ≡ length c.self.inside.pass.counts.pages = ap (λ (h : Harvest). length h.pass.counts.pages) (sym c.self.view_is) in
+    let long : length c.args.self.now.pass.counts.pages ≡ length c.self.inside.pass.counts.pages =
+    ap (λ (h : Harvest). length h.pass.counts.pages) (sym c.self.view_is) in
     let over = c.loop-word-test.false in
     c.loop-word.invariant.settled whole p within (omega arith)
 
 pub returns-clause-taken : goal.returns-clause-taken
 returns-clause-taken c p below =
-    let there = c.words-word-end.ensures ∙ ap (λ (b : SharedPages). div_ceil b.len 64) (c.deref.ensures ∙ ap (λ (h : Harvest). h.bitmap) c.self.view_is) in
+    let there = c.words-word-end.ensures
+    ∙ ap (λ (b : SharedPages). div_ceil b.len 64) (c.deref.ensures ∙ ap (λ (h : Harvest). h.bitmap) c.self.view_is) in
     let own = c.self.invariant.0.1 in
-    let long : length c.args.self.now.pass.counts.pages ≡ length c.self.inside.pass.counts.pages = ap (λ (h : Harvest). length h.pass.counts.pages) (sym c.self.view_is) in
+    let long : length c.args.self.now.pass.counts.pages ≡ length c.self.inside.pass.counts.pages =
+    ap (λ (h : Harvest). length h.pass.counts.pages) (sym c.self.view_is) in
     let same = ap (λ (h : Harvest). h.bitmap.len) c.self.view_is in
     let over = c.loop-word-test.false in
     ap (λ (t : Tally). t.off) (c.loop-word.invariant.pages.inside p (omega arith) (omega arith) (omega arith))

@@ -12,5 +12,6 @@ returns-clause-own g c =
     record {
       pass = c.join_pass.ensures.own;
       none_cleared = λ p. ap (λ (q : Pass). (tally_of q.counts.pages p).off) c.join_pass.ensures.pass
-          ∙ none_by_both theirs mine (subst (IsShareOf c.args.bitmap.now) (sym c.self.view_is) c.requires.own).none_cleared (subst (IsShareOf c.args.bitmap.now) (sym c.other.view_is) c.requires.other).none_cleared p;
+          ∙ none_by_both theirs mine (subst (IsShareOf c.args.bitmap.now) (sym c.self.view_is) c.requires.own).none_cleared
+          (subst (IsShareOf c.args.bitmap.now) (sym c.other.view_is) c.requires.other).none_cleared p;
     }

@@ -20,5 +20,6 @@ loop-page-preserved g c =
           ∙ ap (λ (s : Inside g.row.L.Denot). record s { pass = counting s.pass after.counts.pages }) c.loop-page.invariant.self;
       pages =
           subst (λ (xs : List ℕ). MarksPages xs first after.counts.pages) (sym (take_more pages k 0 c.loop-page-test.true))
-          (marks_more before.counts (take k pages) (get_or pages k 0) first before.counts.pages after.counts.pages c.loop-page.invariant.pages c.set_bit.ensures.pages);
+          (marks_more before.counts (take k pages) (get_or pages k 0) first before.counts.pages after.counts.pages
+          c.loop-page.invariant.pages c.set_bit.ensures.pages);
     }

@@ -10,7 +10,8 @@ pub returns-clause-own : goal.returns-clause-own
 returns-clause-own g c = record {
   pass = c.meet_pass.ensures.own;
   none_cleared = λ p. ap (λ (q : Pass). (tally_of q.counts.pages p).off) c.meet_pass.ensures.pass
-      ∙ none_by_met c.args.other.now.counts.pages c.self.inside.pass.counts.pages (subst (IsShareOf c.args.bitmap.now) (sym c.self.view_is) c.requires.own).none_cleared p;
+      ∙ none_by_met c.args.other.now.counts.pages c.self.inside.pass.counts.pages
+      (subst (IsShareOf c.args.bitmap.now) (sym c.self.view_is) c.requires.own).none_cleared p;
 }
 
 pub returns-clause-seen : goal.returns-clause-seen
@@ -18,4 +19,5 @@ returns-clause-seen g c own word =
     let mine = c.self.inside.pass.counts.pages in
     let theirs = c.args.other.now.counts.pages in
     let share = subst (IsShareOf c.args.bitmap.now) (sym c.self.view_is) c.requires.own in
-    subst (HasSeen word theirs) (sym (ap (λ (q : Pass). q.counts.pages) c.meet_pass.ensures.pass)) (seen_by_meeting word theirs mine (c.requires.other.1 ∙ sym share.pass.1) own)
+    subst (HasSeen word theirs) (sym (ap (λ (q : Pass). q.counts.pages) c.meet_pass.ensures.pass))
+    (seen_by_meeting word theirs mine (c.requires.other.1 ∙ sym share.pass.1) own)

@@ -11,5 +11,6 @@ returns-clause-own_half g c =
     let same : c.new.result.pass ≡ c.in_ok-pass.pass = ap (λ (s : Portion). s.pass) c.new.ensures in
     record {
       pass = subst (IsPassOf c.args.bitmap.now) (sym same) second.own_second;
-      none_cleared = λ p. ap (λ (q : Pass). (tally_of q.counts.pages p).off) (same ∙ second.second) ∙ none_by_new c.self.inside.pass.counts p;
+      none_cleared = λ p. ap (λ (q : Pass). (tally_of q.counts.pages p).off) (same ∙ second.second)
+          ∙ none_by_new c.self.inside.pass.counts p;
     }

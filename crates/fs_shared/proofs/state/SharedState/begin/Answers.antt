@@ -5,4 +5,7 @@ use Rattle.fs_shared.proofs.Appending.{replays_none}
 use Rattle.fs_shared.proofs.state.SharedState.begin.Goals as goal
 
 pub invariant_of-result : goal.invariant_of-result
-invariant_of-result g c = (rw (c.requires.start, c.new.ensures.items) (replays_none (forget (machine_of c.args.machine))), c.requires.none ∙ sym c.new.ensures.len)
+invariant_of-result g c = (
+  rw (c.requires.start, c.new.ensures.items) (replays_none (forget (machine_of c.args.machine))),
+  c.requires.none ∙ sym c.new.ensures.len,
+)

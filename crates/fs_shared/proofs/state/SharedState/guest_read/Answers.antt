@@ -5,4 +5,5 @@ use Rattle.fs_shared.proofs.state.SharedState.guest_read.Goals as goal
 pub unreachable-requires : goal.unreachable-requires
 unreachable-requires g c =
     let s = machine_of c.self.inside.machine in
-    read_told g.F.FileSystemBase.may s s c.args.addr c.args.len c.guest_read.result c.in_default.not-Bytes c.in_default.not-Refused c.guest_read.ensures
+    read_told g.F.FileSystemBase.may s s c.args.addr c.args.len c.guest_read.result c.in_default.not-Bytes c.in_default.not-Refused
+    c.guest_read.ensures

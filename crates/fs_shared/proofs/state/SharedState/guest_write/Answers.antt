@@ -8,7 +8,8 @@ pub invariant_of-self : goal.invariant_of-self
 invariant_of-self g c =
     let s = c.self.inside in
     let new = c.write_into.new in (
-      act_replays g.F.FileSystemBase.may s.start (machine_of s.machine) (machine_of new.machine) (journal_of s.journal.items) (journal_of new.journal.items) (GuestWrite c.args.addr c.args.bytes.now)
+      act_replays g.F.FileSystemBase.may s.start (machine_of s.machine) (machine_of new.machine) (journal_of s.journal.items)
+          (journal_of new.journal.items) (GuestWrite c.args.addr c.args.bytes.now)
           c.write_into.result c.self.invariant.0 c.write_into.ensures.write,
       c.write_into.ensures.total c.self.invariant.1,
     )
@@ -18,7 +19,8 @@ returns-clause-write g c =
     let s = c.self.inside in
     let new = c.write_into.new in
     rw (← c.self.view_is) (
-    act_starts g.F.FileSystemBase.may s.start (machine_of s.machine) (machine_of new.machine) (journal_of s.journal.items) (journal_of new.journal.items)
+    act_starts g.F.FileSystemBase.may s.start (machine_of s.machine) (machine_of new.machine) (journal_of s.journal.items)
+    (journal_of new.journal.items)
     (GuestWrite c.args.addr c.args.bytes.now) c.write_into.result c.write_into.ensures.write
     )
 
@@ -26,5 +28,6 @@ pub returns-clause-replays : goal.returns-clause-replays
 returns-clause-replays g c =
     let s = c.self.inside in
     let new = c.write_into.new in
-    act_replays g.F.FileSystemBase.may s.start (machine_of s.machine) (machine_of new.machine) (journal_of s.journal.items) (journal_of new.journal.items) (GuestWrite c.args.addr c.args.bytes.now)
+    act_replays g.F.FileSystemBase.may s.start (machine_of s.machine) (machine_of new.machine) (journal_of s.journal.items)
+    (journal_of new.journal.items) (GuestWrite c.args.addr c.args.bytes.now)
     c.write_into.result c.self.invariant.0 c.write_into.ensures.write

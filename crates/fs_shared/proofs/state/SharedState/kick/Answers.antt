@@ -7,7 +7,8 @@ pub invariant_of-self : goal.invariant_of-self
 invariant_of-self g c =
     let s = c.self.inside in
     let new = c.kick_into.new in (
-      kick_replays g.F.FileSystemBase.may s.start (machine_of s.machine) (machine_of new.machine) (journal_of s.journal.items) (journal_of new.journal.items) c.args.queue c.kick_into.result
+      kick_replays g.F.FileSystemBase.may s.start (machine_of s.machine) (machine_of new.machine) (journal_of s.journal.items)
+          (journal_of new.journal.items) c.args.queue c.kick_into.result
           c.self.invariant.0 c.kick_into.ensures.kick,
       c.kick_into.ensures.total c.self.invariant.1,
     )
@@ -17,7 +18,8 @@ returns-clause-kick g c =
     let s = c.self.inside in
     let new = c.kick_into.new in
     rw (← c.self.view_is) (
-    kick_starts g.F.FileSystemBase.may s.start (machine_of s.machine) (machine_of new.machine) (journal_of s.journal.items) (journal_of new.journal.items)
+    kick_starts g.F.FileSystemBase.may s.start (machine_of s.machine) (machine_of new.machine) (journal_of s.journal.items)
+    (journal_of new.journal.items)
     c.args.queue c.kick_into.result c.kick_into.ensures.kick
     )
 
@@ -25,5 +27,6 @@ pub returns-clause-replays : goal.returns-clause-replays
 returns-clause-replays g c =
     let s = c.self.inside in
     let new = c.kick_into.new in
-    kick_replays g.F.FileSystemBase.may s.start (machine_of s.machine) (machine_of new.machine) (journal_of s.journal.items) (journal_of new.journal.items) c.args.queue c.kick_into.result
+    kick_replays g.F.FileSystemBase.may s.start (machine_of s.machine) (machine_of new.machine) (journal_of s.journal.items)
+    (journal_of new.journal.items) c.args.queue c.kick_into.result
     c.self.invariant.0 c.kick_into.ensures.kick

@@ -8,7 +8,8 @@ pub invariant_of-self : goal.invariant_of-self
 invariant_of-self g c =
     let s = c.self.inside in
     let new = c.layout_into.new in (
-      act_replays g.F.FileSystemBase.may s.start (machine_of s.machine) (machine_of new.machine) (journal_of s.journal.items) (journal_of new.journal.items) (SetLayout c.args.layout)
+      act_replays g.F.FileSystemBase.may s.start (machine_of s.machine) (machine_of new.machine) (journal_of s.journal.items)
+          (journal_of new.journal.items) (SetLayout c.args.layout)
           c.layout_into.result c.self.invariant.0 c.layout_into.ensures.layout,
       c.layout_into.ensures.total c.self.invariant.1,
     )
@@ -18,7 +19,8 @@ returns-clause-layout g c =
     let s = c.self.inside in
     let new = c.layout_into.new in
     rw (← c.self.view_is) (
-    act_starts g.F.FileSystemBase.may s.start (machine_of s.machine) (machine_of new.machine) (journal_of s.journal.items) (journal_of new.journal.items)
+    act_starts g.F.FileSystemBase.may s.start (machine_of s.machine) (machine_of new.machine) (journal_of s.journal.items)
+    (journal_of new.journal.items)
     (SetLayout c.args.layout) c.layout_into.result c.layout_into.ensures.layout
     )
 
@@ -26,5 +28,6 @@ pub returns-clause-replays : goal.returns-clause-replays
 returns-clause-replays g c =
     let s = c.self.inside in
     let new = c.layout_into.new in
-    act_replays g.F.FileSystemBase.may s.start (machine_of s.machine) (machine_of new.machine) (journal_of s.journal.items) (journal_of new.journal.items) (SetLayout c.args.layout)
+    act_replays g.F.FileSystemBase.may s.start (machine_of s.machine) (machine_of new.machine) (journal_of s.journal.items)
+    (journal_of new.journal.items) (SetLayout c.args.layout)
     c.layout_into.result c.self.invariant.0 c.layout_into.ensures.layout

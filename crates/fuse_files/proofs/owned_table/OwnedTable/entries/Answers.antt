@@ -8,7 +8,8 @@ use Rattle.fuse_files.proofs.owned_table.OwnedTable.entries.Goals as goal
 pub returns-then-at-files-clause-files : goal.returns-then-at-files-clause-files
 returns-then-at-files-clause-files c =
     let at = c.args.at in
-    let past : length (files_of c.args.self.now) ≤ at = subst (λ (fs : List OwnedFile). length fs ≤ at) c.files.ensures.files c.if-at-files.true in
+    let past : length (files_of c.args.self.now) ≤ at =
+    subst (λ (fs : List OwnedFile). length fs ≤ at) c.files.ensures.files c.if-at-files.true in
     drop_all at [] (omega arith) ∙ sym (drop_all at (files_of c.args.self.now) past)
 
 pub returns-clause-files : goal.returns-clause-files

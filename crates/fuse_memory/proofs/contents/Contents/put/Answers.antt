@@ -16,7 +16,8 @@ returns-clause-ok c =
     let long : len ≡ max (length old) (off + length bytes) = grind (arith, common_steps) in
     let filled : wide ≡ sized len old = grind (arith, common_steps) in
     let behind : drop (c.in_ok-end.end - off) (drop off wide) ≡ drop (off + length bytes) wide =
-    drop-drop (c.in_ok-end.end - off) off wide ∙ ap (λ (k : ℕ). drop k wide) (let e : off + (c.in_ok-end.end - off) ≡ off + length bytes = omega (arith, end) in e) in
+    drop-drop (c.in_ok-end.end - off) off wide
+    ∙ ap (λ (k : ℕ). drop k wide) (let e : off + (c.in_ok-end.end - off) ≡ off + length bytes = omega (arith, end) in e) in
     let all = take off wide ++ (c.copy_from_slice.new.self ++ drop (c.in_ok-end.end - off) (drop off wide)) in
     let copied : c.copy_from_slice.new.self ≡ bytes = grind (arith, common_steps) in
     let is : all ≡ put off bytes old =

@@ -6,7 +6,8 @@ use Rattle.fuse_memory.proofs.contents.Contents.write.Goals as goal
 pub overflow_cast-result : goal.overflow_cast-result
 overflow_cast-result g c =
     let r = c.write_to_file_at.ensures in
-    let w = wrote _ (g.R.ZeroCopyReader.left c.args.r.now) _ c.args.size c.args.offset _ r.0 c.write_to_file_at.result _ refl (omega arith) r.5 in
+    let w = wrote _ (g.R.ZeroCopyReader.left c.args.r.now) _ c.args.size c.args.offset _ r.0 c.write_to_file_at.result _ refl
+    (omega arith) r.5 in
     omega (arith, w.within)
 
 pub returns-in-Err-clause-err : goal.returns-in-Err-clause-err
@@ -28,11 +29,13 @@ returns-in_default-clause-err g c =
 pub returns-in_default-2-clause-within : goal.returns-in_default-2-clause-within
 returns-in_default-2-clause-within g c =
     let r = c.write_to_file_at.ensures in
-    let w = wrote _ (g.R.ZeroCopyReader.left c.args.r.now) _ c.args.size c.args.offset _ r.0 c.write_to_file_at.result _ refl (omega arith) r.5 in
+    let w = wrote _ (g.R.ZeroCopyReader.left c.args.r.now) _ c.args.size c.args.offset _ r.0 c.write_to_file_at.result _ refl
+    (omega arith) r.5 in
     w.within
 
 pub returns-in_default-2-clause-ok : goal.returns-in_default-2-clause-ok
 returns-in_default-2-clause-ok g c =
     let r = c.write_to_file_at.ensures in
-    let w = wrote _ (g.R.ZeroCopyReader.left c.args.r.now) _ c.args.size c.args.offset _ r.0 c.write_to_file_at.result _ refl (omega arith) r.5 in
+    let w = wrote _ (g.R.ZeroCopyReader.left c.args.r.now) _ c.args.size c.args.offset _ r.0 c.write_to_file_at.result _ refl
+    (omega arith) r.5 in
     w.is

@@ -15,7 +15,8 @@ returns-in-None g c =
       tt,
       (
         none_read _ _ _
-            (file_here nodes (map entry_of c.args.self.now.names.items) c.args.self.now.made c.args.self.now.most_nodes c.in-Some.place c.args.inode slot place.0 (omega (arith, place.1)) c.index_mut.ensures.value
+            (file_here nodes (map entry_of c.args.self.now.names.items) c.args.self.now.made c.args.self.now.most_nodes c.in-Some.place
+            c.args.inode slot place.0 (omega (arith, place.1)) c.index_mut.ensures.value
             ∙ ap (λ s. option_map file_of s) c.in-None.is),
         keeps nodes _ _ _ c.in-Some.place c.args.inode slot place.0 (omega (arith, place.1)) c.index_mut.ensures.value slot refl,
       ),

@@ -29,7 +29,8 @@ returns-in-Some c =
     let there = slice_get-get_or entries moved no_entry (omega (arith, c.in_ok-moved.ensures.within, length-map m.names.items entry_of)) in
     let other = c.in-Some.field-0 in
     record {
-      may = renames before before c.args.newdir c.args.newname.now _ _ _ keep (Failed 17) is_known moved is_moved (Some other) (is_target ∙ ap Ok c.in-Some.is) entry there
+      may = renames before before c.args.newdir c.args.newname.now _ _ _ keep (Failed 17) is_known moved is_moved (Some other)
+          (is_target ∙ ap Ok c.in-Some.is) entry there
           true (is_at moved (Some other)) (ap not (ne_eqb (bit_and c.args.flags 1) 0 c.if-flags-ne0-2.true)) refl
           (record { answers = refl; keeps = record { files = λ _. refl; rest = record { entries = refl; made = refl; most = refl } } });
     }
@@ -48,7 +49,8 @@ returns-in-Some-2 c =
     let there = slice_get-get_or entries moved no_entry (omega (arith, c.in_ok-moved.ensures.within, length-map m.names.items entry_of)) in
     let other = c.in-Some.field-0 in
     record {
-      may = renames before before c.args.newdir c.args.newname.now _ _ _ keep Done is_known moved is_moved (Some other) (is_target ∙ ap Ok c.in-Some.is) entry there
+      may = renames before before c.args.newdir c.args.newname.now _ _ _ keep Done is_known moved is_moved (Some other)
+          (is_target ∙ ap Ok c.in-Some.is) entry there
           false true (ap not (eq-eqb (bit_and c.args.flags 1) 0 c.if-flags-ne0-2.false)) (eq-eqb other moved c.if-other-moved.true)
           (refl, record { files = λ _. refl; rest = record { entries = refl; made = refl; most = refl } });
     }
@@ -67,7 +69,8 @@ returns-in-None c =
     let there = slice_get-get_or entries moved no_entry (omega (arith, c.in_ok-moved.ensures.within, length-map m.names.items entry_of)) in
     let name = some_there m.names.items moved (omega (arith, c.in_ok-moved.ensures.within)) in
     record {
-      may = renames before (files_of c.move_to_new.new.self) c.args.newdir c.args.newname.now _ _ _ keep (done_answer c.move_to_new.result) is_known moved is_moved None
+      may = renames before (files_of c.move_to_new.new.self) c.args.newdir c.args.newname.now _ _ _ keep (done_answer c.move_to_new.result)
+          is_known moved is_moved None
           (is_target ∙ ap Ok c.in-None.is) (entry_of name.0) name.2
           keep false refl refl (c.move_to_new.ensures name.0 name.1);
     }
@@ -89,7 +92,8 @@ returns-in-Some-3 c =
     let low : other < vec_len m.names = grind (arith, common_steps) in
     let replaced = some_there m.names.items other (omega (arith, low)) in
     record {
-      may = renames before (files_of c.move_over.new.self) c.args.newdir c.args.newname.now _ _ _ keep (done_answer c.move_over.result) is_known moved is_moved (Some other)
+      may = renames before (files_of c.move_over.new.self) c.args.newdir c.args.newname.now _ _ _ keep (done_answer c.move_over.result)
+          is_known moved is_moved (Some other)
           (is_target ∙ ap Ok c.in-Some.is) (entry_of name.0) name.2
           false false (ap not (eq-eqb (bit_and c.args.flags 1) 0 c.if-flags-ne0-2.false)) (ne_eqb other moved c.if-other-moved.false)
           (entry_of replaced.0, replaced.2, c.move_over.ensures name.0 replaced.0 name.1 replaced.1);

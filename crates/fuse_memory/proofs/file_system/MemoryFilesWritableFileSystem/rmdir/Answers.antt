@@ -16,7 +16,8 @@ returns-then-entry-ne-DT_DIR c =
     record {
       may = removes_directory (files_of m) (files_of m) _ place (entry_of name) _ (sym c.find_there.ensures.value ∙ c.in_ok-place.was)
           (entry_there m.names.items place name (omega (arith, c.in_ok-place.ensures.within)) c.index-entry.ensures)
-          (Some 20) (ap (λ b. cond b (cond (is_empty (map entry_of m.names.items) name.node) None (Some 39)) (Some 20)) (ne_eqb name.kind 4 c.if-entry-ne-DT_DIR.true))
+          (Some 20) (ap (λ b. cond b (cond (is_empty (map entry_of m.names.items) name.node) None (Some 39)) (Some 20))
+          (ne_eqb name.kind 4 c.if-entry-ne-DT_DIR.true))
           (record { answers = refl; keeps = record { files = λ _. refl; rest = record { entries = refl; made = refl; most = refl } } });
     }
 
@@ -29,7 +30,8 @@ returns-then-not-is_empty c =
     record {
       may = removes_directory (files_of m) (files_of m) _ place (entry_of name) _ (sym c.find_there.ensures.value ∙ c.in_ok-place.was)
           (entry_there m.names.items place name (omega (arith, c.in_ok-place.ensures.within)) c.index-entry.ensures)
-          (Some 39) (ap (λ b. cond b (cond (is_empty (map entry_of m.names.items) name.node) None (Some 39)) (Some 20)) (eq-eqb name.kind 4 c.if-entry-ne-DT_DIR.false) ∙ ap (λ b. cond b None (Some 39)) full)
+          (Some 39) (ap (λ b. cond b (cond (is_empty (map entry_of m.names.items) name.node) None (Some 39)) (Some 20))
+          (eq-eqb name.kind 4 c.if-entry-ne-DT_DIR.false) ∙ ap (λ b. cond b None (Some 39)) full)
           (record { answers = refl; keeps = record { files = λ _. refl; rest = record { entries = refl; made = refl; most = refl } } });
     }
 
@@ -40,8 +42,13 @@ returns c =
     let name = c.index-entry.result.now in
     let empty : is_empty (map entry_of m.names.items) name.node ≡ true = cc in
     record {
-      may = removes_directory (files_of m) (files_of c.remove.new.self) _ place (entry_of name) _ (sym c.find_there.ensures.value ∙ c.in_ok-place.was)
+      may = removes_directory (files_of m) (files_of c.remove.new.self) _ place (entry_of name) _
+          (sym c.find_there.ensures.value ∙ c.in_ok-place.was)
           (entry_there m.names.items place name (omega (arith, c.in_ok-place.ensures.within)) c.index-entry.ensures)
-          None (ap (λ b. cond b (cond (is_empty (map entry_of m.names.items) name.node) None (Some 39)) (Some 20)) (eq-eqb name.kind 4 c.if-entry-ne-DT_DIR.false) ∙ ap (λ b. cond b None (Some 39)) empty)
-          (refl, c.remove.ensures name (slice_get_read m.names.items _ place name refl (omega (arith, c.in_ok-place.ensures.within)) c.index-entry.ensures));
+          None (ap (λ b. cond b (cond (is_empty (map entry_of m.names.items) name.node) None (Some 39)) (Some 20))
+          (eq-eqb name.kind 4 c.if-entry-ne-DT_DIR.false) ∙ ap (λ b. cond b None (Some 39)) empty) (
+            refl,
+            c.remove.ensures name
+                (slice_get_read m.names.items _ place name refl (omega (arith, c.in_ok-place.ensures.within)) c.index-entry.ensures),
+          );
     }

@@ -16,10 +16,12 @@ returns-in_ok-told-in-Some-index_mut c =
     let arm = c.in_ok-told-in-Some-index_mut in
     record {
       may = (
-        changes nodes entries c.args.self.now.made c.args.self.now.most_nodes c.in-Some.place c.args.inode slot place.0 (omega (arith, place.1)) c.index_mut.ensures.value
+        changes nodes entries c.args.self.now.made c.args.self.now.most_nodes c.in-Some.place c.args.inode slot place.0
+            (omega (arith, place.1)) c.index_mut.ensures.value
             c.in-Some-index_mut.node c.set.new.self (attributes_set c.args.valid.0 c.args.attr) c.in-Some-index_mut.is arm.ensures.ok,
         subst (λ f. AnswersGetattr f (HasAttr arm.told c.second.result))
             (sym (file_after nodes entries c.args.self.now.made c.args.self.now.most_nodes
-            c.in-Some.place c.args.inode slot place.0 (omega (arith, place.1)) c.index_mut.ensures.value (Some c.set.new.self))) arm.ensures.told,
+            c.in-Some.place c.args.inode slot place.0 (omega (arith, place.1)) c.index_mut.ensures.value (Some c.set.new.self)))
+            arm.ensures.told,
       );
     }

@@ -26,6 +26,9 @@ returns c =
     record {
       may = unlinks (files_of m) (files_of c.remove.new.self) _ place (entry_of name) _ (sym c.find_there.ensures.value ∙ c.in_ok-place.was)
           (entry_there m.names.items place name (omega (arith, c.in_ok-place.ensures.within)) c.index.ensures)
-          None (ap (λ b. cond b (Some 21) None) (ne_eqb name.kind 4 c.if-index-eq-DT_DIR.false))
-          (refl, c.remove.ensures name (slice_get_read m.names.items _ place name refl (omega (arith, c.in_ok-place.ensures.within)) c.index.ensures));
+          None (ap (λ b. cond b (Some 21) None) (ne_eqb name.kind 4 c.if-index-eq-DT_DIR.false)) (
+            refl,
+            c.remove.ensures name
+                (slice_get_read m.names.items _ place name refl (omega (arith, c.in_ok-place.ensures.within)) c.index.ensures),
+          );
     }

@@ -9,7 +9,12 @@ returns c =
       (refl, (λ e. tt), listing_goes_on list.at list.entries.items),
       record {
         entry =
-            ap (λ name. Some (record { ino = c.index-entry.result.now.node; offset = c.index-entry.result.now.offset; kind = c.index-entry.result.now.kind; name = name })) c.deref.ensures.value
+            ap (λ name. Some (record {
+              ino = c.index-entry.result.now.node;
+              offset = c.index-entry.result.now.offset;
+              kind = c.index-entry.result.now.kind;
+              name = name;
+            })) c.deref.ensures.value
             ∙ ap (λ e. Some (listed_of e)) c.index-entry.ensures
             ∙ entry_there list.at list.entries.items c.index-entry.result.now (omega (arith, c.if-at-len.false, c.len.ensures));
         after = tt;

@@ -13,9 +13,11 @@ returns-in-Some-index_mut c =
     let slot = c.index_mut.result.now in
     let place = c.in-Some.ensures.some in
     let arm = c.in-Some-index_mut in
-    let done = changes nodes entries m.made m.most_nodes c.in-Some.place c.args.number slot place.0 (omega (arith, place.1)) c.index_mut.ensures.value
+    let done = changes nodes entries m.made m.most_nodes c.in-Some.place c.args.number slot place.0 (omega (arith, place.1))
+    c.index_mut.ensures.value
     arm.node (record arm.node { lookups = c.saturating_add-node.result }) held_more arm.is (grind arith) in
-    let here = file_here nodes entries m.made m.most_nodes c.in-Some.place c.args.number slot place.0 (omega (arith, place.1)) c.index_mut.ensures.value ∙ ap slot_file arm.is in
+    let here = file_here nodes entries m.made m.most_nodes c.in-Some.place c.args.number slot place.0 (omega (arith, place.1))
+    c.index_mut.ensures.value ∙ ap slot_file arm.is in
     let told = c.entry.ensures.told in
     record {
       may = (file_of arm.node, here, c.entry.ensures.inode, record { size = told.size; mode = told.mode; links = told.links }, done);
@@ -31,7 +33,9 @@ returns-in-None c =
     record {
       may = (
         refl,
-        file_here nodes entries m.made m.most_nodes c.in-Some.place c.args.number slot place.0 (omega (arith, place.1)) c.index_mut.ensures.value ∙ ap slot_file c.in-None.is,
-        keeps nodes entries m.made m.most_nodes c.in-Some.place c.args.number slot place.0 (omega (arith, place.1)) c.index_mut.ensures.value slot refl,
+        file_here nodes entries m.made m.most_nodes c.in-Some.place c.args.number slot place.0 (omega (arith, place.1))
+            c.index_mut.ensures.value ∙ ap slot_file c.in-None.is,
+        keeps nodes entries m.made m.most_nodes c.in-Some.place c.args.number slot place.0 (omega (arith, place.1))
+            c.index_mut.ensures.value slot refl,
       );
     }

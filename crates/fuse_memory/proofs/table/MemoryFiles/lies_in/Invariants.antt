@@ -5,4 +5,5 @@ use Rattle.fuse_memory.proofs.table.MemoryFiles.lies_in.Given as goal
 
 abbrev pub invariant-loop-step : goal.invariant-loop-step
 invariant-loop-step l =
-    lies_in (files_of l.self) (vec_len l.self.names + 2) l.fn.directory l.other ≡ lies_in (files_of l.self) (vec_len l.self.names + 2 - l.step) l.at l.other
+    lies_in (files_of l.self) (vec_len l.self.names + 2) l.fn.directory l.other
+    ≡ lies_in (files_of l.self) (vec_len l.self.names + 2 - l.step) l.at l.other

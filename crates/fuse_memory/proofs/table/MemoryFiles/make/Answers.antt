@@ -1,4 +1,5 @@
-use Rattle.std.proofs.Common.{◌≡◌, ℕ, ◌+◌, ◌/◌, ◌^◌, ◌∙◌, List, set, ◌==◌, ◌∷◌, [], ◌++◌, Ok, None, Some, arith, rules, ap, cond, refl, sym, subst}
+use Rattle.std.proofs.Common.{◌≡◌, ℕ, ◌+◌, ◌/◌, ◌^◌, ◌∙◌, List, set, ◌==◌, ◌∷◌, [], ◌++◌, Ok, None, Some, arith, rules, ap, cond, refl, sym}
+use Rattle.std.proofs.Common.{subst}
 use Rattle.std.specs.Prelude.{map}
 use Rattle.std.proofs.lemmas.Grind.{common_steps}
 use Rattle.std.proofs.lemmas.List.{map-append}
@@ -23,13 +24,22 @@ returns c =
     let offset : c.in_ok-offset.offset ≡ m.made + 1 = grind (arith, common_steps) in
     let before = map entry_of m.names.items in
     let all : map entry_of n.names.items ≡ before = keeps.rest.entries ∙ ap (map entry_of) c.reserve.ensures.items in
-    let after : FileTree = record { file = file_at (set n.nodes.items node (Some new)); entries = map entry_of c.push_reserved.new.self.items; made = c.in_ok-offset.offset; most = n.most_nodes } in
-    let entry = λ (name : List ℕ). let e : DirectoryEntry = record { directory = c.args.parent; name = name; node = node; kind = c.args.mode / 2 ^ 12 } in e in
+    let after : FileTree = record {
+      file = file_at (set n.nodes.items node (Some new));
+      entries = map entry_of c.push_reserved.new.self.items;
+      made = c.in_ok-offset.offset;
+      most = n.most_nodes;
+    } in
+    let entry = λ (name : List ℕ). let e : DirectoryEntry =
+    record { directory = c.args.parent; name = name; node = node; kind = c.args.mode / 2 ^ 12 } in e in
     let entries : after.entries ≡ before ++ entry c.args.name.now ∷ [] =
-    ap (map entry_of) c.push_reserved.ensures.items ∙ map-append entry_of n.names.items _ ∙ ap (λ l. l ++ entry c.in_ok-name.name.items ∷ []) all ∙ ap (λ (s : List ℕ). before ++ entry s ∷ []) c.in_ok-name.ensures.ok in
+    ap (map entry_of) c.push_reserved.ensures.items ∙ map-append entry_of n.names.items _
+    ∙ ap (λ l. l ++ entry c.in_ok-name.name.items ∷ []) all ∙ ap (λ (s : List ℕ). before ++ entry s ∷ []) c.in_ok-name.ensures.ok in
     makes_entry (files_of m) after _ c.args.parent c.args.name.now c.args.mode _ (sym c.find.ensures ∙ c.in_ok-find.was ∙ ap Ok none)
-    (makes_node (files_of m) after c.args.parent c.args.name.now c.args.mode (numbered (λ (n : ℕ). n) c.entry-entry.result) node c.entry-entry.ensures.inode
-    (free_before (files_of m) (files_of n) node (record { files = keeps.files; rest = record { entries = all; made = keeps.rest.made; most = keeps.rest.most } }) free.0)
+    (makes_node (files_of m) after c.args.parent c.args.name.now c.args.mode (numbered (λ (n : ℕ). n) c.entry-entry.result) node
+    c.entry-entry.ensures.inode
+    (free_before (files_of m) (files_of n) node
+    (record { files = keeps.files; rest = record { entries = all; made = keeps.rest.made; most = keeps.rest.most } }) free.0)
     (omega (arith, free.1, keeps.rest.most))
     (record {
       files = λ other.

@@ -17,7 +17,8 @@ returns-then-lies_in c = λ entry other is_moved is_replaced.
     let refused = lies before (vec_len m.names) c.args.parent entry.node true (omega (arith, length-map m.names.items entry_of))
     (sym c.if-lies_in.true ∙ c.lies_in.ensures ∙ ap (λ n. lies_in before (vec_len m.names + 2) c.args.parent n.node) same) in
     let why = cannot_replace (map entry_of m.names.items) (entry_of entry) (entry_of other) in
-    subst (λ (o : Option ℕ). MovesOver before c.args.moved (entry_of entry) c.args.parent c.args.name.now c.args.replaced (entry_of other) (first_of_two o why) (Failed 22) before) (sym refused)
+    subst (λ (o : Option ℕ). MovesOver before c.args.moved (entry_of entry) c.args.parent c.args.name.now c.args.replaced (entry_of other)
+    (first_of_two o why) (Failed 22) before) (sym refused)
     (record { answers = refl; keeps = record { files = λ _. refl; rest = record { entries = refl; made = refl; most = refl } } })
 
 pub returns-in-Some : goal.returns-in-Some
@@ -31,9 +32,11 @@ returns-in-Some c = λ entry other is_moved is_replaced.
     let free = lies before (vec_len m.names) c.args.parent entry.node false (omega (arith, length-map m.names.items entry_of))
     (sym c.if-lies_in.false ∙ c.lies_in.ensures ∙ ap (λ n. lies_in before (vec_len m.names + 2) c.args.parent n.node) moved) in
     let why : cannot_replace entries (entry_of entry) (entry_of other) ≡ Some c.in-Some.error =
-    ap (λ n. cannot_replace entries (entry_of n) (entry_of other)) (sym again) ∙ ap (λ n. cannot_replace entries (entry_of c.index-2.result.now) (entry_of n)) (sym replaced)
+    ap (λ n. cannot_replace entries (entry_of n) (entry_of other)) (sym again)
+    ∙ ap (λ n. cannot_replace entries (entry_of c.index-2.result.now) (entry_of n)) (sym replaced)
     ∙ sym c.cannot_replace.ensures ∙ c.in-Some.is in
-    subst (λ (o : Option ℕ). MovesOver before c.args.moved (entry_of entry) c.args.parent c.args.name.now c.args.replaced (entry_of other) o (Failed c.in-Some.error) before)
+    subst (λ (o : Option ℕ). MovesOver before c.args.moved (entry_of entry) c.args.parent c.args.name.now c.args.replaced (entry_of other) o
+    (Failed c.in-Some.error) before)
     (sym (ap (λ o. first_of_two o (cannot_replace entries (entry_of entry) (entry_of other))) free ∙ why))
     (record { answers = refl; keeps = record { files = λ _. refl; rest = record { entries = refl; made = refl; most = refl } } })
 
@@ -48,10 +51,13 @@ returns-in_err-move_name c = λ entry other is_moved is_replaced.
     let free = lies before (vec_len m.names) c.args.parent entry.node false (omega (arith, length-map m.names.items entry_of))
     (sym c.if-lies_in.false ∙ c.lies_in.ensures ∙ ap (λ n. lies_in before (vec_len m.names + 2) c.args.parent n.node) moved) in
     let none : cannot_replace entries (entry_of entry) (entry_of other) ≡ None =
-    ap (λ n. cannot_replace entries (entry_of n) (entry_of other)) (sym again) ∙ ap (λ n. cannot_replace entries (entry_of c.index-2.result.now) (entry_of n)) (sym replaced)
+    ap (λ n. cannot_replace entries (entry_of n) (entry_of other)) (sym again)
+    ∙ ap (λ n. cannot_replace entries (entry_of c.index-2.result.now) (entry_of n)) (sym replaced)
     ∙ sym c.cannot_replace.ensures ∙ c.in_default.is in
-    over_fails before (files_of c.move_name.new.self) c.args.moved (entry_of entry) c.args.parent c.args.name.now c.args.replaced (entry_of other) _
-    (ap (λ o. first_of_two o (cannot_replace entries (entry_of entry) (entry_of other))) free ∙ none) c.from_residual.result c.in_err-move_name.field-0.0 (search rules) (c.in_err-move_name.ensures.moves entry is_moved)
+    over_fails before (files_of c.move_name.new.self) c.args.moved (entry_of entry) c.args.parent c.args.name.now c.args.replaced
+    (entry_of other) _
+    (ap (λ o. first_of_two o (cannot_replace entries (entry_of entry) (entry_of other))) free ∙ none) c.from_residual.result
+    c.in_err-move_name.field-0.0 (search rules) (c.in_err-move_name.ensures.moves entry is_moved)
 
 pub returns : goal.returns
 returns c = λ entry other is_moved is_replaced.
@@ -64,9 +70,11 @@ returns c = λ entry other is_moved is_replaced.
     let free = lies before (vec_len m.names) c.args.parent entry.node false (omega (arith, length-map m.names.items entry_of))
     (sym c.if-lies_in.false ∙ c.lies_in.ensures ∙ ap (λ n. lies_in before (vec_len m.names + 2) c.args.parent n.node) moved) in
     let none : cannot_replace entries (entry_of entry) (entry_of other) ≡ None =
-    ap (λ n. cannot_replace entries (entry_of n) (entry_of other)) (sym again) ∙ ap (λ n. cannot_replace entries (entry_of c.index-2.result.now) (entry_of n)) (sym replaced)
+    ap (λ n. cannot_replace entries (entry_of n) (entry_of other)) (sym again)
+    ∙ ap (λ n. cannot_replace entries (entry_of c.index-2.result.now) (entry_of n)) (sym replaced)
     ∙ sym c.cannot_replace.ensures ∙ c.in_default.is in
-    moves_over before (files_of c.move_name.new.self) _ c.args.moved (entry_of entry) c.args.parent c.args.name.now c.args.replaced (entry_of other) _
+    moves_over before (files_of c.move_name.new.self) _ c.args.moved (entry_of entry) c.args.parent c.args.name.now c.args.replaced
+    (entry_of other) _
     (ap (λ o. first_of_two o (cannot_replace entries (entry_of entry) (entry_of other))) free ∙ none)
     (c.in_ok-move_name.ensures.moves entry is_moved)
     (c.remove.ensures other (c.in_ok-move_name.ensures.others c.args.replaced c.requires.apart ∙ is_replaced))

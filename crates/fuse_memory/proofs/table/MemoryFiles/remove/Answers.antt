@@ -10,7 +10,8 @@ returns-in-Some c = λ name is.
     let m = c.args.self.now in
     let place = c.in-Some.ensures.some in
     let same = same_there m.names.items c.args.place name c.remove-number.result is c.remove-number.ensures.value in
-    let done = alters m.nodes.items (map entry_of m.names.items) m.made m.most_nodes c.in-Some.place name.node c.index_mut.result.now (place.0 ∙ ap (λ n. n.node) same)
+    let done = alters m.nodes.items (map entry_of m.names.items) m.made m.most_nodes c.in-Some.place name.node c.index_mut.result.now
+    (place.0 ∙ ap (λ n. n.node) same)
     (omega (arith, place.1)) c.index_mut.ensures.value c.lose_name.new.slot unnamed c.lose_name.ensures in
     record {
       files = done.files;
@@ -23,7 +24,8 @@ pub returns-in_default : goal.returns-in_default
 returns-in_default c = λ name is.
     let m = c.args.self.now in
     let same = same_there m.names.items c.args.place name c.remove-number.result is c.remove-number.ensures.value in
-    let none : file_at m.nodes.items name.node ≡ _ = no_file m.nodes.items name.node (ap (λ n. node_at m.nodes.items n.node) (sym same) ∙ c.in_default.ensures.none) in
+    let none : file_at m.nodes.items name.node ≡ _ =
+    no_file m.nodes.items name.node (ap (λ n. node_at m.nodes.items n.node) (sym same) ∙ c.in_default.ensures.none) in
     record {
       files = (alters_none (files_of m) name.node unnamed none).files;
       entries = ap (map entry_of) c.remove-number.ensures.items ∙ map-remove entry_of m.names.items c.args.place;

@@ -8,7 +8,8 @@ use Rattle.server_phases.proofs.listing.Listing.add.Goals as goal
 pub returns-clause-holds : goal.returns-clause-holds
 returns-clause-holds c =
     let d = listed c.args.entry.now in
-    held_more c.put.result c.args.self.now c.put.new.self c.args.list.now c.put.new.list (dirent_bytes d) d (no_node d) c.put.ensures.stays c.put.ensures.len c.put.ensures.list
+    held_more c.put.result c.args.self.now c.put.new.self c.args.list.now c.put.new.list (dirent_bytes d) d (no_node d) c.put.ensures.stays
+    c.put.ensures.len c.put.ensures.list
     (sym (ap (λ b. bytes_of b (d, no_node d)) c.if-self.false))
 
 pub returns-clause-full : goal.returns-clause-full

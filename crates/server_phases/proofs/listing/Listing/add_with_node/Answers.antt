@@ -9,7 +9,8 @@ pub returns-clause-holds : goal.returns-clause-holds
 returns-clause-holds c =
     let d = listed c.args.entry.now in
     let nodes : c.args.self.now.with_nodes ≡ true = c.if-not-self.false in
-    held_more c.put.result c.args.self.now c.put.new.self c.args.list.now c.put.new.list (c.node_front.result ++ dirent_bytes d) d c.args.node c.put.ensures.stays c.put.ensures.len
+    held_more c.put.result c.args.self.now c.put.new.self c.args.list.now c.put.new.list (c.node_front.result ++ dirent_bytes d) d
+    c.args.node c.put.ensures.stays c.put.ensures.len
     c.put.ensures.list (c.node_front.ensures ∙ sym (ap (λ b. bytes_of b (d, c.args.node)) nodes))
 
 pub returns-clause-full : goal.returns-clause-full

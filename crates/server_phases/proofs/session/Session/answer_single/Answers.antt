@@ -14,8 +14,10 @@ returns-clause-gives c = λ command bytes waits t taken.
     let given = c.answered_without_data.result in
     let options = leaves_options c.args.self.now.options.0 w.awaits in
     let none = no_data bytes answer t c.requires.without_data in
-    let P : List ℕ → Type 0 = λ b. commanded s command (answer_of b answer ∷ []) ≡ served_by (first_call command ∷ forget_call given.forget) options given.sent b in
-    let gives : P [] = single_gives s w command [] answer (served_by (first_call command ∷ forget_call given.forget) options given.sent []) waits
+    let P : List ℕ → Type 0 =
+    λ b. commanded s command (answer_of b answer ∷ []) ≡ served_by (first_call command ∷ forget_call given.forget) options given.sent b in
+    let gives : P [] = single_gives s w command [] answer
+    (served_by (first_call command ∷ forget_call given.forget) options given.sent []) waits
     (subst (λ (b : List ℕ). TellsBytes b answer) none t) (subst (λ (b : List ℕ). takes w.awaits (answer_of b answer) ≡ true) none taken)
     c.requires.without_data c.requires.single (c.answered_without_data.ensures options (first_call command)) in
     rw c.left_options-self.ensures.options (subst P (sym none) gives)

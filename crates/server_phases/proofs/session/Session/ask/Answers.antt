@@ -13,7 +13,9 @@ returns-in-Ok-clause-told c =
 
 pub returns-in-Err-clause-told : goal.returns-in-Err-clause-told
 returns-in-Err-clause-told c =
-    rw (meaning_fault c.args.self.now.options.0 c.args.room c.args.request.now c.in-Err.error c.in-Err.ensures.reads, c.in-Err.ensures.fault) refl
+    rw
+    (meaning_fault c.args.self.now.options.0 c.args.room c.args.request.now c.in-Err.error c.in-Err.ensures.reads, c.in-Err.ensures.fault)
+    refl
 
 pub returns-in-Ok-clause-asker : goal.returns-in-Ok-clause-asker
 returns-in-Ok-clause-asker c =

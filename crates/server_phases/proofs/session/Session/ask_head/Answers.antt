@@ -11,9 +11,11 @@ returns-then-head-gt-MAX_REQUEST_LEN-clause-told c =
 pub returns-in-Some-clause-told : goal.returns-in-Some-clause-told
 returns-in-Some-clause-told c =
     let g = given c.args.head.now c.args.self.now.options.0 c.args.room in
-    rw (meant_row g c.args.source.bytes.now (Some c.in-Some.opcode) c.if-head-gt-MAX_REQUEST_LEN.false (sym c.in-Some.ensures)) c.ask_row.ensures.told
+    rw (meant_row g c.args.source.bytes.now (Some c.in-Some.opcode) c.if-head-gt-MAX_REQUEST_LEN.false (sym c.in-Some.ensures))
+    c.ask_row.ensures.told
 
 pub returns-in-None-clause-told : goal.returns-in-None-clause-told
 returns-in-None-clause-told c =
     c.refused-in-None.ensures.told c.args.self.now.page_size c.args.self.now.options.0 _ _
-    (meant_none (given c.args.head.now c.args.self.now.options.0 c.args.room) c.args.source.bytes.now c.if-head-gt-MAX_REQUEST_LEN.false (sym c.in-None.ensures))
+    (meant_none (given c.args.head.now c.args.self.now.options.0 c.args.room) c.args.source.bytes.now c.if-head-gt-MAX_REQUEST_LEN.false
+    (sym c.in-None.ensures))

@@ -9,10 +9,13 @@ pub entries_asked-requires-clause-enough : goal.entries_asked-requires-clause-en
 entries_asked-requires-clause-enough c = (c.in-List.ensures c.args.with_nodes c.args.head.now c.args.self.now.options.0).1
 
 pub returns-in-List-clause-told : goal.returns-in-List-clause-told
-returns-in-List-clause-told c = rw (c.in-List.ensures c.args.with_nodes c.args.head.now c.args.self.now.options.0).0 (c.entries_asked.ensures.told c.args.self.now.page_size c.args.self.now.options.0 _)
+returns-in-List-clause-told c = rw (c.in-List.ensures c.args.with_nodes c.args.head.now c.args.self.now.options.0).0
+    (c.entries_asked.ensures.told c.args.self.now.page_size c.args.self.now.options.0 _)
 
 pub returns-in-Error-clause-told : goal.returns-in-Error-clause-told
-returns-in-Error-clause-told c = c.refused.ensures.told c.args.self.now.page_size c.args.self.now.options.0 _ _ (c.in-Error.ensures c.args.with_nodes c.args.head.now c.args.self.now.options.0)
+returns-in-Error-clause-told c = c.refused.ensures.told c.args.self.now.page_size c.args.self.now.options.0 _ _
+    (c.in-Error.ensures c.args.with_nodes c.args.head.now c.args.self.now.options.0)
 
 pub returns-in-Fault-clause-told : goal.returns-in-Fault-clause-told
-returns-in-Fault-clause-told c = fault_told (setting c.args.self.now.page_size c.args.self.now.options.0 c.args.room) _ _ (c.in-Fault.ensures c.args.with_nodes c.args.head.now c.args.self.now.options.0).0
+returns-in-Fault-clause-told c = fault_told (setting c.args.self.now.page_size c.args.self.now.options.0 c.args.room) _ _
+    (c.in-Fault.ensures c.args.with_nodes c.args.head.now c.args.self.now.options.0).0

@@ -9,7 +9,8 @@ returns-in-Call-clause-told c =
     c.called.ensures.told (setting c.args.self.now.page_size c.args.self.now.options.0 c.args.room) _ _ _ refl reads.0 reads.1 refl
 
 pub returns-in-Error-clause-told : goal.returns-in-Error-clause-told
-returns-in-Error-clause-told c = c.refused.ensures.told c.args.self.now.page_size c.args.self.now.options.0 _ _ (c.in-Error.ensures c.args.room)
+returns-in-Error-clause-told c =
+    c.refused.ensures.told c.args.self.now.page_size c.args.self.now.options.0 _ _ (c.in-Error.ensures c.args.room)
 
 pub returns-in-Silence-clause-told : goal.returns-in-Silence-clause-told
 returns-in-Silence-clause-told c =

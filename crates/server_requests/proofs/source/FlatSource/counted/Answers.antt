@@ -20,5 +20,6 @@ pub returns-clause-bytes : goal.returns-clause-bytes
 returns-clause-bytes c =
     let s = c.in-Some.ensures in
     let h : 40 + c.args.fixed ≤ c.args.len = omega arith in
-    let whole : c.args.self.bytes.now ≡ c.split_at.result.0.now ++ c.split_at.result.1.now = rw (c.split_at.ensures.front, c.split_at.ensures.back) (sym (take-append-drop c.in-Some.count c.args.self.bytes.now)) in
+    let whole : c.args.self.bytes.now ≡ c.split_at.result.0.now ++ c.split_at.result.1.now =
+    rw (c.split_at.ensures.front, c.split_at.ensures.back) (sym (take-append-drop c.in-Some.count c.args.self.bytes.now)) in
     sym (counted_front c.args.len c.args.fixed c.args.self.bytes.now c.split_at.result.0.now c.split_at.result.1.now h whole (omega arith))

@@ -32,7 +32,8 @@ loop-done-preserved c =
       bytes =
           c.write_at.ensures
           ∙ ap (λ k. take l.done l.buf ++ take n segment ++ drop (l.done + k) l.buf) (length-take-le n segment few)
-          ∙ filled_more c.args.buf.now c.args.self.now.left l.done n l.buf (take n segment) (omega (arith, all, l.invariant.within)) (omega (arith, all, left_len, l.invariant.within)) l.invariant.bytes part;
+          ∙ filled_more c.args.buf.now c.args.self.now.left l.done n l.buf (take n segment) (omega (arith, all, l.invariant.within))
+          (omega (arith, all, left_len, l.invariant.within)) l.invariant.bytes part;
       left = c.advance.ensures.left ∙ ap (drop n) l.invariant.left ∙ drop-drop n l.done c.args.self.now.left;
       segments = c.advance.ensures.segments ∙ ap (past n) l.invariant.segments ∙ past-past n l.done c.args.self.now.segments;
       read = omega (arith, c.advance.ensures.read, l.invariant.read);

@@ -7,8 +7,15 @@ pub loop-done-init : goal.loop-done-init
 loop-done-init g c =
     let a = c.available_bytes.ensures in
     let w = c.args.self.now.writer in
-    let held : Offered (filling w) c.args.count c.min-most.result = offered w c.args.count c.min-most.result _ c.min-most.ensures a.free a.segments.0 a.segments.1 in
-    record { offered = held; so_far = so_far_none g.F.PositionedFile.read_gives c.args.file.now (filling w) c.args.count c.min-most.result c.args.off held; segments = refl; rejoin = refl; spare = refl }
+    let held : Offered (filling w) c.args.count c.min-most.result =
+    offered w c.args.count c.min-most.result _ c.min-most.ensures a.free a.segments.0 a.segments.1 in
+    record {
+      offered = held;
+      so_far = so_far_none g.F.PositionedFile.read_gives c.args.file.now (filling w) c.args.count c.min-most.result c.args.off held;
+      segments = refl;
+      rejoin = refl;
+      spare = refl;
+    }
 
 pub returns-in_default-clause-puts : goal.returns-in_default-clause-puts
 returns-in_default-clause-puts g c =
@@ -24,7 +31,8 @@ pub returns-then-n-eq0-clause-puts : goal.returns-then-n-eq0-clause-puts
 returns-then-n-eq0-clause-puts g c =
     let e = c.in_ok-n.ensures.once in
     let l = c.loop-done.invariant in
-    so_far_stops g.F.PositionedFile.read_gives _ _ _ _ _ _ _ _ _ _ e.0 _ _ l.offered l.so_far e.3 (added c.loop-done.self.writer c.read_from_file_at.new.self e.0 e.1 e.2 c.in_ok-n.ensures.segments)
+    so_far_stops g.F.PositionedFile.read_gives _ _ _ _ _ _ _ _ _ _ e.0 _ _ l.offered l.so_far e.3
+    (added c.loop-done.self.writer c.read_from_file_at.new.self e.0 e.1 e.2 c.in_ok-n.ensures.segments)
     c.if-n-eq0.true c.in-Some.ensures.1 (omega arith)
 
 pub loop-done-preserved : goal.loop-done-preserved
@@ -34,7 +42,8 @@ loop-done-preserved g c =
     record {
       offered = l.offered;
       so_far = so_far_goes g.F.PositionedFile.read_gives _ _ _ _ _ _ _ _ _ _ e.0 _ _ l.offered l.so_far e.3
-          (added c.loop-done.self.writer c.read_from_file_at.new.self e.0 e.1 e.2 c.in_ok-n.ensures.segments) c.if-n-eq0.false c.in-Some.ensures.1;
+          (added c.loop-done.self.writer c.read_from_file_at.new.self e.0 e.1 e.2 c.in_ok-n.ensures.segments) c.if-n-eq0.false
+          c.in-Some.ensures.1;
       segments = c.in_ok-n.ensures.segments ∙ l.segments;
       rejoin = c.in_ok-n.ensures.rejoin ∙ l.rejoin;
       spare = c.in_ok-n.ensures.spare ∙ l.spare;

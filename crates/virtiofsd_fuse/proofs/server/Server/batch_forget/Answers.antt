@@ -8,7 +8,8 @@ forget_pairs-requires-clause-few g c = (c.in-Pairs.ensures c.args.head.now c.arg
 
 pub returns-in-Pairs-clause-handles : goal.returns-in-Pairs-clause-handles
 returns-in-Pairs-clause-handles g c =
-    handles_same g.F.FileSystemBase.may _ _ _ _ _ _ _ _ (c.in-Pairs.ensures c.args.head.now c.args.self.now.options.0 c.args.w.now.free).0 c.forget_pairs.ensures.handles
+    handles_same g.F.FileSystemBase.may _ _ _ _ _ _ _ _ (c.in-Pairs.ensures c.args.head.now c.args.self.now.options.0 c.args.w.now.free).0
+    c.forget_pairs.ensures.handles
 
 pub returns-in-Pairs-clause-rest : goal.returns-in-Pairs-clause-rest
 returns-in-Pairs-clause-rest g c =

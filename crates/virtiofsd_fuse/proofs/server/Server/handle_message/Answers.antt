@@ -14,7 +14,8 @@ returns-in-Ok-clause-fits g c = handles_fits g.F.FileSystemBase.may _ _ _ _ _ _ 
 
 pub returns-in-Err-clause-handles : goal.returns-in-Err-clause-handles
 returns-in-Err-clause-handles g c =
-    rw c.in-Err.ensures.fault (handles_fault g.F.FileSystemBase.may (setting c.args.self.now.page_size c.args.self.now.options.0 c.args.w.now.free) _ _ _ _
+    rw c.in-Err.ensures.fault
+    (handles_fault g.F.FileSystemBase.may (setting c.args.self.now.page_size c.args.self.now.options.0 c.args.w.now.free) _ _ _ _
     (meaning_fault _ _ _ _ c.in-Err.ensures.reads) refl)
 
 pub returns-in-Ok-clause-memory : goal.returns-in-Ok-clause-memory

@@ -8,12 +8,14 @@ start-requires-clause-known g c = (c.in-Start.ensures c.args.head.now c.args.sel
 
 pub returns-in-Start-clause-handles : goal.returns-in-Start-clause-handles
 returns-in-Start-clause-handles g c =
-    handles_same g.F.FileSystemBase.may _ _ _ _ _ _ _ _ (c.in-Start.ensures c.args.head.now c.args.self.now.options.0 c.args.w.now.free).0 c.start.ensures.handles
+    handles_same g.F.FileSystemBase.may _ _ _ _ _ _ _ _ (c.in-Start.ensures c.args.head.now c.args.self.now.options.0 c.args.w.now.free).0
+    c.start.ensures.handles
 
 pub returns-in-Versions-clause-handles : goal.returns-in-Versions-clause-handles
 returns-in-Versions-clause-handles g c =
     handles_reply g.F.FileSystemBase.may (setting c.args.self.now.page_size c.args.self.now.options.0 c.args.w.now.free) _ _ _ _ _
-    (c.in-Versions.ensures c.args.head.now c.args.self.now.options.0 c.args.w.now.free) (rw (c.reply.ensures, c.versions.ensures) at c.reply_front.ensures.sent)
+    (c.in-Versions.ensures c.args.head.now c.args.self.now.options.0 c.args.w.now.free)
+    (rw (c.reply.ensures, c.versions.ensures) at c.reply_front.ensures.sent)
 
 pub returns-in-Error-clause-handles : goal.returns-in-Error-clause-handles
 returns-in-Error-clause-handles g c =

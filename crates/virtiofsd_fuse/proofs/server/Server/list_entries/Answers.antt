@@ -9,7 +9,8 @@ loop-entry-preserved g c =
     let all = first_of (rest c.loop-entry.entries) (listed c.in-Some.entry) c.in-Some.ensures.entry in
     record {
       run = λ request final error end later. c.loop-entry.invariant.run request final error end
-          (rw all (c.in-Ok.ensures.run request (drop 1 (rest c.loop-entry.entries)) final error end (rw c.next.follows.holds-at-none at later)));
+          (rw all (c.in-Ok.ensures.run request (drop 1 (rest c.loop-entry.entries)) final error end
+          (rw c.next.follows.holds-at-none at later)));
       room = c.in-Ok.ensures.room ∙ c.loop-entry.invariant.room;
       options = c.in-Ok.ensures.options ∙ c.loop-entry.invariant.options;
       page_size = c.in-Ok.ensures.page_size ∙ c.loop-entry.invariant.page_size;

@@ -12,8 +12,10 @@ pub returns-then-not-with_nodes-clause-run : goal.returns-then-not-with_nodes-cl
 returns-then-not-with_nodes-clause-run g c = λ request.
     let d = listed c.args.entry.now in
     let put = c.put_entry.ensures in
-    nodeless_run g.F.FileSystemBase.may (listing_of c.args.with_nodes c.args.head.now request) d _ _ _ _ c.args.self.now.fs _ _ c.put_entry.result (Prim.search rules)
-    (placed_one g.F.FileSystemBase.may false d (no_node d) [] _ _ _ _ c.args.self.now.fs _ _ c.put_entry.result put.outcome put.written put.free
+    nodeless_run g.F.FileSystemBase.may (listing_of c.args.with_nodes c.args.head.now request) d _ _ _ _ c.args.self.now.fs _ _
+    c.put_entry.result (Prim.search rules)
+    (placed_one g.F.FileSystemBase.may false d (no_node d) [] _ _ _ _ c.args.self.now.fs _ _ c.put_entry.result put.outcome
+    put.written put.free
     (nothing_done c.put_entry.result c.args.self.now.fs)
     (on_error c.put_entry.result (λ same. ap (λ (w : WriterView). w.written) same) put.same)
     (nothing_undone g.F.FileSystemBase.may c.put_entry.result c.args.self.now.fs))
@@ -24,7 +26,9 @@ returns-then-is_dot-clause-run g c = λ request.
     let undo = undo_call (context_of c.args.head.now) 0 in
     let put = c.put_node.ensures in
     let none = ap (λ (e : Entry _). e.inode) c.no_node.ensures in
-    dot_run g.F.FileSystemBase.may (listing_of c.args.with_nodes c.args.head.now request) d _ _ _ _ _ _ _ c.put_node.result (Prim.search rules) (Prim.search rules)
-    (placed_one g.F.FileSystemBase.may true d (no_node d) (undo ∷ []) _ _ _ _ _ _ _ c.put_node.result put.outcome (rw c.no_node.ensures at put.written) put.free put.kept
+    dot_run g.F.FileSystemBase.may (listing_of c.args.with_nodes c.args.head.now request) d _ _ _ _ _ _ _ c.put_node.result
+    (Prim.search rules) (Prim.search rules)
+    (placed_one g.F.FileSystemBase.may true d (no_node d) (undo ∷ []) _ _ _ _ _ _ _ c.put_node.result put.outcome
+    (rw c.no_node.ensures at put.written) put.free put.kept
     (on_error c.put_node.result (λ same. ap (λ (w : WriterView). w.written) same) put.same)
     (on_error c.put_node.result (λ step. ((undo, Done) ∷ [], refl, (_, refl, rw none at step, refl))) put.undone))

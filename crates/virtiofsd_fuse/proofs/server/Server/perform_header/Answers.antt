@@ -11,23 +11,28 @@ returns-in-Readlink-clause-handles g c = rw c.in-Readlink.is (
 
 pub returns-in-Statfs-clause-handles : goal.returns-in-Statfs-clause-handles
 returns-in-Statfs-clause-handles g c = rw c.in-Statfs.is (
-    handles_one g.F.FileSystemBase.may _ _ _ _ _ _ _ _ _ _ refl (search rules) (search rules) refl refl c.reply_answer-in-Statfs.ensures.sent)
+    handles_one g.F.FileSystemBase.may _ _ _ _ _ _ _ _ _ _ refl (search rules) (search rules) refl refl
+    c.reply_answer-in-Statfs.ensures.sent)
 
 pub returns-in-Syncfs-clause-handles : goal.returns-in-Syncfs-clause-handles
 returns-in-Syncfs-clause-handles g c = rw c.in-Syncfs.is (
-    handles_one g.F.FileSystemBase.may _ _ _ _ _ _ _ _ _ _ refl (search rules) (search rules) refl refl c.reply_answer-in-Syncfs.ensures.sent)
+    handles_one g.F.FileSystemBase.may _ _ _ _ _ _ _ _ _ _ refl (search rules) (search rules) refl refl
+    c.reply_answer-in-Syncfs.ensures.sent)
 
 pub returns-in-Getlk-clause-handles : goal.returns-in-Getlk-clause-handles
 returns-in-Getlk-clause-handles g c = rw c.in-Getlk.is (
-    handles_one g.F.FileSystemBase.may _ _ _ _ _ _ _ _ _ _ refl (search rules) (search rules) refl refl c.reply_answer-in-Getlk.ensures.sent)
+    handles_one g.F.FileSystemBase.may _ _ _ _ _ _ _ _ _ _ refl (search rules) (search rules) refl refl
+    c.reply_answer-in-Getlk.ensures.sent)
 
 pub returns-in-Setlk-clause-handles : goal.returns-in-Setlk-clause-handles
 returns-in-Setlk-clause-handles g c = rw c.in-Setlk.is (
-    handles_one g.F.FileSystemBase.may _ _ _ _ _ _ _ _ _ _ refl (search rules) (search rules) refl refl c.reply_answer-in-Setlk.ensures.sent)
+    handles_one g.F.FileSystemBase.may _ _ _ _ _ _ _ _ _ _ refl (search rules) (search rules) refl refl
+    c.reply_answer-in-Setlk.ensures.sent)
 
 pub returns-in-Setlkw-clause-handles : goal.returns-in-Setlkw-clause-handles
 returns-in-Setlkw-clause-handles g c = rw c.in-Setlkw.is (
-    handles_one g.F.FileSystemBase.may _ _ _ _ _ _ _ _ _ _ refl (search rules) (search rules) refl refl c.reply_answer-in-Setlkw.ensures.sent)
+    handles_one g.F.FileSystemBase.may _ _ _ _ _ _ _ _ _ _ refl (search rules) (search rules) refl refl
+    c.reply_answer-in-Setlkw.ensures.sent)
 
 pub returns-in-Bmap-clause-handles : goal.returns-in-Bmap-clause-handles
 returns-in-Bmap-clause-handles g c = rw c.in-Bmap.is (
@@ -35,7 +40,8 @@ returns-in-Bmap-clause-handles g c = rw c.in-Bmap.is (
 
 pub returns-in-Ioctl-clause-handles : goal.returns-in-Ioctl-clause-handles
 returns-in-Ioctl-clause-handles g c = rw c.in-Ioctl.is (
-    handles_one g.F.FileSystemBase.may _ _ _ _ _ _ _ _ _ _ refl (search rules) (search rules) refl refl c.reply_answer-in-Ioctl.ensures.sent)
+    handles_one g.F.FileSystemBase.may _ _ _ _ _ _ _ _ _ _ refl (search rules) (search rules) refl refl
+    c.reply_answer-in-Ioctl.ensures.sent)
 
 pub returns-in-Poll-clause-handles : goal.returns-in-Poll-clause-handles
 returns-in-Poll-clause-handles g c = rw c.in-Poll.is (
@@ -43,11 +49,13 @@ returns-in-Poll-clause-handles g c = rw c.in-Poll.is (
 
 pub returns-in-NotifyReply-clause-handles : goal.returns-in-NotifyReply-clause-handles
 returns-in-NotifyReply-clause-handles g c = rw c.in-NotifyReply.is (
-    handles_one g.F.FileSystemBase.may _ _ _ _ _ _ _ _ _ _ refl (search rules) (search rules) refl refl c.reply_answer-in-NotifyReply.ensures.sent)
+    handles_one g.F.FileSystemBase.may _ _ _ _ _ _ _ _ _ _ refl (search rules) (search rules) refl refl
+    c.reply_answer-in-NotifyReply.ensures.sent)
 
 pub returns-in-TmpFile-clause-handles : goal.returns-in-TmpFile-clause-handles
 returns-in-TmpFile-clause-handles g c = rw c.in-TmpFile.is (
-    handles_one g.F.FileSystemBase.may _ _ _ _ _ _ _ _ _ _ refl (search rules) (search rules) refl refl c.reply_answer-in-TmpFile.ensures.sent)
+    handles_one g.F.FileSystemBase.may _ _ _ _ _ _ _ _ _ _ refl (search rules) (search rules) refl refl
+    c.reply_answer-in-TmpFile.ensures.sent)
 
 pub returns-in-Destroy-clause-handles : goal.returns-in-Destroy-clause-handles
 returns-in-Destroy-clause-handles g c = rw c.in-Destroy.is (

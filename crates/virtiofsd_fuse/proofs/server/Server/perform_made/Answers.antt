@@ -11,14 +11,17 @@ returns-in-Ok-clause-handles g c = rw c.in-Symlink.is (
 pub returns-in-Ok-owned_extensions-clause-handles : goal.returns-in-Ok-owned_extensions-clause-handles
 returns-in-Ok-owned_extensions-clause-handles g c = rw c.in-Mknod.is (
     handles_entry g.F.FileSystemBase.may _ _ _ _ _ _ _ _ _ _ _ _ refl (search rules) (search rules)
-    (ap (λ (o : FsOptions). o.0) c.reply_entry-in-Ok-owned_extensions.ensures.options) refl c.reply_entry-in-Ok-owned_extensions.ensures.back c.reply_entry-in-Ok-owned_extensions.ensures.sent)
+    (ap (λ (o : FsOptions). o.0) c.reply_entry-in-Ok-owned_extensions.ensures.options) refl
+    c.reply_entry-in-Ok-owned_extensions.ensures.back c.reply_entry-in-Ok-owned_extensions.ensures.sent)
 
 pub returns-in-Ok-owned_extensions-2-clause-handles : goal.returns-in-Ok-owned_extensions-2-clause-handles
 returns-in-Ok-owned_extensions-2-clause-handles g c = rw c.in-Mkdir.is (
     handles_entry g.F.FileSystemBase.may _ _ _ _ _ _ _ _ _ _ _ _ refl (search rules) (search rules)
-    (ap (λ (o : FsOptions). o.0) c.reply_entry-in-Ok-owned_extensions-2.ensures.options) refl c.reply_entry-in-Ok-owned_extensions-2.ensures.back c.reply_entry-in-Ok-owned_extensions-2.ensures.sent)
+    (ap (λ (o : FsOptions). o.0) c.reply_entry-in-Ok-owned_extensions-2.ensures.options) refl
+    c.reply_entry-in-Ok-owned_extensions-2.ensures.back c.reply_entry-in-Ok-owned_extensions-2.ensures.sent)
 
 pub returns-in-Ok-owned_extensions-3-clause-handles : goal.returns-in-Ok-owned_extensions-3-clause-handles
 returns-in-Ok-owned_extensions-3-clause-handles g c = rw c.in-Create.is (
     handles_entry g.F.FileSystemBase.may _ _ _ _ _ _ _ _ _ _ _ _ refl (search rules) (search rules)
-    (ap (λ (o : FsOptions). o.0) c.reply_entry-in-Ok-owned_extensions-3.ensures.options) refl c.reply_entry-in-Ok-owned_extensions-3.ensures.back c.reply_entry-in-Ok-owned_extensions-3.ensures.sent)
+    (ap (λ (o : FsOptions). o.0) c.reply_entry-in-Ok-owned_extensions-3.ensures.options) refl
+    c.reply_entry-in-Ok-owned_extensions-3.ensures.back c.reply_entry-in-Ok-owned_extensions-3.ensures.sent)

@@ -14,8 +14,10 @@ returns-in-Unlink-clause-handles g c = rw c.in-Unlink.is (
 
 pub returns-in-Rmdir-clause-handles : goal.returns-in-Rmdir-clause-handles
 returns-in-Rmdir-clause-handles g c = rw c.in-Rmdir.is (
-    handles_one g.F.FileSystemBase.may _ _ _ _ _ _ _ _ _ _ refl (search rules) (search rules) refl refl c.reply_answer-in-Rmdir.ensures.sent)
+    handles_one g.F.FileSystemBase.may _ _ _ _ _ _ _ _ _ _ refl (search rules) (search rules) refl refl
+    c.reply_answer-in-Rmdir.ensures.sent)
 
 pub returns-in-Removexattr-clause-handles : goal.returns-in-Removexattr-clause-handles
 returns-in-Removexattr-clause-handles g c = rw c.in-Removexattr.is (
-    handles_one g.F.FileSystemBase.may _ _ _ _ _ _ _ _ _ _ refl (search rules) (search rules) refl refl c.reply_answer-in-Removexattr.ensures.sent)
+    handles_one g.F.FileSystemBase.may _ _ _ _ _ _ _ _ _ _ refl (search rules) (search rules) refl refl
+    c.reply_answer-in-Removexattr.ensures.sent)

@@ -11,15 +11,18 @@ returns-in-Getattr-clause-handles g c = rw c.in-Getattr.is (
 
 pub returns-in-Setattr-clause-handles : goal.returns-in-Setattr-clause-handles
 returns-in-Setattr-clause-handles g c = rw c.in-Setattr.is (
-    handles_one g.F.FileSystemBase.may _ _ _ _ _ _ _ _ _ _ refl (search rules) (search rules) refl refl c.reply_answer-in-Setattr.ensures.sent)
+    handles_one g.F.FileSystemBase.may _ _ _ _ _ _ _ _ _ _ refl (search rules) (search rules) refl refl
+    c.reply_answer-in-Setattr.ensures.sent)
 
 pub returns-in-Access-clause-handles : goal.returns-in-Access-clause-handles
 returns-in-Access-clause-handles g c = rw c.in-Access.is (
-    handles_one g.F.FileSystemBase.may _ _ _ _ _ _ _ _ _ _ refl (search rules) (search rules) refl refl c.reply_answer-in-Access.ensures.sent)
+    handles_one g.F.FileSystemBase.may _ _ _ _ _ _ _ _ _ _ refl (search rules) (search rules) refl refl
+    c.reply_answer-in-Access.ensures.sent)
 
 pub returns-in-Listxattr-clause-handles : goal.returns-in-Listxattr-clause-handles
 returns-in-Listxattr-clause-handles g c = rw c.in-Listxattr.is (
-    handles_one g.F.FileSystemBase.may _ _ _ _ _ _ _ _ _ _ refl (search rules) (search rules) refl refl c.reply_answer-in-Listxattr.ensures.sent)
+    handles_one g.F.FileSystemBase.may _ _ _ _ _ _ _ _ _ _ refl (search rules) (search rules) refl refl
+    c.reply_answer-in-Listxattr.ensures.sent)
 
 pub returns-in-Open-clause-handles : goal.returns-in-Open-clause-handles
 returns-in-Open-clause-handles g c = rw c.in-Open.is (
@@ -27,7 +30,8 @@ returns-in-Open-clause-handles g c = rw c.in-Open.is (
 
 pub returns-in-Opendir-clause-handles : goal.returns-in-Opendir-clause-handles
 returns-in-Opendir-clause-handles g c = rw c.in-Opendir.is (
-    handles_one g.F.FileSystemBase.may _ _ _ _ _ _ _ _ _ _ refl (search rules) (search rules) refl refl c.reply_answer-in-Opendir.ensures.sent)
+    handles_one g.F.FileSystemBase.may _ _ _ _ _ _ _ _ _ _ refl (search rules) (search rules) refl refl
+    c.reply_answer-in-Opendir.ensures.sent)
 
 pub returns-in-Forget-clause-handles : goal.returns-in-Forget-clause-handles
 returns-in-Forget-clause-handles g c = rw c.in-Forget.is (

@@ -14,8 +14,10 @@ returns-in-Rename-clause-handles g c = rw c.in-Rename.is (
 
 pub returns-in-Setxattr-clause-handles : goal.returns-in-Setxattr-clause-handles
 returns-in-Setxattr-clause-handles g c = rw c.in-Setxattr.is (
-    handles_one g.F.FileSystemBase.may _ _ _ _ _ _ _ _ _ _ refl (search rules) (search rules) refl refl c.reply_answer-in-Setxattr.ensures.sent)
+    handles_one g.F.FileSystemBase.may _ _ _ _ _ _ _ _ _ _ refl (search rules) (search rules) refl refl
+    c.reply_answer-in-Setxattr.ensures.sent)
 
 pub returns-in-Getxattr-clause-handles : goal.returns-in-Getxattr-clause-handles
 returns-in-Getxattr-clause-handles g c = rw c.in-Getxattr.is (
-    handles_one g.F.FileSystemBase.may _ _ _ _ _ _ _ _ _ _ refl (search rules) (search rules) refl refl c.reply_answer-in-Getxattr.ensures.sent)
+    handles_one g.F.FileSystemBase.may _ _ _ _ _ _ _ _ _ _ refl (search rules) (search rules) refl refl
+    c.reply_answer-in-Getxattr.ensures.sent)

@@ -24,8 +24,10 @@ returns-clause-handles g c =
           (read_call head (16 + free - 16) asked) (data_answer answer h.0) _ _ (Ok (16 + c.moved-len.result)) _ _
           refl
           (read_suits head (16 + free - 16) _ asked answer h.0 (left ∙ h.2) c.make_read_call-answer.ensures.errno)
-          (subst (λ r. g.F.FileSystemBase.may c.args.self.now.fs (read_call head r asked) (data_answer answer h.0) c.make_read_call-answer.new.fs) (sym left) h.4)
+          (subst (λ r. g.F.FileSystemBase.may c.args.self.now.fs (read_call head r asked) (data_answer answer h.0)
+          c.make_read_call-answer.new.fs) (sym left) h.4)
           refl
           refl
-          (read_told_apart (16 + free) head.unique head (16 + free - 16) asked answer _ h.0 (16 + c.moved-len.result) c.data_header.ensures h.3 none (omega (arith, h.2))),
+          (read_told_apart (16 + free) head.unique head (16 + free - 16) asked answer _ h.0 (16 + c.moved-len.result) c.data_header.ensures
+          h.3 none (omega (arith, h.2))),
     )

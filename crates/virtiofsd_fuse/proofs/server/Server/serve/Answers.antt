@@ -20,4 +20,5 @@ returns-in-None-clause-handles g c =
 pub returns-in-Some-clause-handles : goal.returns-in-Some-clause-handles
 returns-in-Some-clause-handles g c =
     let h = given c.args.head.now c.args.self.now.options.0 c.args.w.now.free in
-    rw (meant_row h c.args.r.left (Some c.in-Some.opcode) c.if-head-gt-MAX_REQUEST_LEN.false (sym c.in-Some.ensures)) c.dispatch.ensures.handles
+    rw (meant_row h c.args.r.left (Some c.in-Some.opcode) c.if-head-gt-MAX_REQUEST_LEN.false (sym c.in-Some.ensures))
+    c.dispatch.ensures.handles

@@ -13,7 +13,8 @@ loop-word-init c = let h = c.requires.ordered in (
 )
 
 pub change_in_word-requires-clause-own : goal.change_in_word-requires-clause-own
-change_in_word-requires-clause-own c = (ap (λ (p : Pass). p.name) c.loop-word.invariant.2 ∙ c.requires.own.0, c.loop-word.invariant.3.count ∙ c.requires.own.1)
+change_in_word-requires-clause-own c =
+    (ap (λ (p : Pass). p.name) c.loop-word.invariant.2 ∙ c.requires.own.0, c.loop-word.invariant.3.count ∙ c.requires.own.1)
 
 pub loop-word-preserved : goal.loop-word-preserved
 loop-word-preserved c =
@@ -24,13 +25,16 @@ loop-word-preserved c =
     let hi : ℕ = min (c.args.last + 1) (64 * c.loop-word.word + 64) in
     let o = c.requires.ordered in
     let same = c.loop-word.invariant.2 in
-    let one = subst (λ (q : Pass). ChangesRun (ByChange c.args.change q.counts) c.loop-word.pass.counts.pages new lo hi) same c.change_in_word.ensures.pages in
-    let run = run_then (ByChange c.args.change c.args.pass.now.counts) c.args.pass.now.counts.pages c.loop-word.pass.counts.pages new c.args.first
+    let one = subst (λ (q : Pass). ChangesRun (ByChange c.args.change q.counts) c.loop-word.pass.counts.pages new lo hi) same
+    c.change_in_word.ensures.pages in
+    let run = run_then (ByChange c.args.change c.args.pass.now.counts) c.args.pass.now.counts.pages c.loop-word.pass.counts.pages new
+    c.args.first
     (min (c.args.last + 1) (64 * c.loop-word.word)) lo hi c.loop-word.invariant.3 one
     (omega arith) (omega arith) (λ p a b. omega arith) (omega arith) in
     let next : hi ≡ min (c.args.last + 1) (64 * (c.loop-word.word + 1)) = omega arith in (
       omega arith,
       omega arith,
       c.change_in_word.ensures.pass ∙ ap (λ (q : Pass). counting q new) c.loop-word.invariant.2,
-      subst (λ (n : ℕ). ChangesRun (ByChange c.args.change c.args.pass.now.counts) c.args.pass.now.counts.pages new c.args.first n) next run,
+      subst (λ (n : ℕ). ChangesRun (ByChange c.args.change c.args.pass.now.counts) c.args.pass.now.counts.pages new c.args.first n) next
+          run,
     )

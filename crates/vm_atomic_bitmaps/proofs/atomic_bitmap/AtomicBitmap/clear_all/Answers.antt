@@ -11,10 +11,13 @@ loop-i-preserved c =
     let cur = c.loop-i.pass.counts.pages in
     let new = c.gather.new.pass.counts.pages in
     let v = c.loop-i.pass.counts in
-    let one = gathers_word (ByClearing v) cur i c.gather.result (λ p within here. is_cleared v i c.gather.result p c.gather.ensures.word within here) in
-    let step = subst (λ (l : List Tally). ChangesRun (ByClearing v) cur l (64 * i) (64 * i + 64)) (sym (ap (λ (p : Pass). p.counts.pages) c.gather.ensures.pass)) one in
+    let one = gathers_word (ByClearing v) cur i c.gather.result
+    (λ p within here. is_cleared v i c.gather.result p c.gather.ensures.word within here) in
+    let step = subst (λ (l : List Tally). ChangesRun (ByClearing v) cur l (64 * i) (64 * i + 64))
+    (sym (ap (λ (p : Pass). p.counts.pages) c.gather.ensures.pass)) one in
     let its = subst (λ (q : Pass). ChangesRun (ByClearing q.counts) cur new (64 * i) (64 * i + 64)) c.loop-i.invariant.1 step in
-    let run = run_then (ByClearing c.args.pass.now.counts) c.args.pass.now.counts.pages cur new 0 (64 * i) (64 * i) (64 * i + 64) c.loop-i.invariant.2 its
+    let run = run_then (ByClearing c.args.pass.now.counts) c.args.pass.now.counts.pages cur new 0 (64 * i) (64 * i) (64 * i + 64)
+    c.loop-i.invariant.2 its
     (omega arith) (omega arith) (λ p a b. b) (omega arith) in
     let next : 64 * i + 64 ≡ 64 * (i + 1) = omega arith in
     let t = c.loop-i-test.true in

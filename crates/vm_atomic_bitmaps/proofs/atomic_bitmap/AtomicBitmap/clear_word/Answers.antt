@@ -16,7 +16,8 @@ pub returns-clause-pass : goal.returns-clause-pass
 returns-clause-pass c =
     let name = c.fetch_and.ensures.0 in
     let me = ap (λ m. m.0) c.fetch_and.ensures.2.0 in
-    let counts = me ∙ ap (with_pages c.pass.inside.seat.me.0) (cleared_not c.args.word c.args.mask c.fetch_and.result c.pass.inside.seat.me.0.pages c.ranges.mask.fits) in
+    let counts = me ∙ ap (with_pages c.pass.inside.seat.me.0)
+    (cleared_not c.args.word c.args.mask c.fetch_and.result c.pass.inside.seat.me.0.pages c.ranges.mask.fits) in
     let here : record { name = c.fetch_and.new.seat.table_id; counts = c.fetch_and.new.seat.me.0 }
     ≡ counting (record { name = c.pass.inside.seat.table_id; counts = c.pass.inside.seat.me.0 })
     (cleared_by (picks c.args.word c.args.mask 1) c.fetch_and.result c.pass.inside.seat.me.0.pages) =

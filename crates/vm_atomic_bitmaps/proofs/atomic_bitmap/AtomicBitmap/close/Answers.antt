@@ -15,11 +15,13 @@ returns-clause-rule c =
     let len : c.self.inside.len ≡ c.args.self.len = ap (λ (b : SharedPages). b.len) c.self.view_is in
     let key : c.self.inside.table.shared.key ≡ c.self.inside.len = c.self.invariant.2 in
     let size : c.in-Ok.words.len ≡ length new = search rules in
-    let zeros : length c.in-Ok.words.items ≡ c.words-count.result = ap length c.in-Ok.ensures ∙ length-replicate {A = ℕ} c.words-count.result 0 in
+    let zeros : length c.in-Ok.words.items ≡ c.words-count.result =
+    ap length c.in-Ok.ensures ∙ length-replicate {A = ℕ} c.words-count.result 0 in
     let items : length c.deref_mut.result.now ≡ length c.in-Ok.words.items = ap length c.deref_mut.ensures.value in
     let count : length new ≡ div_ceil c.args.self.len 64 = c.copy_words.ensures.count ∙ items ∙ zeros ∙ c.words-count.ensures in
     let words : take c.in-Ok.words.len (new ++ drop (length new) c.in-Ok.words.items) ≡ new =
-    ap (λ (n : ℕ). take n (new ++ drop (length new) c.in-Ok.words.items)) size ∙ take-append_seam new (drop (length new) c.in-Ok.words.items) in
+    ap (λ (n : ℕ). take n (new ++ drop (length new) c.in-Ok.words.items)) size
+    ∙ take-append_seam new (drop (length new) c.in-Ok.words.items) in
     let stands = closes c.self.inside.table.shared.key c.args.self.len f.0 c.pass.inside.seat.id c.pass.inside.seat.me.0
     (slots_items c.close_with-closed.result.words) new
     (key ∙ len) f.1.0 f.1.1 f.2 count c.copy_words.ensures.same in

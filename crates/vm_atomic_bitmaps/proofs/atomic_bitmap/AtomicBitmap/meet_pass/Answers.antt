@@ -26,9 +26,11 @@ join_seat-requires c =
 pub returns-clause-pass : goal.returns-clause-pass
 returns-clause-pass c =
     let name = c.join_seat.ensures.0 in
-    let me : c.join_seat.new.seat.me.0 ≡ both_passes c.pass.inside.seat.me.0 c.split_seat-seat.result.me.0 = ap (λ m. m.0) c.join_seat.ensures.2 in
+    let me : c.join_seat.new.seat.me.0 ≡ both_passes c.pass.inside.seat.me.0 c.split_seat-seat.result.me.0 =
+    ap (λ m. m.0) c.join_seat.ensures.2 in
     let teller : c.split_seat-seat.result.me.0 ≡ telling c.other.inside.seat.me.0 = ap (λ m. m.0) c.split_seat-seat.ensures.4 in
-    let counts = me ∙ ap (λ (u : PageCounts). both_passes c.pass.inside.seat.me.0 u) teller ∙ meets c.pass.inside.seat.me.0 c.other.inside.seat.me.0 in
+    let counts = me ∙ ap (λ (u : PageCounts). both_passes c.pass.inside.seat.me.0 u) teller
+    ∙ meets c.pass.inside.seat.me.0 c.other.inside.seat.me.0 in
     let here : record { name = c.join_seat.new.seat.table_id; counts = c.join_seat.new.seat.me.0 }
     ≡ counting (record { name = c.pass.inside.seat.table_id; counts = c.pass.inside.seat.me.0 })
     (met_with c.other.inside.seat.me.0.pages c.pass.inside.seat.me.0.pages) =
@@ -39,4 +41,5 @@ pub returns-clause-own : goal.returns-clause-own
 returns-clause-own c =
     let us = c.args.other.now.counts.pages in
     let pages = c.args.pass.now.counts.pages in
-    own_after c.args.self.now c.args.pass.now _ (met_with us pages) c.requires.own (returns-clause-pass c) (length-each_tally (λ p t. met_of t (tally_of us p)) 0 pages)
+    own_after c.args.self.now c.args.pass.now _ (met_with us pages) c.requires.own (returns-clause-pass c)
+    (length-each_tally (λ p t. met_of t (tally_of us p)) 0 pages)

@@ -20,5 +20,7 @@ returns-clause-own c =
 pub returns-clause-own_second : goal.returns-clause-own_second
 returns-clause-own_second c =
     let name = ap (λ (p : Pass). p.name) c.pass.view_is ∙ c.requires.0 in
-    let long = ap (λ (p : Pass). length p.counts.pages) c.pass.view_is ∙ c.requires.1 in
-    (c.split_seat-seat.ensures.3 ∙ name, ap (λ m. length m.0.pages) c.split_seat-seat.ensures.4 ∙ length-each_tally (λ p t. no_tally) 0 c.pass.inside.seat.me.0.pages ∙ long)
+    let long = ap (λ (p : Pass). length p.counts.pages) c.pass.view_is ∙ c.requires.1 in (
+      c.split_seat-seat.ensures.3 ∙ name,
+      ap (λ m. length m.0.pages) c.split_seat-seat.ensures.4 ∙ length-each_tally (λ p t. no_tally) 0 c.pass.inside.seat.me.0.pages ∙ long,
+    )

@@ -20,18 +20,22 @@ loop-i-preserved c =
     let inside : i < length before = c.loop-i-test.true in
     let count = c.loop-i.invariant.0 in
     let same : length c.take_into.new.words ≡ length before = ap length is ∙ length-set before i bits in
-    let kept = run_as (ByGathering before) (ByGathering (set before i bits)) old cur 0 (64 * i) (λ p t u low e. into_before before i bits p t u low e) c.loop-i.invariant.3 in
+    let kept = run_as (ByGathering before) (ByGathering (set before i bits)) old cur 0 (64 * i)
+    (λ p t u low e. into_before before i bits p t u low e) c.loop-i.invariant.3 in
     let kept' = subst (λ (l : List ℕ). ChangesRun (ByGathering l) old cur 0 (64 * i)) (sym is) kept in
-    let run = run_then (ByGathering c.take_into.new.words) old cur new 0 (64 * i) (64 * i) (64 * i + 64) kept' c.take_into.ensures.pages (omega arith) (omega arith) (λ p a b. b) (omega arith) in
+    let run = run_then (ByGathering c.take_into.new.words) old cur new 0 (64 * i) (64 * i) (64 * i + 64) kept' c.take_into.ensures.pages
+    (omega arith) (omega arith) (λ p a b. b) (omega arith) in
     let next : 64 * i + 64 ≡ 64 * (i + 1) = omega arith in (
       omega arith,
       omega arith,
       c.take_into.ensures.pass ∙ ap (λ (q : Pass). counting q new) c.loop-i.invariant.2,
       subst (ChangesRun (ByGathering c.take_into.new.words) old new 0) next run,
-      λ p l. ap (λ (ws : List ℕ). page_bit ws p) is ∙ rest_after c.args.self.now.len before i bits inside c.loop-i.invariant.4 (λ q far here z. c.take_into.ensures.words.2 q far here) p l,
+      λ p l. ap (λ (ws : List ℕ). page_bit ws p) is ∙ rest_after c.args.self.now.len before i bits inside c.loop-i.invariant.4
+          (λ q far here z. c.take_into.ensures.words.2 q far here) p l,
       λ whole p l low. subst (λ (ws : List ℕ). Settles (tally_of old p) (page_bit ws p)) (sym is)
           (settles_more old cur before i bits inside c.loop-i.invariant.3
-          (λ q here short. c.take_into.ensures.words.3 (subst (λ (q : Pass). IsWhole q.counts) (sym c.loop-i.invariant.2) whole) q short here)
+          (λ q here short. c.take_into.ensures.words.3 (subst (λ (q : Pass). IsWhole q.counts) (sym c.loop-i.invariant.2) whole)
+          q short here)
           (c.loop-i.invariant.5 whole) p l (omega arith)),
     )
 

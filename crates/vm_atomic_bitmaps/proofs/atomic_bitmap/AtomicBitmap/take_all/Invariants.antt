@@ -11,7 +11,8 @@ invariant-loop-i l =
     (length l.words ≡ div_ceil l.self.len 64) × (l.i ≤ length l.words) × (l.pass ≡ counting l.initial.pass l.pass.counts.pages)
     × ChangesRun (ByGathering l.words) l.initial.pass.counts.pages l.pass.counts.pages 0 (64 * l.i)
     × ((p : ℕ) → l.self.len ≤ p → page_bit l.words p ≡ 0)
-    × (IsWhole l.initial.pass.counts → (p : ℕ) → p < length l.initial.pass.counts.pages → p < 64 * l.i → Settles (tally_of l.initial.pass.counts.pages p) (page_bit l.words p))
+    × (IsWhole l.initial.pass.counts → (p : ℕ) → p < length l.initial.pass.counts.pages → p < 64 * l.i →
+    Settles (tally_of l.initial.pass.counts.pages p) (page_bit l.words p))
 
 abbrev pub decreases-loop-i : goal.decreases-loop-i
 decreases-loop-i l = length l.words - l.i

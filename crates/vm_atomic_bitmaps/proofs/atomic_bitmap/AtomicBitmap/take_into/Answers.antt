@@ -9,6 +9,7 @@ returns-clause-pages c =
     let words = c.args.words.now in
     let w = c.args.word in
     let inside : w < length words = let a = c.requires.inside in let b = c.requires.room in omega arith in
-    let run = gathers_word (ByGathering (set words w c.gather.result)) c.args.pass.now.counts.pages w c.gather.result (λ p within here. is_gathered words w c.gather.result p _ inside here) in
+    let run = gathers_word (ByGathering (set words w c.gather.result)) c.args.pass.now.counts.pages w c.gather.result
+    (λ p within here. is_gathered words w c.gather.result p _ inside here) in
     subst (λ (l : List Tally). ChangesRun (ByGathering (set words w c.gather.result)) c.args.pass.now.counts.pages l (64 * w) (64 * w + 64))
     (sym (ap (λ (p : Pass). p.counts.pages) c.gather.ensures.pass)) run

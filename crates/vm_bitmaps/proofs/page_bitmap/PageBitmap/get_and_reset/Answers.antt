@@ -20,7 +20,8 @@ invariant_of-self c =
 
 pub returns-clause-words : goal.returns-clause-words
 returns-clause-words c =
-    ap (λ v. v.items) c.replace.ensures.value ∙ words_of-is c.self.inside.len c.self.inside.words.items c.self.invariant.2 c.in_ok-fresh.ensures.fits ∙ ap (λ b. words_of b.marks) c.self.view_is
+    ap (λ v. v.items) c.replace.ensures.value ∙ words_of-is c.self.inside.len c.self.inside.words.items c.self.invariant.2
+    c.in_ok-fresh.ensures.fits ∙ ap (λ b. words_of b.marks) c.self.view_is
 
 pub returns-clause-count : goal.returns-clause-count
 returns-clause-count c =
@@ -28,9 +29,11 @@ returns-clause-count c =
 
 pub returns-clause-bits : goal.returns-clause-bits
 returns-clause-bits c p =
-    ap (λ v. page_bit v.items p) c.replace.ensures.value ∙ page_bit-is c.self.inside.len c.self.inside.words.items p c.self.invariant.2 ∙ ap (λ b. bit_of (mark_of b.marks p)) c.self.view_is
+    ap (λ v. page_bit v.items p) c.replace.ensures.value ∙ page_bit-is c.self.inside.len c.self.inside.words.items p c.self.invariant.2
+    ∙ ap (λ b. bit_of (mark_of b.marks p)) c.self.view_is
 
 pub returns-clause-ok : goal.returns-clause-ok
 returns-clause-ok c =
-    cleared_set c.self.inside.page_size c.self.inside.byte_size c.self.inside.len c.self.inside.words.items c.replace.new.dest.items (length c.self.inside.words.items)
+    cleared_set c.self.inside.page_size c.self.inside.byte_size c.self.inside.len c.self.inside.words.items c.replace.new.dest.items
+    (length c.self.inside.words.items)
     c.args.self.now c.self.view_is c.self.invariant.1 (words_are c)

@@ -7,8 +7,16 @@ use Rattle.vm_iotlb.proofs.iotlb.Iotlb.lookup_pieces.Goals as goal
 
 pub returns-then-is_covered : goal.returns-then-is_covered
 returns-then-is_covered c =
-    let agree : Agree (table_kept c.args.self.now) (values_of c.ranges_from.result) c.args.iova.0 c.args.end = λ x from to. c.ranges_from.ensures.table x from in
-    let all : may_all (table_kept c.args.self.now) c.args.access c.args.iova.0 (c.args.end - c.args.iova.0) ≡ true = sym (c.if-is_covered.ensures (table_kept c.args.self.now) agree) in
+    let agree : Agree (table_kept c.args.self.now) (values_of c.ranges_from.result) c.args.iova.0 c.args.end =
+    λ x from to. c.ranges_from.ensures.table x from in
+    let all : may_all (table_kept c.args.self.now) c.args.access c.args.iova.0 (c.args.end - c.args.iova.0) ≡ true =
+    sym (c.if-is_covered.ensures (table_kept c.args.self.now) agree) in
     let count : c.args.length ≡ c.args.end - c.args.iova.0 = omega arith in
-    let whole : c.over.result ≡ pieces (table_kept c.args.self.now) c.args.iova.0 (c.args.end - c.args.iova.0) = rw c.self.view_is at c.over.ensures in
-    rw count (omega arith, all, whole, rw whole (joined_pieces (table_kept c.args.self.now) c.args.access (c.args.end - c.args.iova.0) c.args.iova.0 all))
+    let whole : c.over.result ≡ pieces (table_kept c.args.self.now) c.args.iova.0 (c.args.end - c.args.iova.0) =
+    rw c.self.view_is at c.over.ensures in
+    rw count (
+      omega arith,
+      all,
+      whole,
+      rw whole (joined_pieces (table_kept c.args.self.now) c.args.access (c.args.end - c.args.iova.0) c.args.iova.0 all),
+    )

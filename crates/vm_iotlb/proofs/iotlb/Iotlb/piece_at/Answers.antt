@@ -1,6 +1,7 @@
-use Rattle.std.proofs.Common.{Some, None, ap, sym, ◌∙◌, arith}
+use Rattle.std.proofs.Common.{◌≡◌, Some, None, ap, sym, ◌∙◌, arith}
 use Rattle.vm_iotlb.specs.Keys.{HasAddress}
 use Rattle.vm_iotlb.specs.AddressRuns.{may_pass}
+use Rattle.vm_iotlb.specs.declared.range.IotlbRange.{IotlbRange}
 use Rattle.vm_iotlb.proofs.LookupLemmas.{none_having, piece_having, range_having}
 use Rattle.vm_iotlb.proofs.iotlb.Iotlb.piece_at.Goals as goal
 
@@ -13,7 +14,8 @@ returns-in_default-clause-none c none =
 pub returns-then-not-allow-clause-none : goal.returns-then-not-allow-clause-none
 returns-then-not-allow-clause-none c none =
     let has : HasAddress c.self.inside.ranges.entries c.args.iova.0 (Some c.in-Some.range) = rw c.in-Some.is at c.having.ensures in
-    let held = rw c.self.view_is at (range_having c.self.inside.ranges.entries c.args.iova.0 c.in-Some.range c.self.invariant.0 c.self.invariant.1 has) in
+    let held = rw c.self.view_is at
+    (range_having c.self.inside.ranges.entries c.args.iova.0 c.in-Some.range c.self.invariant.0 c.self.invariant.1 has) in
     ap (may_pass c.args.access) held.0 ∙ sym c.if-not-allow.ensures
 
 pub overflow_add-result : goal.overflow_add-result
@@ -25,14 +27,16 @@ overflow_add-result c =
 pub returns-clause-some : goal.returns-clause-some
 returns-clause-some c =
     let has : HasAddress c.self.inside.ranges.entries c.args.iova.0 (Some c.in-Some.range) = rw c.in-Some.is at c.having.ensures in
-    let held = rw c.self.view_is at (range_having c.self.inside.ranges.entries c.args.iova.0 c.in-Some.range c.self.invariant.0 c.self.invariant.1 has) in
+    let held = rw c.self.view_is at
+    (range_having c.self.inside.ranges.entries c.args.iova.0 c.in-Some.range c.self.invariant.0 c.self.invariant.1 has) in
     ap (may_pass c.args.access) held.0 ∙ sym c.if-not-allow.ensures
 
 pub returns-clause-piece : goal.returns-clause-piece
 returns-clause-piece c =
     let has : HasAddress c.self.inside.ranges.entries c.args.iova.0 (Some c.in-Some.range) = rw c.in-Some.is at c.having.ensures in
     rw (c.self.view_is, sym c.min-stop.ensures)
-    at (piece_having c.self.inside.ranges.entries c.args.iova.0 c.args.most c.in-Some.range c.requires.some c.self.invariant.0 c.self.invariant.1 has)
+    at (piece_having c.self.inside.ranges.entries c.args.iova.0 c.args.most c.in-Some.range c.requires.some c.self.invariant.0
+    c.self.invariant.1 has)
 
 pub returns-clause-fits : goal.returns-clause-fits
 returns-clause-fits c =

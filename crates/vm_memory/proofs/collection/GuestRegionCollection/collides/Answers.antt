@@ -11,5 +11,6 @@ returns-then-ends_past g c =
 
 pub returns : goal.returns
 returns g c =
-    collides_by c.args.self.now c.args.at c.args.start c.args.last c.begins_by.result c.begins_by.ensures.layout c.requires.order c.requires.most c.if-ends_past.ensures.before c.requires.above
+    collides_by c.args.self.now c.args.at c.args.start c.args.last c.begins_by.result c.begins_by.ensures.layout c.requires.order
+    c.requires.most c.if-ends_past.ensures.before c.requires.above
     c.begins_by.ensures.by c.begins_by.ensures.above

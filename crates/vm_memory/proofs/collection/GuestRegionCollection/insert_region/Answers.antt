@@ -13,11 +13,14 @@ invariant_of-result g c =
     let start : c.start_addr-start.result.0 ≡ r.start = c.start_addr-start.ensures.start in
     let last : c.last_addr-last.result.0 ≡ r.start + r.size - 1 = c.last_addr-last.ensures.last in
     let apart : list_any (overlap r) c.args.self.now ≡ false = sym
-    (any-block c.args.self.now r c.start_addr-start.result.0 (c.last_addr-last.result.0 - c.start_addr-start.result.0 + 1) (sym start) (omega arith)) ∙ sym c.if-collides.ensures in
+    (any-block c.args.self.now r c.start_addr-start.result.0 (c.last_addr-last.result.0 - c.start_addr-start.result.0 + 1) (sym start)
+    (omega arith)) ∙ sym c.if-collides.ensures in
     let items : c.insert.new.self.items ≡ insert c.in-Ok.regions.items c.begun-at.result c.args.region = search rules in
-    let left = ap (regions_of g.R.GuestMemoryRegion.region) items ∙ shared-insert g.R.GuestMemoryRegion.region c.in-Ok.regions.items c.begun-at.result c.args.region
+    let left = ap (regions_of g.R.GuestMemoryRegion.region) items
+    ∙ shared-insert g.R.GuestMemoryRegion.region c.in-Ok.regions.items c.begun-at.result c.args.region
     ∙ ap (λ (l : List Region). insert l c.begun-at.result r) c.in-Ok.ensures.copy
-    ∙ with_region-insert c.args.self.now c.begun-at.result r c.begun-at.ensures.layout c.begun-at.ensures.most (λ some. omega (arith, c.begun-at.ensures.below some))
+    ∙ with_region-insert c.args.self.now c.begun-at.result r c.begun-at.ensures.layout c.begun-at.ensures.most
+    (λ some. omega (arith, c.begun-at.ensures.below some))
     (λ within. omega (arith, c.begun-at.ensures.above within)) in
     subst IsLayout (sym left) (layout_with c.args.self.now r c.begun-at.ensures.layout lawful apart)
 
@@ -28,10 +31,13 @@ returns g c =
     let start : c.start_addr-start.result.0 ≡ r.start = c.start_addr-start.ensures.start in
     let last : c.last_addr-last.result.0 ≡ r.start + r.size - 1 = c.last_addr-last.ensures.last in
     let apart : list_any (overlap r) c.args.self.now ≡ false = sym
-    (any-block c.args.self.now r c.start_addr-start.result.0 (c.last_addr-last.result.0 - c.start_addr-start.result.0 + 1) (sym start) (omega arith)) ∙ sym c.if-collides.ensures in
+    (any-block c.args.self.now r c.start_addr-start.result.0 (c.last_addr-last.result.0 - c.start_addr-start.result.0 + 1) (sym start)
+    (omega arith)) ∙ sym c.if-collides.ensures in
     let items : c.insert.new.self.items ≡ insert c.in-Ok.regions.items c.begun-at.result c.args.region = search rules in
-    let left = ap (regions_of g.R.GuestMemoryRegion.region) items ∙ shared-insert g.R.GuestMemoryRegion.region c.in-Ok.regions.items c.begun-at.result c.args.region
+    let left = ap (regions_of g.R.GuestMemoryRegion.region) items
+    ∙ shared-insert g.R.GuestMemoryRegion.region c.in-Ok.regions.items c.begun-at.result c.args.region
     ∙ ap (λ (l : List Region). insert l c.begun-at.result r) c.in-Ok.ensures.copy
-    ∙ with_region-insert c.args.self.now c.begun-at.result r c.begun-at.ensures.layout c.begun-at.ensures.most (λ some. omega (arith, c.begun-at.ensures.below some))
+    ∙ with_region-insert c.args.self.now c.begun-at.result r c.begun-at.ensures.layout c.begun-at.ensures.most
+    (λ some. omega (arith, c.begun-at.ensures.below some))
     (λ within. omega (arith, c.begun-at.ensures.above within)) in
     (apart, left)

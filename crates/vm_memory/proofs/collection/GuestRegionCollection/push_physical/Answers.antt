@@ -20,7 +20,8 @@ loop-done-init g c = record {
 pub returns-in_default-clause-found : goal.returns-in_default-clause-found
 returns-in_default-clause-found g c =
     sym c.loop-done.invariant.found
-    ∙ find_none (place c.args.self.now) c.args.addr.0 c.loop-done.done c.args.len _ (places c.loop-done.windows.items) refl c.loop-done-test.true (c.window_at.ensures.none c.in_default.is)
+    ∙ find_none (place c.args.self.now) c.args.addr.0 c.loop-done.done c.args.len _ (places c.loop-done.windows.items) refl
+    c.loop-done-test.true (c.window_at.ensures.none c.in_default.is)
 
 pub returns-in_default-clause-longest : goal.returns-in_default-clause-longest
 returns-in_default-clause-longest g c = let so = c.loop-done.invariant.longest in (so.0, so.1, so.2)
@@ -40,13 +41,16 @@ loop-done-preserved g c =
     ap places c.in_ok-push.ensures.ok ∙ sym (flat_map_more places_of [] c.loop-done.windows.items c.in-Some.window) in
     rw c.len-done.ensures.len (record {
       within = le;
-      found = find_step (place c.args.self.now) c.args.addr.0 c.loop-done.done c.args.len c.in-Some.window.len _ _ (places c.loop-done.windows.items) (places c.push.new.self.items) refl
+      found = find_step (place c.args.self.now) c.args.addr.0 c.loop-done.done c.args.len c.in-Some.window.len _ _
+          (places c.loop-done.windows.items) (places c.push.new.self.items) refl
           c.in-Some.ensures.some.2 le c.in-Some.ensures.some.3 more ∙ c.loop-done.invariant.found;
-      longest = longest_step (left_at c.args.self.now) c.args.addr.0 c.loop-done.done c.args.len _ c.args.windows.now.items c.loop-done.windows.items c.push.new.self.items c.in-Some.window
+      longest = longest_step (left_at c.args.self.now) c.args.addr.0 c.loop-done.done c.args.len _ c.args.windows.now.items
+          c.loop-done.windows.items c.push.new.self.items c.in-Some.window
           c.loop-done.invariant.longest refl c.in-Some.ensures.some.0 c.in-Some.ensures.longest c.in_ok-push.ensures.ok;
       room = omega (arith, c.loop-done.invariant.room, c.push.ensures.capacity);
       held = λ lengths held old.
-          rw c.in_ok-push.ensures.ok (All-push (LiesIn lengths) _ _ (c.loop-done.invariant.held lengths held old) (c.in-Some.ensures.held lengths held));
+          rw c.in_ok-push.ensures.ok
+          (All-push (LiesIn lengths) _ _ (c.loop-done.invariant.held lengths held old) (c.in-Some.ensures.held lengths held));
     })
 
 pub returns-clause-found : goal.returns-clause-found

@@ -13,7 +13,8 @@ invariant-loop-done g l = record {
       after (places l.windows.items) (located (place l.self) (circular (l.addr.0 + l.done) (l.len - l.done)))
       ≡ after (places l.initial.windows.items) (located (place l.self) (circular l.addr.0 l.len));
   longest :
-      (added : List Window) × (l.windows.items ≡ l.initial.windows.items ++ added) × AreLongest (left_at l.self) (circular l.addr.0 l.len) added
+      (added : List Window) × (l.windows.items ≡ l.initial.windows.items ++ added)
+      × AreLongest (left_at l.self) (circular l.addr.0 l.len) added
       × (left_after (circular l.addr.0 l.len) added ≡ circular (l.addr.0 + l.done) (l.len - l.done));
   room : l.initial.windows.capacity ≤ l.windows.capacity;
   held : (lengths : List ℕ) → AreHeld lengths l.self → AllLieIn lengths l.initial.windows.items → AllLieIn lengths l.windows.items;

@@ -11,13 +11,15 @@ loop-done-init g c =
 
 pub returns-in_default : goal.returns-in_default
 returns-in_default g c =
-    let none = count_none (place c.args.self.now) c.args.addr c.loop-done.done c.args.len _ refl c.loop-done-test.true (c.window_at.ensures.none c.in_default.is) in
+    let none = count_none (place c.args.self.now) c.args.addr c.loop-done.done c.args.len _ refl c.loop-done-test.true
+    (c.window_at.ensures.none c.in_default.is) in
     omega (arith, none, c.loop-done.invariant.count)
 
 pub loop-done-preserved : goal.loop-done-preserved
 loop-done-preserved g c =
     let le : c.loop-done.done + c.in-Some.window.len ≤ c.args.len = omega (arith, c.in-Some.ensures.some.1) in
-    let step = count_step (place c.args.self.now) c.args.addr c.loop-done.done c.args.len c.in-Some.window.len _ _ refl c.in-Some.ensures.some.2 le c.in-Some.ensures.some.3 in
+    let step = count_step (place c.args.self.now) c.args.addr c.loop-done.done c.args.len c.in-Some.window.len _ _ refl
+    c.in-Some.ensures.some.2 le c.in-Some.ensures.some.3 in
     rw c.len-done.ensures.len (record { within = le; count = step ∙ c.loop-done.invariant.count })
 
 pub returns : goal.returns

@@ -13,13 +13,15 @@ loop-done-init g c =
 
 pub returns-in_default-clause-count : goal.returns-in_default-clause-count
 returns-in_default-clause-count g c =
-    let none = count_none (place c.args.self.now) c.args.addr c.loop-done.done (length c.args.bytes.now) _ refl c.loop-done-test.true (c.window_at.ensures.none c.in_default.is) in
+    let none = count_none (place c.args.self.now) c.args.addr c.loop-done.done (length c.args.bytes.now) _ refl c.loop-done-test.true
+    (c.window_at.ensures.none c.in_default.is) in
     omega (arith, none, c.loop-done.invariant.count)
 
 pub loop-done-preserved : goal.loop-done-preserved
 loop-done-preserved g c =
     let le : c.loop-done.done + c.in-Some.window.len ≤ length c.args.bytes.now = omega (arith, c.in-Some.ensures.some.1) in
-    let step = count_step (place c.args.self.now) c.args.addr c.loop-done.done (length c.args.bytes.now) c.in-Some.window.len _ _ refl c.in-Some.ensures.some.2 le c.in-Some.ensures.some.3 in
+    let step = count_step (place c.args.self.now) c.args.addr c.loop-done.done (length c.args.bytes.now) c.in-Some.window.len _ _ refl
+    c.in-Some.ensures.some.2 le c.in-Some.ensures.some.3 in
     let rest : List ℕ = take (length c.args.bytes.now - c.loop-done.done) (drop c.loop-done.done c.args.bytes.now) in
     let cut : take c.len.result rest ≡ take c.in-Some.window.len (drop c.loop-done.done c.args.bytes.now) =
     ap (λ k. take k rest) c.len.ensures.len ∙ ap (take c.in-Some.window.len) (take_rest c.args.bytes.now c.loop-done.done) in
@@ -27,8 +29,10 @@ loop-done-preserved g c =
       within = le;
       same_shape = c.write.ensures.shape ∙ c.loop-done.invariant.same_shape;
       count = step ∙ c.loop-done.invariant.count;
-      stored = store_step c.args.self.now (memory_of c.args.host.now c.args.self.now) c.loop-done.host c.write.new.self c.args.bytes.now _ c.args.addr c.loop-done.done (length c.args.bytes.now)
-          c.in-Some.window.len _ _ refl c.in-Some.ensures.some.2 le refl c.in-Some.ensures.some.3 c.loop-done.invariant.stored cut c.write.ensures.stored;
+      stored = store_step c.args.self.now (memory_of c.args.host.now c.args.self.now) c.loop-done.host c.write.new.self c.args.bytes.now _
+          c.args.addr c.loop-done.done (length c.args.bytes.now)
+          c.in-Some.window.len _ _ refl c.in-Some.ensures.some.2 le refl c.in-Some.ensures.some.3 c.loop-done.invariant.stored cut
+          c.write.ensures.stored;
     })
 
 pub returns-clause-count : goal.returns-clause-count

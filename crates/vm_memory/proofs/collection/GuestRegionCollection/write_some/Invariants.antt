@@ -9,7 +9,8 @@ abbrev pub invariant-loop-done : goal.invariant-loop-done
 invariant-loop-done g l = record {
   within : l.done ≤ length l.bytes;
   same_shape : shape l.host ≡ shape l.initial.host;
-  count : l.done + reached (place l.self) (circular (l.addr + l.done) (length l.bytes - l.done)) ≡ reached (place l.self) (circular l.addr (length l.bytes));
+  count : l.done + reached (place l.self) (circular (l.addr + l.done) (length l.bytes - l.done))
+      ≡ reached (place l.self) (circular l.addr (length l.bytes));
   stored :
       memory_of l.host l.self
       ≡ stored_all (memory_of l.initial.host l.self) (zip (take l.done (circular l.addr (length l.bytes))) l.bytes);

@@ -7,4 +7,5 @@ use Rattle.vm_memory.proofs.guest_memory.GuestRegionCollection+GuestRegionMmap.f
 pub returns-in-Ok-from_arc_regions-clause-held : goal.returns-in-Ok-from_arc_regions-clause-held
 returns-in-Ok-from_arc_regions-clause-held g c =
     let same = unless_ok _ _ c.in-Ok-from_arc_regions.memory c.in-Ok-from_arc_regions.ensures ∙ c.in-Ok.ensures.1 in
-    subst (λ (l : List Region). AreHeld (lengths c.regions_over.new.host) l) (sym same) (held_made g.B.NewBitmap.count c.args.host.now c.regions_over.new.host c.args.ranges.now c.in-Ok.ensures.2)
+    subst (λ (l : List Region). AreHeld (lengths c.regions_over.new.host) l) (sym same)
+    (held_made g.B.NewBitmap.count c.args.host.now c.regions_over.new.host c.args.ranges.now c.in-Ok.ensures.2)

@@ -8,5 +8,8 @@ pub returns-then-length-eq0 : goal.returns-then-length-eq0
 returns-then-length-eq0 g c = none_translated _ c.args.iova.0 c.args.length c.args.access _ (omega arith) (omega arith) c.default.ensures
 
 pub returns-in_default : goal.returns-in_default
-returns-in_default g c =
-    (refl, inr (nothing_passes _ c.args.iova.0 c.args.length c.args.access (sym c.table.ensures ∙ ap (option_map (λ (t : Bor (List IotlbRange)). t.now)) c.in_default.is) (omega arith)))
+returns-in_default g c = (
+  refl,
+  inr (nothing_passes _ c.args.iova.0 c.args.length c.args.access
+      (sym c.table.ensures ∙ ap (option_map (λ (t : Bor (List IotlbRange)). t.now)) c.in_default.is) (omega arith)),
+)

@@ -9,11 +9,13 @@ use Rattle.vm_memory.proofs.iommu_memory.IommuMemoryGuestRegionCollectionGuestMe
 
 pub returns-then-not-self-clause-joined : goal.returns-then-not-self-clause-joined
 returns-then-not-self-clause-joined g c items drained =
-    rw c.if-not-self.true (subst (λ (s : PhysicalSlices). AreAllOf (slices_in s) items) c.new-slices.ensures (all_of_drained (λ s. slices_of s) (Backend c.new-slices.result) items drained))
+    rw c.if-not-self.true (subst (λ (s : PhysicalSlices). AreAllOf (slices_in s) items) c.new-slices.ensures
+    (all_of_drained (λ s. slices_of s) (Backend c.new-slices.result) items drained))
 
 pub returns-in-Ok-clause-joined : goal.returns-in-Ok-clause-joined
 returns-in-Ok-clause-joined g c items drained =
-    let all = subst (λ (s : TranslatedSlices). AreAllOf (slices_translated s) items) c.new.ensures (all_of_drained (λ s. slices_of s) (Iommu c.new.result) items drained) in
+    let all = subst (λ (s : TranslatedSlices). AreAllOf (slices_translated s) items) c.new.ensures
+    (all_of_drained (λ s. slices_of s) (Iommu c.new.result) items drained) in
     rw c.if-not-self.false (subst (λ (t : ℕ). AreAllOf (slices_translated (record {
       layout = c.args.self.now.backend;
       ranges = ranges_in (g.H.HostBlocks.host c.args.h.now) t;

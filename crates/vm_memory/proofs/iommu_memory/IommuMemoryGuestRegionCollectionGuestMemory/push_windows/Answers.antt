@@ -12,6 +12,7 @@ returns-then-not-self-clause-longest g c = rw c.if-not-self.true c.push_windows.
 
 pub returns-in-Ok-clause-longest : goal.returns-in-Ok-clause-longest
 returns-in-Ok-clause-longest g c =
-    rw c.if-not-self.false (subst (λ (t : ℕ). AddsLongest (translated_left c.args.self.now.backend (table_in (g.H.HostBlocks.host c.args.h.now) t))
+    rw c.if-not-self.false
+    (subst (λ (t : ℕ). AddsLongest (translated_left c.args.self.now.backend (table_in (g.H.HostBlocks.host c.args.h.now) t))
     (circular c.args.addr.0 c.args.count) c.args.windows.now.items c.push_io.new.windows.items)
     c.table-table.ensures c.push_io.ensures.longest)

@@ -14,7 +14,8 @@ returns-then-self-eq0-clause-steps g c =
 
 pub returns-in_default-clause-steps : goal.returns-in_default-clause-steps
 returns-in_default-clause-steps g c =
-    absurd (no_table (option_map (λ (t : Bor (List IotlbRange)). t.now) c.self.inside.table) c.self.inside.addr c.self.inside.count c.self.inside.access
+    absurd (no_table (option_map (λ (t : Bor (List IotlbRange)). t.now) c.self.inside.table) c.self.inside.addr c.self.inside.count
+    c.self.inside.access
     (ap (option_map (λ (t : Bor (List IotlbRange)). t.now)) c.in_default.is) (omega arith) c.self.invariant.1)
 
 pub invariant_of-self : goal.invariant_of-self
@@ -22,18 +23,21 @@ invariant_of-self g c =
     let le = c.in-Some-translated_window.ensures.some.1 in
     rw (c.len.ensures.len, c.len-in-Some-translated_window.ensures.len) (
       omega (arith, le, c.self.invariant.0),
-      may_all-rest c.in-Some-translated_window.window.len c.self.inside.count c.self.inside.addr (table_kept (ranges_of c.self.inside.table)) c.self.inside.access le c.self.invariant.1,
+      may_all-rest c.in-Some-translated_window.window.len c.self.inside.count c.self.inside.addr
+          (table_kept (ranges_of c.self.inside.table)) c.self.inside.access le c.self.invariant.1,
     )
 
 pub invariant_of-self-in-None : goal.invariant_of-self-in-None
-invariant_of-self-in-None g c = (omega (arith, c.self.invariant.0), may_all-none c.self.inside.addr (table_kept (ranges_of c.self.inside.table)) c.self.inside.access)
+invariant_of-self-in-None g c =
+    (omega (arith, c.self.invariant.0), may_all-none c.self.inside.addr (table_kept (ranges_of c.self.inside.table)) c.self.inside.access)
 
 pub returns-in-Some-translated_window-clause-steps : goal.returns-in-Some-translated_window-clause-steps
 returns-in-Some-translated_window-clause-steps g c =
     let same : ranges_of c.self.inside.table ≡ c.in-Some.table.now = ap ranges_of c.in-Some.is in
     let le = c.in-Some-translated_window.ensures.some.1 in
     rw (← c.self.view_is, same, c.len.ensures.len, c.len-in-Some-translated_window.ensures.len)
-    (window_taken_low _ _ c.self.inside.addr c.self.inside.count c.in-Some-translated_window.window c.in-Some-translated_window.ensures.some.0 c.in-Some-translated_window.ensures.longest
+    (window_taken_low _ _ c.self.inside.addr c.self.inside.count c.in-Some-translated_window.window
+    c.in-Some-translated_window.ensures.some.0 c.in-Some-translated_window.ensures.longest
     (omega (arith, le, c.self.invariant.0)) c.in-Some-translated_window.ensures.some.3)
 
 pub returns-in-Some-translated_window-clause-goes : goal.returns-in-Some-translated_window-clause-goes
@@ -42,13 +46,18 @@ returns-in-Some-translated_window-clause-goes g c =
     let all = length-circular c.self.inside.count c.self.inside.addr in
     let after = length-circular (c.self.inside.count - c.len-in-Some-translated_window.result) (c.self.inside.addr + c.len.result) in
     let some = c.in-Some-translated_window.ensures.some.0 in
-    record { on = λ finite. (tt, tt, omega (arith, before, all, after, some, c.len-in-Some-translated_window.ensures.len)); keeps = tt; rests = λ finite. tt }
+    record {
+      on = λ finite. (tt, tt, omega (arith, before, all, after, some, c.len-in-Some-translated_window.ensures.len));
+      keeps = tt;
+      rests = λ finite. tt;
+    }
 
 pub returns-in-None-clause-steps : goal.returns-in-None-clause-steps
 returns-in-None-clause-steps g c =
     let same : ranges_of c.self.inside.table ≡ c.in-Some.table.now = ap ranges_of c.in-Some.is in
     rw (← c.self.view_is, same)
-    (error_given _ _ c.self.inside.addr c.self.inside.count (omega (arith, c.self.invariant.0)) (omega arith) (c.translated_window.ensures.none c.in-None.is))
+    (error_given _ _ c.self.inside.addr c.self.inside.count (omega (arith, c.self.invariant.0)) (omega arith)
+    (c.translated_window.ensures.none c.in-None.is))
 
 pub returns-in-None-clause-goes : goal.returns-in-None-clause-goes
 returns-in-None-clause-goes g c =

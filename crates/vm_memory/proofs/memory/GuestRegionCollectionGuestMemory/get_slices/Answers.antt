@@ -7,4 +7,5 @@ use Rattle.vm_memory.proofs.memory.GuestRegionCollectionGuestMemory.get_slices.G
 
 pub returns-clause-joined : goal.returns-clause-joined
 returns-clause-joined g c items drained =
-    subst (λ (s : PhysicalSlices). AreAllOf (slices_in s) items) c.new-slices.ensures (all_of_drained (λ s. slices_of s) (Backend c.new-slices.result) items drained)
+    subst (λ (s : PhysicalSlices). AreAllOf (slices_in s) items) c.new-slices.ensures
+    (all_of_drained (λ s. slices_of s) (Backend c.new-slices.result) items drained)

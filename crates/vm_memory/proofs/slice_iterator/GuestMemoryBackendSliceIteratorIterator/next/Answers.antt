@@ -10,8 +10,11 @@ returns-then-self-eq0-clause-steps g c =
 
 pub returns-in-Some-clause-steps : goal.returns-in-Some-clause-steps
 returns-in-Some-clause-steps g c =
-    rw (← c.self.view_is, c.len.ensures.len, c.len-in-Some.ensures.len)
-    (refl, window_taken _ _ c.self.inside.addr c.self.inside.count c.in-Some.window (omega arith) c.in-Some.ensures.some.0 c.in-Some.ensures.longest c.in-Some.ensures.some.2 c.in-Some.ensures.some.3)
+    rw (← c.self.view_is, c.len.ensures.len, c.len-in-Some.ensures.len) (
+      refl,
+      window_taken _ _ c.self.inside.addr c.self.inside.count c.in-Some.window (omega arith) c.in-Some.ensures.some.0
+          c.in-Some.ensures.longest c.in-Some.ensures.some.2 c.in-Some.ensures.some.3,
+    )
 
 pub returns-in-Some-clause-goes : goal.returns-in-Some-clause-goes
 returns-in-Some-clause-goes g c =

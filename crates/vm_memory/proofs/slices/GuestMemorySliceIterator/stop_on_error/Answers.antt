@@ -4,4 +4,5 @@ use Rattle.vm_memory.proofs.slices.GuestMemorySliceIterator.stop_on_error.Goals 
 
 pub returns-in-None-clause-joined : goal.returns-in-None-clause-joined
 returns-in-None-clause-joined g c windows drained =
-    windows_of_drained (λ (s : SlicesBeforeError g.row.Self.Denot). g.Self.GuestMemorySliceIterator.slices s.slices) (record { slices = c.args.self }) windows drained
+    windows_of_drained (λ (s : SlicesBeforeError g.row.Self.Denot). g.Self.GuestMemorySliceIterator.slices s.slices)
+    (record { slices = c.args.self }) windows drained

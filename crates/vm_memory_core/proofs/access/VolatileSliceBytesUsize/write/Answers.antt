@@ -13,5 +13,6 @@ returns-in-Ok-clause-written g c =
       places = Ok (places_of w);
       may = ap places_in c.in-Ok.ensures.window;
       count = ap Ok (c.len-in-Ok.ensures.len ∙ sym n);
-      stored = c.write.ensures.stored ∙ ap (λ (ws : List (Place × ℕ)). put_all c.args.h.now ws) (zip-take_right (places_of w) c.args.buf.now c.len.result (c.len.ensures.len ∙ sym n));
+      stored = c.write.ensures.stored ∙ ap (λ (ws : List (Place × ℕ)). put_all c.args.h.now ws)
+          (zip-take_right (places_of w) c.args.buf.now c.len.result (c.len.ensures.len ∙ sym n));
     }

@@ -18,7 +18,8 @@ loop-window-preserved g c =
     ∙ take-put c.loop-window.buffer c.bytes.result.now c.loop-window.done _ (omega arith) (omega arith) in
     record {
       fits = omega arith;
-      got = bytes_step (g.Self.HostBlocks.host c.args.self.now) c.args.windows.now c.loop-window.window-index _ (take c.loop-window.done c.loop-window.buffer)
+      got = bytes_step (g.Self.HostBlocks.host c.args.self.now) c.args.windows.now c.loop-window.window-index _
+          (take c.loop-window.done c.loop-window.buffer)
           c.bytes.result.now _ next c.bytes.ensures.bytes more
           ∙ c.loop-window.invariant.got;
     }
@@ -28,4 +29,5 @@ returns g c =
     let none = drop_all c.loop-window.window-index c.args.windows.now c.loop-window-test.false in
     let count : length (places (drop c.loop-window.window-index c.args.windows.now)) ≡ 0 = rw none in
     let all = take_all c.loop-window.done c.loop-window.buffer (omega arith) in
-    sym all ∙ bytes_done (g.Self.HostBlocks.host c.args.self.now) c.args.windows.now c.loop-window.window-index _ c.loop-window-test.false ∙ c.loop-window.invariant.got
+    sym all ∙ bytes_done (g.Self.HostBlocks.host c.args.self.now) c.args.windows.now c.loop-window.window-index _ c.loop-window-test.false
+    ∙ c.loop-window.invariant.got

@@ -12,7 +12,8 @@ loop-window-preserved g c =
       within = omega arith;
       fits = omega arith;
       same_shape = c.write.ensures.shape ∙ c.loop-window.invariant.same_shape;
-      stored = places_step c.args.windows.now c.loop-window.window-index c.min-count.result c.loop-window.done c.window-item.result c.args.bytes.now
+      stored = places_step c.args.windows.now c.loop-window.window-index c.min-count.result c.loop-window.done c.window-item.result
+          c.args.bytes.now
           (g.Self.HostBlocks.host c.loop-window.self) (g.Self.HostBlocks.host c.write.new.self) next
           (omega arith) c.write.ensures.stored ∙ c.loop-window.invariant.stored;
     }
