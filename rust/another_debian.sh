@@ -1,6 +1,7 @@
-# Read by `vendor` and `test`: packages of another Debian (trixie), unpacked to a folder and not installed, by an apt with lists, packages
-# and a state of its own. `folder` names the folder. By the environment: DEBIAN, the archive's address (else where this machine's apt
-# takes its packages from); SUITE.
+# Read by `vendor` and `test`: packages of another Debian (trixie), unpacked to a folder and not
+# installed, by an apt with lists, packages and a state of its own. `folder` names the folder. By
+# the environment: DEBIAN, the archive's address (else where this machine's apt takes its packages
+# from); SUITE.
 suite=${SUITE:-trixie}
 export LC_ALL=C
 
@@ -12,7 +13,8 @@ fail() {
 # Makes that apt, which knows of no package that is installed.
 make_apt() {
     local debian=${DEBIAN:-}
-    [ -n "$debian" ] || debian=$(grep -hoE '^[^#]*https?://[^ ]+/debian/?( |$)' /etc/apt/sources.list /etc/apt/sources.list.d/* 2> "$folder/none" |
+    [ -n "$debian" ] || debian=$(grep -hoE '^[^#]*https?://[^ ]+/debian/?( |$)' \
+        /etc/apt/sources.list /etc/apt/sources.list.d/* 2> "$folder/none" |
         grep -oE 'https?://[^ ]+' | head -n 1 || true)
     [ -n "$debian" ] || fail "no archive of Debian's is known: set DEBIAN to its address"
     mkdir -p "$folder"/apt/{lists/partial,cache/archives/partial}
@@ -39,10 +41,12 @@ theirs() { APT_CONFIG=$folder/apt/config "$@"; }
 needed() {
     local pattern=$1
     shift
-    theirs apt-get -s install --no-install-recommends "$@" | sed -n 's/^Inst \([^ ]*\) .*/\1/p' | grep -E "$pattern"
+    theirs apt-get -s install --no-install-recommends "$@" | sed -n 's/^Inst \([^ ]*\) .*/\1/p' |
+        grep -E "$pattern"
 }
 
-# Downloads packages to a folder below apt, but those that are there, and unpacks all of them to another.
+# Downloads packages to a folder below apt, but those that are there, and unpacks all of them to
+# another.
 unpack() {
     local from=$folder/apt/$1 to=$2 package wanted=()
     shift 2
@@ -51,7 +55,8 @@ unpack() {
         compgen -G "$from/${package}_*.deb" > "$folder/none" || wanted+=("$package")
     done
     if [ ${#wanted[@]} -gt 0 ]; then
-        (cd "$from" && theirs apt-get download "${wanted[@]}") || fail "apt can't download ${wanted[*]}"
+        (cd "$from" && theirs apt-get download "${wanted[@]}") ||
+            fail "apt can't download ${wanted[*]}"
     fi
     for package in "$@"; do dpkg-deb -x "$from/${package}"_*.deb "$to"; done
 }

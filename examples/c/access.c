@@ -4,37 +4,48 @@
 
 enum { WINDOWS = 16 };
 
-uint16_t load_index(uintptr_t at) { return atomic_load_explicit((_Atomic uint16_t *)at, memory_order_acquire); }
+uint16_t load_index(uintptr_t at) {
+    return atomic_load_explicit((_Atomic uint16_t *)at, memory_order_acquire);
+}
 
-/* Each byte once. The fence holds the compiler, which might look at the guest's bytes again in place of the copy. */
+/* Each byte once. The fence holds the compiler, which might look at the guest's bytes again in
+ * place of the copy. */
 static void copy_out(void *to, uintptr_t at, size_t len) {
     memcpy(to, (const void *)at, len);
     atomic_signal_fence(memory_order_seq_cst);
 }
 
-/* Two bytes of a walk stand at an even place, and are one load: a ring's, or what a region's end leaves of a table. */
+/* Two bytes of a walk stand at an even place, and are one load: a ring's, or what a region's end
+ * leaves of a table. */
 static void load(void *to, uintptr_t at, size_t len) {
     uint16_t two = len == 2 ? load_index(at) : 0;
-    if (len == 2) memcpy(to, &two, 2);
-    else copy_out(to, at, len);
+    if (len == 2)
+        memcpy(to, &two, 2);
+    else
+        copy_out(to, at, len);
 }
 
-/* The first load of a walk: the available index, unless the one that was loaded last tells of a chain that wasn't taken yet. What it covers was stored
- * before that load, which acquired. */
-static void load_offered(void *to, const struct pk_queue *queue, struct offered *offered, uintptr_t at) {
-    bool tells_more = offered->at == at && offered->reset_count == queue->reset_count && offered->index != queue->next_avail;
+/* The first load of a walk: the available index, unless the one that was loaded last tells of a
+ * chain that wasn't taken yet. What it covers was stored before that load, which acquired. */
+static void load_offered(void *to, const struct pk_queue *queue, struct offered *offered,
+                         uintptr_t at) {
+    bool tells_more = offered->at == at && offered->reset_count == queue->reset_count &&
+                      offered->index != queue->next_avail;
     if (!tells_more) *offered = (struct offered){at, queue->reset_count, load_index(at)};
     memcpy(to, &offered->index, 2);
 }
 
-uint32_t take_chain(struct pk_chain *chain, struct pk_queue *queue, struct offered *offered, struct pk_pop *step) {
+uint32_t take_chain(struct pk_chain *chain, struct pk_queue *queue, struct offered *offered,
+                    struct pk_pop *step) {
     uint8_t bytes[PK_LOAD_MAX];
     uint32_t status;
     bool is_first = true;
     *step = (struct pk_pop){0};
     while ((status = pk_pop(chain, queue, bytes, step->load_len, step)) == PK_LOAD) {
-        if (is_first) load_offered(bytes, queue, offered, step->load_at);
-        else load(bytes, step->load_at, step->load_len);
+        if (is_first)
+            load_offered(bytes, queue, offered, step->load_at);
+        else
+            load(bytes, step->load_at, step->load_len);
         is_first = false;
     }
     return status;
@@ -56,7 +67,8 @@ void scatter(struct pk_chain *chain, uint64_t from, const void *bytes, uint64_t 
     while (len > 0 && (count = pk_reply_windows(chain, from, len, windows, WINDOWS)) > 0)
         for (size_t k = 0; k < count; k++) {
             memcpy((void *)windows[k].at, bytes, windows[k].len);
-            bytes = (const uint8_t *)bytes + windows[k].len, from += windows[k].len, len -= windows[k].len;
+            bytes = (const uint8_t *)bytes + windows[k].len, from += windows[k].len,
+            len -= windows[k].len;
         }
 }
 
@@ -66,10 +78,12 @@ size_t load_front(struct pk_chain *chain, const struct pk_pop *step, uint8_t *re
     return len;
 }
 
-uint32_t ask(struct pk_chain *chain, const struct pk_device *device, uint8_t *request, size_t have, struct pk_call *call) {
+uint32_t ask(struct pk_chain *chain, const struct pk_device *device, uint8_t *request, size_t have,
+             struct pk_call *call) {
     uint32_t status;
     while ((status = pk_decode(chain, device, request, have, call)) == PK_MORE) {
-        if (call->needed > PK_REQUEST_MAX) return PK_SHORT_BUFFER; /* a limit above it wants a longer buffer */
+        /* a limit above it wants a longer buffer */
+        if (call->needed > PK_REQUEST_MAX) return PK_SHORT_BUFFER;
         gather(chain, have, request + have, call->needed - have);
         have = call->needed;
     }
@@ -88,14 +102,16 @@ static void mark_room(struct pk_chain *chain, const struct marker *marker, uint6
     }
 }
 
-static void mark_stores(struct pk_chain *chain, const struct marker *marker, const struct pk_stores *stores) {
+static void mark_stores(struct pk_chain *chain, const struct marker *marker,
+                        const struct pk_stores *stores) {
     mark_room(chain, marker, stores->len);
     marker->mark(marker->log, stores->id_at, 4);
     marker->mark(marker->log, stores->len_at, 4);
     marker->mark(marker->log, stores->index_at, 2);
 }
 
-uint32_t give_back(struct pk_chain *chain, struct pk_queue *queue, const struct marker *marker, bool *notify) {
+uint32_t give_back(struct pk_chain *chain, struct pk_queue *queue, const struct marker *marker,
+                   bool *notify) {
     uint8_t front[PK_FRONT_MAX], wanted = 0;
     struct pk_stores stores;
     uint32_t status = pk_push(chain, queue, front, sizeof front, &stores);
@@ -105,25 +121,30 @@ uint32_t give_back(struct pk_chain *chain, struct pk_queue *queue, const struct 
     atomic_store_explicit((_Atomic uint32_t *)stores.len_at, stores.len, memory_order_relaxed);
     atomic_store_explicit((_Atomic uint16_t *)stores.index_at, stores.index, memory_order_release);
     if (marker) mark_stores(chain, marker, &stores);
-    /* Without a full barrier the flags may be read before the driver sees the index, and a notification is lost. */
+    /* Without a full barrier the flags may be read before the driver sees the index, and a
+     * notification is lost. */
     atomic_thread_fence(memory_order_seq_cst);
     status = pk_pushed(chain, queue, load_index(stores.seen_at), &wanted);
     *notify = *notify || wanted;
     return status;
 }
 
-bool ask_kicks(struct pk_chain *chain, const struct pk_queue *queue, bool wanted, const struct marker *marker) {
+bool ask_kicks(struct pk_chain *chain, const struct pk_queue *queue, bool wanted,
+               const struct marker *marker) {
     struct pk_store store;
-    if (pk_set_notification(chain, queue, wanted, &store) != PK_DONE || store.len == 0) return false;
+    if (pk_set_notification(chain, queue, wanted, &store) != PK_DONE || store.len == 0)
+        return false;
     atomic_store_explicit((_Atomic uint16_t *)store.at, store.value, memory_order_relaxed);
     if (marker) marker->mark(marker->log, store.at, store.len);
     atomic_thread_fence(memory_order_seq_cst);
     return true;
 }
 
-void give_up(struct pk_chain *chain, struct pk_queue *queue, uint32_t ticket, const struct marker *marker, bool *notify) {
+void give_up(struct pk_chain *chain, struct pk_queue *queue, uint32_t ticket,
+             const struct marker *marker, bool *notify) {
     if (pk_drop(chain, queue) == PK_DONE) return;
     uint32_t status = pk_reply_bytes(chain, ticket, 0); /* silence, unless it has a reply */
     status = give_back(chain, queue, marker, notify);
-    if (status != PK_DONE) pk_abandon(chain); /* its queue was begun anew, or has to be, since a store had no place */
+    /* its queue was begun anew, or has to be, since a store had no place */
+    if (status != PK_DONE) pk_abandon(chain);
 }

@@ -1,5 +1,5 @@
-/* A guest for monitor.c: a driver that draws a ring by hand (VIRTIO 1.2, 2.7), one chain at a time, and asks for files. Not to be
- * copied. Numbers are little-endian, as they are on x86-64. */
+/* A guest for monitor.c: a driver that draws a ring by hand (VIRTIO 1.2, 2.7), one chain at a time,
+ * and asks for files. Not to be copied. Numbers are little-endian, as they are on x86-64. */
 #include <fcntl.h>
 #include <linux/fuse.h>
 #include <linux/virtio_ring.h>
@@ -10,7 +10,16 @@
 #include <sys/stat.h>
 
 /* Where things stand in the guest's memory, and how many descriptors its queue has. */
-enum { PAGE = 4096, DESC = PAGE, AVAIL = 2 * PAGE, USED = 3 * PAGE, REQUEST = 4 * PAGE, ROOM = 8 * PAGE, MEMORY = 16 * PAGE, SIZE = 8 };
+enum {
+    PAGE = 4096,
+    DESC = PAGE,
+    AVAIL = 2 * PAGE,
+    USED = 3 * PAGE,
+    REQUEST = 4 * PAGE,
+    ROOM = 8 * PAGE,
+    MEMORY = 16 * PAGE,
+    SIZE = 8
+};
 
 static uint8_t *memory; /* MEMORY bytes, from guest address 0 on */
 static uint16_t offered;
@@ -63,9 +72,12 @@ static const void *guest_asks(struct asked it, uint32_t room) {
     if (it.text) memcpy(memory + REQUEST + sizeof in + it.args_len, it.text, it.text_len);
     uint32_t len = offer(in.len, room);
     memcpy(&out, memory + ROOM, sizeof out);
-    if (len == 0) printf("%s: no reply\n", it.what);
-    else if (out.error) printf("%s: error %d\n", it.what, -out.error);
-    else printf("%s: %zu bytes\n", it.what, len - sizeof out);
+    if (len == 0)
+        printf("%s: no reply\n", it.what);
+    else if (out.error)
+        printf("%s: error %d\n", it.what, -out.error);
+    else
+        printf("%s: %zu bytes\n", it.what, len - sizeof out);
     return memory + ROOM + sizeof out;
 }
 
@@ -93,15 +105,19 @@ static void guest_uses_a_file(void) {
         {"READDIRPLUS", FUSE_READDIRPLUS, 1, &read, sizeof read, NULL, 0},
     };
     guest_asks_for_all(ALL(all));
-    const char *text = guest_asks((struct asked){"READ", FUSE_READ, 2, &read, sizeof read, NULL, 0}, PAGE);
+    const char *text =
+        guest_asks((struct asked){"READ", FUSE_READ, 2, &read, sizeof read, NULL, 0}, PAGE);
     printf("The guest reads: %.13s\n", text);
-    text = guest_asks((struct asked){"an opcode of the monitor's own", CAPITALS, 0, NULL, 0, "hello, monitor", 14}, PAGE);
+    text = guest_asks((struct asked){"an opcode of the monitor's own", CAPITALS, 0, NULL, 0,
+                                     "hello, monitor", 14},
+                      PAGE);
     printf("The guest has in its memory: %.14s\n", text);
 }
 
 /* Requests that come to no good. */
 static void guest_errs(void) {
-    struct asked lookup = {"LOOKUP greeting, and a room that is too short", FUSE_LOOKUP, 1, NULL, 0, "greeting", 9};
+    struct asked lookup = {
+        "LOOKUP greeting, and a room that is too short", FUSE_LOOKUP, 1, NULL, 0, "greeting", 9};
     struct asked unknown = {"an opcode that nobody knows", 99, 1, NULL, 0, NULL, 0};
     (void)guest_asks(lookup, 100);
     (void)guest_asks(unknown, PAGE);

@@ -9,7 +9,8 @@
 
 enum { PAGE_SIZE = 4096, LIMIT = PK_REQUEST_MAX, RETRY_MILLISECONDS = 10 };
 
-/* What came of looking for a chain: one went back, none waits, or one waits for which there is no memory yet. */
+/* What came of looking for a chain: one went back, none waits, or one waits for which there is no
+ * memory yet. */
 enum found { SERVED, NOTHING, LATER };
 
 static void signal_event(int fd) {
@@ -30,20 +31,24 @@ static uint32_t serve_request(struct worker *worker, const struct pk_pop *step) 
     if (status != PK_DONE) return status;
     status = live->answer(live->files, &worker->chain, &device, &call, worker->request);
     if (device.options != options) atomic_store(live->options, device.options);
-    return status == PK_DONE || status == PK_NO_ROOM ? PK_DONE : pk_reply_err(&worker->chain, call.ticket, EIO);
+    return status == PK_DONE || status == PK_NO_ROOM
+               ? PK_DONE
+               : pk_reply_err(&worker->chain, call.ticket, EIO);
 }
 
-/* Takes the next chain. PK_CHAIN_IN_FLIGHT: as many are out as the queue holds, and whoever gives one back looks again. */
+/* Takes the next chain. PK_CHAIN_IN_FLIGHT: as many are out as the queue holds, and whoever gives
+ * one back looks again. */
 static uint32_t take(struct worker *worker, struct pk_pop *step) {
     struct live *live = worker->live;
-    uint32_t status = live->refused ? PK_IDLE : take_chain(&worker->chain, &live->queue, &live->offered, step);
+    uint32_t status =
+        live->refused ? PK_IDLE : take_chain(&worker->chain, &live->queue, &live->offered, step);
     uint16_t out = (uint16_t)(live->queue.next_avail - live->queue.next_used);
     if (out > live->most) live->most = out;
     return status == PK_CHAIN_IN_FLIGHT ? PK_IDLE : status;
 }
 
-/* Says to the driver whether it has to kick, if it doesn't know. Whether it had to be told: then look once more, since a chain may have come
- * before. */
+/* Says to the driver whether it has to kick, if it doesn't know. Whether it had to be told: then
+ * look once more, since a chain may have come before. */
 static bool want_kicks(struct worker *worker, bool wanted) {
     struct live *live = worker->live;
     uint16_t at = wanted && live->queue.event_index ? live->queue.next_avail : 0;
@@ -53,14 +58,17 @@ static bool want_kicks(struct worker *worker, bool wanted) {
     return ask_kicks(&worker->chain, &live->queue, wanted, live->marker);
 }
 
-/* What comes while a chain is answered is for a thread that sleeps. If none does, this one looks again by itself, and a kick would cost
- * the guest an exit for nothing. */
+/* What comes while a chain is answered is for a thread that sleeps. If none does, this one looks
+ * again by itself, and a kick would cost the guest an exit for nothing. */
 static void hand_on(struct worker *worker) {
     struct live *live = worker->live;
     bool is_for_another = live->sleeping > 0;
     want_kicks(worker, is_for_another);
-    uint16_t position = live->queue.next_avail; /* the index that was loaded last may tell of a chain behind it */
-    if (is_for_another && (live->offered.index != position || load_index(live->avail_at + 2) != position)) signal_event(live->kick);
+    /* the index that was loaded last may tell of a chain behind it */
+    uint16_t position = live->queue.next_avail;
+    if (is_for_another &&
+        (live->offered.index != position || load_index(live->avail_at + 2) != position))
+        signal_event(live->kick);
 }
 
 /* The lock is held, but while the request is served. */
@@ -79,11 +87,14 @@ static enum found serve_one(struct worker *worker) {
         live->faulty++;
     }
     if (status == PK_DONE) status = give_back(&worker->chain, &live->queue, live->marker, &notify);
-    if (status != PK_DONE) give_up(&worker->chain, &live->queue, step.ticket, live->marker, &notify);
+    if (status != PK_DONE)
+        give_up(&worker->chain, &live->queue, step.ticket, live->marker, &notify);
     if (notify) signal_event(live->call);
     if (status == PK_OUT_OF_MEMORY) return LATER;
-    if (status == PK_DONE) live->served++;
-    else if (!live->refused) live->refused = status;
+    if (status == PK_DONE)
+        live->served++;
+    else if (!live->refused)
+        live->refused = status;
     return status == PK_DONE ? SERVED : NOTHING;
 }
 
@@ -103,7 +114,8 @@ static enum found serve_all(struct worker *worker) {
     return found;
 }
 
-/* A kick wakes the threads that sleep, each of which goes on until no chain waits: what comes behind the last walk brings a kick of its own. */
+/* A kick wakes the threads that sleep, each of which goes on until no chain waits: what comes
+ * behind the last walk brings a kick of its own. */
 static void *work(void *at) {
     struct worker *worker = at;
     struct live *live = worker->live;
@@ -112,7 +124,9 @@ static void *work(void *at) {
     do {
         int limit = serve_all(worker) == LATER ? RETRY_MILLISECONDS : -1;
         if (poll(events, 2, limit) < 0 && errno != EINTR) break;
-        if (events[1].revents & POLLIN && read(live->kick, &kicks, sizeof kicks) < 0 && errno != EAGAIN) break;
+        if (events[1].revents & POLLIN && read(live->kick, &kicks, sizeof kicks) < 0 &&
+            errno != EAGAIN)
+            break;
     } while (!(events[0].revents & POLLIN));
     return NULL;
 }
@@ -125,18 +139,23 @@ static int start_worker(struct live *live, const struct pk_region *regions, size
     *worker = (struct worker){.live = live, .request = malloc(PK_REQUEST_MAX)};
     live->count++;
     if (!worker->request) return ENOMEM;
-    if (pk_chain_set_memory(&worker->chain, &device, regions, region_count) != PK_DONE) return EINVAL;
+    if (pk_chain_set_memory(&worker->chain, &device, regions, region_count) != PK_DONE)
+        return EINVAL;
     int error = pthread_create(&worker->thread, NULL, work, worker);
     if (error) pk_chain_free(&worker->chain);
     return error;
 }
 
-int live_start(struct live *live, const struct pk_region *regions, size_t region_count, size_t thread_count) {
+int live_start(struct live *live, const struct pk_region *regions, size_t region_count,
+               size_t thread_count) {
     live->quit = eventfd(0, EFD_CLOEXEC);
     live->workers = calloc(thread_count, sizeof *live->workers);
-    live->queue.max_in_flight = thread_count < live->queue.size ? (uint16_t)thread_count : live->queue.size;
+    live->queue.max_in_flight =
+        thread_count < live->queue.size ? (uint16_t)thread_count : live->queue.size;
     live->sleeping = (unsigned)thread_count;
-    live->kicks = UNTOLD; /* the first thread that finds no chain tells the driver, whatever flags a device of before left */
+    /* the first thread that finds no chain tells the driver, whatever flags a device of before
+     * left */
+    live->kicks = UNTOLD;
     if (live->quit < 0 || !live->workers || pthread_mutex_init(&live->lock, NULL)) return ENOMEM;
     if (pk_queue_begin(&live->queue, live->queue.next_avail) != PK_DONE) return EINVAL;
     for (size_t k = 0; k < thread_count; k++) {

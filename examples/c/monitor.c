@@ -1,6 +1,7 @@
-/* A monitor over pitskhomu.h with a file system in memory. It is here to be copied: access.c stays as it is, part 1 is yours, and
- * part 2 gets the transport that you have; here a guest of the same process draws a ring by hand (guest.h), and stands still
- * while it is served. (live.c serves one that runs.)
+/* A monitor over pitskhomu.h with a file system in memory. It is here to be copied: access.c stays
+ * as it is, part 1 is yours, and part 2 gets the transport that you have; here a guest of the same
+ * process draws a ring by hand (guest.h), and stands still while it is served. (live.c serves one
+ * that runs.)
  *
  *     cc -std=c11 -o monitor monitor.c access.c $(pkg-config --cflags --libs pitskhomu)
  */
@@ -16,18 +17,21 @@
 
 enum { ROOT = FUSE_ROOT_ID, FILES = 8, CONTENTS = 0x4000, NAME_MOST = 255 };
 
-/* Device and queue are numbers. Each thread has a chain and buffers of its own; here there is one. */
+/* Device and queue are numbers. Each thread has a chain and buffers of its own; here there is
+ * one. */
 static struct pk_device device = PK_DEVICE;
 static struct pk_queue queue;
 static struct offered known; /* of that queue */
 static struct pk_chain chain;
-static uint8_t request[PK_REQUEST_MAX]; /* as long as the device's limit, so that it holds any request */
-static uint8_t list[PAGE];              /* READDIR's entries */
+/* as long as the device's limit, so that it holds any request */
+static uint8_t request[PK_REQUEST_MAX];
+static uint8_t list[PAGE]; /* READDIR's entries */
 
 static uint64_t least(uint64_t a, uint64_t b) { return a < b ? a : b; }
 
 /* ------------------------------------------------------------- 1. a file system in memory
- * File k is node k + 2; all of them stand in the root, node 1. One that has no name lives as long as the guest holds it. */
+ * File k is node k + 2; all of them stand in the root, node 1. One that has no name lives as long
+ * as the guest holds it. */
 
 struct file {
     uint8_t name[NAME_MOST];
@@ -53,7 +57,8 @@ static struct file *named(const struct pk_call *call) {
     return NULL;
 }
 
-/* Times are seconds and nanoseconds since 1970, here none; `blocks` has units of 512 bytes, whatever block_size is. */
+/* Times are seconds and nanoseconds since 1970, here none; `blocks` has units of 512 bytes,
+ * whatever block_size is. */
 static void set_size(struct file *f, uint64_t size) {
     if (size > f->attr.size) memset(f->contents + f->attr.size, 0, size - f->attr.size);
     f->attr.size = size;
@@ -62,7 +67,11 @@ static void set_size(struct file *f, uint64_t size) {
 
 /* What a name stands for. For a second the guest need not ask again for name or attributes. */
 static struct pk_entry entry_of(const struct file *f) {
-    return (struct pk_entry){.node = f->attr.ino, .generation = f->generation, .entry_secs = 1, .attr_secs = 1, .attr = f->attr};
+    return (struct pk_entry){.node = f->attr.ino,
+                             .generation = f->generation,
+                             .entry_secs = 1,
+                             .attr_secs = 1,
+                             .attr = f->attr};
 }
 
 static void forget(uint64_t node, uint64_t count) {
@@ -87,11 +96,15 @@ static uint32_t do_lookup(const struct pk_call *call) {
 static uint32_t do_attr(const struct pk_call *call) {
     struct pk_attr root = {.ino = ROOT, .mode = S_IFDIR | 0755, .nlink = 2, .block_size = PAGE};
     struct file *f = file_of(call->node);
-    if (!f && (call->node != ROOT || call->valid)) return pk_reply_err(&chain, call->ticket, call->node == ROOT ? EPERM : ENOENT);
-    if (call->valid & FATTR_SIZE && call->attr.size > CONTENTS) return pk_reply_err(&chain, call->ticket, EFBIG);
+    if (!f && (call->node != ROOT || call->valid))
+        return pk_reply_err(&chain, call->ticket, call->node == ROOT ? EPERM : ENOENT);
+    if (call->valid & FATTR_SIZE && call->attr.size > CONTENTS)
+        return pk_reply_err(&chain, call->ticket, EFBIG);
     if (call->valid & FATTR_SIZE) set_size(f, call->attr.size);
-    if (call->valid & FATTR_MODE) f->attr.mode = S_IFREG | (call->attr.mode & 07777); /* kind and permissions, as st_mode */
-    return pk_reply_attr(&chain, call->ticket, f ? &f->attr : &root, 1, 0); /* good for 1 second and 0 nanoseconds */
+    /* kind and permissions, as st_mode */
+    if (call->valid & FATTR_MODE) f->attr.mode = S_IFREG | (call->attr.mode & 07777);
+    /* good for 1 second and 0 nanoseconds */
+    return pk_reply_attr(&chain, call->ticket, f ? &f->attr : &root, 1, 0);
 }
 
 static uint32_t do_create(const struct pk_call *call) {
@@ -104,10 +117,15 @@ static uint32_t do_create(const struct pk_call *call) {
     memcpy(f->name, request + call->name.at, call->name.len);
     f->name_len = call->name.len;
     f->generation++;
-    f->attr = (struct pk_attr){.ino = (uint64_t)(f - files) + 2, .mode = S_IFREG | (call->mode & ~call->umask & 07777), .nlink = 1,
-                               .uid = call->uid, .gid = call->gid, .block_size = PAGE};
+    f->attr = (struct pk_attr){.ino = (uint64_t)(f - files) + 2,
+                               .mode = S_IFREG | (call->mode & ~call->umask & 07777),
+                               .nlink = 1,
+                               .uid = call->uid,
+                               .gid = call->gid,
+                               .block_size = PAGE};
     struct pk_entry entry = entry_of(f);
-    return told(f, pk_reply_create(&chain, call->ticket, &entry, 0, 0)); /* handle and FOPEN_ bits; files that are open need no number here */
+    /* handle and FOPEN_ bits; files that are open need no number here */
+    return told(f, pk_reply_create(&chain, call->ticket, &entry, 0, 0));
 }
 
 static uint32_t do_unlink(const struct pk_call *call) {
@@ -124,7 +142,8 @@ static uint32_t do_open(const struct pk_call *call) {
     return pk_reply_open(&chain, call->ticket, 0, 0);
 }
 
-/* Data goes from the file into the room, behind the header: no more than was asked for, nor than there is room for. */
+/* Data goes from the file into the room, behind the header: no more than was asked for, nor than
+ * there is room for. */
 static uint32_t do_read(const struct pk_call *call) {
     const struct file *f = file_of(call->node);
     if (!f) return pk_reply_err(&chain, call->ticket, ENOENT);
@@ -137,13 +156,15 @@ static uint32_t do_read(const struct pk_call *call) {
 static uint32_t do_write(const struct pk_call *call) {
     struct file *f = file_of(call->node);
     if (!f) return pk_reply_err(&chain, call->ticket, ENOENT);
-    if (call->offset > CONTENTS || call->data_len > CONTENTS - call->offset) return pk_reply_err(&chain, call->ticket, EFBIG);
+    if (call->offset > CONTENTS || call->data_len > CONTENTS - call->offset)
+        return pk_reply_err(&chain, call->ticket, EFBIG);
     if (call->offset + call->data_len > f->attr.size) set_size(f, call->offset + call->data_len);
     gather(&chain, call->data_at, f->contents + call->offset, call->data_len);
     return pk_reply_write(&chain, call->ticket, (uint32_t)call->data_len);
 }
 
-/* From the offset on, which is that of the last entry that the guest has: here the place of the next file. */
+/* From the offset on, which is that of the last entry that the guest has: here the place of the
+ * next file. */
 static uint32_t do_readdir(const struct pk_call *call) {
     uint64_t most = least(call->data_len, sizeof list), used = 0, len = 0;
     bool plus = call->kind == PK_CALL_READDIRPLUS;
@@ -154,12 +175,15 @@ static uint32_t do_readdir(const struct pk_call *call) {
         used += pk_direntry_len(f->name_len, plus);
         if (used > most) break;
         uint32_t status =
-            plus ? told(f, pk_add_direntry_plus(&chain, call->ticket, list, sizeof list, f->name, f->name_len, &entry, k + 1))
-                 : pk_add_direntry(&chain, call->ticket, list, sizeof list, f->name, f->name_len, k + 2, k + 1, DT_REG);
+            plus ? told(f, pk_add_direntry_plus(&chain, call->ticket, list, sizeof list, f->name,
+                                                f->name_len, &entry, k + 1))
+                 : pk_add_direntry(&chain, call->ticket, list, sizeof list, f->name, f->name_len,
+                                   k + 2, k + 1, DT_REG);
         if (status != PK_DONE) break;
         len = used;
     }
-    if (len == 0 && used > 0) return pk_reply_err(&chain, call->ticket, EINVAL); /* an empty list would end the directory */
+    /* an empty list would end the directory */
+    if (len == 0 && used > 0) return pk_reply_err(&chain, call->ticket, EINVAL);
     uint32_t status = pk_reply_entries(&chain, call->ticket, &len);
     scatter(&chain, call->data_at, list, len);
     return status;
@@ -173,7 +197,8 @@ static bool written[MEMORY / PAGE];
 static void mark(void *log, uintptr_t at, uint64_t len) {
     bool *pages = log;
     size_t from = at - (uintptr_t)memory;
-    for (size_t page = from / PAGE; page < MEMORY / PAGE && page * PAGE < from + len; page++) pages[page] = true;
+    for (size_t page = from / PAGE; page < MEMORY / PAGE && page * PAGE < from + len; page++)
+        pages[page] = true;
 }
 
 static const struct marker marker = {mark, written};
@@ -185,7 +210,8 @@ static void print_written(void) {
     printf("\n");
 }
 
-/* PK_DONE: answered. PK_NO_ROOM: the chain has no room for the reply, and goes back with none. Others: the call waits still. */
+/* PK_DONE: answered. PK_NO_ROOM: the chain has no room for the reply, and goes back with none.
+ * Others: the call waits still. */
 static uint32_t answer(const struct pk_call *call) {
     uint64_t node, count;
     switch (call->kind) {
@@ -194,9 +220,11 @@ static uint32_t answer(const struct pk_call *call) {
         for (size_t k = 0; k < FILES; k++) files[k].held = 0;
         return pk_reply_init(&chain, call->ticket, &device, call->options & FUSE_DO_READDIRPLUS);
     case PK_CALL_DESTROY: device.options = 0; return pk_reply_err(&chain, call->ticket, 0);
-    case PK_CALL_FORGET: forget(call->node, call->count); return PK_DONE; /* there is no reply to it, nor to the next */
+    /* there is no reply to it, nor to the next */
+    case PK_CALL_FORGET: forget(call->node, call->count); return PK_DONE;
     case PK_CALL_BATCH_FORGET:
-        for (uint64_t k = 0; k < call->count; k++) pk_pair(request, call, k, &node, &count), forget(node, count);
+        for (uint64_t k = 0; k < call->count; k++)
+            pk_pair(request, call, k, &node, &count), forget(node, count);
         return PK_DONE;
     case PK_CALL_LOOKUP: return do_lookup(call);
     case PK_CALL_GETATTR:
@@ -215,14 +243,16 @@ static uint32_t answer(const struct pk_call *call) {
     }
 }
 
-/* A FUSE server of this monitor's own, for an opcode that the library doesn't serve: what was asked, in capitals. The reply are
- * bytes of the room, header and all (struct fuse_out_header). */
-static uint32_t reply_capitals(const struct pk_pop *step, const struct fuse_in_header *in, uint64_t have) {
+/* A FUSE server of this monitor's own, for an opcode that the library doesn't serve: what was
+ * asked, in capitals. The reply are bytes of the room, header and all (struct fuse_out_header). */
+static uint32_t reply_capitals(const struct pk_pop *step, const struct fuse_in_header *in,
+                               uint64_t have) {
     uint64_t len = step->request_len - sizeof *in;
     struct fuse_out_header out = {.len = (uint32_t)(sizeof out + len), .unique = in->unique};
     if (out.len > step->reply_len) return pk_reply_bytes(&chain, step->ticket, 0); /* silence */
     gather(&chain, have, request + have, step->request_len - have);
-    for (uint64_t k = sizeof *in; k < step->request_len; k++) request[k] = (uint8_t)toupper(request[k]);
+    for (uint64_t k = sizeof *in; k < step->request_len; k++)
+        request[k] = (uint8_t)toupper(request[k]);
     scatter(&chain, 0, &out, sizeof out);
     scatter(&chain, sizeof out, request + sizeof *in, len);
     return pk_reply_bytes(&chain, step->ticket, out.len);
@@ -238,22 +268,27 @@ static uint32_t serve_request(const struct pk_pop *step) {
     uint32_t status = ask(&chain, &device, request, have, &call);
     if (status != PK_DONE) return status;
     status = answer(&call);
-    return status == PK_DONE || status == PK_NO_ROOM ? PK_DONE : pk_reply_err(&chain, call.ticket, EIO);
+    return status == PK_DONE || status == PK_NO_ROOM ? PK_DONE
+                                                     : pk_reply_err(&chain, call.ticket, EIO);
 }
 
-/* Serves the chains that wait. PK_IDLE: none waits any more. PK_OUT_OF_MEMORY: one waits, call again later. 1 to 8: the queue is
- * stopped, so set DEVICE_NEEDS_RESET. `notify`: interrupt the driver. */
+/* Serves the chains that wait. PK_IDLE: none waits any more. PK_OUT_OF_MEMORY: one waits, call
+ * again later. 1 to 8: the queue is stopped, so set DEVICE_NEEDS_RESET. `notify`: interrupt the
+ * driver. */
 static uint32_t serve(bool *notify) {
     struct pk_pop step;
     uint32_t status;
     *notify = false;
     while ((status = take_chain(&chain, &queue, &known, &step)) == PK_DONE) {
-        if (step.fault) printf("Chain %u goes back with no reply: %s\n", step.head, pk_fault_name(step.fault));
-        else status = serve_request(&step);
+        if (step.fault)
+            printf("Chain %u goes back with no reply: %s\n", step.head, pk_fault_name(step.fault));
+        else
+            status = serve_request(&step);
         if (status == PK_DONE) status = give_back(&chain, &queue, &marker, notify);
         if (status != PK_DONE) break;
     }
-    if (status != PK_IDLE) give_up(&chain, &queue, step.ticket, &marker, notify); /* what was taken and isn't given back */
+    /* what was taken and isn't given back */
+    if (status != PK_IDLE) give_up(&chain, &queue, step.ticket, &marker, notify);
     return status;
 }
 
@@ -270,7 +305,8 @@ static void kick(void) {
     if (!notify) exit(1);
 }
 
-/* Device and queue go on from their record, as they would in another process that has the memory and the files. */
+/* Device and queue go on from their record, as they would in another process that has the memory
+ * and the files. */
 static void move(void) {
     uint8_t record[64];
     size_t len, count;
@@ -289,7 +325,8 @@ int main(void) {
     queue = (struct pk_queue){.desc = DESC, .avail = AVAIL, .used = USED, .size = SIZE};
     expect(pk_queue_begin(&queue, 0), PK_DONE);
     expect(pk_chain_set_memory(&chain, &device, &region, 1), PK_DONE);
-    if (!ask_kicks(&chain, &queue, true, &marker)) return 1; /* whatever flags a device of before left */
+    /* whatever flags a device of before left */
+    if (!ask_kicks(&chain, &queue, true, &marker)) return 1;
     guest_uses_a_file();
     guest_errs();
     print_written();

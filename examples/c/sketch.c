@@ -1,5 +1,6 @@
-/* The loop at the top of pitskhomu.h as a program, by the library's calls alone: a queue is served until no chain waits. Beside it stands a guest
- * that looks a name up. monitor.c has a file system; access.c, live.c and monitor.c are there to be copied. */
+/* The loop at the top of pitskhomu.h as a program: it serves a queue until no chain is
+ * available. Its guest looks a name up, and doesn't run meanwhile. monitor.c has a file system;
+ * access.c, live.c and monitor.c are there to be copied. */
 #include <errno.h>
 #include <pitskhomu.h>
 #include <stdatomic.h>
@@ -7,7 +8,15 @@
 #include <stdio.h>
 #include <string.h>
 
-enum { SIZE = 8, DESC = 0x1000, AVAIL = 0x2000, USED = 0x3000, REQUEST = 0x4000, ROOM = 0x5000, MEMORY = 0x6000, WINDOWS = 8 };
+enum {
+    SIZE = 8,
+    DESC = 0x1000,
+    AVAIL = 0x2000,
+    USED = 0x3000,
+    REQUEST = 0x4000,
+    REPLY = 0x5000
+};
+enum { MEMORY = 0x6000, WINDOWS = 8 };
 
 static _Alignas(4096) uint8_t memory[MEMORY]; /* the guest's, from its address 0 on */
 static struct pk_device device = PK_DEVICE;
@@ -27,21 +36,23 @@ static void gather(uint8_t *bytes, size_t from, size_t to) {
     struct pk_window w[WINDOWS];
     size_t count;
     while (from < to && (count = pk_request_windows(&chain, from, to - from, w, WINDOWS)) > 0)
-        for (size_t k = 0; k < count; from += w[k++].len) memcpy(bytes + from, (const void *)w[k].at, w[k].len);
+        for (size_t k = 0; k < count; from += w[k++].len)
+            memcpy(bytes + from, (const void *)w[k].at, w[k].len);
 }
 
 static void scatter(const uint8_t *front, size_t len) {
     struct pk_window w[WINDOWS];
     size_t count, from = 0;
     while (from < len && (count = pk_reply_windows(&chain, from, len - from, w, WINDOWS)) > 0)
-        for (size_t k = 0; k < count; from += w[k++].len) memcpy((void *)w[k].at, front + from, w[k].len);
+        for (size_t k = 0; k < count; from += w[k++].len)
+            memcpy((void *)w[k].at, front + from, w[k].len);
 }
 
 /* ------------------------------------------------------------- one chain */
 
-/* Each byte of the request is loaded once: its first, and then as many as the library needs. */
-static uint32_t ask(const struct pk_pop *step, struct pk_call *call) {
-    size_t have = 0, want = step->request_len < PK_FIRST ? (size_t)step->request_len : PK_FIRST;
+/* Loads each byte of the request once: first PK_FIRST of them, then as many as are needed. */
+static uint32_t decode(const struct pk_pop *pop, struct pk_call *call) {
+    size_t have = 0, want = pop->request_len < PK_FIRST ? (size_t)pop->request_len : PK_FIRST;
     for (;;) {
         gather(request, have, want);
         uint32_t s = pk_decode(&chain, &device, request, have = want, call);
@@ -50,31 +61,32 @@ static uint32_t ask(const struct pk_pop *step, struct pk_call *call) {
     }
 }
 
-/* The file system: each name is there. */
+/* The file system: it has each name that is asked for. */
 static uint32_t answer(const struct pk_call *call) {
     const uint8_t *name = request + call->name.at;
     struct pk_entry entry = {.node = 2, .attr = {.ino = 2, .mode = 0100644, .nlink = 1}};
-    if (call->answer == PK_ANSWER_NONE) return PK_DONE; // nobody waits; FORGET and BATCH_FORGET are made still
+    if (call->answer == PK_ANSWER_NONE) return PK_DONE; // FORGET and BATCH_FORGET: no reply
     switch (call->kind) {
-    case PK_CALL_LOOKUP: return pk_is_name(name, call->name.len) ? pk_reply_entry(&chain, call->ticket, &entry)
-                                                                 : pk_reply_err(&chain, call->ticket, EINVAL);
+    case PK_CALL_LOOKUP:
+        if (!pk_is_name(name, call->name.len)) return pk_reply_err(&chain, call->ticket, EINVAL);
+        return pk_reply_entry(&chain, call->ticket, &entry);
     case PK_CALL_INIT: return pk_reply_init(&chain, call->ticket, &device, 0);
     case PK_CALL_DESTROY: device.options = 0; return pk_reply_err(&chain, call->ticket, 0);
     default: return pk_reply_err(&chain, call->ticket, ENOSYS);
     }
 }
 
-static uint32_t serve_request(const struct pk_pop *step) {
+static uint32_t serve_request(const struct pk_pop *pop) {
     struct pk_call call;
-    uint32_t s = ask(step, &call);
+    uint32_t s = decode(pop, &call);
     if (s != PK_DONE) return s;
     s = answer(&call);
     return s == PK_DONE || s == PK_NO_ROOM ? PK_DONE : pk_reply_err(&chain, call.ticket, EIO);
 }
 
-/* The reply's front, the used element, and then the index, which the guest may see when all else is there. */
-static uint32_t give_back(bool *notify) {
-    uint8_t front[PK_FRONT_MAX], wanted;
+/* The reply's front, the used element, then the index, by which the driver finds the rest. */
+static uint32_t push(bool *notify) {
+    uint8_t front[PK_FRONT_MAX], now;
     struct pk_stores out;
     uint16_t seen;
     uint32_t s = pk_push(&chain, &queue, front, sizeof front, &out);
@@ -85,42 +97,46 @@ static uint32_t give_back(bool *notify) {
     atomic_store_explicit((_Atomic uint16_t *)out.index_at, out.index, memory_order_release);
     atomic_thread_fence(memory_order_seq_cst);
     load(&seen, out.seen_at, 2);
-    s = pk_pushed(&chain, &queue, seen, &wanted);
-    *notify = *notify || wanted;
+    s = pk_pushed(&chain, &queue, seen, &now);
+    *notify = *notify || now;
     return s;
 }
 
-/* PK_IDLE: no chain waits. Else why the queue isn't served any more, or not now. */
+/* PK_IDLE: no chain is available. Else the reason why the queue can't be served further. */
 static uint32_t serve(bool *notify) {
     uint8_t bytes[PK_LOAD_MAX];
     uint32_t s;
     for (;;) {
-        struct pk_pop step = {0}; // a walk begins without bytes
-        while ((s = pk_pop(&chain, &queue, bytes, step.load_len, &step)) == PK_LOAD) load(bytes, step.load_at, step.load_len);
+        struct pk_pop pop = {0}; // the first call of a pop has no bytes
+        while ((s = pk_pop(&chain, &queue, bytes, pop.load_len, &pop)) == PK_LOAD)
+            load(bytes, pop.load_at, pop.load_len);
         if (s != PK_DONE) return s;
-        if (step.fault == 0 && (s = serve_request(&step)) != PK_DONE) return s; // a faulty chain goes back without a reply
-        if ((s = give_back(notify)) != PK_DONE) return s;
+        if (pop.fault == 0 && (s = serve_request(&pop)) != PK_DONE) return s;
+        if ((s = push(notify)) != PK_DONE) return s; // a faulty chain: without a reply
     }
 }
 
-/* The driver is to kick: once at the beginning, since a device of before may have left a flag by which it doesn't, and before each sleep. Walk once more then. */
-static uint32_t want_kicks(void) {
+/* Enables notifications: once at the start, since an earlier device may have disabled them, and
+ * before each sleep. Pop once more after it. */
+static uint32_t enable_notification(void) {
     struct pk_store store;
     uint32_t s = pk_set_notification(&chain, &queue, 1, &store);
-    if (s == PK_DONE && store.len) atomic_store_explicit((_Atomic uint16_t *)store.at, store.value, memory_order_relaxed);
+    if (s == PK_DONE && store.len)
+        atomic_store_explicit((_Atomic uint16_t *)store.at, store.value, memory_order_relaxed);
     atomic_thread_fence(memory_order_seq_cst);
     return s;
 }
 
-/* ------------------------------------------------------------- a guest that stands still */
+/* ------------------------------------------------------------- a guest that doesn't run */
 
 static void put(size_t at, uint64_t value, size_t len) { memcpy(memory + at, &value, len); }
 
 static void offer_lookup(void) {
-    put(REQUEST, 45, 4), put(REQUEST + 4, 1, 4), put(REQUEST + 8, 77, 8), put(REQUEST + 16, 1, 8);
+    put(REQUEST, 45, 4), put(REQUEST + 4, 1, 4), put(REQUEST + 8, 77, 8),
+        put(REQUEST + 16, 1, 8);
     memcpy(memory + REQUEST + 40, "name", 5);
     put(DESC, REQUEST, 8), put(DESC + 8, 45, 4), put(DESC + 12, 1, 2), put(DESC + 14, 1, 2);
-    put(DESC + 16, ROOM, 8), put(DESC + 24, 144, 4), put(DESC + 28, 2, 2);
+    put(DESC + 16, REPLY, 8), put(DESC + 24, 144, 4), put(DESC + 28, 2, 2);
     put(AVAIL + 2, 1, 2);
 }
 
@@ -128,13 +144,15 @@ int main(void) {
     struct pk_region region = {.guest = 0, .len = MEMORY, .host = (uintptr_t)memory};
     bool notify = false;
     uint64_t node;
-    if (pk_version() != PK_VERSION || pk_queue_begin(&queue, 0) || pk_chain_set_memory(&chain, &device, &region, 1)) return 1;
-    put(USED, 1, 2); /* a device of before wanted no kicks */
-    if (want_kicks() || memory[USED]) return 1;
+    if (pk_version() != PK_VERSION || pk_queue_begin(&queue, 0)) return 1;
+    if (pk_chain_set_memory(&chain, &device, &region, 1)) return 1;
+    put(USED, 1, 2); /* an earlier device disabled notifications */
+    if (enable_notification() || memory[USED]) return 1;
     offer_lookup();
     uint32_t s = serve(&notify);
-    memcpy(&node, memory + ROOM + PK_HEADER, sizeof node);
-    printf("%s; the name is node %llu; notify: %u\n", pk_status_name(s), (unsigned long long)node, notify);
+    memcpy(&node, memory + REPLY + PK_HEADER, sizeof node);
+    printf("%s; the name is node %llu; notify: %u\n", pk_status_name(s),
+           (unsigned long long)node, notify);
     pk_chain_free(&chain);
     return s != PK_IDLE || node != 2 || !notify;
 }

@@ -1,7 +1,10 @@
-//! A guest for monitor.rs: a driver that draws a ring by hand (VIRTIO 1.2, 2.7), one chain at a time, and asks for files. It isn't here to be
-//! copied, and stands still while it is served: so its memory is a plain list of bytes, where a monitor has mapped memory, whose
-//! `load_u16` and `store_u16` are atomic.
-use pitskhomu::{Device, FileSystem, GuestMemory, GuestRange, Queue, QueueLayout, Region, Status, Worker};
+//! A guest for monitor.rs: a driver that draws a ring by hand (VIRTIO 1.2, 2.7), one chain at a
+//! time, and asks for files. It isn't here to be copied, and stands still while it is served: so
+//! its memory is a plain list of bytes, where a monitor has mapped memory, whose `load_u16` and
+//! `store_u16` are atomic.
+use pitskhomu::{
+    Device, FileSystem, GuestMemory, GuestRange, Queue, QueueLayout, Region, Status, Worker,
+};
 use std::cell::RefCell;
 
 const PAGE: usize = 4096;
@@ -75,10 +78,20 @@ pub struct Guest<F> {
 
 impl<F: FileSystem> Guest<F> {
     pub fn new(files: F) -> Guest<F> {
-        let memory = Memory { bytes: RefCell::new(vec![0; MEMORY]), written: RefCell::new([false; MEMORY / PAGE]) };
-        let layout = QueueLayout { size: SIZE, descriptors: DESC as u64, available: AVAIL as u64, used: USED as u64 };
+        let memory = Memory {
+            bytes: RefCell::new(vec![0; MEMORY]),
+            written: RefCell::new([false; MEMORY / PAGE]),
+        };
+        let layout = QueueLayout {
+            size: SIZE,
+            descriptors: DESC as u64,
+            available: AVAIL as u64,
+            used: USED as u64,
+        };
         let (device, mut worker) = (Device::default(), Worker::new());
-        worker.set_memory(&device, &[Region { guest: 0, len: MEMORY as u64, host: 0 }]).expect("one region is taken");
+        worker
+            .set_memory(&device, &[Region { guest: 0, len: MEMORY as u64, host: 0 }])
+            .expect("one region is taken");
         Guest { memory, offered: 0, worker, queue: Queue::new(layout, 0), device, files }
     }
 
@@ -96,7 +109,8 @@ impl<F: FileSystem> Guest<F> {
         self.memory.store(DESC + 16 * usize::from(index), &descriptor);
     }
 
-    /// Offers so many bytes at REQUEST with so much room at ROOM, and has them served: how long the reply is.
+    /// Offers so many bytes at REQUEST with so much room at ROOM, and has them served: how long the
+    /// reply is.
     fn offer(&mut self, len: u32, room: u32) -> u32 {
         let turn = usize::from(self.offered % SIZE);
         self.offered = self.offered.wrapping_add(1);
@@ -104,7 +118,8 @@ impl<F: FileSystem> Guest<F> {
         self.draw(1, ROOM, room, 2);
         self.memory.store_u16(AVAIL + 4 + 2 * turn, 0);
         self.memory.store_u16(AVAIL + 2, self.offered);
-        let mut serve = || self.worker.serve(&mut self.queue, &self.device, &self.files, &self.memory);
+        let mut serve =
+            || self.worker.serve(&mut self.queue, &self.device, &self.files, &self.memory);
         let served = serve().expect("the ring is good").expect("a chain waits");
         assert_eq!(serve(), Ok(None));
         assert!(served.notify);
@@ -135,10 +150,14 @@ impl<F: FileSystem> Guest<F> {
         data
     }
 
-    /// Device and queue go on from their record, as they would in another process that has the memory and the files.
+    /// Device and queue go on from their record, as they would in another process that has the
+    /// memory and the files.
     pub fn moves(&mut self) {
         let record = self.device.save(std::slice::from_ref(&self.queue)).expect("there is memory");
-        assert_eq!(self.device.restore(&record[..record.len() - 1]).err(), Some(Status::RecordTruncated));
+        assert_eq!(
+            self.device.restore(&record[..record.len() - 1]).err(),
+            Some(Status::RecordTruncated)
+        );
         self.queue = self.device.restore(&record).expect("it is a record").remove(0);
         println!("From a record of {} bytes the device goes on", record.len());
     }
@@ -156,7 +175,13 @@ impl<F: FileSystem> Guest<F> {
         self.asks("LOOKUP greeting", 1, 1, b"greeting\0", room);
         self.asks("CREATE greeting", 35, 1, &create, room);
         self.asks("CREATE greeting again", 35, 1, &create, room);
-        self.asks("WRITE", 16, 2, &[&longs(&[0, 0, 13, 0, 0]), &b"Good morning!"[..]].concat(), room);
+        self.asks(
+            "WRITE",
+            16,
+            2,
+            &[&longs(&[0, 0, 13, 0, 0]), &b"Good morning!"[..]].concat(),
+            room,
+        );
         self.asks("LOOKUP greeting", 1, 1, b"greeting\0", room);
         self.asks("GETATTR of the root", 3, 1, &longs(&[0, 0]), room);
         self.asks("READDIR", 28, 1, &read, room);
@@ -171,7 +196,10 @@ impl<F: FileSystem> Guest<F> {
     pub fn errs(&mut self) {
         self.asks("LOOKUP greeting, and a room that is too short", 1, 1, b"greeting\0", 100);
         self.asks("an opcode that nobody knows", 99, 1, b"", PAGE as u32);
-        println!("a request that ends outside the memory: {} bytes in all", self.offer(MEMORY as u32, PAGE as u32));
+        println!(
+            "a request that ends outside the memory: {} bytes in all",
+            self.offer(MEMORY as u32, PAGE as u32)
+        );
     }
 
     pub fn removes_it(&mut self) {

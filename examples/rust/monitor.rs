@@ -1,5 +1,6 @@
-//! A monitor over the crate `pitskhomu` with a file system in memory: what examples/c/monitor.c does, without a line of `unsafe`. Copy `Files`
-//! and put your own calls in the place of these; `guest.rs` plays the guest, and has the memory that a monitor would map.
+//! A monitor over the crate `pitskhomu` with a file system in memory: what examples/c/monitor.c
+//! does, without a line of `unsafe`. Copy `Files` and put your own calls in the place of these;
+//! `guest.rs` plays the guest, and has the memory that a monitor would map.
 #![forbid(unsafe_code)]
 mod guest;
 
@@ -17,7 +18,8 @@ const CONTENTS: u64 = 0x4000;
 const NAME_MOST: usize = 255;
 /// An opcode that no FUSE has, and this monitor serves.
 const CAPITALS: u32 = 0x1000;
-/// How long the headers of a request and a reply are (struct fuse_in_header, struct fuse_out_header).
+/// How long the headers of a request and a reply are (struct fuse_in_header, struct
+/// fuse_out_header).
 const IN_HEADER: u64 = 40;
 const OUT_HEADER: u64 = 16;
 
@@ -86,19 +88,27 @@ impl Files {
         file.map_or(Err(Errno::ENOENT), f)
     }
 
-    /// Does something with the file of a name; names are the guest's bytes, and here they are just compared.
+    /// Does something with the file of a name; names are the guest's bytes, and here they are just
+    /// compared.
     fn named<T>(&self, parent: Node, name: &CStr, f: impl FnOnce(&mut File) -> T) -> Answer<T> {
         let mut places = self.lock();
-        let mut found =
-            places.files.iter_mut().flatten().filter(|file| parent == Node::ROOT && file.name.as_deref() == Some(name));
+        let mut found = places
+            .files
+            .iter_mut()
+            .flatten()
+            .filter(|file| parent == Node::ROOT && file.name.as_deref() == Some(name));
         found.next().map(f).ok_or(Errno::ENOENT)
     }
 }
 
 impl FileSystem for Files {
-    /// A FUSE server of this monitor's own, for an opcode that the library doesn't serve: what was asked, in capitals.
+    /// A FUSE server of this monitor's own, for an opcode that the library doesn't serve: what was
+    /// asked, in capitals.
     fn reply_by_bytes(&self, exchange: &mut Exchange<'_>) -> Option<u64> {
-        let text_len = exchange.request_len().checked_sub(IN_HEADER).filter(|_| exchange.opcode() == CAPITALS)?;
+        let text_len = exchange
+            .request_len()
+            .checked_sub(IN_HEADER)
+            .filter(|_| exchange.opcode() == CAPITALS)?;
         let len = OUT_HEADER + text_len;
         if len > exchange.room_len() {
             return Some(0); // silence
@@ -129,16 +139,31 @@ impl FileSystem for Files {
         });
     }
 
-    fn getattr(&self, _context: &Context, node: Node, _handle: Option<Handle>) -> Answer<(Attributes, Duration)> {
+    fn getattr(
+        &self,
+        _context: &Context,
+        node: Node,
+        _handle: Option<Handle>,
+    ) -> Answer<(Attributes, Duration)> {
         if node == Node::ROOT {
-            let root =
-                Attributes { inode: 1, mode: S_IFDIR | 0o755, links: 2, block_size: 4096, ..Attributes::default() };
+            let root = Attributes {
+                inode: 1,
+                mode: S_IFDIR | 0o755,
+                links: 2,
+                block_size: 4096,
+                ..Attributes::default()
+            };
             return Ok((root, GOOD_FOR));
         }
         self.with(node, |file| Ok((file.attributes, GOOD_FOR)))
     }
 
-    fn setattr(&self, _context: &Context, node: Node, set: &SetAttributes) -> Answer<(Attributes, Duration)> {
+    fn setattr(
+        &self,
+        _context: &Context,
+        node: Node,
+        set: &SetAttributes,
+    ) -> Answer<(Attributes, Duration)> {
         self.with(node, |file| {
             set.size().map_or(Ok(()), |size| file.set_size(size))?;
             if let Some(mode) = set.mode() {
@@ -148,7 +173,12 @@ impl FileSystem for Files {
         })
     }
 
-    fn create(&self, context: &Context, name: Child<'_>, create: Create) -> Answer<(Entry, Opened)> {
+    fn create(
+        &self,
+        context: &Context,
+        name: Child<'_>,
+        create: Create,
+    ) -> Answer<(Entry, Opened)> {
         let mut places = self.lock();
         if name.parent != Node::ROOT {
             return Err(Errno::ENOTDIR);
@@ -172,7 +202,13 @@ impl FileSystem for Files {
             ..Attributes::default()
         };
         let contents = Vec::new();
-        let mut file = File { name: Some(name.name.into()), held: 0, generation: places.made, attributes, contents };
+        let mut file = File {
+            name: Some(name.name.into()),
+            held: 0,
+            generation: places.made,
+            attributes,
+            contents,
+        };
         let entry = file.entry();
         places.files[place] = Some(file);
         Ok((entry, Opened::default()))
@@ -190,7 +226,13 @@ impl FileSystem for Files {
         Ok(Opened::default())
     }
 
-    fn read(&self, _context: &Context, node: Node, read: Read, data: &mut ReadData<'_>) -> Answer<()> {
+    fn read(
+        &self,
+        _context: &Context,
+        node: Node,
+        read: Read,
+        data: &mut ReadData<'_>,
+    ) -> Answer<()> {
         self.with(node, |file| {
             let from = read.offset.min(file.attributes.size) as usize;
             data.put(&file.contents[from..]);
@@ -198,7 +240,13 @@ impl FileSystem for Files {
         })
     }
 
-    fn write(&self, _context: &Context, node: Node, write: Write, data: &mut WriteData<'_>) -> Answer<()> {
+    fn write(
+        &self,
+        _context: &Context,
+        node: Node,
+        write: Write,
+        data: &mut WriteData<'_>,
+    ) -> Answer<()> {
         self.with(node, |file| {
             let end = write.offset.checked_add(data.left()).ok_or(Errno::EFBIG)?;
             file.set_size(end.max(file.attributes.size))?;
@@ -207,13 +255,27 @@ impl FileSystem for Files {
         })
     }
 
-    fn readdir(&self, _context: &Context, _node: Node, read: ReadDirectory, list: &mut Listing<'_>) -> Answer<()> {
+    fn readdir(
+        &self,
+        _context: &Context,
+        _node: Node,
+        read: ReadDirectory,
+        list: &mut Listing<'_>,
+    ) -> Answer<()> {
         let name_of = |file: &Option<File>| file.as_ref().and_then(|file| file.name.clone());
         let names: Vec<_> = self.lock().files.iter().map(name_of).collect();
-        let named = (0..).zip(&names).skip(read.offset as usize).filter_map(|(k, name)| Some((k, name.as_ref()?)));
+        let named = (0..)
+            .zip(&names)
+            .skip(read.offset as usize)
+            .filter_map(|(k, name)| Some((k, name.as_ref()?)));
         for (k, name) in named {
             // With READDIRPLUS it looks the name up by itself.
-            if !list.add(DirectoryEntry { name, inode: k + 2, next_offset: k + 1, kind: FileKind::REGULAR })? {
+            if !list.add(DirectoryEntry {
+                name,
+                inode: k + 2,
+                next_offset: k + 1,
+                kind: FileKind::REGULAR,
+            })? {
                 break;
             }
         }

@@ -20,7 +20,10 @@ fn main() {
     let archive = match env::var_os("PITSKHOMU_ARCHIVE").map(PathBuf::from) {
         Some(path) if path.as_os_str().is_empty() => None,
         Some(path) if path.is_file() => Some(path),
-        Some(path) => refuse(&format!("there is no archive {}, which PITSKHOMU_ARCHIVE names", path.display())),
+        Some(path) => refuse(&format!(
+            "there is no archive {}, which PITSKHOMU_ARCHIVE names",
+            path.display()
+        )),
         None if env::var_os("DOCS_RS").is_some() => None,
         None => Some(of_repository()),
     };
@@ -65,8 +68,8 @@ fn of_repository() -> PathBuf {
         .max_by_key(|path| fs::metadata(path).and_then(|data| data.modified()).ok());
     newest.unwrap_or_else(|| {
         refuse(
-            "there is no archive to link: `./run --rust` at the top of the repository makes one in a minute, \
-             and PITSKHOMU_ARCHIVE names one that lies elsewhere",
+            "there is no archive to link: `./run --rust` at the top of the repository makes one \
+             in a minute, and PITSKHOMU_ARCHIVE names one that lies elsewhere",
         )
     })
 }
@@ -77,7 +80,9 @@ fn heap_beside(archive: &Path) -> Option<PathBuf> {
 
 fn heap_of_toolchain() -> Option<PathBuf> {
     let paths = env::var_os("PATH")?;
-    let command = env::split_paths(&paths).map(|folder| folder.join("rt")).find(|command| command.is_file())?;
+    let command = env::split_paths(&paths)
+        .map(|folder| folder.join("rt"))
+        .find(|command| command.is_file())?;
     let toolchain = fs::canonicalize(command).ok()?.parent()?.parent()?.to_path_buf();
     Some(toolchain.join("c").join(HEAP)).filter(|heap| heap.is_file())
 }

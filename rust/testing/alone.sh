@@ -1,4 +1,5 @@
-# The part of ./test that needs no guest: sourced by it. Drivers and front-ends are programs of this folder.
+# The part of ./test that needs no guest: sourced by it. Drivers and front-ends are programs of this
+# folder.
 
 # A directory to serve, with links that lead out of it, beside a file that nobody may reach.
 make_yard() {
@@ -25,11 +26,12 @@ make_yard() {
 
 # All that stands beside the directory.
 snapshot() {
-    find "$work/yard" -path "$work/yard/share" -prune -o -type f -printf '%P %m %s %T@ %U %G ' -exec cat {} \;
+    find "$work/yard" -path "$work/yard/share" -prune -o -type f -printf '%P %m %s %T@ %U %G ' \
+        -exec cat {} \;
 }
 
-# Runs a program of the tests over the daemon; what it prints is shown. THREADS of the environment is the daemon's --thread-pool-size; with
-# EVENT_INDEX=1 the driver takes VIRTIO_F_EVENT_IDX.
+# Runs a program of the tests over the daemon; what it prints is shown. THREADS of the environment
+# is the daemon's --thread-pool-size; with EVENT_INDEX=1 the driver takes VIRTIO_F_EVENT_IDX.
 try() {
     local program=$1 what=$2 status=0
     make_yard "$what"
@@ -39,8 +41,10 @@ try() {
     ) > "$work/$program-$what" 2> "$work/$program-$what.errors" || status=$?
     cat "$work/$program-$what"
     ! grep -a -E 'FAILED|panicked' "$work/$program-$what.errors" || failure "$program $what"
-    [ $status = 0 ] || failure "$program $what: it ended with $status: $(tail -n 3 "$work/$program-$what.errors")"
-    snapshot | cmp - "$work/yard.before" || failure "$program $what: a file outside the directory changed"
+    [ $status = 0 ] ||
+        failure "$program $what: it ended with $status: $(tail -n 3 "$work/$program-$what.errors")"
+    snapshot | cmp - "$work/yard.before" ||
+        failure "$program $what: a file outside the directory changed"
     ! mountpoint -q "$work/yard/share" || umount "$work/yard/share"
     echo "$program $what: done"
 }
@@ -49,7 +53,8 @@ try() {
 compile() {
     local name=$1 by_chance=$here/../examples/c/tests
     shift
-    gcc -std=c11 -pthread -O2 -Wall -Wextra -Werror -I"$by_chance" -o "$work/$name" "${@/#/$here/testing/}" "$by_chance/chance.c"
+    gcc -std=c11 -pthread -O2 -Wall -Wextra -Werror -I"$by_chance" -o "$work/$name" \
+        "${@/#/$here/testing/}" "$by_chance/chance.c"
 }
 
 alone() {
@@ -79,7 +84,8 @@ alone() {
     THREADS=4 try checks pool
     for threads in 0 4; do
         THREADS=$threads try checks held 20
-        grep -q 'queue 1: GET_VRING_BASE waits for chains in flight: .*opcode 14' "$work/checks-held.errors" ||
+        grep -q 'queue 1: GET_VRING_BASE waits for chains in flight: .*opcode 14' \
+            "$work/checks-held.errors" ||
             failure "held: the log doesn't say what is waited for"
     done
     THREADS=4 try checks two 5
@@ -95,7 +101,8 @@ alone() {
     THREADS=4 EVENT_INDEX=1 try hostile guest "$SECONDS_EACH"
     try hostile front-end "$SECONDS_EACH"
     try hostile cut 1
-    grep -q 'lent is gone (SIGBUS)' "$work/hostile-cut.errors" || failure "cut: the daemon doesn't say why it ended"
+    grep -q 'lent is gone (SIGBUS)' "$work/hostile-cut.errors" ||
+        failure "cut: the daemon doesn't say why it ended"
     try state "$SECONDS_EACH"
     try state full
     try state cut

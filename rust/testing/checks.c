@@ -1,5 +1,5 @@
-/* Checks of the daemon without a guest: checks DAEMON DIR WHAT [N]. DIR is made by alone.sh; beside it stands a file `secret`, which
- * no request may reach. */
+/* Checks of the daemon without a guest: checks DAEMON DIR WHAT [N]. DIR is made by alone.sh; beside
+ * it stands a file `secret`, which no request may reach. */
 #define _GNU_SOURCE
 #include "checks.h"
 #include <errno.h>
@@ -16,14 +16,22 @@
 #include <time.h>
 #include <unistd.h>
 
-enum { SET_LOG_BASE = 6, SET_VRING_ENABLE = 18, GET_CONFIG = 24, ADD_MEM_REG = 37, REM_MEM_REG = 38 };
+enum {
+    SET_LOG_BASE = 6,
+    SET_VRING_ENABLE = 18,
+    GET_CONFIG = 24,
+    ADD_MEM_REG = 37,
+    REM_MEM_REG = 38
+};
 
 struct front front;
 struct reply reply;
 _Atomic bool over;
 int failed;
 
-static const char *name_of(int error) { return error < 0 ? "no reply" : error > 0 ? strerror(error) : "done"; }
+static const char *name_of(int error) {
+    return error < 0 ? "no reply" : error > 0 ? strerror(error) : "done";
+}
 
 void expect(const char *what, int got, int wanted) {
     if (got == wanted) return;
@@ -41,7 +49,8 @@ void check(const char *what, bool holds) {
 
 static _Atomic uint64_t slept; /* how often the driver has */
 
-/* A driver that sleeps as soon as it may, beside a device that is as fast as it can be: so often, or until it is over. */
+/* A driver that sleeps as soon as it may, beside a device that is as fast as it can be: so often,
+ * or until it is over. */
 static void sleep_on(size_t ring, uint64_t wanted) {
     struct fuse_in_header head = {.len = 56, .opcode = FUSE_GETATTR, .unique = 1, .nodeid = ROOT};
     struct front_ring *r = &front.rings[ring];
@@ -58,9 +67,11 @@ static void sleep_on(size_t ring, uint64_t wanted) {
             front_offer(&front, ring, (uint16_t)(2 * r->offered % RING_SIZE));
         front_kick(&front, ring);
         for (volatile unsigned wait = seed >> 40 & 255; wait > 0;) wait = wait - 1;
-        if (!front_wait(&front, ring, 20000)) die("a notification is lost after %llu sleeps", (unsigned long long)slept);
+        if (!front_wait(&front, ring, 20000))
+            die("a notification is lost after %llu sleeps", (unsigned long long)slept);
     }
-    printf("%llu sleeps, %llu chains: none lost\n", (unsigned long long)slept, (unsigned long long)chains);
+    printf("%llu sleeps, %llu chains: none lost\n", (unsigned long long)slept,
+           (unsigned long long)chains);
 }
 
 static void *sleep_until_over(void *none) {
@@ -77,7 +88,8 @@ static void goes_on(const char *what) {
     }
 }
 
-/* The ring of such a driver stops and goes on, is disabled and enabled, and its memory is told anew, while the driver kicks. */
+/* The ring of such a driver stops and goes on, is disabled and enabled, and its memory is told
+ * anew, while the driver kicks. */
 static void pauses(unsigned rounds) {
     uint32_t enable[2] = {2, 0};
     pthread_t driver;
@@ -89,7 +101,8 @@ static void pauses(unsigned rounds) {
         front_start_ring(&front, 2, position);
         goes_on("a stop");
         for (enable[1] = 0; enable[1] < 2; enable[1]++) {
-            check("SET_VRING_ENABLE", front_tell(&front, SET_VRING_ENABLE, enable, sizeof enable, NULL, 0) == 0);
+            check("SET_VRING_ENABLE",
+                  front_tell(&front, SET_VRING_ENABLE, enable, sizeof enable, NULL, 0) == 0);
             usleep(k % 5 * 50);
         }
         goes_on("a disabling");
@@ -104,7 +117,9 @@ static void pauses(unsigned rounds) {
 
 /* ------------------------------------------------------------- the log of pages */
 
-static bool is_marked(const uint8_t *log, uint64_t guest) { return log[guest / 4096 / 8] >> guest / 4096 % 8 & 1; }
+static bool is_marked(const uint8_t *log, uint64_t guest) {
+    return log[guest / 4096 / 8] >> guest / 4096 % 8 & 1;
+}
 
 static void dirty_pages(void) {
     enum { LOG_LEN = 1 << 18 }; /* up to 8 GiB */
@@ -141,9 +156,12 @@ static void ask_root(size_t ring) {
 /* The last request once more, and no kick: whoever goes on with the ring may hear none. */
 static void offer_again(size_t ring) { front_offer(&front, ring, 0); }
 
-static bool is_served(size_t ring) { return atomic_load(index_at(&front, used_at(ring) + 2)) == front.rings[ring].offered; }
+static bool is_served(size_t ring) {
+    return atomic_load(index_at(&front, used_at(ring) + 2)) == front.rings[ring].offered;
+}
 
-/* A ring begins near the end of the positions, stops, goes on, and is disabled for a while. What was offered before is served first. */
+/* A ring begins near the end of the positions, stops, goes on, and is disabled for a while. What
+ * was offered before is served first. */
 static void rings(void) {
     enum { FIRST = 65530 };
     uint32_t enable[2] = {2, 0};
@@ -160,12 +178,14 @@ static void rings(void) {
     }
     front_start_ring(&front, 2, front.rings[2].offered);
     for (int k = 0; k < RING_SIZE / 2; k++) offer_again(2);
-    check("SET_VRING_ENABLE", front_tell(&front, SET_VRING_ENABLE, enable, sizeof enable, NULL, 0) == 0);
+    check("SET_VRING_ENABLE",
+          front_tell(&front, SET_VRING_ENABLE, enable, sizeof enable, NULL, 0) == 0);
     check("a ring that is disabled has served what was offered", is_served(2));
     front_send(&front, 2, FUSE_GETATTR, ROOT, &in, sizeof in, 16 + 104);
     check("a disabled ring stands still", !front_wait(&front, 2, 200));
     enable[1] = 1;
-    check("SET_VRING_ENABLE", front_tell(&front, SET_VRING_ENABLE, enable, sizeof enable, NULL, 0) == 0);
+    check("SET_VRING_ENABLE",
+          front_tell(&front, SET_VRING_ENABLE, enable, sizeof enable, NULL, 0) == 0);
     check("an enabled ring goes on", front_wait(&front, 2, 20000));
 }
 
@@ -206,9 +226,11 @@ static void memory_changes(unsigned rounds) {
     pthread_create(&asker, NULL, ask_on, &count);
     for (unsigned k = 0; k < rounds; k++) {
         check("ADD_MEM_REG", front_tell(&front, ADD_MEM_REG, &region, sizeof region, &fd, 1) == 0);
-        check("ADD_MEM_REG again", front_tell(&front, ADD_MEM_REG, &region, sizeof region, &fd, 1) == 1);
+        check("ADD_MEM_REG again",
+              front_tell(&front, ADD_MEM_REG, &region, sizeof region, &fd, 1) == 1);
         check("REM_MEM_REG", front_tell(&front, REM_MEM_REG, &region, sizeof region, NULL, 0) == 0);
-        check("REM_MEM_REG again", front_tell(&front, REM_MEM_REG, &region, sizeof region, NULL, 0) == 1);
+        check("REM_MEM_REG again",
+              front_tell(&front, REM_MEM_REG, &region, sizeof region, NULL, 0) == 1);
         if (k % 4 == 0) front_set_memory(&front);
     }
     over = true;
@@ -218,8 +240,8 @@ static void memory_changes(unsigned rounds) {
 
 /* ------------------------------------------------------------- two queues at once */
 
-/* A guest's thread on a queue of its own. Both ask for the same few files, and one begins sessions anew meanwhile,
- * so what the other holds may be gone at any time: then it hears so. */
+/* A guest's thread on a queue of its own. Both ask for the same few files, and one begins sessions
+ * anew meanwhile, so what the other holds may be gone at any time: then it hears so. */
 struct asker {
     size_t ring;
     uint64_t seed, node, file, asked;
@@ -235,7 +257,8 @@ static void ask_as(struct asker *a, uint32_t opcode, uint64_t node, const void *
     front_ask(&front, a->ring, opcode, node, body, len, &a->reply);
     int error = a->reply.error;
     /* EAGAIN is openat2's, of a look-up beside renames. */
-    if (error && error != ENOENT && error != EBADF && error != EEXIST && error != EAGAIN) expect("one of two queues", error, 0);
+    if (error && error != ENOENT && error != EBADF && error != EEXIST && error != EAGAIN)
+        expect("one of two queues", error, 0);
     a->asked++;
 }
 
@@ -269,12 +292,15 @@ static void ask_one(struct asker *a) {
     } mknod_in = {{.mode = S_IFREG | 0600}, "gone"};
     switch (next_number(a) % 12) {
     case 0: ask_as(a, FUSE_RELEASE, a->node, &release_in, sizeof release_in); break;
-    case 1: front_send(&front, a->ring, FUSE_FORGET, a->node, &forget_in, sizeof forget_in, 0); break;
+    case 1:
+        front_send(&front, a->ring, FUSE_FORGET, a->node, &forget_in, sizeof forget_in, 0);
+        break;
     case 2: ask_as(a, FUSE_GETATTR, a->node, &getattr_in, sizeof getattr_in); break;
     case 3: ask_as(a, FUSE_UNLINK, ROOT, "gone", 5); break;
     case 4: ask_as(a, FUSE_MKNOD, ROOT, &mknod_in, sizeof mknod_in); break;
     case 5:
-        if (a->ring == 1 && next_number(a) % 16 == 0) ask_as(a, FUSE_INIT, 0, &init_in, sizeof init_in);
+        if (a->ring == 1 && next_number(a) % 16 == 0)
+            ask_as(a, FUSE_INIT, 0, &init_in, sizeof init_in);
         break;
     case 6:
     case 7: open_one(a); break;
@@ -292,7 +318,8 @@ static void *ask_all(void *at) {
 }
 
 static void two_queues(unsigned seconds) {
-    static struct asker askers[2] = {{.ring = 1, .seed = 1, .node = ROOT}, {.ring = 2, .seed = 2, .node = ROOT}};
+    static struct asker askers[2] = {{.ring = 1, .seed = 1, .node = ROOT},
+                                     {.ring = 2, .seed = 2, .node = ROOT}};
     pthread_t threads[2];
     front_start_ring(&front, 2, 0);
     for (int k = 0; k < 2; k++) pthread_create(&threads[k], NULL, ask_all, &askers[k]);
@@ -305,7 +332,8 @@ static void two_queues(unsigned seconds) {
 
 /* ------------------------------------------------------------- a slow file */
 
-/* OPEN of a file on which somebody has a lease waits for the lease, 45 seconds at most. Answers the file that has it. */
+/* OPEN of a file on which somebody has a lease waits for the lease, 45 seconds at most. Answers the
+ * file that has it. */
 int lease_slow(const char *dir) {
     char path[200];
     snprintf(path, sizeof path, "%s/slow", dir);
@@ -330,15 +358,18 @@ static void slow_file(const char *dir) {
         front_ask(&front, 2, FUSE_GETATTR, ROOT, &in, sizeof in, &reply);
         expect("GETATTR beside a slow file", reply.error, 0);
     }
-    if (atomic_load(index_at(&front, used_at(1) + 2)) == front.rings[1].offered) die("the file isn't slow");
+    if (atomic_load(index_at(&front, used_at(1) + 2)) == front.rings[1].offered)
+        die("the file isn't slow");
     close(fd);
     if (!front_wait(&front, 1, 20000)) die("the slow file isn't opened");
     printf("a slow file: %u chains of another queue meanwhile\n", asked);
 }
 
 /* With a request and a room of its own. */
-void send_apart(size_t ring, unsigned k, uint32_t opcode, uint64_t node, const void *body, uint32_t len, uint32_t room) {
-    struct fuse_in_header head = {.len = (uint32_t)sizeof head + len, .opcode = opcode, .unique = k + 1, .nodeid = node};
+void send_apart(size_t ring, unsigned k, uint32_t opcode, uint64_t node, const void *body,
+                uint32_t len, uint32_t room) {
+    struct fuse_in_header head = {
+        .len = (uint32_t)sizeof head + len, .opcode = opcode, .unique = k + 1, .nodeid = node};
     uint64_t at = request_at(ring) + 0x1000 * k, table = desc_at(ring);
     memcpy(front_at(&front, at), &head, sizeof head);
     memcpy(front_at(&front, at) + sizeof head, body, len);
@@ -363,7 +394,8 @@ static void *close_later(void *fd) {
     return NULL;
 }
 
-/* Threads of one queue: while one has a slow file, others go on, and their chains come back before. The ring stops when all are back. */
+/* Threads of one queue: while one has a slow file, others go on, and their chains come back before.
+ * The ring stops when all are back. */
 static void pool(const char *dir) {
     struct fuse_getattr_in in = {0};
     struct fuse_open_in open_in = {.flags = O_RDONLY};
@@ -374,7 +406,8 @@ static void pool(const char *dir) {
     send_apart(1, 1, FUSE_OPEN, node, &open_in, sizeof open_in, 16 + 16);
     for (; asked < 1000; asked++) {
         send_apart(1, 2 + asked % 8, FUSE_GETATTR, ROOT, &in, sizeof in, 16 + 104);
-        if (!came_back((uint16_t)(before + asked + 1))) die("GETATTR waits for a slow file of its queue");
+        if (!came_back((uint16_t)(before + asked + 1)))
+            die("GETATTR waits for a slow file of its queue");
     }
     pthread_create(&closer, NULL, close_later, &fd);
     check("the position", front_stop_ring(&front, 1) == (uint16_t)(before + asked + 1));
@@ -382,16 +415,19 @@ static void pool(const char *dir) {
     pthread_join(closer, NULL);
     const uint8_t *element = front_at(&front, used_at(1)) + 4 + 8 * ((before + asked) % RING_SIZE);
     check("the slow one is the last", element[0] == 4);
-    printf("a slow file: %u chains of the same queue meanwhile, and the ring stops behind it\n", asked);
+    printf("a slow file: %u chains of the same queue meanwhile, and the ring stops behind it\n",
+           asked);
     front.rings[1].seen = front.rings[1].offered;
 }
 
 /* ------------------------------------------------------------- a group besides the caller's own */
 
-/* FUSE_CREATE_SUPP_GROUP in `flags2`, FUSE_EXT_GROUPS, and struct fuse_supp_groups: newer than some headers. */
+/* FUSE_CREATE_SUPP_GROUP in `flags2`, FUSE_EXT_GROUPS, and struct fuse_supp_groups: newer than some
+ * headers. */
 enum { CREATE_SUPP_GROUP = 1 << 2, EXT_GROUPS = 32, OTHER_USER = 1000, GROUP_OF_SHARED = 4242 };
 
-/* A MKDIR of a name of 7 letters by another user, whose request tells a group behind the name, or none; its errno. */
+/* A MKDIR of a name of 7 letters by another user, whose request tells a group behind the name, or
+ * none; its errno. */
 static int mkdir_with(uint64_t parent, const char *name, uint32_t group) {
     struct {
         struct fuse_in_header head;
@@ -399,7 +435,10 @@ static int mkdir_with(uint64_t parent, const char *name, uint32_t group) {
         char name[8];
         struct fuse_ext_header ext;
         uint32_t group_count, group;
-    } request = {.in = {.mode = 0755}, .ext = {.size = 16, .type = EXT_GROUPS}, .group_count = 1, .group = group};
+    } request = {.in = {.mode = 0755},
+                 .ext = {.size = 16, .type = EXT_GROUPS},
+                 .group_count = 1,
+                 .group = group};
     size_t len = group ? sizeof request : sizeof request - 16;
     request.head = (struct fuse_in_header){.len = (uint32_t)len,
                                            .opcode = FUSE_MKDIR,
@@ -422,7 +461,11 @@ static int mkdir_with(uint64_t parent, const char *name, uint32_t group) {
 
 /* A directory that its group alone may write to. */
 static void groups(const char *dir) {
-    struct fuse_init_in in = {.major = 7, .minor = 38, .max_readahead = 1 << 17, .flags = ~0u, .flags2 = CREATE_SUPP_GROUP};
+    struct fuse_init_in in = {.major = 7,
+                              .minor = 38,
+                              .max_readahead = 1 << 17,
+                              .flags = ~0u,
+                              .flags2 = CREATE_SUPP_GROUP};
     struct stat made;
     char path[4096];
     front_ask(&front, 1, FUSE_INIT, 0, &in, sizeof in, &reply);
@@ -433,7 +476,8 @@ static void groups(const char *dir) {
     expect("MKDIR with the group", mkdir_with(shared, "allowed", GROUP_OF_SHARED), 0);
     expect("MKDIR without a group again", mkdir_with(shared, "without", 0), EACCES);
     snprintf(path, sizeof path, "%s/shared/allowed", dir);
-    check("the directory is the user's", !stat(path, &made) && made.st_uid == OTHER_USER && made.st_gid == OTHER_USER);
+    check("the directory is the user's",
+          !stat(path, &made) && made.st_uid == OTHER_USER && made.st_gid == OTHER_USER);
 }
 
 static void run(const char *what, const char *dir, unsigned count) {
@@ -473,8 +517,10 @@ static void run(const char *what, const char *dir, unsigned count) {
 
 /* Options of the daemon, for what wants some. */
 static const char *const *options_for(const char *what) {
-    static const char *const only_read[] = {"--readonly", NULL}, *const tagged[] = {"--tag", "shared", NULL};
-    /* Where the daemon isn't the first process of a namespace, a signal that nobody thought of ends it. */
+    static const char *const only_read[] = {"--readonly", NULL}, *const tagged[] = {"--tag",
+                                                                                    "shared", NULL};
+    /* Where the daemon isn't the first process of a namespace, a signal that nobody thought of ends
+     * it. */
     static const char *const chroot[] = {"--sandbox", "chroot", NULL};
     if (!strcmp(what, "readonly")) return only_read;
     if (!strcmp(what, "wild")) return chroot;
@@ -482,7 +528,10 @@ static const char *const *options_for(const char *what) {
 }
 
 int main(int argc, char **argv) {
-    if (argc < 4) die("usage: checks DAEMON DIR escape|readonly|sleeps|pauses|log|rings|config|memory|two|slow|pool|held|groups|platform|wild [N]");
+    if (argc < 4)
+        die("usage: checks DAEMON DIR "
+            "escape|readonly|sleeps|pauses|log|rings|config|memory|two|slow|pool|held|groups|"
+            "platform|wild [N]");
     const char *what = argv[3], *dir = argv[2];
     front_begin(&front, argv[1], dir, options_for(what));
     if (!strcmp(what, "log")) front.features |= 1ull << 26;

@@ -1,4 +1,5 @@
-/* What the checks share: the front-end that asks, its last reply, and whether something came out otherwise. */
+/* What the checks share: the front-end that asks, its last reply, and whether something came out
+ * otherwise. */
 #ifndef CHECKS_H
 #define CHECKS_H
 #include "front.h"
@@ -14,19 +15,23 @@ extern int failed;
 void expect(const char *what, int got, int wanted);
 void check(const char *what, bool holds);
 
-/* OPEN of the file `slow` takes long from now on, 45 seconds at most: until the descriptor is closed. */
+/* OPEN of the file `slow` takes long from now on, 45 seconds at most: until the descriptor is
+ * closed. */
 int lease_slow(const char *dir);
 
 /* Offers a request whose head is descriptor 4 * k of a ring, and kicks. */
-void send_apart(size_t ring, unsigned k, uint32_t opcode, uint64_t node, const void *body, uint32_t len, uint32_t room);
+void send_apart(size_t ring, unsigned k, uint32_t opcode, uint64_t node, const void *body,
+                uint32_t len, uint32_t room);
 
-/* In held.c: one request takes so many seconds, and each message and each other request is answered at once. */
+/* In held.c: one request takes so many seconds, and each message and each other request is answered
+ * at once. */
 void held(const char *dir, unsigned seconds);
 
 /* In platform.c: a guest whose device accesses memory as the platform says; the daemon ends. */
 _Noreturn void platform(void);
 
-/* In escape.c: nothing outside the directory can be reached; nothing of one that mayn't be changed is. */
+/* In escape.c: nothing outside the directory can be reached; nothing of one that mayn't be changed
+ * is. */
 void escape(const char *dir);
 void readonly(void);
 

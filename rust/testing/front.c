@@ -32,7 +32,13 @@ enum {
     SET_PROTOCOL_FEATURES = 16,
     SET_VRING_ENABLE = 18
 };
-enum { MEMORY_LEN = 2 * REGION_LEN + QUIET_LEN, NEED_REPLY = 8, VERSION = 1, NO_INTERRUPT = 1, NO_NOTIFY = 1 };
+enum {
+    MEMORY_LEN = 2 * REGION_LEN + QUIET_LEN,
+    NEED_REPLY = 8,
+    VERSION = 1,
+    NO_INTERRUPT = 1,
+    NO_NOTIFY = 1
+};
 
 struct head {
     uint32_t request, flags, size;
@@ -72,13 +78,14 @@ _Atomic uint16_t *index_at(const struct front *front, uint64_t guest) {
 
 /* ------------------------------------------------------------- messages */
 
-static void send_message(struct front *front, const struct head *head, const void *body, const int *fds,
-                         size_t fd_count) {
+static void send_message(struct front *front, const struct head *head, const void *body,
+                         const int *fds, size_t fd_count) {
     union {
         struct cmsghdr align;
         char bytes[CMSG_SPACE(sizeof(int) * 8)];
     } control = {.bytes = {0}};
-    struct iovec parts[2] = {{(void *)(uintptr_t)head, sizeof *head}, {(void *)(uintptr_t)body, head->size}};
+    struct iovec parts[2] = {{(void *)(uintptr_t)head, sizeof *head},
+                             {(void *)(uintptr_t)body, head->size}};
     struct msghdr message = {.msg_iov = parts, .msg_iovlen = 2};
     if (fd_count > 0) {
         message.msg_control = control.bytes;
@@ -89,7 +96,8 @@ static void send_message(struct front *front, const struct head *head, const voi
         c->cmsg_len = CMSG_LEN(sizeof(int) * fd_count);
         memcpy(CMSG_DATA(c), fds, sizeof(int) * fd_count);
     }
-    if (sendmsg(front->connection, &message, MSG_NOSIGNAL) < 0) die("message %u: %s", head->request, strerror(errno));
+    if (sendmsg(front->connection, &message, MSG_NOSIGNAL) < 0)
+        die("message %u: %s", head->request, strerror(errno));
 }
 
 static void receive_reply(struct front *front, uint32_t request, void *body, uint32_t len) {
@@ -99,14 +107,16 @@ static void receive_reply(struct front *front, uint32_t request, void *body, uin
     /* SET_LOG_BASE may be answered by its own words. */
     uint64_t own[2] = {0};
     bool is_log = request == SET_LOG_BASE && head.size == sizeof own;
-    if (head.request != request || (head.size != len && !is_log)) die("message %u has another answer", request);
-    if (recv(front->connection, is_log ? (void *)own : body, head.size, MSG_WAITALL) != (ssize_t)head.size)
+    if (head.request != request || (head.size != len && !is_log))
+        die("message %u has another answer", request);
+    if (recv(front->connection, is_log ? (void *)own : body, head.size, MSG_WAITALL) !=
+        (ssize_t)head.size)
         die("message %u: its answer is short", request);
     if (is_log) memset(body, 0, len);
 }
 
-uint64_t front_tell(struct front *front, uint32_t request, const void *body, uint32_t len, const int *fds,
-                    size_t fd_count) {
+uint64_t front_tell(struct front *front, uint32_t request, const void *body, uint32_t len,
+                    const int *fds, size_t fd_count) {
     struct head head = {request, VERSION | NEED_REPLY, len};
     uint64_t word;
     send_message(front, &head, body, fds, fd_count);
@@ -133,8 +143,8 @@ uint64_t front_number(struct front *front, uint32_t request) {
     return word;
 }
 
-static void must_tell(struct front *front, uint32_t request, const void *body, uint32_t len, const int *fds,
-                      size_t fd_count) {
+static void must_tell(struct front *front, uint32_t request, const void *body, uint32_t len,
+                      const int *fds, size_t fd_count) {
     if (front_tell(front, request, body, len, fds, fd_count)) die("message %u is refused", request);
 }
 
@@ -154,8 +164,10 @@ void front_set_memory(struct front *front) {
 
 /* Asks before it tells, as QEMU does: some back-ends answer nothing else before. */
 void front_set_up(struct front *front) {
-    uint64_t protocol = 1ull << 0 | 1ull << 1 | 1ull << 3 | 1ull << 5 | 1ull << 9 | 1ull << 13 | 1ull << 15 | 1ull << 19;
-    if ((front_number(front, GET_FEATURES) & front->features) != front->features) die("features are wanting");
+    uint64_t protocol = 1ull << 0 | 1ull << 1 | 1ull << 3 | 1ull << 5 | 1ull << 9 | 1ull << 13 |
+                        1ull << 15 | 1ull << 19;
+    if ((front_number(front, GET_FEATURES) & front->features) != front->features)
+        die("features are wanting");
     protocol &= front_number(front, GET_PROTOCOL_FEATURES);
     must_tell(front, SET_PROTOCOL_FEATURES, &protocol, sizeof protocol, NULL, 0);
     must_tell(front, SET_FEATURES, &front->features, sizeof front->features, NULL, 0);
@@ -170,7 +182,8 @@ void front_start_ring(struct front *front, size_t ring, uint16_t position) {
     struct {
         uint32_t index, flags;
         uint64_t desc, used, avail, log;
-    } address = {number, 0, user + desc_at(ring), user + used_at(ring), user + avail_at(ring), used_at(ring)};
+    } address = {number,       0, user + desc_at(ring), user + used_at(ring), user + avail_at(ring),
+                 used_at(ring)};
     r->told = position;
     must_tell(front, SET_VRING_NUM, size, sizeof size, NULL, 0);
     must_tell(front, SET_VRING_BASE, base, sizeof base, NULL, 0);
@@ -192,10 +205,20 @@ uint16_t front_stop_ring(struct front *front, size_t ring) {
 void front_connect(struct front *front) {
     enum { OPTIONS = 11, MOST = 16 };
     const char *threads = getenv("THREADS");
-    const char *argv[MOST] = {front->server, "--socket-path", front->socket, "--shared-dir", front->dir, "--num-request-queues", "2",
-                              "--xattr", "--log-level=warn", "--thread-pool-size", threads ? threads : "0"};
+    const char *argv[MOST] = {front->server,
+                              "--socket-path",
+                              front->socket,
+                              "--shared-dir",
+                              front->dir,
+                              "--num-request-queues",
+                              "2",
+                              "--xattr",
+                              "--log-level=warn",
+                              "--thread-pool-size",
+                              threads ? threads : "0"};
     struct sockaddr_un address = {.sun_family = AF_UNIX};
-    for (size_t k = 0; front->options && front->options[k]; k++) argv[OPTIONS + k] = front->options[k];
+    for (size_t k = 0; front->options && front->options[k]; k++)
+        argv[OPTIONS + k] = front->options[k];
     front->pid = fork();
     if (front->pid == 0) {
         setsid(); /* by its session its children are known */
@@ -204,17 +227,20 @@ void front_connect(struct front *front) {
     }
     memcpy(address.sun_path, front->socket, strlen(front->socket));
     front->connection = socket(AF_UNIX, SOCK_STREAM | SOCK_CLOEXEC, 0);
-    for (int tries = 0; connect(front->connection, (struct sockaddr *)&address, sizeof address); tries++) {
+    for (int tries = 0; connect(front->connection, (struct sockaddr *)&address, sizeof address);
+         tries++) {
         if (tries == 2000) die("the back-end doesn't come up");
         usleep(5000);
     }
 }
 
-void front_begin(struct front *front, const char *server, const char *dir, const char *const *options) {
+void front_begin(struct front *front, const char *server, const char *dir,
+                 const char *const *options) {
     *front = (struct front){.server = server, .dir = dir, .options = options};
     const char *event_index = getenv("EVENT_INDEX");
     front->has_event_index = event_index && !strcmp(event_index, "1");
-    front->features = 1ull << 32 | 1ull << 30 | 1ull << 28 | (front->has_event_index ? 1ull << 29 : 0);
+    front->features =
+        1ull << 32 | 1ull << 30 | 1ull << 28 | (front->has_event_index ? 1ull << 29 : 0);
     const char *folder = getenv("TMPDIR");
     snprintf(front->folder, sizeof front->folder, "%s/front_XXXXXX", folder ? folder : "/tmp");
     if (!mkdtemp(front->folder)) die("no folder for the socket");
@@ -232,7 +258,8 @@ void front_begin(struct front *front, const char *server, const char *dir, const
     front_connect(front);
 }
 
-/* Processor time of a process, if it is of a session: 14 and 15 of proc_pid_stat(5) in ticks, behind a name in brackets. */
+/* Processor time of a process, if it is of a session: 14 and 15 of proc_pid_stat(5) in ticks,
+ * behind a name in brackets. */
 static unsigned long ticks_of(const char *process, pid_t wanted) {
     char path[300], line[1024] = "";
     int session = 0;
@@ -242,7 +269,9 @@ static unsigned long ticks_of(const char *process, pid_t wanted) {
     if (!file) return 0; /* it has ended */
     const char *rest = fgets(line, sizeof line, file) ? strrchr(line, ')') : NULL;
     fclose(file);
-    if (!rest || sscanf(rest, ") %*c %*d %*d %d %*d %*d %*u %*u %*u %*u %*u %lu %lu", &session, &user, &system) != 3) return 0;
+    if (!rest || sscanf(rest, ") %*c %*d %*d %d %*d %*d %*u %*u %*u %*u %*u %lu %lu", &session,
+                        &user, &system) != 3)
+        return 0;
     return session == wanted ? user + system : 0;
 }
 
@@ -251,7 +280,8 @@ double front_processor(const struct front *front) {
     DIR *processes = opendir("/proc");
     if (!processes) die("no /proc");
     for (struct dirent *entry; (entry = readdir(processes));)
-        if (entry->d_name[0] >= '1' && entry->d_name[0] <= '9') ticks += ticks_of(entry->d_name, front->pid);
+        if (entry->d_name[0] >= '1' && entry->d_name[0] <= '9')
+            ticks += ticks_of(entry->d_name, front->pid);
     closedir(processes);
     return (double)ticks * 1e3 / (double)sysconf(_SC_CLK_TCK);
 }
@@ -259,7 +289,8 @@ double front_processor(const struct front *front) {
 void front_leave(struct front *front) {
     int status;
     close(front->connection);
-    if (waitpid(front->pid, &status, 0) != front->pid || !WIFEXITED(status) || WEXITSTATUS(status) != 0)
+    if (waitpid(front->pid, &status, 0) != front->pid || !WIFEXITED(status) ||
+        WEXITSTATUS(status) != 0)
         die("the back-end ended with %#x", (unsigned)status);
     unlink(front->socket);
     rmdir(front->folder);
@@ -267,8 +298,8 @@ void front_leave(struct front *front) {
 
 /* ------------------------------------------------------------- the driver */
 
-void put_descriptor(const struct front *front, uint64_t table, unsigned k, uint64_t addr, uint32_t len, unsigned flags,
-                    unsigned next) {
+void put_descriptor(const struct front *front, uint64_t table, unsigned k, uint64_t addr,
+                    uint32_t len, unsigned flags, unsigned next) {
     struct {
         uint64_t addr;
         uint32_t len;
@@ -285,16 +316,22 @@ void front_offer(struct front *front, size_t ring, uint16_t head) {
     atomic_store_explicit(index_at(front, avail_at(ring) + 2), r->offered, memory_order_release);
 }
 
-/* Whether `wanted`, an index that the other side has named, is one of those from `from` on and before `to`. */
-static bool is_passed(uint16_t wanted, uint16_t from, uint16_t to) { return (uint16_t)(to - wanted - 1) < (uint16_t)(to - from); }
+/* Whether `wanted`, an index that the other side has named, is one of those from `from` on and
+ * before `to`. */
+static bool is_passed(uint16_t wanted, uint16_t from, uint16_t to) {
+    return (uint16_t)(to - wanted - 1) < (uint16_t)(to - from);
+}
 
 /* Whether the device wants to be told of the chains that were offered since it was told last. */
 static bool wants_kick(struct front *front, size_t ring) {
     struct front_ring *r = &front->rings[ring];
     uint16_t told = r->told;
     r->told = r->offered;
-    if (!front->has_event_index) return !(atomic_load_explicit(index_at(front, used_at(ring)), memory_order_relaxed) & NO_NOTIFY);
-    uint16_t avail_event = atomic_load_explicit(index_at(front, used_at(ring) + 4 + 8 * RING_SIZE), memory_order_relaxed);
+    if (!front->has_event_index)
+        return !(atomic_load_explicit(index_at(front, used_at(ring)), memory_order_relaxed) &
+                 NO_NOTIFY);
+    uint16_t avail_event = atomic_load_explicit(index_at(front, used_at(ring) + 4 + 8 * RING_SIZE),
+                                                memory_order_relaxed);
     return is_passed(avail_event, told, r->offered);
 }
 
@@ -312,12 +349,16 @@ static bool is_back(struct front *front, size_t ring) {
     return r->seen == r->offered;
 }
 
-/* Wants to be called: at the next chain that comes back, or not. Behind it the driver looks again. */
+/* Wants to be called: at the next chain that comes back, or not. Behind it the driver looks
+ * again. */
 static void want_call(struct front *front, size_t ring, bool wanted) {
     uint64_t avail = avail_at(ring);
     if (front->has_event_index && wanted)
-        atomic_store_explicit(index_at(front, avail + 4 + 2 * RING_SIZE), front->rings[ring].seen, memory_order_relaxed);
-    if (!front->has_event_index) atomic_store_explicit(index_at(front, avail), wanted ? 0 : NO_INTERRUPT, memory_order_relaxed);
+        atomic_store_explicit(index_at(front, avail + 4 + 2 * RING_SIZE), front->rings[ring].seen,
+                              memory_order_relaxed);
+    if (!front->has_event_index)
+        atomic_store_explicit(index_at(front, avail), wanted ? 0 : NO_INTERRUPT,
+                              memory_order_relaxed);
     if (wanted) atomic_thread_fence(memory_order_seq_cst);
 }
 
@@ -332,7 +373,8 @@ bool front_wait(struct front *front, size_t ring, int milliseconds) {
         want_call(front, ring, true);
         if (is_back(front, ring)) return true;
         if (r->seen != seen) continue; /* the device may have named this one before it was wanted */
-        if (poll(&event, 1, milliseconds) <= 0) return false; /* whether or not all is back: nobody said so */
+        /* whether or not all is back: nobody said so */
+        if (poll(&event, 1, milliseconds) <= 0) return false;
         if (read(event.fd, &word, sizeof word) > 0)
             r->calls += word;
         else if (errno != EAGAIN)
@@ -341,16 +383,19 @@ bool front_wait(struct front *front, size_t ring, int milliseconds) {
 }
 
 /* Header and body apart, and a room of 16 bytes and pages, as Linux has them. */
-void front_send(struct front *front, size_t ring, uint32_t opcode, uint64_t node, const void *body, size_t len,
-                size_t room) {
-    struct fuse_in_header head = {
-        .len = (uint32_t)(sizeof head + len), .opcode = opcode, .unique = ++front->rings[ring].unique, .nodeid = node};
+void front_send(struct front *front, size_t ring, uint32_t opcode, uint64_t node, const void *body,
+                size_t len, size_t room) {
+    struct fuse_in_header head = {.len = (uint32_t)(sizeof head + len),
+                                  .opcode = opcode,
+                                  .unique = ++front->rings[ring].unique,
+                                  .nodeid = node};
     uint64_t table = desc_at(ring), at = request_at(ring), to = room_at(ring);
     unsigned k = 0;
     memcpy(front_at(front, at), &head, sizeof head);
     if (len > 0) memcpy(front_at(front, at) + sizeof head, body, len);
     put_descriptor(front, table, k, at, sizeof head, len || room ? 1 : 0, k + 1);
-    if (len > 0) k++, put_descriptor(front, table, k, at + sizeof head, (uint32_t)len, room ? 1 : 0, k + 1);
+    if (len > 0)
+        k++, put_descriptor(front, table, k, at + sizeof head, (uint32_t)len, room ? 1 : 0, k + 1);
     for (size_t done = 0; done < room;) {
         size_t part = done == 0 ? 16 : 4096, left = room - done;
         part = part < left ? part : left;
@@ -364,7 +409,8 @@ void front_send(struct front *front, size_t ring, uint32_t opcode, uint64_t node
 
 void front_read(struct front *front, size_t ring, struct reply *reply) {
     struct fuse_out_header out;
-    const uint8_t *element = front_at(front, used_at(ring)) + 4 + 8 * ((front->rings[ring].offered - 1u) % RING_SIZE);
+    const uint8_t *element =
+        front_at(front, used_at(ring)) + 4 + 8 * ((front->rings[ring].offered - 1u) % RING_SIZE);
     uint64_t from = room_at(ring) + 0x1000;
     uint32_t len;
     memcpy(&len, element + 4, sizeof len);
@@ -380,8 +426,8 @@ void front_read(struct front *front, size_t ring, struct reply *reply) {
     }
 }
 
-void front_ask(struct front *front, size_t ring, uint32_t opcode, uint64_t node, const void *body, size_t len,
-               struct reply *reply) {
+void front_ask(struct front *front, size_t ring, uint32_t opcode, uint64_t node, const void *body,
+               size_t len, struct reply *reply) {
     front_send(front, ring, opcode, node, body, len, 16 + sizeof reply->data);
     if (!front_wait(front, ring, 20000)) die("opcode %u isn't answered", opcode);
     front_read(front, ring, reply);

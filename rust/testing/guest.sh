@@ -8,7 +8,8 @@ take_guest() {
         make_apt
         theirs apt-get update > "$work/apt" 2>&1
         packages=$(needed . qemu-system-x86 virtiofsd busybox-static)
-        kernel=$(theirs apt-cache depends linux-image-cloud-amd64 | sed -n 's/^ *Depends: //p' | head -n 1)
+        kernel=$(theirs apt-cache depends linux-image-cloud-amd64 | sed -n 's/^ *Depends: //p' |
+            head -n 1)
         # shellcheck disable=SC2086
         unpack guest "$root" $packages "$kernel" >> "$work/apt" 2>&1
         cp "$root"/boot/vmlinuz-* "$work/vmlinuz"
@@ -30,8 +31,10 @@ take_virtiofsd() {
 other() {
     local program=$1
     shift
-    QEMU_MODULE_DIR=$root/usr/lib/x86_64-linux-gnu/qemu exec "$root/usr/lib64/ld-linux-x86-64.so.2" \
-        --library-path "$root/usr/lib/x86_64-linux-gnu:$root/usr/lib/x86_64-linux-gnu/pulseaudio" "$root$program" "$@"
+    QEMU_MODULE_DIR=$root/usr/lib/x86_64-linux-gnu/qemu exec \
+        "$root/usr/lib64/ld-linux-x86-64.so.2" \
+        --library-path "$root/usr/lib/x86_64-linux-gnu:$root/usr/lib/x86_64-linux-gnu/pulseaudio" \
+        "$root$program" "$@"
 }
 
 # A module of the guest's kernel, behind those that it depends on.
@@ -44,7 +47,8 @@ take_module() {
     *.xz) "$busybox" xz -dc "$file" > "$work/root/mod/$1.ko" ;;
     *) cp "$file" "$work/root/mod/$1.ko" ;;
     esac
-    for name in $(tr '\0' '\n' < "$work/root/mod/$1.ko" | sed -n 's/^depends=//p' | tr ',' ' '); do take_module "$name"; done
+    for name in $(tr '\0' '\n' < "$work/root/mod/$1.ko" | sed -n 's/^depends=//p' |
+        tr ',' ' '); do take_module "$name"; done
     echo "$1" >> "$work/root/mod/order"
 }
 
@@ -61,7 +65,8 @@ make_image() {
     cp "$here"/testing/guest/{init,scenarios.sh,suites} "$work/root/"
     chmod 755 "$work/root/init"
     for name in virtio_pci virtiofs virtio_blk ext4; do take_module $name; done
-    (cd "$work/root" && find . | "$busybox" cpio -o -H newc 2> "$work/none" | gzip -1) > "$work/image"
+    (cd "$work/root" && find . | "$busybox" cpio -o -H newc 2> "$work/none" |
+        gzip -1) > "$work/image"
 }
 
 # What is shared: files by chance, one of 64 MiB, a directory of 300, one within another, and links.
@@ -90,10 +95,12 @@ start_server() {
     shift 3
     rm -f "$socket"
     case $kind in
-    ours) "$DAEMON" --socket-path="$socket" --shared-dir="$share" --xattr --thread-pool-size="${THREADS:-0}" "$@" > "$log" 2>&1 & ;;
+    ours) "$DAEMON" --socket-path="$socket" --shared-dir="$share" --xattr \
+        --thread-pool-size="${THREADS:-0}" "$@" > "$log" 2>&1 & ;;
     virtiofsd)
         # Its sandbox runs newuidmap only for who isn't root.
-        (other /usr/libexec/virtiofsd --socket-path="$socket" --shared-dir="$share" --xattr "$@") > "$log" 2>&1 &
+        (other /usr/libexec/virtiofsd --socket-path="$socket" --shared-dir="$share" \
+            --xattr "$@") > "$log" 2>&1 &
         ;;
     esac
     server=$!
@@ -105,19 +112,22 @@ start_server() {
     return 1
 }
 
-# QEMU with a guest over a socket, in a run's folder; its monitor is on a pipe. What follows is added to its words. MEMORY is how much it
-# has, and DISK a disk of its own, which stays as it is.
+# QEMU with a guest over a socket, in a run's folder; its monitor is on a pipe. What follows is
+# added to its words. MEMORY is how much it has, and DISK a disk of its own, which stays as it is.
 qemu() {
     local run=$1 scenario=$2 socket=$3 disk=()
     shift 3
     [ -z "${DISK:-}" ] || disk=(-drive "file=$DISK,format=raw,if=virtio,snapshot=on")
     rm -f "$run"/monitor.{in,out}
     mkfifo "$run/monitor.in" "$run/monitor.out"
-    (timeout "${GUEST_SECONDS:-900}" bash -c "$(declare -f other); other \"\$@\"" qemu /usr/bin/qemu-system-x86_64 \
+    (timeout "${GUEST_SECONDS:-900}" bash -c "$(declare -f other); other \"\$@\"" qemu \
+        /usr/bin/qemu-system-x86_64 \
         -L "$root/usr/share/qemu" -L "$root/usr/share/seabios" \
         -M "pc,accel=${ACCEL:-tcg},memory-backend=mem" -cpu max -smp "${PROCESSORS:-2}" \
-        -object "memory-backend-memfd,id=mem,size=${MEMORY:-256M},share=on" -nodefaults -no-user-config -nic none -display none \
-        -serial "file:$run/console" -chardev "pipe,id=mon,path=$run/monitor" -mon chardev=mon,mode=readline \
+        -object "memory-backend-memfd,id=mem,size=${MEMORY:-256M},share=on" -nodefaults \
+        -no-user-config -nic none -display none \
+        -serial "file:$run/console" -chardev "pipe,id=mon,path=$run/monitor" \
+        -mon chardev=mon,mode=readline \
         -chardev "socket,id=fs,path=$socket" -kernel "$work/vmlinuz" -initrd "$work/image" \
         -append "console=ttyS0 quiet loglevel=3 panic=-1 no_timer_check nowatchdog \
 rcupdate.rcu_cpu_stall_suppress=1 \
@@ -126,7 +136,8 @@ rdinit=/init scenario=$scenario" "${disk[@]}" "$@") > "$run/qemu" 2>&1
 busybox=$root/usr/bin/busybox
 export root
 
-# PLATFORM=on: the guest's device accesses memory as the platform says, as each device of a confidential guest does.
+# PLATFORM=on: the guest's device accesses memory as the platform says, as each device of a
+# confidential guest does.
 device() {
     local properties=chardev=fs,tag=shared,queue-size=128
     properties+=,num-request-queues=${QUEUES:-1},iommu_platform=${PLATFORM:-off}
@@ -173,7 +184,8 @@ meddle() {
         ;;
     hotplug | descriptors)
         wait_for "$run" READY || return
-        say "$run" 'object_add memory-backend-memfd,id=m1,size=256M,share=on' 'device_add pc-dimm,id=d1,memdev=m1'
+        say "$run" 'object_add memory-backend-memfd,id=m1,size=256M,share=on' \
+            'device_add pc-dimm,id=d1,memdev=m1'
         wait_for "$run" ENOUGH || return
         lent > "$run/lent"
         say "$run" 'device_del d1'
@@ -195,7 +207,8 @@ with open(sys.argv[1], "r+") as file:
     time.sleep(300)' "$share/work/slow" &
         holder=$!
         wait_for "$run" READY || return
-        say "$run" 'object_add memory-backend-memfd,id=m1,size=256M,share=on' 'device_add pc-dimm,id=d1,memdev=m1'
+        say "$run" 'object_add memory-backend-memfd,id=m1,size=256M,share=on' \
+            'device_add pc-dimm,id=d1,memdev=m1'
         wait_for "$run" ^PLUGGED
         kill "$holder"
         ;;
@@ -225,7 +238,8 @@ run_guest() {
     meddle "$run" "$scenario" > "$run/meddle" 2>&1 &
     local meddler=$! reboot=(-no-reboot)
     case $scenario in reboot | reset) reboot=() ;; esac
-    qemu "$run" "$scenario" "$run/socket" -m "$memory" -device "$(device)" "${reboot[@]}" || status=$?
+    qemu "$run" "$scenario" "$run/socket" -m "$memory" -device "$(device)" \
+        "${reboot[@]}" || status=$?
     kill "$meddler" 2> "$work/none" || true
     tr -d '\r' < "$run/console" | sed -n '/^== begin/,$p' > "$run/lines"
     [ "$scenario" != killed ] || return 0
@@ -234,13 +248,15 @@ run_guest() {
     check_end "$name" "$kind"
 }
 
-# The guest came to its end, its kernel complains of nothing but a timer that a busy host is late with (it doesn't look for stalls), and
-# the server met no fault.
+# The guest came to its end, its kernel complains of nothing but a timer that a busy host is late
+# with (it doesn't look for stalls), and the server met no fault.
 check_end() {
     grep -q '^== end' "$run/lines" || failure "$1: the guest didn't come to its end"
-    ! sed -n '/^== kernel/,/^== end/p' "$run/lines" | grep -v -e '^==' -e '8254 timer' -e 'clocksource' -e 'stall warnings suppressed' ||
+    ! sed -n '/^== kernel/,/^== end/p' "$run/lines" |
+        grep -v -e '^==' -e '8254 timer' -e 'clocksource' -e 'stall warnings suppressed' ||
         failure "$1: the guest's kernel complains"
-    [ "$2" = virtiofsd ] || ! grep -E 'ERROR|panicked' "$run/server" | grep -v 'No more file descriptors' || failure "$1: the server has an error"
+    [ "$2" = virtiofsd ] || ! grep -E 'ERROR|panicked' "$run/server" |
+        grep -v 'No more file descriptors' || failure "$1: the server has an error"
 }
 
 # Whether the guest's lines that begin with a word are those of standard input.
@@ -255,7 +271,8 @@ expect() {
 }
 
 sum() { sha256sum < "$1" | sed 's/ .*//'; }
-list_sums() { (cd "$share/files" && find . -type f | sort | while read -r f; do echo "SUM $(sha256sum "$f")"; done); }
+list_sums() { (cd "$share/files" && find . -type f | sort |
+    while read -r f; do echo "SUM $(sha256sum "$f")"; done); }
 
 # What the guest sees is what stands on the host, and what it wrote came to the host.
 whole() {
@@ -267,7 +284,8 @@ whole() {
     list_sums | expect "$name" SUM
     echo 'MANY 303' | expect "$name" MANY
     printf 'SAME %s\n' copy direct odd | expect "$name" SAME
-    for f in copy direct odd; do echo "WROTE $(sum "$share/work/$f") $f"; done | expect "$name" WROTE
+    for f in copy direct odd; do echo "WROTE $(sum "$share/work/$f") $f"; done |
+        expect "$name" WROTE
     for _ in 1 2 3 4; do echo "READER $(sum "$share/files/m8")"; done | expect "$name" READER
     echo "BIG $(sum "$share/files/big")" | expect "$name" BIG
     echo "AGAIN $(sum "$share/files/m8")" | expect "$name" AGAIN
@@ -281,7 +299,8 @@ whole() {
 all_are() {
     local name=$1 word=$2 wanted=$3 count
     count=$(grep -c "^$word " "$run/lines" || true)
-    [ "$count" -gt 0 ] && [ "$count" = "$(grep -c "^$word $wanted$" "$run/lines")" ] || failure "$name: other lines $word"
+    [ "$count" -gt 0 ] && [ "$count" = "$(grep -c "^$word $wanted$" "$run/lines")" ] ||
+        failure "$name: other lines $word"
     echo "$name: done, $count readings"
 }
 
@@ -289,7 +308,8 @@ all_are() {
 options() {
     printf '#!/usr/bin/env bash\n%s\nother "$@"\n' "$(declare -f other)" > "$work/other"
     chmod 755 "$work/other"
-    python3 "$here/testing/options.py" "$DAEMON" "$work/other" /usr/libexec/virtiofsd || failure "options"
+    python3 "$here/testing/options.py" "$DAEMON" "$work/other" /usr/libexec/virtiofsd ||
+        failure "options"
 }
 
 guest() {
@@ -299,10 +319,12 @@ guest() {
     QUEUES=3 whole ours whole-3 --num-request-queues 3 --cache never --killpriv-v2
     whole virtiofsd whole-virtiofsd
     for name in whole whole-threads; do
-        diff "$work/calls-whole-virtiofsd" "$work/calls-$name" || failure "$name: a call came out otherwise than over virtiofsd"
+        diff "$work/calls-whole-virtiofsd" "$work/calls-$name" ||
+            failure "$name: a call came out otherwise than over virtiofsd"
     done
     PLATFORM=on whole ours whole-platform
-    grep -q '^FEATURES .\{33\}1' "$run/lines" || failure "whole-platform: the driver didn't take VIRTIO_F_ACCESS_PLATFORM"
+    grep -q '^FEATURES .\{33\}1' "$run/lines" ||
+        failure "whole-platform: the driver didn't take VIRTIO_F_ACCESS_PLATFORM"
     make_files
     run_guest readonly ours readonly --readonly
     list_sums | expect readonly SUM
@@ -334,10 +356,12 @@ hotplug() {
     all_are hotplug READER "$(sum "$share/files/m8")"
     grep -q '^PLUGGED in' "$run/lines" || failure "hotplug: no memory came"
     grep -q '^PLUGGED out' "$run/lines" || failure "hotplug: no memory went"
-    [ "$(cat "$run/lent")" = $'524288\n262144' ] || failure "hotplug: the daemon has other memory mapped than it was lent: $(cat "$run/lent")"
+    [ "$(cat "$run/lent")" = $'524288\n262144' ] ||
+        failure "hotplug: the daemon has other memory mapped than it was lent: $(cat "$run/lent")"
 }
 
-# A file on which the host has a lease takes long to open; memory that comes then doesn't wait for it, nor do other reads.
+# A file on which the host has a lease takes long to open; memory that comes then doesn't wait for
+# it, nor do other reads.
 slow() {
     make_files
     THREADS=4 run_guest slow ours slow
@@ -347,11 +371,13 @@ slow() {
     grep -q '^SLOW slow' "$run/lines" || failure "slow: the file isn't read"
 }
 
-# The guest takes all descriptors: it is told ENFILE or EMFILE, memory still comes, and files are read when some are free again.
+# The guest takes all descriptors: it is told ENFILE or EMFILE, memory still comes, and files are
+# read when some are free again.
 descriptors() {
     make_files
     run_guest descriptors ours descriptors --rlimit-nofile 1600
-    grep -q '^TAKEN .*oo many open files' "$run/lines" || failure "descriptors: the guest isn't told"
+    grep -q '^TAKEN .*oo many open files' "$run/lines" ||
+        failure "descriptors: the guest isn't told"
     grep -q '^PLUGGED in' "$run/lines" || failure "descriptors: no memory came"
     all_are descriptors BIG "$(sum "$share/files/big")"
 }

@@ -1,9 +1,10 @@
-# A guest goes from QEMU to QEMU under load, with its share: sourced by ./test. A journey is one guest's, over several servers in turn. Each
-# migration's outcome is a line of WORK/migrations: from, to, outcome, and QEMU's milliseconds in all and of standing still. Outcomes:
+# A guest goes from QEMU to QEMU under load, with its share: sourced by ./test. A journey is one
+# guest's, over several servers in turn. Each migration's outcome is a line of WORK/migrations:
+# from, to, outcome, and QEMU's milliseconds in all and of standing still. Outcomes:
 #   moved      the guest went on there
 #   nudged     it did so only after `stop` and `cont`: a fault
-#   refused    a file that was removed wasn't forgotten yet, and no path leads to it: the guest goes on here, as over virtiofsd
-#   failed     anything else
+#   refused    a file that was removed wasn't forgotten yet, and no path leads to it: the guest goes
+#   on here, as over virtiofsd failed     anything else
 # The logs of a journey on which one failed or was nudged are kept in WORK/kept.
 
 # What a monitor prints comes to `said` of its folder.
@@ -40,10 +41,11 @@ tells() {
 }
 
 # QEMU's milliseconds, by the name that its monitor has for them.
-milliseconds() { tr -d '\r' < "$1/said" 2> "$work/none" | sed -n "s/^$2: \([0-9]*\) ms.*/\1/p" | tail -n 1 | grep . || echo -; }
+milliseconds() { tr -d '\r' < "$1/said" 2> "$work/none" | sed -n "s/^$2: \([0-9]*\) ms.*/\1/p" |
+    tail -n 1 | grep . || echo -; }
 
-# A server and a QEMU in a folder of their own, the next stop of a journey: sets `next` and its kin. With a word more the guest comes there
-# by the folder's `stream`.
+# A server and a QEMU in a folder of their own, the next stop of a journey: sets `next` and its kin.
+# With a word more the guest comes there by the folder's `stream`.
 begin_stop() {
     local incoming=()
     next_kind=$1 next=$journey/$((++stops))
@@ -51,14 +53,16 @@ begin_stop() {
     start_server "$1" "$next/socket" "$next/server" "${words[@]}" || return 1
     next_server=$server
     [ $# = 1 ] || incoming=(-incoming "unix:$next/stream")
-    qemu "$next" "$scenario" "$next/socket" -m 256M -no-reboot -device "$(device)" "${incoming[@]}" &
+    qemu "$next" "$scenario" "$next/socket" -m 256M -no-reboot -device "$(device)" \
+        "${incoming[@]}" &
     next_qemu=$!
     listen "$next"
 }
 
 settle() { here=$next here_kind=$next_kind here_server=$next_server here_qemu=$next_qemu; }
 
-# The guest is gone from here, says QEMU here: sets `outcome`. One that stands still there is stopped and resumed once.
+# The guest is gone from here, says QEMU here: sets `outcome`. One that stands still there is
+# stopped and resumed once.
 arrive() {
     outcome=moved
     if ! tells "$next" "$next_qemu" READER; then
@@ -76,13 +80,14 @@ arrive() {
     settle
 }
 
-# It wasn't taken there: whether it goes on here, and what kept it is a file that is gone. QEMU says that a guest is gone as soon as it has
-# sent all, so it may have to be resumed.
+# It wasn't taken there: whether it goes on here, and what kept it is a file that is gone. QEMU says
+# that a guest is gone as soon as it has sent all, so it may have to be resumed.
 stay() {
     wait "$next_qemu" || true
     wait "$next_server" || true
     say "$here" cont
-    ! grep -q 'has lost inode' "$next/server" || ! tells "$here" "$here_qemu" READER || outcome=refused
+    ! grep -q 'has lost inode' "$next/server" || ! tells "$here" "$here_qemu" READER ||
+        outcome=refused
     : > "$here/said"
 }
 
@@ -113,17 +118,21 @@ check_journey() {
     cat $(seq -f "$journey/%g/console" "$stops") 2> "$work/none" | tr -d '\r' > "$run/lines"
     grep -q '^== end' "$run/lines" || failure "$scenario: the guest didn't come to its end"
     if [ "$scenario" = migrate_full ]; then
-        grep -q '^TAKEN .*oo many open files' "$run/lines" || failure "$scenario: the guest has descriptors left"
+        grep -q '^TAKEN .*oo many open files' "$run/lines" ||
+            failure "$scenario: the guest has descriptors left"
         all_are "$scenario" BIG "$(sum "$share/files/m8")"
         return
     fi
-    grep -q '^HELD before after' "$run/lines" || failure "$scenario: a file that was held open lost its words"
+    grep -q '^HELD before after' "$run/lines" ||
+        failure "$scenario: a file that was held open lost its words"
     ! grep '^FAILED' "$run/lines" || failure "$scenario: a file isn't made"
-    grep -q '^FLAGS good' "$run/lines" || failure "$scenario: a file that was open has other bytes: $(grep '^CORRUPT' "$run/lines" | head -n 1)"
+    grep -q '^FLAGS good' "$run/lines" || failure \
+        "$scenario: an open file has other bytes: $(grep '^CORRUPT' "$run/lines" | head -n 1)"
     all_are "$scenario" READER "$(sum "$share/files/m1")"
 }
 
-# A guest with this scenario begins at the first server of these and goes to the others in turn. `words` of the daemons may be set.
+# A guest with this scenario begins at the first server of these and goes to the others in turn.
+# `words` of the daemons may be set.
 travel() {
     local scenario=$1 kind
     shift
@@ -143,10 +152,12 @@ travel() {
     wait "$here_qemu" || failure "$scenario: qemu ended with $?"
     wait "$here_server" || failure "$scenario: the server ended with $?"
     check_journey
-    ! grep -qE ' (failed|nudged) ' "$work/migrations" || cp -r "$journey" "$work/kept-$(wc -l < "$work/migrations")" 2> "$work/none" || true
+    ! grep -qE ' (failed|nudged) ' "$work/migrations" ||
+        cp -r "$journey" "$work/kept-$(wc -l < "$work/migrations")" 2> "$work/none" || true
 }
 
-# How many migrations of each pair came out how, and the least, the median and the most of their times.
+# How many migrations of each pair came out how, and the least, the median and the most of their
+# times.
 sum_up() {
     python3 - "$work/migrations" << 'END_OF_PYTHON'
 import collections

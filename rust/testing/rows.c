@@ -1,7 +1,9 @@
-/* What a request costs by a daemon, without a guest: rows DAEMON DIR COUNT. Requests as a Linux guest cuts them: header, arguments, data,
- * the reply's header and its data in pieces of their own, which a table of the request's own names; one at a time, and several at once. Prints for each kind the least of five runs
- * of COUNT requests, in nanoseconds for a request: with the driver's kicks and sleeps. And of all five what the daemon took of the
- * processor for a request, and how often for a thousand of them one side told the other. DIR gets a file `rows`. */
+/* What a request costs by a daemon, without a guest: rows DAEMON DIR COUNT. Requests as a Linux
+ * guest cuts them: header, arguments, data, the reply's header and its data in pieces of their own,
+ * which a table of the request's own names; one at a time, and several at once. Prints for each
+ * kind the least of five runs of COUNT requests, in nanoseconds for a request: with the driver's
+ * kicks and sleeps. And of all five what the daemon took of the processor for a request, and how
+ * often for a thousand of them one side told the other. DIR gets a file `rows`. */
 #include "front.h"
 #include <fcntl.h>
 #include <linux/fuse.h>
@@ -11,7 +13,16 @@
 #include <time.h>
 #include <unistd.h>
 
-enum { RING = 1, ROOT = 1, RUNS = 5, LARGE = 1 << 19, MIDDLE = 1 << 16, SLOT = 0x2000, TOO_LONG = 60000, UNKNOWN = 0x7777 };
+enum {
+    RING = 1,
+    ROOT = 1,
+    RUNS = 5,
+    LARGE = 1 << 19,
+    MIDDLE = 1 << 16,
+    SLOT = 0x2000,
+    TOO_LONG = 60000,
+    UNKNOWN = 0x7777
+};
 
 /* A kind of request: how many bytes go one way or the other, and how many are asked at once. */
 struct row {
@@ -21,8 +32,9 @@ struct row {
 };
 
 static const struct row rows[] = {
-    {"unknown opcode", UNKNOWN, 0, 32},     {"GETATTR", FUSE_GETATTR, 104, 32},       {"LOOKUP", FUSE_LOOKUP, 128, 32},
-    {"READ 4 KiB", FUSE_READ, 4096, 32},    {"WRITE 4 KiB", FUSE_WRITE, 4096, 32},    {"READ 64 KiB", FUSE_READ, MIDDLE, 16},
+    {"unknown opcode", UNKNOWN, 0, 32},       {"GETATTR", FUSE_GETATTR, 104, 32},
+    {"LOOKUP", FUSE_LOOKUP, 128, 32},         {"READ 4 KiB", FUSE_READ, 4096, 32},
+    {"WRITE 4 KiB", FUSE_WRITE, 4096, 32},    {"READ 64 KiB", FUSE_READ, MIDDLE, 16},
     {"WRITE 64 KiB", FUSE_WRITE, MIDDLE, 16}, {"READ 512 KiB", FUSE_READ, LARGE, 4},
     {"WRITE 512 KiB", FUSE_WRITE, LARGE, 4},
 };
@@ -35,7 +47,9 @@ static size_t put_arguments(const struct row *row, uint8_t *at) {
     struct fuse_read_in read_in = {.fh = file, .size = row->data};
     struct fuse_write_in write_in = {.fh = file, .size = row->data};
     switch (row->opcode) {
-    case FUSE_GETATTR: memset(at, 0, sizeof(struct fuse_getattr_in)); return sizeof(struct fuse_getattr_in);
+    case FUSE_GETATTR:
+        memset(at, 0, sizeof(struct fuse_getattr_in));
+        return sizeof(struct fuse_getattr_in);
     case FUSE_LOOKUP: memcpy(at, "rows", 5); return 5;
     case FUSE_READ: memcpy(at, &read_in, sizeof read_in); return sizeof read_in;
     case FUSE_WRITE: memcpy(at, &write_in, sizeof write_in); return sizeof write_in;
@@ -45,20 +59,27 @@ static size_t put_arguments(const struct row *row, uint8_t *at) {
 
 /* Draws request `k`: descriptor `k` of the ring has a table of its own, as Linux has it. */
 static void draw(const struct row *row, unsigned k) {
-    uint64_t at = request_at(RING) + SLOT * k, data = room_at(RING) + row->data * (uint64_t)k, table = at + SLOT / 4;
+    uint64_t at = request_at(RING) + SLOT * k, data = room_at(RING) + row->data * (uint64_t)k,
+             table = at + SLOT / 4;
     uint8_t *request = front_at(&front, at);
     bool is_write = row->opcode == FUSE_WRITE;
-    struct fuse_in_header head = {.opcode = row->opcode, .unique = k + 1, .nodeid = row->opcode == FUSE_LOOKUP ? ROOT : node};
+    struct fuse_in_header head = {
+        .opcode = row->opcode, .unique = k + 1, .nodeid = row->opcode == FUSE_LOOKUP ? ROOT : node};
     size_t len = put_arguments(row, request + sizeof head);
     unsigned next = 0;
     head.len = (uint32_t)(sizeof head + len) + (is_write ? row->data : 0);
     memcpy(request, &head, sizeof head);
     put_descriptor(&front, table, next, at, sizeof head, 1, next + 1), next++;
-    if (len > 0) put_descriptor(&front, table, next, at + sizeof head, (uint32_t)len, 1, next + 1), next++;
+    if (len > 0)
+        put_descriptor(&front, table, next, at + sizeof head, (uint32_t)len, 1, next + 1), next++;
     if (is_write) put_descriptor(&front, table, next, data, row->data, 1, next + 1), next++;
     uint32_t behind = is_write ? sizeof(struct fuse_write_out) : row->data;
-    put_descriptor(&front, table, next, at + SLOT / 2, sizeof(struct fuse_out_header), behind ? 3 : 2, next + 1), next++;
-    if (behind) put_descriptor(&front, table, next, is_write ? at + SLOT / 2 + 64 : data, behind, 2, 0), next++;
+    put_descriptor(&front, table, next, at + SLOT / 2, sizeof(struct fuse_out_header),
+                   behind ? 3 : 2, next + 1),
+        next++;
+    if (behind)
+        put_descriptor(&front, table, next, is_write ? at + SLOT / 2 + 64 : data, behind, 2, 0),
+            next++;
     put_descriptor(&front, desc_at(RING), k, table, 16 * next, 4, 0);
 }
 
@@ -83,7 +104,8 @@ static double measure(const struct row *row, unsigned turns, unsigned at_once) {
     clock_gettime(CLOCK_MONOTONIC, &to);
     for (unsigned k = 0; k < at_once; k++)
         if (!is_answered(row, k)) die("%s is answered otherwise", row->name);
-    return ((double)(to.tv_sec - from.tv_sec) * 1e9 + (double)(to.tv_nsec - from.tv_nsec)) / turns / at_once;
+    return ((double)(to.tv_sec - from.tv_sec) * 1e9 + (double)(to.tv_nsec - from.tv_nsec)) / turns /
+           at_once;
 }
 
 /* How often the device was told, and told, with what the driver didn't wait for. */
@@ -109,8 +131,10 @@ static void print_row(const struct row *row, unsigned count, unsigned at_once) {
     processor = front_processor(&front) - processor;
     printf("ROW %.0f ns: %s, %u at once\n", least, row->name, at_once);
     printf("PROCESSOR %.0f ns: %s, %u at once\n", processor * 1e6 / requests, row->name, at_once);
-    printf("KICKS %.0f of 1000: %s, %u at once\n", (double)(after.kicks - before.kicks) * 1e3 / requests, row->name, at_once);
-    printf("CALLS %.0f of 1000: %s, %u at once\n", (double)(after.calls - before.calls) * 1e3 / requests, row->name, at_once);
+    printf("KICKS %.0f of 1000: %s, %u at once\n",
+           (double)(after.kicks - before.kicks) * 1e3 / requests, row->name, at_once);
+    printf("CALLS %.0f of 1000: %s, %u at once\n",
+           (double)(after.calls - before.calls) * 1e3 / requests, row->name, at_once);
 }
 
 /* A file of which READ has enough, and whose pages the host has. */
@@ -119,7 +143,8 @@ static void make_file(const char *dir) {
     static const uint8_t bytes[LARGE];
     snprintf(path, sizeof path, "%s/rows", dir);
     FILE *made = fopen(path, "w");
-    if (!made || fwrite(bytes, sizeof bytes, 1, made) != 1 || fclose(made)) die("%s isn't made", path);
+    if (!made || fwrite(bytes, sizeof bytes, 1, made) != 1 || fclose(made))
+        die("%s isn't made", path);
 }
 
 int main(int argc, char **argv) {

@@ -82,12 +82,15 @@ with listener(FOLDER + "/handed", socket.SOCK_STREAM) as handed:
 with listener(FOLDER + "/of-libvirt", socket.SOCK_STREAM) as handed:
     # The command line of libvirt before 9.1.
     handed.listen(1)
-    words = ("-o", f"source={SHARED},cache=always,sandbox=chroot,xattr,no_flock,no_posix_lock", "--thread-pool-size=2", "-d")
+    words = ("-o", f"source={SHARED},cache=always,sandbox=chroot,xattr,no_flock,no_posix_lock",
+        "--thread-pool-size=2", "-d")
     number = handed.fileno()
-    daemon = subprocess.Popen([DAEMON, f"--fd={number}", *words], pass_fds=[number], stderr=subprocess.PIPE, text=True)
+    daemon = subprocess.Popen([DAEMON, f"--fd={number}", *words], pass_fds=[number],
+        stderr=subprocess.PIPE, text=True)
     meet(FOLDER + "/of-libvirt")
     status, told = ended(daemon)
-    check(f"libvirt's old command line: {told}", status == 0 and told.count("Use of deprecated") == 2)
+    check(f"libvirt's old command line: {told}",
+        status == 0 and told.count("Use of deprecated") == 2)
 
 if not os.path.exists(SYSLOG):
     with listener(SYSLOG, socket.SOCK_DGRAM) as log:

@@ -1,8 +1,10 @@
-# Suites that others wrote, in a guest over this daemon and over virtiofsd: sourced by ./test. They come from Debian trixie to a disk of the
-# guest's; testing/guest/suites runs them there, and tells each test's outcome as a line `RESULT suite test: outcome`.
+# Suites that others wrote, in a guest over this daemon and over virtiofsd: sourced by ./test. They
+# come from Debian trixie to a disk of the guest's; testing/guest/suites runs them there, and tells
+# each test's outcome as a line `RESULT suite test: outcome`.
 
 suite_names=(syscalls python fio dbench sqlite git rsync stress)
-suite_packages=(base-files base-passwd bash coreutils diffutils findutils gawk grep gzip procps sed tar util-linux perl-base
+suite_packages=(base-files base-passwd bash coreutils diffutils findutils gawk grep gzip procps \
+    sed tar util-linux perl-base
     libc-bin python3.13 libpython3.13-testsuite fio dbench sqlite3 git rsync stress-ng)
 
 # libfuse's test_syscalls, which no package has: from fuse3's source.
@@ -11,7 +13,8 @@ take_test_syscalls() {
     sed -i '/^deb-src/d; /^deb /{p; s/^deb /deb-src /}' "$folder/apt/sources"
     theirs apt-get update >> "$work/apt" 2>&1
     mkdir -p "$from"
-    (cd "$from" && theirs apt-get source --download-only fuse3 && tar -xf fuse3_*.orig.tar.gz) >> "$work/apt" 2>&1
+    (cd "$from" && theirs apt-get source --download-only fuse3 &&
+        tar -xf fuse3_*.orig.tar.gz) >> "$work/apt" 2>&1
     : > "$from/fuse_config.h"
     : > "$from/config.h"
     gcc -O1 -static -D_GNU_SOURCE -I"$from" -o "$1" "$from"/fuse-*/test/test_syscalls.c
@@ -40,14 +43,16 @@ take_suites() {
     mv "$work/suites.making" "$work/suites.disk"
 }
 
-# Over this daemon and over virtiofsd: what the tests tell is the same. SUITES names those that are wanted.
+# Over this daemon and over virtiofsd: what the tests tell is the same. SUITES names those that are
+# wanted.
 suites() {
     local name kind
     take_suites
     for name in ${SUITES:-${suite_names[*]}}; do
         for kind in ours virtiofsd; do
             make_files
-            GUEST_SECONDS=${GUEST_SECONDS:-3600} MEMORY=1536M DISK=$work/suites.disk run_guest "suite suites=$name" "$kind" "suite-$name-$kind"
+            GUEST_SECONDS=${GUEST_SECONDS:-3600} MEMORY=1536M DISK=$work/suites.disk run_guest \
+                "suite suites=$name" "$kind" "suite-$name-$kind"
             sed -n 's/^RESULT //p' "$run/lines" | sort > "$work/suite-$name-$kind"
         done
         [ "$(wc -l < "$work/suite-$name-ours")" -gt 3 ] || failure "suite $name: it tells nothing"

@@ -1,12 +1,15 @@
-# The daemon and virtiofsd in turn: sourced by ./test. `times` has a guest read, write and look up; `rows` has a driver ask without a guest.
+# The daemon and virtiofsd in turn: sourced by ./test. `times` has a guest read, write and look up;
+# `rows` has a driver ask without a guest.
 
 # Says which server is to be tried in each of so many rounds, in turn.
 turns() {
     local round
-    for round in $(seq "$1"); do [ $((round % 2)) = 1 ] && echo ours virtiofsd || echo virtiofsd ours; done
+    for round in $(seq "$1"); do [ $((round % 2)) = 1 ] && echo ours virtiofsd ||
+        echo virtiofsd ours; done
 }
 
-# The least and the median of each row of two files of `number<TAB>what`, and the first's median by the second's.
+# The least and the median of each row of two files of `number<TAB>what`, and the first's median by
+# the second's.
 compare() {
     python3 - "$@" << 'END'
 import statistics
@@ -51,7 +54,8 @@ times() {
         cat "$share"/files/{big,m1} > "$work/warm" # neither waits for the host's disk
         run_guest times "$kind" "times-$kind"
         for unit in ms interrupts; do
-            sed -n "s/^TIME \([0-9.]*\) $unit: \(.*\)/\1\t\2/p" "$run/lines" >> "$work/times.$unit.$kind"
+            sed -n "s/^TIME \([0-9.]*\) $unit: \(.*\)/\1\t\2/p" \
+                "$run/lines" >> "$work/times.$unit.$kind"
         done
     done
     echo "in the guest, least and median of ${ROUNDS:-5} in turn: ours, virtiofsd," \
@@ -90,11 +94,13 @@ rows() {
     mkdir -p "$work/rows-share"
     for kind in $(turns "${ROUNDS:-5}"); do
         [ "$kind" = ours ] && daemon=$DAEMON || daemon=$work/virtiofsd
-        EVENT_INDEX=${EVENT_INDEX:-1} "$work/rows" "$daemon" "$work/rows-share" "${REQUESTS:-20000}" \
+        EVENT_INDEX=${EVENT_INDEX:-1} "$work/rows" "$daemon" "$work/rows-share" \
+            "${REQUESTS:-20000}" \
             > "$work/rows.lines" 2> "$work/rows.errors" ||
             failure "rows of $kind: $(tail -n 3 "$work/rows.errors")"
         for word in ROW PROCESSOR KICKS CALLS; do
-            sed -n "s/^$word \([0-9]*\) [^:]*: \(.*\)/\1\t\2/p" "$work/rows.lines" >> "$work/rows.$word.$kind"
+            sed -n "s/^$word \([0-9]*\) [^:]*: \(.*\)/\1\t\2/p" \
+                "$work/rows.lines" >> "$work/rows.$word.$kind"
         done
     done
     echo "least and median of ${ROUNDS:-5} in turn: ours, virtiofsd, ratio of medians" \

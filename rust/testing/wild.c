@@ -1,5 +1,6 @@
-/* A guest's root that asks in order and for anything, by two queues: real nodes, open files and names of all kinds, and numbers at their
- * ends. Each request is answered, and the daemon lives; alone.sh sees that nothing beside the directory changed, and that nothing panicked. */
+/* A guest's root that asks in order and for anything, by two queues: real nodes, open files and
+ * names of all kinds, and numbers at their ends. Each request is answered, and the daemon lives;
+ * alone.sh sees that nothing beside the directory changed, and that nothing panicked. */
 #define _GNU_SOURCE
 #include "chance.h"
 #include "checks.h"
@@ -15,29 +16,60 @@ enum { NODES = 48, FILES = 24, NAMES = 20, PLAIN = 5, FORMS = 40, LONG = 300 };
 static _Thread_local uint64_t nodes[NODES] = {ROOT}, files[FILES], file_nodes[FILES];
 static _Thread_local struct reply answer;
 
-/* How an opcode's record looks: its length, where an open file's number stands in it, where a node's, and how many names are behind. */
+/* How an opcode's record looks: its length, where an open file's number stands in it, where a
+ * node's, and how many names are behind. */
 struct form {
     uint32_t opcode;
     uint8_t len, names;
     int8_t file, node;
 };
 
-static const struct form forms[FORMS] = {
-    {FUSE_LOOKUP, 0, 1, -1, -1},       {FUSE_LOOKUP, 0, 1, -1, -1},      {FUSE_FORGET, 8, 0, -1, -1},      {FUSE_GETATTR, 16, 0, 8, -1},
-    {FUSE_SETATTR, 88, 0, 8, -1},      {FUSE_SETATTR, 88, 0, 8, -1},     {FUSE_READLINK, 0, 0, -1, -1},    {FUSE_SYMLINK, 0, 2, -1, -1},
-    {FUSE_MKNOD, 16, 1, -1, -1},       {FUSE_MKDIR, 8, 1, -1, -1},       {FUSE_UNLINK, 0, 1, -1, -1},      {FUSE_RMDIR, 0, 1, -1, -1},
-    {FUSE_RENAME, 8, 2, -1, 0},        {FUSE_RENAME2, 16, 2, -1, 0},     {FUSE_LINK, 8, 1, -1, 0},         {FUSE_OPEN, 8, 0, -1, -1},
-    {FUSE_OPEN, 8, 0, -1, -1},         {FUSE_READ, 40, 0, 0, -1},        {FUSE_READ, 40, 0, 0, -1},        {FUSE_WRITE, 40, 2, 0, -1},
-    {FUSE_STATFS, 0, 0, -1, -1},       {FUSE_RELEASE, 24, 0, 0, -1},     {FUSE_FSYNC, 16, 0, 0, -1},       {FUSE_SETXATTR, 8, 2, -1, -1},
-    {FUSE_SETXATTR, 8, 2, -1, -1},     {FUSE_GETXATTR, 8, 1, -1, -1},    {FUSE_LISTXATTR, 8, 0, -1, -1},   {FUSE_REMOVEXATTR, 0, 1, -1, -1},
-    {FUSE_FLUSH, 24, 0, 0, -1},        {FUSE_OPENDIR, 8, 0, -1, -1},     {FUSE_READDIR, 40, 0, 0, -1},     {FUSE_READDIRPLUS, 40, 0, 0, -1},
-    {FUSE_RELEASEDIR, 24, 0, 0, -1},   {FUSE_FSYNCDIR, 16, 0, 0, -1},    {FUSE_ACCESS, 8, 0, -1, -1},      {FUSE_CREATE, 16, 1, -1, -1},
-    {FUSE_FALLOCATE, 32, 0, 0, -1},    {FUSE_LSEEK, 24, 0, 0, -1},       {FUSE_COPY_FILE_RANGE, 56, 0, 0, 16}, {FUSE_SYNCFS, 8, 0, -1, -1}};
+static const struct form forms[FORMS] = {{FUSE_LOOKUP, 0, 1, -1, -1},
+                                         {FUSE_LOOKUP, 0, 1, -1, -1},
+                                         {FUSE_FORGET, 8, 0, -1, -1},
+                                         {FUSE_GETATTR, 16, 0, 8, -1},
+                                         {FUSE_SETATTR, 88, 0, 8, -1},
+                                         {FUSE_SETATTR, 88, 0, 8, -1},
+                                         {FUSE_READLINK, 0, 0, -1, -1},
+                                         {FUSE_SYMLINK, 0, 2, -1, -1},
+                                         {FUSE_MKNOD, 16, 1, -1, -1},
+                                         {FUSE_MKDIR, 8, 1, -1, -1},
+                                         {FUSE_UNLINK, 0, 1, -1, -1},
+                                         {FUSE_RMDIR, 0, 1, -1, -1},
+                                         {FUSE_RENAME, 8, 2, -1, 0},
+                                         {FUSE_RENAME2, 16, 2, -1, 0},
+                                         {FUSE_LINK, 8, 1, -1, 0},
+                                         {FUSE_OPEN, 8, 0, -1, -1},
+                                         {FUSE_OPEN, 8, 0, -1, -1},
+                                         {FUSE_READ, 40, 0, 0, -1},
+                                         {FUSE_READ, 40, 0, 0, -1},
+                                         {FUSE_WRITE, 40, 2, 0, -1},
+                                         {FUSE_STATFS, 0, 0, -1, -1},
+                                         {FUSE_RELEASE, 24, 0, 0, -1},
+                                         {FUSE_FSYNC, 16, 0, 0, -1},
+                                         {FUSE_SETXATTR, 8, 2, -1, -1},
+                                         {FUSE_SETXATTR, 8, 2, -1, -1},
+                                         {FUSE_GETXATTR, 8, 1, -1, -1},
+                                         {FUSE_LISTXATTR, 8, 0, -1, -1},
+                                         {FUSE_REMOVEXATTR, 0, 1, -1, -1},
+                                         {FUSE_FLUSH, 24, 0, 0, -1},
+                                         {FUSE_OPENDIR, 8, 0, -1, -1},
+                                         {FUSE_READDIR, 40, 0, 0, -1},
+                                         {FUSE_READDIRPLUS, 40, 0, 0, -1},
+                                         {FUSE_RELEASEDIR, 24, 0, 0, -1},
+                                         {FUSE_FSYNCDIR, 16, 0, 0, -1},
+                                         {FUSE_ACCESS, 8, 0, -1, -1},
+                                         {FUSE_CREATE, 16, 1, -1, -1},
+                                         {FUSE_FALLOCATE, 32, 0, 0, -1},
+                                         {FUSE_LSEEK, 24, 0, 0, -1},
+                                         {FUSE_COPY_FILE_RANGE, 56, 0, 0, 16},
+                                         {FUSE_SYNCFS, 8, 0, -1, -1}};
 
-static const char *const names[NAMES] = {"file",     "dir",    "other",       "a",      "b",
-                                         "\xff\xfe", "..",     "a/b",         "",       "out",
-                                         "user.a",   "user.",  "user.\xff\xfe", "pipe", "security.capability",
-                                         "up",       "shared", "trusted.a",   "absolute", "system.posix_acl_access"};
+static const char *const names[NAMES] = {
+    "file",     "dir",    "other",         "a",        "b",
+    "\xff\xfe", "..",     "a/b",           "",         "out",
+    "user.a",   "user.",  "user.\xff\xfe", "pipe",     "security.capability",
+    "up",       "shared", "trusted.a",     "absolute", "system.posix_acl_access"};
 
 static size_t put_name(uint8_t *at) {
     char long_name[LONG + 1];
@@ -50,8 +82,9 @@ static size_t put_name(uint8_t *at) {
 }
 
 static uint64_t some_number(void) {
-    return ONE_OF(0, 0, 0, 1, 2, 3, 4096, 4095, 8, 0x8000, 0100644, 0040755, 0x10000, 1ull << below(64), INT64_MAX, INT64_MIN, UINT64_MAX, chance(),
-                  below(64), below(1 << 20));
+    return ONE_OF(0, 0, 0, 1, 2, 3, 4096, 4095, 8, 0x8000, 0100644, 0040755, 0x10000,
+                  1ull << below(64), INT64_MAX, INT64_MIN, UINT64_MAX, chance(), below(64),
+                  below(1 << 20));
 }
 
 /* A record: some of its words are ends of 64 bits, others of 32. */
@@ -76,10 +109,13 @@ static size_t put_request(const struct form *form, uint8_t *at, uint64_t *node) 
     if (form->opcode == FUSE_SETATTR && below(2)) at[0] &= (uint8_t)~FATTR_FH;
     if (form->node >= 0) memcpy(at + form->node, &other, 8);
     if (form->opcode == FUSE_COPY_FILE_RANGE) memcpy(at + 24, &files[below(FILES)], 8);
-    if (form->opcode == FUSE_OPEN && below(2)) *node = other, memset(at, 0, 8), at[0] = (uint8_t)below(3);
-    if (form->opcode == FUSE_CREATE && below(2)) memset(at, 0, 16), at[0] = (uint8_t)below(3), at[5] = 1;
+    if (form->opcode == FUSE_OPEN && below(2))
+        *node = other, memset(at, 0, 8), at[0] = (uint8_t)below(3);
+    if (form->opcode == FUSE_CREATE && below(2))
+        memset(at, 0, 16), at[0] = (uint8_t)below(3), at[5] = 1;
     if (form->opcode == FUSE_FORGET && below(2)) memset(at, 0, 8), at[0] = 1;
-    /* Places are anywhere, and lengths fill no disk: FALLOC_FL_KEEP_SIZE is bounded by no limit of files. */
+    /* Places are anywhere, and lengths fill no disk: FALLOC_FL_KEEP_SIZE is bounded by no limit of
+     * files. */
     if (form->opcode == FUSE_FALLOCATE) memset(at + 18, 0, 6);
     if (form->opcode == FUSE_COPY_FILE_RANGE) memset(at + 42, 0, 6);
     for (unsigned k = 0; k < form->names; k++) {
@@ -96,7 +132,10 @@ static size_t put_request(const struct form *form, uint8_t *at, uint64_t *node) 
 static void keep(uint32_t opcode, uint64_t node) {
     unsigned file = (unsigned)below(FILES);
     switch (opcode) {
-    case FUSE_CREATE: memcpy(&files[file], answer.data + sizeof(struct fuse_entry_out), 8), memcpy(&file_nodes[file], answer.data, 8); break;
+    case FUSE_CREATE:
+        memcpy(&files[file], answer.data + sizeof(struct fuse_entry_out), 8),
+            memcpy(&file_nodes[file], answer.data, 8);
+        break;
     case FUSE_OPEN:
     case FUSE_OPENDIR: memcpy(&files[file], answer.data, 8), file_nodes[file] = node; return;
     case FUSE_LOOKUP:
@@ -152,7 +191,8 @@ void wild(unsigned seconds) {
     begin_session(&front);
     front_ask(&front, 1, FUSE_GETATTR, ROOT, &getattr_in, sizeof getattr_in, &reply);
     expect("an orderly GETATTR", reply.error, 0);
-    printf("a wild guest (%#llx): %llu and %llu requests, of which %llu and %llu were done\n", (unsigned long long)seed,
-           (unsigned long long)counts[0][0], (unsigned long long)counts[1][0], (unsigned long long)counts[0][1],
+    printf("a wild guest (%#llx): %llu and %llu requests, of which %llu and %llu were done\n",
+           (unsigned long long)seed, (unsigned long long)counts[0][0],
+           (unsigned long long)counts[1][0], (unsigned long long)counts[0][1],
            (unsigned long long)counts[1][1]);
 }

@@ -1,5 +1,6 @@
 #!/usr/bin/env python3
-"""Plays scripts made by chance on the script program and on a plain machine, and compares what they print.
+"""Plays scripts made by chance on the script program and on a plain machine, and compares what they
+print.
 
 usage: fuzz.py SECONDS [SEED], with the path of a built program in PROGRAM (./run --fuzz has one).
 Status 0 if nothing differed, 1 if something did, 2 if it couldn't begin."""
@@ -18,7 +19,8 @@ from scripts import made, stored
 from shrink import shrunk
 
 FOLDER = Path(__file__).resolve().parent / "out"
-# A run of so many seconds plays the scripts that take a while: of an index that wraps, and of kicks that cost much.
+# A run of so many seconds plays the scripts that take a while: of an index that wraps, and of kicks
+# that cost much.
 SECONDS_TO_WRAP = 200
 MOST_DIFFERENCES = 10
 
@@ -36,12 +38,15 @@ class Fuzzer:
         self.differences = 0
 
     def run(self):
-        """Plays scripts until the time is up, all fixed ones in any case. Each batch has a seed's, so that one can be played again."""
+        """Plays scripts until the time is up, all fixed ones in any case. Each batch has a seed's,
+        so that one can be played again."""
         store = stored()
         fixed = [(f"stored script {index}", script) for index, script in enumerate(store)]
-        fixed += [("a script of 1 MiB", long_script(0)), ("a script that is too long", long_script(1))]
+        fixed += [("a script of 1 MiB", long_script(0)),
+            ("a script that is too long", long_script(1))]
         if self.end - time.monotonic() > SECONDS_TO_WRAP:
-            fixed += [("a script that wraps an index", wraps()), ("a script of kicks that cost much", heavy())]
+            fixed += [("a script that wraps an index", wraps()),
+                ("a script of kicks that cost much", heavy())]
         size = self.program.batch
         while fixed or time.monotonic() < self.end and self.differences < MOST_DIFFERENCES:
             played, fixed = fixed[:size - 1], fixed[size - 1:]
@@ -63,7 +68,8 @@ class Fuzzer:
                 self.tell(name, script)
 
     def plain(self, script):
-        """What the plain machine prints, its status and its coverage, or None where it would take too long."""
+        """What the plain machine prints, its status and its coverage, or None where it would take
+        too long."""
         try:
             return play(script)
         except TooMuchWork:
@@ -73,7 +79,8 @@ class Fuzzer:
         """For each script whether the two differ."""
         started = self.program.start(scripts)
         wanted = [self.plain(script) for script in scripts]
-        return [want is not None and want[:2] != found for want, found in zip(wanted, self.program.results(started))]
+        return [want is not None and want[:2] != found
+            for want, found in zip(wanted, self.program.results(started))]
 
     def tell(self, name, script):
         """Shrinks a script and tells what differs."""
@@ -89,7 +96,8 @@ class Fuzzer:
         say(f"  the program ends with {found[1]}, the plain machine with {want[1]}")
         for line, (one, other) in enumerate(zip_lines(found[0], want[0]), 1):
             if one != other:
-                say(f"  in line {line} the program prints\n    {one}\n  and the plain machine\n    {other}")
+                say(f"  in line {line} the program prints\n    {one}\n  and the plain "
+                    f"machine\n    {other}")
                 break
 
     def report(self):
@@ -98,17 +106,21 @@ class Fuzzer:
         for (kind, name), count in self.coverage.items():
             kinds.setdefault(kind, {})[name] = count
         for kind in sorted(kinds):
-            counts = sorted(kinds[kind].items(), key=lambda pair: (isinstance(pair[0], str), pair[0]))
+            counts = sorted(kinds[kind].items(),
+                key=lambda pair: (isinstance(pair[0], str), pair[0]))
             say(f"{kind}: " + ", ".join(f"{name} {count}" for name, count in counts))
         commands = sum(kinds.get("command", {}).values())
-        say(f"scripts {self.scripts}, commands {commands}, left out as too long {self.skipped}, differences {self.differences}")
+        say(f"scripts {self.scripts}, commands {commands}, left out as too long {self.skipped}, "
+            f"differences {self.differences}")
 
 
 def zip_lines(first, second):
     """Lines side by side, as long as one of the two has some."""
-    ones, others = first.decode(errors="replace").split("\n"), second.decode(errors="replace").split("\n")
+    ones, others = first.decode(errors="replace").split("\n"), second.decode(
+        errors="replace").split("\n")
     longest = max(len(ones), len(others))
-    return zip(ones + ["(nothing)"] * (longest - len(ones)), others + ["(nothing)"] * (longest - len(others)))
+    return zip(ones + ["(nothing)"] * (longest - len(ones)),
+        others + ["(nothing)"] * (longest - len(others)))
 
 
 def say(text):

@@ -32,7 +32,8 @@ class Built:
         source, printed = tempfile.TemporaryFile(), tempfile.TemporaryFile()
         source.write(script)
         source.seek(0)
-        return subprocess.Popen([self.path], stdin=source, stdout=printed, stderr=subprocess.DEVNULL, preexec_fn=limit), printed
+        return subprocess.Popen([self.path], stdin=source, stdout=printed,
+            stderr=subprocess.DEVNULL, preexec_fn=limit), printed
 
     def results(self, started):
         """What each script printed, and its status."""

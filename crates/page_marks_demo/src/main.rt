@@ -65,7 +65,8 @@ fn both<R: Threads + Sync>(rt: &R, alloc: Global) -> Result<(u32, (u32, u32)), A
 fn main(rt: HostRuntime) -> ExitCode {
     let printed = match both(&rt, rt.alloc()) {
         Ok((written, (marked, gathered))) => println!(rt;
-            "{written} pages were written, and gathered or left\n{marked} pages were marked a million times, and {} gathered meanwhile",
+            "{written} pages were written, and gathered or left\n\
+            {marked} pages were marked a million times, and {} gathered meanwhile",
             if gathered > 0 { "some" } else { "none" }
         ),
         Err(_) => println!(rt; "out of memory"),

@@ -117,7 +117,7 @@ chain_is ds (step.Chain h (Some fault)) head n r is = absurd (subst IsAChain is 
 
 -- a chain that was taken is of the queue's layout still
 pub taken_of : (before after : QueueState) → before.stopped ≡ None → took (live_of before) ≡ live_of after
-    → (live_of before).queue ≡ queue_of (course_of (record after { position = (live_of before).queue.position }) 0)
+    → (live_of before).queue ≡ queue_of (course_of (record after { next_avail = (live_of before).queue.position }) 0)
 taken_of before after goes is =
     let q : (live_of before).queue ≡ at_position before.layout before.next_avail =
     ap (λ (x : Option QueueError). record (at_position before.layout before.next_avail) { stopped = is_some x }) goes in

@@ -37,7 +37,7 @@ run_both may s mid after (x ∷ es) fs run more = (run.0, run.1, run_both may ru
 
 -- a chain that goes back after another one was taken of its queue is of the queue's layout still
 late_of : (before mid after : QueueState) → before.stopped ≡ None → took (live_of before) ≡ live_of mid → took (live_of mid) ≡ live_of after
-    → (live_of before).queue ≡ queue_of (course_of (record (gave after) { position = (live_of before).queue.position }) 0)
+    → (live_of before).queue ≡ queue_of (course_of (record (gave after) { next_avail = (live_of before).queue.position }) 0)
 late_of before mid after goes one two =
     taken_of before mid goes one ∙ ap (λ (k : LiveQueue). record (k.queue) { position = before.next_avail; stopped = false }) two
 

@@ -5,14 +5,17 @@
 
 enum { DATA_LEN = 4096, PERMISSION = 1 };
 
-static const struct pk_entry entry = {.node = 2, .entry_secs = 1, .attr = {.ino = 2, .mode = 0100644, .nlink = 1}};
+static const struct pk_entry entry = {
+    .node = 2, .entry_secs = 1, .attr = {.ino = 2, .mode = 0100644, .nlink = 1}};
 
-/* Names and values lie in the request's bytes that were loaded, whatever the guest writes over them meanwhile. */
+/* Names and values lie in the request's bytes that were loaded, whatever the guest writes over them
+ * meanwhile. */
 static void look_at(const struct pk_call *call, const uint8_t *request) {
     const struct pk_span *names[] = {&call->name, &call->name2};
     for (size_t k = 0; k < 2; k++) {
         const uint8_t *name = request + names[k]->at;
-        if (names[k]->len && (memchr(name, 0, names[k]->len) || name[names[k]->len])) die("a name has another end");
+        if (names[k]->len && (memchr(name, 0, names[k]->len) || name[names[k]->len]))
+            die("a name has another end");
     }
 }
 
@@ -39,15 +42,17 @@ static uint32_t reply_entries(struct pk_chain *chain, const struct pk_call *call
     const uint8_t *name = (const uint8_t *)"an entry";
     uint32_t status = PK_DONE;
     for (uint64_t k = 1; k < 20 && status == PK_DONE; k++)
-        status = call->kind == PK_CALL_READDIR ? pk_add_direntry(chain, call->ticket, list, sizeof list, name, 8, 2, k, 8)
-                                               : pk_add_direntry_plus(chain, call->ticket, list, sizeof list, name, 8, &entry, k);
+        status =
+            call->kind == PK_CALL_READDIR
+                ? pk_add_direntry(chain, call->ticket, list, sizeof list, name, 8, 2, k, 8)
+                : pk_add_direntry_plus(chain, call->ticket, list, sizeof list, name, 8, &entry, k);
     status = pk_reply_entries(chain, call->ticket, &len);
     if (status == PK_DONE) scatter(chain, call->data_at, list, len);
     return status;
 }
 
-uint32_t answer_some(void *files, struct pk_chain *chain, struct pk_device *device, const struct pk_call *call,
-                     const uint8_t *request) {
+uint32_t answer_some(void *files, struct pk_chain *chain, struct pk_device *device,
+                     const struct pk_call *call, const uint8_t *request) {
     static const struct pk_statfs statfs = {.blocks = 1, .bsize = 4096};
     struct answers *answers = files;
     look_at(call, request);
@@ -65,6 +70,8 @@ uint32_t answer_some(void *files, struct pk_chain *chain, struct pk_device *devi
     case PK_ANSWER_LSEEK: return pk_reply_lseek(chain, call->ticket, 5);
     case PK_ANSWER_ENTRIES: return reply_entries(chain, call);
     case PK_ANSWER_INIT: return pk_reply_init(chain, call->ticket, device, call->options);
-    default: return pk_reply_err(chain, call->ticket, call->kind == PK_CALL_DESTROY || call->node % 2 ? 0 : PERMISSION);
+    default:
+        return pk_reply_err(chain, call->ticket,
+                            call->kind == PK_CALL_DESTROY || call->node % 2 ? 0 : PERMISSION);
     }
 }

@@ -50,10 +50,11 @@ static const uint8_t records[52] = {
 };
 
 static size_t put_record(uint8_t *at, uint32_t opcode) {
-    size_t len = opcode < sizeof records && below(8) ? records[opcode] : ONE_OF(0, 4, 8, 16, 24, 32, 40, 64, 88);
+    size_t len = opcode < sizeof records && below(8) ? records[opcode]
+                                                     : ONE_OF(0, 4, 8, 16, 24, 32, 40, 64, 88);
     for (size_t k = 0; k < len; k += 4) {
-        uint32_t word =
-            (uint32_t)ONE_OF(0, 0, 0, 0, 1, 2, 3, 7, 38, 4096, 8192, 0x8000, below(64), 1 << 24 | below(20), chance());
+        uint32_t word = (uint32_t)ONE_OF(0, 0, 0, 0, 1, 2, 3, 7, 38, 4096, 8192, 0x8000, below(64),
+                                         1 << 24 | below(20), chance());
         memcpy(at + k, &word, 4);
     }
     return len;
@@ -72,7 +73,8 @@ size_t some_request(uint8_t *at) {
         memcpy(at + len, name, strlen(name) + 1);
         len += strlen(name) + 1;
     }
-    head.len = (uint32_t)(below(10) ? len : ONE_OF(0, 39, 40, 0x101000, 0x101001, 0xffffffff, below(200)));
+    head.len =
+        (uint32_t)(below(10) ? len : ONE_OF(0, 39, 40, 0x101000, 0x101001, 0xffffffff, below(200)));
     memcpy(at, &head, sizeof head);
     return len;
 }

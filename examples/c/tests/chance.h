@@ -10,10 +10,12 @@ uint64_t chance(void);
 uint64_t below(uint64_t n);
 
 uint64_t one_of(const uint64_t *list, size_t count);
-#define ONE_OF(...) one_of((const uint64_t[]){__VA_ARGS__}, sizeof((const uint64_t[]){__VA_ARGS__}) / sizeof(uint64_t))
+#define ONE_OF(...) \
+    one_of((const uint64_t[]){__VA_ARGS__}, \
+           sizeof((const uint64_t[]){__VA_ARGS__}) / sizeof(uint64_t))
 
-/* A request of FUSE whose parts mostly fit: an opcode, numbers that may be there, names of a few kinds. Its length, at
- * most SOME_REQUEST. */
+/* A request of FUSE whose parts mostly fit: an opcode, numbers that may be there, names of a few
+ * kinds. Its length, at most SOME_REQUEST. */
 enum { SOME_REQUEST = 256 };
 size_t some_request(uint8_t *at);
 

@@ -1,7 +1,7 @@
-/* A clumsy author: calls of pitskhomu.h in any order, with numbers by chance, over a guest's memory by chance. clumsy
- * SECONDS Pointers are good for their lengths, as the header asks; nothing else is. Checked after each call: the
- * status has a name; what is to be loaded, stored and moved lies in regions that were told; no buffer is written
- * beyond its end; a refusal changes no number. */
+/* A clumsy author: calls of pitskhomu.h in any order, with numbers by chance, over a guest's memory
+ * by chance. clumsy SECONDS Pointers are good for their lengths, as the header asks; nothing else
+ * is. Checked after each call: the status has a name; what is to be loaded, stored and moved lies
+ * in regions that were told; no buffer is written beyond its end; a refusal changes no number. */
 #include "../access.h"
 #include "chance.h"
 #include <stdio.h>
@@ -9,8 +9,23 @@
 #include <string.h>
 #include <time.h>
 
-enum { MEMORY_LEN = 1 << 18, SIZE = 16, CHAINS = 4, QUEUES = 2, TAIL = 64, REGIONS = 6, BUFFER = 3000 };
-enum { DESC = 0, AVAIL = 0x1000, USED = 0x2000, TABLES = 0x3000, REQUESTS = 0x8000, ROOMS = 0x10000 };
+enum {
+    MEMORY_LEN = 1 << 18,
+    SIZE = 16,
+    CHAINS = 4,
+    QUEUES = 2,
+    TAIL = 64,
+    REGIONS = 6,
+    BUFFER = 3000
+};
+enum {
+    DESC = 0,
+    AVAIL = 0x1000,
+    USED = 0x2000,
+    TABLES = 0x3000,
+    REQUESTS = 0x8000,
+    ROOMS = 0x10000
+};
 #define FAR_AWAY (1ull << 40)
 
 /* A chain with the regions that it was told last, and what it said last. */
@@ -46,7 +61,8 @@ static uint32_t named(uint32_t status) {
     return status;
 }
 
-/* ------------------------------------------------------------- buffers with a tail that nobody may write to */
+/* ------------------------------------------------------------- buffers with a tail that nobody may
+ * write to */
 
 static uint8_t buffer[BUFFER + TAIL];
 
@@ -73,12 +89,13 @@ static bool is_told(const struct bench *b, uintptr_t at, uint64_t len) {
     return len == 0;
 }
 
-static void check_windows(const struct bench *b, const struct pk_window *windows, size_t count, size_t most,
-                          uint64_t len) {
+static void check_windows(const struct bench *b, const struct pk_window *windows, size_t count,
+                          size_t most, uint64_t len) {
     uint64_t sum = 0;
     if (count > most) wrong("too many windows", count);
     for (size_t k = 0; k < count; k++) {
-        if (windows[k].len == 0 || !is_told(b, windows[k].at, windows[k].len)) wrong("a window lies outside", k);
+        if (windows[k].len == 0 || !is_told(b, windows[k].at, windows[k].len))
+            wrong("a window lies outside", k);
         sum += windows[k].len;
     }
     if (sum > len) wrong("windows cover too much", sum);
@@ -88,15 +105,17 @@ static void check_windows(const struct bench *b, const struct pk_window *windows
 
 static void put(uint64_t at, uint64_t value, size_t len) { memcpy(memory + at, &value, len); }
 
-static void descriptor(uint64_t table, unsigned k, uint64_t addr, uint64_t len, uint64_t flags, uint64_t next) {
+static void descriptor(uint64_t table, unsigned k, uint64_t addr, uint64_t len, uint64_t flags,
+                       uint64_t next) {
     uint64_t at = table + 16 * (uint64_t)k;
     if (at + 16 > MEMORY_LEN) return;
     put(at, addr, 8), put(at + 8, len, 4), put(at + 12, flags, 2), put(at + 14, next, 2);
 }
 
 static uint64_t some_address(void) {
-    return ONE_OF(below(MEMORY_LEN), ROOMS + below(0x8000), REQUESTS + below(0x8000), MEMORY_LEN - below(64),
-                  FAR_AWAY + below(8192), UINT64_MAX - below(64), TABLES + below(0x3000));
+    return ONE_OF(below(MEMORY_LEN), ROOMS + below(0x8000), REQUESTS + below(0x8000),
+                  MEMORY_LEN - below(64), FAR_AWAY + below(8192), UINT64_MAX - below(64),
+                  TABLES + below(0x3000));
 }
 
 static void some_chain(unsigned head) {
@@ -112,7 +131,8 @@ static void some_chain(unsigned head) {
     for (unsigned n = 1; n <= parts; n++)
         descriptor(table, k + n, below(6) ? ROOMS + 0x1000 * below(40) : some_address(),
                    ONE_OF(16, 64, 128, 144, 4096, 0, below(90000)), n < parts ? 3 : 2, k + n + 1);
-    if (below(6) == 0) descriptor(table, (unsigned)below(20), some_address(), below(5000), below(8), below(20));
+    if (below(6) == 0)
+        descriptor(table, (unsigned)below(20), some_address(), below(5000), below(8), below(20));
 }
 
 static uint16_t available(void) {
@@ -142,8 +162,10 @@ static void some_queue(struct pk_queue *queue) {
     queue->event_index = (uint8_t)(below(9) ? below(2) : chance());
     struct pk_queue before = *queue;
     uint32_t status = named(pk_queue_begin(queue, position));
-    if (status != PK_DONE && memcmp(&before, queue, sizeof before) != 0) wrong("a queue that isn't begun is another", status);
-    if (status == PK_DONE && (queue->next_avail != position || queue->next_used != position || queue->reset_count != before.reset_count + 1))
+    if (status != PK_DONE && memcmp(&before, queue, sizeof before) != 0)
+        wrong("a queue that isn't begun is another", status);
+    if (status == PK_DONE && (queue->next_avail != position || queue->next_used != position ||
+                              queue->reset_count != before.reset_count + 1))
         wrong("a queue begins elsewhere", queue->next_avail);
     if (below(9)) return;
     switch (below(5)) {
@@ -155,7 +177,8 @@ static void some_queue(struct pk_queue *queue) {
     }
 }
 
-/* Regions over the memory, some with a second one far away for the guest, or with what none may have. */
+/* Regions over the memory, some with a second one far away for the guest, or with what none may
+ * have. */
 static void tell_memory(struct bench *b) {
     struct pk_region regions[REGIONS] = {{0, MEMORY_LEN, (uintptr_t)memory}};
     size_t count = 1 + below(3);
@@ -182,11 +205,15 @@ static void tell_memory(struct bench *b) {
 
 /* ------------------------------------------------------------- calls */
 
-static uint16_t out_of(const struct pk_queue *queue) { return (uint16_t)(queue->next_avail - queue->next_used); }
+static uint16_t out_of(const struct pk_queue *queue) {
+    return (uint16_t)(queue->next_avail - queue->next_used);
+}
 
 /* Which of the two says that nothing was done leaves the numbers as they were. */
-static void check_same(uint32_t status, const struct pk_queue *before, const struct pk_queue *after) {
-    if (status >= 64 && memcmp(before, after, sizeof *before) != 0) wrong("a refusal changes a queue", status);
+static void check_same(uint32_t status, const struct pk_queue *before,
+                       const struct pk_queue *after) {
+    if (status >= 64 && memcmp(before, after, sizeof *before) != 0)
+        wrong("a refusal changes a queue", status);
 }
 
 static uint32_t do_walk(struct bench *b, struct pk_queue *queue) {
@@ -194,18 +221,22 @@ static uint32_t do_walk(struct bench *b, struct pk_queue *queue) {
     size_t len = below(30) ? b->step.load_len : (size_t)ONE_OF(16, below(PK_LOAD_MAX + 1));
     struct pk_queue before = *queue;
     struct pk_pop step;
-    if (len == b->step.load_len && len > 0 && is_told(b, b->step.load_at, len)) memcpy(bytes, (const void *)b->step.load_at, len);
+    if (len == b->step.load_len && len > 0 && is_told(b, b->step.load_at, len))
+        memcpy(bytes, (const void *)b->step.load_at, len);
     if (below(500) == 0)
         for (size_t k = 0; k < len; k++) bytes[k] = (uint8_t)chance();
     uint32_t status = named(pk_pop(&b->chain, queue, bytes, len, &step));
     check_same(status, &before, queue);
     if (status != PK_BAD_ARGUMENT) b->step = step; /* else the load is wanted still */
-    if (status == PK_LOAD && (b->step.load_len == 0 || b->step.load_len > PK_LOAD_MAX || !is_told(b, b->step.load_at, b->step.load_len)))
+    if (status == PK_LOAD && (b->step.load_len == 0 || b->step.load_len > PK_LOAD_MAX ||
+                              !is_told(b, b->step.load_at, b->step.load_len)))
         wrong("a load lies outside", b->step.load_len);
     if (status != PK_DONE) return status;
-    if (queue->next_avail != (uint16_t)(before.next_avail + 1) || queue->next_used != before.next_used)
+    if (queue->next_avail != (uint16_t)(before.next_avail + 1) ||
+        queue->next_used != before.next_used)
         wrong("a chain is taken elsewhere", queue->next_avail);
-    if (out_of(queue) > (queue->max_in_flight ? queue->max_in_flight : 1)) wrong("too many chains are out", out_of(queue));
+    if (out_of(queue) > (queue->max_in_flight ? queue->max_in_flight : 1))
+        wrong("too many chains are out", out_of(queue));
     if (out_of(queue) > at_once) at_once = out_of(queue);
     taken++;
     b->have = 0;
@@ -253,10 +284,12 @@ static void do_ask(struct bench *b) {
     b->have = want;
     uint32_t status = named(pk_decode(&b->chain, &device, b->request, want, &b->call));
     if (status == PK_DONE) asked++;
-    if (status == PK_DONE && b->call.ticket != b->ticket) wrong("a call has another ticket", b->call.ticket);
+    if (status == PK_DONE && b->call.ticket != b->ticket)
+        wrong("a call has another ticket", b->call.ticket);
     const struct pk_span *spans[] = {&b->call.name, &b->call.name2, &b->call.value};
     for (size_t k = 0; k < 3; k++)
-        if ((uint64_t)spans[k]->at + spans[k]->len > want) wrong("a span lies behind the request", k);
+        if ((uint64_t)spans[k]->at + spans[k]->len > want)
+            wrong("a span lies behind the request", k);
     if (b->call.name.len && b->request[b->call.name.at + b->call.name.len])
         wrong("a name has no zero byte behind it", b->call.kind);
     if (b->call.kind == PK_CALL_BATCH_FORGET && 16 * b->call.count > b->call.value.len)
@@ -279,11 +312,13 @@ static bool is_guests(const struct bench *b, uint64_t guest, uint64_t len) {
     return len == 0;
 }
 
-static void check_ranges(const struct bench *b, const struct pk_range *ranges, size_t count, size_t most, uint64_t len) {
+static void check_ranges(const struct bench *b, const struct pk_range *ranges, size_t count,
+                         size_t most, uint64_t len) {
     uint64_t sum = 0;
     if (count > most) wrong("too many ranges", count);
     for (size_t k = 0; k < count; k++) {
-        if (ranges[k].len == 0 || !is_guests(b, ranges[k].guest, ranges[k].len)) wrong("a range lies outside", k);
+        if (ranges[k].len == 0 || !is_guests(b, ranges[k].guest, ranges[k].len))
+            wrong("a range lies outside", k);
         sum += ranges[k].len;
     }
     if (sum > len) wrong("ranges cover too much", sum);
@@ -292,7 +327,8 @@ static void check_ranges(const struct bench *b, const struct pk_range *ranges, s
 static void do_windows(struct bench *b) {
     struct pk_window windows[5];
     struct pk_range ranges[5];
-    uint64_t from = ONE_OF(0, 16, below(5000), chance()), len = ONE_OF(1, 16, below(100000), UINT64_MAX);
+    uint64_t from = ONE_OF(0, 16, below(5000), chance()),
+             len = ONE_OF(1, 16, below(100000), UINT64_MAX);
     size_t most = below(6), count;
     count = pk_request_windows(&b->chain, from, len, windows, most);
     check_windows(b, windows, count, most, len);
@@ -308,15 +344,18 @@ static uint32_t some_ticket(const struct bench *b) {
     return below(30) ? b->ticket : (uint32_t)ONE_OF(b->ticket - 1, b->ticket + 1, 0, chance());
 }
 
-/* An answer with another ticket than that of the chain is taken for no call's, and one with its ticket isn't refused for that. */
+/* An answer with another ticket than that of the chain is taken for no call's, and one with its
+ * ticket isn't refused for that. */
 static void check_ticket(const struct bench *b, uint32_t ticket, uint32_t status) {
     bool is_mine = ticket == b->ticket;
-    if (is_mine ? status == PK_OTHER_CALL : status != PK_OTHER_CALL && status != PK_WRONG_ORDER && status != PK_BAD_ARGUMENT)
+    if (is_mine ? status == PK_OTHER_CALL
+                : status != PK_OTHER_CALL && status != PK_WRONG_ORDER && status != PK_BAD_ARGUMENT)
         wrong("a ticket is taken for another one", status);
 }
 
 static struct pk_entry some_entry(void) {
-    struct pk_entry entry = {.node = below(3), .entry_secs = 1, .attr = {.ino = 7, .mode = 0100644}};
+    struct pk_entry entry = {
+        .node = below(3), .entry_secs = 1, .attr = {.ino = 7, .mode = 0100644}};
     if (below(10) == 0) entry.entry_nanos = (uint32_t)chance();
     return entry;
 }
@@ -330,8 +369,12 @@ static uint32_t do_entries(struct bench *b, uint32_t ticket) {
     memset(name, 'n', sizeof name);
     begin_buffer(len);
     for (uint64_t k = below(6); k > 0; k--) {
-        check_ticket(b, ticket, named(pk_add_direntry(&b->chain, ticket, buffer, len, name, name_len, 7, k, 8)));
-        check_ticket(b, ticket, named(pk_add_direntry_plus(&b->chain, ticket, buffer, len, name, name_len, &entry, k)));
+        check_ticket(
+            b, ticket,
+            named(pk_add_direntry(&b->chain, ticket, buffer, len, name, name_len, 7, k, 8)));
+        check_ticket(
+            b, ticket,
+            named(pk_add_direntry_plus(&b->chain, ticket, buffer, len, name, name_len, &entry, k)));
     }
     check_buffer(len);
     if (below(2) == 0) {
@@ -351,28 +394,42 @@ static void do_reply(struct bench *b) {
     switch (below(3) ? b->call.answer : below(14)) {
     case PK_ANSWER_DONE: status = pk_reply_err(chain, ticket, 0); break;
     case PK_ANSWER_ENTRY: status = pk_reply_entry(chain, ticket, &entry); break;
-    case PK_ANSWER_ATTR: status = pk_reply_attr(chain, ticket, &attr, 1, (uint32_t)ONE_OF(0, 999999999, 1000000000, chance())); break;
+    case PK_ANSWER_ATTR:
+        status = pk_reply_attr(chain, ticket, &attr, 1,
+                               (uint32_t)ONE_OF(0, 999999999, 1000000000, chance()));
+        break;
     case PK_ANSWER_OPEN: status = pk_reply_open(chain, ticket, chance(), 0); break;
     case PK_ANSWER_CREATE: status = pk_reply_create(chain, ticket, &entry, chance(), 0); break;
-    case PK_ANSWER_DATA: status = pk_reply_data(chain, ticket, below(4) ? below(b->call.data_len + 1) : chance()); break;
+    case PK_ANSWER_DATA:
+        status = pk_reply_data(chain, ticket, below(4) ? below(b->call.data_len + 1) : chance());
+        break;
     case PK_ANSWER_XATTR: status = pk_reply_xattr(chain, ticket, (uint32_t)chance()); break;
     case PK_ANSWER_STATFS: status = pk_reply_statfs(chain, ticket, &statfs); break;
-    case PK_ANSWER_WRITE: status = pk_reply_write(chain, ticket, (uint32_t)(below(4) ? below(b->call.size + 1) : chance())); break;
+    case PK_ANSWER_WRITE:
+        status = pk_reply_write(chain, ticket,
+                                (uint32_t)(below(4) ? below(b->call.size + 1) : chance()));
+        break;
     case PK_ANSWER_LSEEK: status = pk_reply_lseek(chain, ticket, chance()); break;
     case PK_ANSWER_ENTRIES: status = do_entries(b, ticket); break;
     case PK_ANSWER_INIT: status = pk_reply_init(chain, ticket, &device, chance()); break;
-    default: status = pk_reply_err(chain, ticket, (uint32_t)ONE_OF(2, 38, 4095, 4096, 0, chance())); break;
+    default:
+        status = pk_reply_err(chain, ticket, (uint32_t)ONE_OF(2, 38, 4095, 4096, 0, chance()));
+        break;
     }
     check_ticket(b, ticket, named(status));
 }
 
-/* A reply of the author's own bytes: in place of pk_decode or of an answer, behind one, or of a chain that isn't out. */
+/* A reply of the author's own bytes: in place of pk_decode or of an answer, behind one, or of a
+ * chain that isn't out. */
 static void do_bytes(struct bench *b) {
     uint64_t room = b->room_len, none;
-    uint64_t len = ONE_OF(0, PK_HEADER, below(room + 1), room, room + 1, room + below(100), UINT32_MAX, chance());
+    uint64_t len = ONE_OF(0, PK_HEADER, below(room + 1), room, room + 1, room + below(100),
+                          UINT32_MAX, chance());
     uint32_t ticket = some_ticket(b), status = named(pk_reply_bytes(&b->chain, ticket, len));
     check_ticket(b, ticket, status);
-    if (status == PK_LONG_REPLY ? len <= room : status != PK_DONE && status != PK_WRONG_ORDER && status != PK_OTHER_CALL)
+    if (status == PK_LONG_REPLY
+            ? len <= room
+            : status != PK_DONE && status != PK_WRONG_ORDER && status != PK_OTHER_CALL)
         wrong("bytes are refused otherwise", status);
     if (status != PK_DONE) return;
     if (len > room) wrong("bytes are longer than the room", len);
@@ -382,23 +439,28 @@ static void do_bytes(struct bench *b) {
     replied++;
     memset(buffer, 'b', BUFFER);
     scatter(&b->chain, 0, buffer, len < BUFFER ? (size_t)len : BUFFER);
-    if (named(pk_reply_bytes(&b->chain, ticket, 0)) != PK_WRONG_ORDER || named(pk_reply_err(&b->chain, ticket, 0)) != PK_WRONG_ORDER ||
+    if (named(pk_reply_bytes(&b->chain, ticket, 0)) != PK_WRONG_ORDER ||
+        named(pk_reply_err(&b->chain, ticket, 0)) != PK_WRONG_ORDER ||
         named(pk_reply_entries(&b->chain, ticket, &none)) != PK_WRONG_ORDER)
         wrong("a chain has two replies", len);
 }
 
 /* A chain goes back at `returned`, whichever was taken first. */
-static void check_stores(const struct bench *b, const struct pk_queue *queue, const struct pk_stores *stores) {
+static void check_stores(const struct bench *b, const struct pk_queue *queue,
+                         const struct pk_stores *stores) {
     uint64_t element = queue->used + 4 + 8 * (uint64_t)(queue->next_used & (queue->size - 1u));
-    if (!is_told(b, stores->id_at, 4) || !is_told(b, stores->len_at, 4) || !is_told(b, stores->index_at, 2) ||
-        !is_told(b, stores->seen_at, 2))
+    if (!is_told(b, stores->id_at, 4) || !is_told(b, stores->len_at, 4) ||
+        !is_told(b, stores->index_at, 2) || !is_told(b, stores->seen_at, 2))
         wrong("a store lies outside", element);
-    if (stores->len_at - stores->id_at != 4 && b->region_count == 1) wrong("the element's halves lie apart", element);
+    if (stores->len_at - stores->id_at != 4 && b->region_count == 1)
+        wrong("the element's halves lie apart", element);
     if (stores->index != (uint16_t)(queue->next_used + 1)) wrong("another index", stores->index);
-    if (stores->element_guest != element || stores->index_guest != queue->used + 2) wrong("another guest address", stores->element_guest);
+    if (stores->element_guest != element || stores->index_guest != queue->used + 2)
+        wrong("another guest address", stores->element_guest);
     if (stores->front_len > stores->len || stores->len > b->room_len)
         wrong("the reply is longer than the room", stores->len);
-    if (b->replied && (stores->front_len || stores->len != b->replied_len)) wrong("other bytes go back", stores->len);
+    if (b->replied && (stores->front_len || stores->len != b->replied_len))
+        wrong("other bytes go back", stores->len);
 }
 
 static void do_returned(struct bench *b, struct pk_queue *queue) {
@@ -408,7 +470,8 @@ static void do_returned(struct bench *b, struct pk_queue *queue) {
     check_same(status, &before, queue);
     if (notify > 1) wrong("neither 0 nor 1", notify);
     if (status != PK_DONE) return;
-    if (queue->next_used != (uint16_t)(before.next_used + 1) || queue->next_avail != before.next_avail)
+    if (queue->next_used != (uint16_t)(before.next_used + 1) ||
+        queue->next_avail != before.next_avail)
         wrong("a chain goes back elsewhere", queue->next_used);
     returned++;
 }
@@ -434,14 +497,18 @@ static void do_return(struct bench *b, struct pk_queue *queue) {
 /* Where the driver is told whether its kicks are wanted. */
 static void do_kicks(struct bench *b, const struct pk_queue *queue) {
     struct pk_store store;
-    uint32_t wanted = (uint32_t)(below(9) ? below(2) : chance()), status = named(pk_set_notification(&b->chain, queue, wanted, &store));
+    uint32_t wanted = (uint32_t)(below(9) ? below(2) : chance()),
+             status = named(pk_set_notification(&b->chain, queue, wanted, &store));
     if (status != PK_DONE) return;
-    if (store.len != 2 && (store.len != 0 || wanted || !queue->event_index)) wrong("another length", store.len);
+    if (store.len != 2 && (store.len != 0 || wanted || !queue->event_index))
+        wrong("another length", store.len);
     if (store.len && !is_told(b, store.at, 2)) wrong("a store lies outside", store.at);
-    if (store.len && store.value != (queue->event_index ? queue->next_avail : !wanted)) wrong("another value", store.value);
+    if (store.len && store.value != (queue->event_index ? queue->next_avail : !wanted))
+        wrong("another value", store.value);
 }
 
-/* A record is written and read again, sometimes cut, with other bytes in it, or into too few queues. */
+/* A record is written and read again, sometimes cut, with other bytes in it, or into too few
+ * queues. */
 static void do_move(void) {
     struct pk_device lent = device;
     struct pk_queue there[QUEUES];
@@ -449,16 +516,20 @@ static void do_move(void) {
     if (below(20) == 0) lent.page_size = (uint32_t)ONE_OF(0, 4095, 8192, chance());
     if (below(20) == 0) lent.options = chance();
     begin_buffer(room);
-    uint32_t status = named(pk_save(&lent, queues, below(6) ? QUEUES : below(QUEUES), buffer, room, &len));
+    uint32_t status =
+        named(pk_save(&lent, queues, below(6) ? QUEUES : below(QUEUES), buffer, room, &len));
     check_buffer(room);
-    if (status == PK_DONE ? len > room : len > 0 && status != PK_SHORT_BUFFER) wrong("a record's length", len);
+    if (status == PK_DONE ? len > room : len > 0 && status != PK_SHORT_BUFFER)
+        wrong("a record's length", len);
     if (status != PK_DONE) return;
     for (uint64_t k = below(3); k > 0; k--) buffer[below(len)] = (uint8_t)chance();
     if (below(6) == 0) len = below(len + 1);
     memcpy(there, queues, sizeof there);
     struct pk_device before = lent;
-    status = named(pk_restore(&lent, there, below(6) ? QUEUES : below(QUEUES), buffer, len, &count));
-    if (status == PK_DONE ? count > QUEUES : memcmp(there, queues, sizeof there) || lent.options != before.options)
+    status =
+        named(pk_restore(&lent, there, below(6) ? QUEUES : below(QUEUES), buffer, len, &count));
+    if (status == PK_DONE ? count > QUEUES
+                          : memcmp(there, queues, sizeof there) || lent.options != before.options)
         wrong("a refused record changes numbers", status);
 }
 
@@ -514,8 +585,9 @@ int main(int argc, char **argv) {
     while (calls % 1024 > 40 || time(NULL) < end) stumble();
     for (size_t k = 0; k < CHAINS; k++) pk_chain_free(&benches[k].chain), free(benches[k].request);
     free(memory);
-    printf("clumsy author: %llu calls, %llu chains taken, up to %u out at once, %llu asked, %llu replied with bytes, %llu returned\n",
-           (unsigned long long)calls, (unsigned long long)taken, at_once, (unsigned long long)asked, (unsigned long long)replied,
-           (unsigned long long)returned);
+    printf("clumsy author: %llu calls, %llu chains taken, up to %u out at once, %llu asked, %llu "
+           "replied with bytes, %llu returned\n",
+           (unsigned long long)calls, (unsigned long long)taken, at_once, (unsigned long long)asked,
+           (unsigned long long)replied, (unsigned long long)returned);
     return 0;
 }

@@ -1,8 +1,9 @@
-/* What a chain costs by the library, with plain loads and stores: requests as a Linux guest cuts them, header, arguments and data in
- * pieces of their own, by direct descriptors; one of 130 descriptors in a table, as a READ of 512 KiB has; and short ones in a table.
- * Answers and data are at hand.
- * One chain is out at a time, or four or sixteen of a queue, each by a handle of its own: all are taken, then answered, then given back.
- * cost [CHAINS]: prints for each kind of request the least of nine runs, in nanoseconds for a chain. */
+/* What a chain costs by the library, with plain loads and stores: requests as a Linux guest cuts
+ * them, header, arguments and data in pieces of their own, by direct descriptors; one of 130
+ * descriptors in a table, as a READ of 512 KiB has; and short ones in a table. Answers and data are
+ * at hand. One chain is out at a time, or four or sixteen of a queue, each by a handle of its own:
+ * all are taken, then answered, then given back. cost [CHAINS]: prints for each kind of request the
+ * least of nine runs, in nanoseconds for a chain. */
 #define _POSIX_C_SOURCE 200809L
 #include "../access.h"
 #include <stdio.h>
@@ -10,15 +11,33 @@
 #include <string.h>
 #include <time.h>
 
-enum { SIZE = 256, DESC = 0x1000, AVAIL = 0x2000, USED = 0x3000, REQUEST = 0x4000, ROOM = 0x6000, TABLE = 0x8000, END = 0x9000 };
-enum { NEXT = 1, WRITE = 2, INDIRECT = 4, RUNS = 9, PIECES = 3, DATA = 4096, ENTRY = 16, MOST_OUT = 16 };
+enum {
+    SIZE = 256,
+    DESC = 0x1000,
+    AVAIL = 0x2000,
+    USED = 0x3000,
+    REQUEST = 0x4000,
+    ROOM = 0x6000,
+    TABLE = 0x8000,
+    END = 0x9000
+};
+enum {
+    NEXT = 1,
+    WRITE = 2,
+    INDIRECT = 4,
+    RUNS = 9,
+    PIECES = 3,
+    DATA = 4096,
+    ENTRY = 16,
+    MOST_OUT = 16
+};
 
 static _Alignas(4096) uint8_t memory[END];
 static uint8_t file[DATA];
 static struct offered offered; /* of the queue */
 
-/* A kind of request: its pieces and those of its room (0: none), how many pages of room stand behind them in a table (0: no table), and
- * what answers it. */
+/* A kind of request: its pieces and those of its room (0: none), how many pages of room stand
+ * behind them in a table (0: no table), and what answers it. */
 struct row {
     const char *name;
     uint32_t opcode;
@@ -42,7 +61,8 @@ static uint32_t answer_attr(struct pk_chain *chain, const struct pk_call *call) 
 }
 
 static uint32_t answer_entry(struct pk_chain *chain, const struct pk_call *call) {
-    struct pk_entry entry = {.node = call->node + 1, .attr = {.ino = 2, .mode = 0100644, .nlink = 1}};
+    struct pk_entry entry = {.node = call->node + 1,
+                             .attr = {.ino = 2, .mode = 0100644, .nlink = 1}};
     return pk_reply_entry(chain, call->ticket, &entry);
 }
 
@@ -53,9 +73,11 @@ static uint32_t answer_read(struct pk_chain *chain, const struct pk_call *call) 
 
 static uint32_t answer_write(struct pk_chain *chain, const struct pk_call *call) {
     struct pk_window windows[PIECES];
-    size_t count = pk_request_windows(chain, call->data_at, call->data_len, windows, PIECES), done = 0;
+    size_t count = pk_request_windows(chain, call->data_at, call->data_len, windows, PIECES),
+           done = 0;
     for (size_t k = 0; k < count; done += windows[k++].len)
-        memcpy(file + done, (const uint8_t *)memory + (windows[k].at - (uintptr_t)memory), windows[k].len);
+        memcpy(file + done, (const uint8_t *)memory + (windows[k].at - (uintptr_t)memory),
+               windows[k].len);
     return pk_reply_write(chain, call->ticket, (uint32_t)done);
 }
 
@@ -83,8 +105,10 @@ static void lay_entry(size_t table, size_t index, size_t at, size_t len, uint16_
     put(entry + 14, flags & NEXT ? index + 1 : 0, 2);
 }
 
-/* Lays the pieces of one direction, each 16 bytes behind the one before; answers the index behind the last. */
-static size_t lay_pieces(size_t table, const size_t pieces[PIECES], size_t index, size_t at, uint16_t flags, bool ends) {
+/* Lays the pieces of one direction, each 16 bytes behind the one before; answers the index behind
+ * the last. */
+static size_t lay_pieces(size_t table, const size_t pieces[PIECES], size_t index, size_t at,
+                         uint16_t flags, bool ends) {
     for (size_t k = 0; k < PIECES && pieces[k]; k++, index++) {
         bool last = ends && (k + 1 == PIECES || !pieces[k + 1]);
         lay_entry(table, index, at, pieces[k], (uint16_t)(last ? flags : flags | NEXT));
@@ -103,7 +127,8 @@ static void lay_chain(const struct row *row) {
     if (row->pages) lay_entry(DESC, 0, TABLE, ENTRY * index, INDIRECT);
 }
 
-/* Lays a request: its header, and behind it zeros, a name, or the numbers of a transfer of one page. */
+/* Lays a request: its header, and behind it zeros, a name, or the numbers of a transfer of one
+ * page. */
 static void lay_request(const struct row *row) {
     size_t len = 0, record = REQUEST + 40 + 16;
     for (size_t k = 0; k < PIECES; k++) len += row->request[k];
@@ -117,7 +142,8 @@ static void lay_request(const struct row *row) {
     lay_chain(row);
 }
 
-static void serve_next(const struct row *row, struct pk_chain *chains, struct pk_queue *queue, const struct pk_device *device) {
+static void serve_next(const struct row *row, struct pk_chain *chains, struct pk_queue *queue,
+                       const struct pk_device *device) {
     struct pk_pop steps[MOST_OUT];
     struct pk_call call;
     uint8_t request[PK_FIRST];
@@ -126,19 +152,22 @@ static void serve_next(const struct row *row, struct pk_chain *chains, struct pk
     for (size_t k = 0; k < row->out; k++)
         if (take_chain(&chains[k], queue, &offered, &steps[k])) abort();
     for (size_t k = 0; k < row->out; k++)
-        if (ask(&chains[k], device, request, load_front(&chains[k], &steps[k], request), &call) || row->answer(&chains[k], &call)) abort();
+        if (ask(&chains[k], device, request, load_front(&chains[k], &steps[k], request), &call) ||
+            row->answer(&chains[k], &call))
+            abort();
     for (size_t k = 0; k < row->out; k++)
         if (give_back(&chains[k], queue, NULL, &notify)) abort();
 }
 
-static double measure(const struct row *row, struct pk_chain *chains, struct pk_queue *queue, const struct pk_device *device,
-                      long count) {
+static double measure(const struct row *row, struct pk_chain *chains, struct pk_queue *queue,
+                      const struct pk_device *device, long count) {
     struct timespec from, to;
     long rounds = (count + (long)row->out - 1) / (long)row->out;
     clock_gettime(CLOCK_MONOTONIC, &from);
     for (long k = 0; k < rounds; k++) serve_next(row, chains, queue, device);
     clock_gettime(CLOCK_MONOTONIC, &to);
-    double nanoseconds = (double)(to.tv_sec - from.tv_sec) * 1e9 + (double)(to.tv_nsec - from.tv_nsec);
+    double nanoseconds =
+        (double)(to.tv_sec - from.tv_sec) * 1e9 + (double)(to.tv_nsec - from.tv_nsec);
     return nanoseconds / (double)(rounds * (long)row->out);
 }
 
@@ -147,7 +176,8 @@ int main(int argc, char **argv) {
     struct pk_chain chains[MOST_OUT] = {{0}};
     struct pk_device device = {.page_size = 4096, .limit = 0x101000};
     struct pk_region region = {0, sizeof memory, (uintptr_t)memory};
-    struct pk_queue queue = {.size = SIZE, .desc = DESC, .avail = AVAIL, .used = USED, .max_in_flight = MOST_OUT};
+    struct pk_queue queue = {
+        .size = SIZE, .desc = DESC, .avail = AVAIL, .used = USED, .max_in_flight = MOST_OUT};
     for (size_t k = 0; k < MOST_OUT; k++)
         if (count < 1 || pk_chain_set_memory(&chains[k], &device, &region, 1)) return 1;
     for (size_t at = 0; at < sizeof rows / sizeof *rows; at++) {

@@ -39,8 +39,9 @@ _Atomic uint16_t *index_of(const struct driver *driver, uint64_t guest) {
 
 static void start(struct driver *driver, uint16_t position) {
     uintptr_t host = (uintptr_t)driver->memory;
-    const struct pk_region regions[REGIONS] = {
-        {QUIET, QUIET_LEN, host + 2 * REGION_LEN}, {0, REGION_LEN, host}, {HIGH, REGION_LEN, host + REGION_LEN}};
+    const struct pk_region regions[REGIONS] = {{QUIET, QUIET_LEN, host + 2 * REGION_LEN},
+                                               {0, REGION_LEN, host},
+                                               {HIGH, REGION_LEN, host + REGION_LEN}};
     driver->live = (struct live){.queue = {.desc = DESC,
                                            .avail = AVAIL,
                                            .used = USED,
@@ -65,11 +66,15 @@ static void stop(struct driver *driver) {
 }
 
 void driver_begin(struct driver *driver, size_t thread_count, bool event_index) {
-    *driver = (struct driver){.thread_count = thread_count, .event_index = event_index, .answers = {.yields = thread_count > 1}};
-    driver->memory = mmap(NULL, MEMORY_LEN, PROT_READ | PROT_WRITE, MAP_SHARED | MAP_ANONYMOUS, -1, 0);
+    *driver = (struct driver){.thread_count = thread_count,
+                              .event_index = event_index,
+                              .answers = {.yields = thread_count > 1}};
+    driver->memory =
+        mmap(NULL, MEMORY_LEN, PROT_READ | PROT_WRITE, MAP_SHARED | MAP_ANONYMOUS, -1, 0);
     driver->live.kick = eventfd(0, EFD_NONBLOCK | EFD_CLOEXEC);
     driver->live.call = eventfd(0, EFD_NONBLOCK | EFD_CLOEXEC);
-    if (driver->memory == MAP_FAILED || driver->live.kick < 0 || driver->live.call < 0) die("no memory");
+    if (driver->memory == MAP_FAILED || driver->live.kick < 0 || driver->live.call < 0)
+        die("no memory");
     start(driver, 0);
 }
 
@@ -89,8 +94,8 @@ void driver_end(struct driver *driver) {
 
 /* ------------------------------------------------------------- the driver */
 
-void put_descriptor(const struct driver *driver, uint64_t table, unsigned k, uint64_t addr, uint64_t len, unsigned flags,
-                    unsigned next) {
+void put_descriptor(const struct driver *driver, uint64_t table, unsigned k, uint64_t addr,
+                    uint64_t len, unsigned flags, unsigned next) {
     struct {
         uint64_t addr;
         uint32_t len;
@@ -106,15 +111,20 @@ void offer(struct driver *driver, uint16_t head) {
     atomic_store_explicit(index_of(driver, AVAIL + 2), driver->offered, memory_order_release);
 }
 
-/* Whether `wanted`, an index that the device has named, is one of those from `from` on and before `to`. */
-static bool is_passed(uint16_t wanted, uint16_t from, uint16_t to) { return (uint16_t)(to - wanted - 1) < (uint16_t)(to - from); }
+/* Whether `wanted`, an index that the device has named, is one of those from `from` on and before
+ * `to`. */
+static bool is_passed(uint16_t wanted, uint16_t from, uint16_t to) {
+    return (uint16_t)(to - wanted - 1) < (uint16_t)(to - from);
+}
 
 /* Whether the device wants to be told of the chains that were offered since it was told last. */
 static bool wants_kick(struct driver *driver) {
-    uint16_t told = driver->told, flags = atomic_load_explicit(index_of(driver, USED), memory_order_relaxed);
+    uint16_t told = driver->told,
+             flags = atomic_load_explicit(index_of(driver, USED), memory_order_relaxed);
     driver->told = driver->offered;
     if (!driver->event_index) return !(flags & NO_NOTIFY);
-    uint16_t avail_event = atomic_load_explicit(index_of(driver, USED + 4 + 8 * RING_SIZE), memory_order_relaxed);
+    uint16_t avail_event =
+        atomic_load_explicit(index_of(driver, USED + 4 + 8 * RING_SIZE), memory_order_relaxed);
     return is_passed(avail_event, told, driver->offered);
 }
 
@@ -133,8 +143,11 @@ static bool is_back(struct driver *driver) {
 /* Wants to be called when the next chain comes back, or not. Behind it the driver looks again. */
 static void want_call(struct driver *driver, bool wanted) {
     _Atomic uint16_t *used_event = index_of(driver, AVAIL + 4 + 2 * RING_SIZE);
-    if (!driver->event_index) atomic_store_explicit(index_of(driver, AVAIL), wanted ? 0 : NO_INTERRUPT, memory_order_relaxed);
-    else if (wanted) atomic_store_explicit(used_event, driver->seen, memory_order_relaxed);
+    if (!driver->event_index)
+        atomic_store_explicit(index_of(driver, AVAIL), wanted ? 0 : NO_INTERRUPT,
+                              memory_order_relaxed);
+    else if (wanted)
+        atomic_store_explicit(used_event, driver->seen, memory_order_relaxed);
     if (wanted) atomic_thread_fence(memory_order_seq_cst);
 }
 
@@ -148,7 +161,8 @@ bool wait_for_all(struct driver *driver, int milliseconds) {
         want_call(driver, true);
         if (is_back(driver)) return true;
         if (driver->seen != seen) continue; /* that one may have come back before it was wanted */
-        if (poll(&event, 1, milliseconds) <= 0) return false; /* whether or not all is back: nobody said so */
+        /* whether or not all is back: nobody said so */
+        if (poll(&event, 1, milliseconds) <= 0) return false;
         if (read(event.fd, &calls, sizeof calls) < 0 && errno != EAGAIN) die("no call");
     }
 }

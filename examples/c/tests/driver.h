@@ -1,15 +1,18 @@
-/* A guest for tests, in this process: memory, a queue with the device's threads (live.c), and a driver that runs beside them. */
+/* A guest for tests, in this process: memory, a queue with the device's threads (live.c), and a
+ * driver that runs beside them. */
 #ifndef DRIVER_H
 #define DRIVER_H
 #include "../live.h"
 #include "answers.h"
 #include <stdatomic.h>
 
-/* The guest's memory: two regions that are far apart for the guest, and one that no descriptor ever names. */
+/* The guest's memory: two regions that are far apart for the guest, and one that no descriptor ever
+ * names. */
 enum { RING_SIZE = 128, REGION_LEN = 8 << 20, QUIET_LEN = 1 << 16, REGIONS = 3 };
 enum { DESC = 0x10000, AVAIL = 0x12000, USED = 0x13000, REQUESTS = 0x100000, TABLES = 0x700000 };
-#define HIGH (1ull << 32)          /* rooms stand from here on */
-#define QUIET 0x5a3c96e17b2d0000ull /* no bytes of rings and requests, read from an odd place, are such an address */
+#define HIGH (1ull << 32) /* rooms stand from here on */
+/* no bytes of rings and requests, read from an odd place, are such an address */
+#define QUIET 0x5a3c96e17b2d0000ull
 
 struct driver {
     uint8_t *memory;
@@ -26,7 +29,8 @@ struct driver {
 
 _Noreturn void die(const char *format, ...) __attribute__((format(printf, 1, 2)));
 
-/* Makes memory, and begins the queue, with an event index (VIRTIO 1.2, 2.7.7 and 2.7.10) or flags; begins it anew, as after a reset; ends it. */
+/* Makes memory, and begins the queue, with an event index (VIRTIO 1.2, 2.7.7 and 2.7.10) or flags;
+ * begins it anew, as after a reset; ends it. */
 void driver_begin(struct driver *driver, size_t thread_count, bool event_index);
 void driver_reset(struct driver *driver);
 void driver_end(struct driver *driver);
@@ -36,14 +40,15 @@ uint8_t *place_of(const struct driver *driver, uint64_t guest);
 _Atomic uint16_t *index_of(const struct driver *driver, uint64_t guest);
 
 /* One descriptor of a table, and a chain offered. */
-void put_descriptor(const struct driver *driver, uint64_t table, unsigned k, uint64_t addr, uint64_t len, unsigned flags,
-                    unsigned next);
+void put_descriptor(const struct driver *driver, uint64_t table, unsigned k, uint64_t addr,
+                    uint64_t len, unsigned flags, unsigned next);
 void offer(struct driver *driver, uint16_t head);
 
 /* Kicks, unless the device says that it looks anyway. */
 void kick(struct driver *driver);
 
-/* Sleeps as VIRTIO 1.2, 2.7.7 says until all that was offered is back; false if that takes longer. */
+/* Sleeps as VIRTIO 1.2, 2.7.7 says until all that was offered is back; false if that takes
+ * longer. */
 bool wait_for_all(struct driver *driver, int milliseconds);
 
 #endif

@@ -1,13 +1,23 @@
-/* The available index is loaded again only once all that it told of was taken (take_chain of access.c): a guest that changes it meanwhile
- * isn't met before that, and is refused then. No load is counted: what a walk comes to says which index it went by. */
+/* The available index is loaded again only once all that it told of was taken (take_chain of
+ * access.c): a guest that changes it meanwhile isn't met before that, and is refused then. No load
+ * is counted: what a walk comes to says which index it went by. */
 #include "../access.h"
 #include <stdio.h>
 #include <stdlib.h>
 #include <string.h>
 
-enum { SIZE = 8, DESC = 0x1000, AVAIL = 0x2000, USED = 0x3000, ROOM = 0x4000, MEMORY = 0x5000, HEAD = 5 };
+enum {
+    SIZE = 8,
+    DESC = 0x1000,
+    AVAIL = 0x2000,
+    USED = 0x3000,
+    ROOM = 0x4000,
+    MEMORY = 0x5000,
+    HEAD = 5
+};
 
-static _Alignas(4096) uint8_t memory[MEMORY], moved[MEMORY]; /* the guest's, from its address 0 on, at two places */
+/* the guest's, from its address 0 on, at two places */
+static _Alignas(4096) uint8_t memory[MEMORY], moved[MEMORY];
 static struct pk_device device = PK_DEVICE;
 static struct pk_queue queue = {.desc = DESC, .avail = AVAIL, .used = USED, .size = SIZE};
 static struct offered offered;
@@ -16,7 +26,8 @@ static struct pk_pop step;
 
 static void expect(const char *what, uint64_t found, uint64_t wanted) {
     if (found == wanted) return;
-    fprintf(stderr, "FAILED: %s: %llu, and not %llu\n", what, (unsigned long long)found, (unsigned long long)wanted);
+    fprintf(stderr, "FAILED: %s: %llu, and not %llu\n", what, (unsigned long long)found,
+            (unsigned long long)wanted);
     exit(1);
 }
 
@@ -104,7 +115,8 @@ static void takes_again(void) {
 
 int main(void) {
     work_over(memory);
-    put(DESC + 16 * HEAD, ROOM, 8), put(DESC + 16 * HEAD + 8, 16, 4), put(DESC + 16 * HEAD + 12, 2, 2);
+    put(DESC + 16 * HEAD, ROOM, 8), put(DESC + 16 * HEAD + 8, 16, 4),
+        put(DESC + 16 * HEAD + 12, 2, 2);
     for (size_t k = 0; k < SIZE; k++) put(AVAIL + 4 + 2 * k, HEAD, 2);
     loads_once_for_all();
     refuses_by_the_next_load();

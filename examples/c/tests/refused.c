@@ -1,9 +1,11 @@
-/* Want of memory: one script of calls of pitskhomu.h, over a guest's memory of its own, is played with all the memory
- * that it asks for, and then with each of its requests for memory refused in turn: that one alone, and that one with
- * those behind it until the call ends. A call of which a request was refused says so by PK_OUT_OF_MEMORY (pk_restore by
- * PK_RECORD_OUT_OF_MEMORY), no other says that, and nothing was done: what it was lent is as before, and so is the
- * handle as far as it can be seen. Made again, it says what it says with ample memory, and so do all behind it. A call
- * of which pitskhomu.h doesn't say that memory may be wanting asks for none. Three more handles have a chain out of the same queue meanwhile. */
+/* Want of memory: one script of calls of pitskhomu.h, over a guest's memory of its own, is played
+ * with all the memory that it asks for, and then with each of its requests for memory refused in
+ * turn: that one alone, and that one with those behind it until the call ends. A call of which a
+ * request was refused says so by PK_OUT_OF_MEMORY (pk_restore by PK_RECORD_OUT_OF_MEMORY), no other
+ * says that, and nothing was done: what it was lent is as before, and so is the handle as far as it
+ * can be seen. Made again, it says what it says with ample memory, and so do all behind it. A call
+ * of which pitskhomu.h doesn't say that memory may be wanting asks for none. Three more handles
+ * have a chain out of the same queue meanwhile. */
 #include "pitskhomu.h"
 #include <linux/fuse.h>
 #include <stdbool.h>
@@ -14,9 +16,11 @@
 /* ------------------------------------------------------------- memory that is refused */
 
 static struct {
-    uint64_t number;              /* of the request that is refused, from 1 on; 0: none is */
-    bool goes_on, refuses;        /* whether those behind it are refused too, and whether any is now */
-    uint64_t made, refused, held; /* requests, those that were refused, and blocks that weren't freed */
+    uint64_t number; /* of the request that is refused, from 1 on; 0: none is */
+    /* whether those behind it are refused too, and whether any is now */
+    bool goes_on, refuses;
+    /* requests, those that were refused, and blocks that weren't freed */
+    uint64_t made, refused, held;
 } heap;
 
 static bool is_refused(void) {
@@ -27,8 +31,8 @@ static bool is_refused(void) {
     return true;
 }
 
-/* What the library calls comes here by the linker's --wrap, which wants these names; the rest of the program has the
- * libc's. */
+/* What the library calls comes here by the linker's --wrap, which wants these names; the rest of
+ * the program has the libc's. */
 void *__real_malloc(size_t len);
 void *__real_realloc(void *block, size_t len);
 void __real_free(void *block);
@@ -52,10 +56,37 @@ void __wrap_free(void *block) {
 
 /* ------------------------------------------------------------- all that calls are lent */
 
-enum { PAGE = 4096, PAGES = 7, HIGH = 1, LOW = 3, LOW_MOVED = 5, BOUND = 2 * PAGE, SIZE = 64, JUNK = 0xa5 };
-enum { DESC = 0, AVAIL = 0x400, USED = 0x800, ROOM = 0xc00, REQUEST = 0x1000, ROOM_LEN = 0x400, CALLS = 400, HANDLES = 4 };
-/* A table of descriptors one of which goes over the end of a region: the ninth, when a list of eight grows. */
-enum { SPLIT = 8, TABLE = BOUND - 16 * SPLIT - 8, PIECE = 4, ROOM_PIECE = 16, ROOM_PIECES = 10, WINDOWS = 64, NO_LOAD = PK_LOAD_MAX + 1 };
+enum {
+    PAGE = 4096,
+    PAGES = 7,
+    HIGH = 1,
+    LOW = 3,
+    LOW_MOVED = 5,
+    BOUND = 2 * PAGE,
+    SIZE = 64,
+    JUNK = 0xa5
+};
+enum {
+    DESC = 0,
+    AVAIL = 0x400,
+    USED = 0x800,
+    ROOM = 0xc00,
+    REQUEST = 0x1000,
+    ROOM_LEN = 0x400,
+    CALLS = 400,
+    HANDLES = 4
+};
+/* A table of descriptors one of which goes over the end of a region: the ninth, when a list of
+ * eight grows. */
+enum {
+    SPLIT = 8,
+    TABLE = BOUND - 16 * SPLIT - 8,
+    PIECE = 4,
+    ROOM_PIECE = 16,
+    ROOM_PIECES = 10,
+    WINDOWS = 64,
+    NO_LOAD = PK_LOAD_MAX + 1
+};
 
 /* What a handle shows of itself by calls that change nothing. */
 struct seen {
@@ -66,8 +97,8 @@ struct seen {
     struct pk_range ranges[WINDOWS];
 };
 
-/* The guest's memory, numbers that are lent, and what calls filled. Two regions of the guest that touch stand apart
- * here: that below BOUND at the page `low`, the other one at HIGH. */
+/* The guest's memory, numbers that are lent, and what calls filled. Two regions of the guest that
+ * touch stand apart here: that below BOUND at the page `low`, the other one at HIGH. */
 struct world {
     _Alignas(PAGE) uint8_t pages[PAGES * PAGE];
     unsigned low, offered;
@@ -85,15 +116,19 @@ struct world {
 
 /* `told` is the world after each call with ample memory. */
 static struct world now, before, told[CALLS];
-static struct pk_chain chains[HANDLES], *chain = chains; /* the handle that is looked at, and the others, which have chains out meanwhile */
+/* the handle that is looked at, and the others, which have chains out meanwhile */
+static struct pk_chain chains[HANDLES], *chain = chains;
 static uint32_t tickets[HANDLES]; /* of their calls */
 static size_t at_call, call_count;
 
 #define PLACE(member) offsetof(struct world, member), sizeof now.member
-#define FIELD(member) {#member, PLACE(member)}
+#define FIELD(member) \
+    { #member, PLACE(member) }
 #define FIELDS(first, last) \
-    {#first " to " #last, offsetof(struct world, first), \
-     offsetof(struct world, last) + sizeof now.last - offsetof(struct world, first)}
+    { \
+#first " to " #last, offsetof(struct world, first), \
+            offsetof(struct world, last) + sizeof now.last - offsetof(struct world, first) \
+    }
 
 /* What is compared: bytes of structs without those that fill them up. */
 static const struct {
@@ -130,14 +165,28 @@ static const struct {
 /* What differs, or NULL. */
 static const char *differs(const struct world *a, const struct world *b) {
     for (size_t k = 0; k < sizeof fields / sizeof fields[0]; k++)
-        if (memcmp((const uint8_t *)a + fields[k].at, (const uint8_t *)b + fields[k].at, fields[k].len))
+        if (memcmp((const uint8_t *)a + fields[k].at, (const uint8_t *)b + fields[k].at,
+                   fields[k].len))
             return fields[k].name;
     return NULL;
 }
 
 /* ------------------------------------------------------------- calls */
 
-enum kind { SET_MEMORY, WALK, SAVE, RESTORE, ASK, DROP, REPLY, RETURN, RETURNED, KICKS, FREE, KINDS };
+enum kind {
+    SET_MEMORY,
+    WALK,
+    SAVE,
+    RESTORE,
+    ASK,
+    DROP,
+    REPLY,
+    RETURN,
+    RETURNED,
+    KICKS,
+    FREE,
+    KINDS
+};
 
 static const struct {
     const char *name;
@@ -158,7 +207,8 @@ static const struct {
     [FREE] = {.name = "pk_chain_free"},
 };
 
-/* The call that is made, of which row, whether it is made again, and how many requests were made and refused before. */
+/* The call that is made, of which row, whether it is made again, and how many requests were made
+ * and refused before. */
 static enum kind kind;
 static const char *row_name;
 static bool is_again;
@@ -166,7 +216,8 @@ static uint64_t made_before, refused_before;
 static uint64_t requests[KINDS]; /* with ample memory */
 
 static _Noreturn void wrong(const char *what, const char *more) {
-    fprintf(stderr, "FAILED: %s, call %zu, %s: %s%s", row_name, at_call, kinds[kind].name, what, more);
+    fprintf(stderr, "FAILED: %s, call %zu, %s: %s%s", row_name, at_call, kinds[kind].name, what,
+            more);
     if (heap.number > 0)
         fprintf(stderr, " (refused is request %llu%s)", (unsigned long long)heap.number,
                 heap.goes_on ? " with those behind it" : "");
@@ -180,8 +231,9 @@ static _Noreturn void wrong_status(uint32_t status, uint32_t wanted) {
     wrong(what, pk_status_name(wanted));
 }
 
-/* A walk is handed more than any load has, a question more than any request has, an answer is of another kind: so each
- * says where the chain is, and does nothing. A free handle begins a walk, which tells its memory. */
+/* A walk is handed more than any load has, a question more than any request has, an answer is of
+ * another kind: so each says where the chain is, and does nothing. A free handle begins a walk,
+ * which tells its memory. */
 static void look(void) {
     static const uint8_t nothing[NO_LOAD];
     struct seen *seen = &now.seen;
@@ -196,7 +248,8 @@ static void look(void) {
     }
     seen->asks = pk_decode(chain, &now.device, nothing, sizeof nothing, &call);
     bool is_seek = now.call.answer == PK_ANSWER_LSEEK;
-    seen->answers = is_seek ? pk_reply_open(chain, tickets[chain - chains], 1, 0) : pk_reply_lseek(chain, tickets[chain - chains], 1);
+    seen->answers = is_seek ? pk_reply_open(chain, tickets[chain - chains], 1, 0)
+                            : pk_reply_lseek(chain, tickets[chain - chains], 1);
     seen->request_count = pk_request_windows(chain, 0, UINT64_MAX, seen->request, WINDOWS);
     seen->room_count = pk_reply_windows(chain, 0, UINT64_MAX, seen->room, WINDOWS);
     seen->range_count = pk_reply_ranges(chain, 0, UINT64_MAX, seen->ranges, WINDOWS);
@@ -268,7 +321,8 @@ static void put(uint64_t guest, uint64_t value, size_t len) {
     for (size_t k = 0; k < len; k++) *at(guest + k) = (uint8_t)(value >> 8 * k);
 }
 
-static void put_descriptor(uint64_t table, unsigned k, uint64_t addr, uint64_t len, uint64_t flags) {
+static void put_descriptor(uint64_t table, unsigned k, uint64_t addr, uint64_t len,
+                           uint64_t flags) {
     put(table + 16 * (uint64_t)k, addr, 8);
     put(table + 16 * (uint64_t)k + 8, len, 4);
     put(table + 16 * (uint64_t)k + 12, flags, 2);
@@ -282,17 +336,20 @@ struct row {
     size_t word_count, byte_count;
     uint32_t words[16];
     const char *bytes;
-    uint64_t options;    /* the device's */
-    bool is_wide, slips; /* whether it stands in many pieces, by a table; whether it is dropped when it is out */
+    uint64_t options; /* the device's */
+    /* whether it stands in many pieces, by a table; whether it is dropped when it is out */
+    bool is_wide, slips;
 };
 
 #define ASKS(name, answer) #name, FUSE_##name, PK_CALL_##name, PK_ANSWER_##answer
 #define WORDS(count, ...) .word_count = count, .words = {__VA_ARGS__}
 #define BYTES(text) .bytes = text, .byte_count = sizeof text
-#define LABEL "\x17\0\0\0\1\0\0\0\5\0\0\0\0\0\0\0s\0mine" /* fuse_secctx_header, fuse_secctx, name, value */
+/* fuse_secctx_header, fuse_secctx, name, value */
+#define LABEL "\x17\0\0\0\1\0\0\0\5\0\0\0\0\0\0\0s\0mine"
 
 static const struct row rows[] = {
-    {ASKS(RENAME, DONE), WORDS(2, 2), BYTES("so long a name that more is wanted\0the other name"), .is_wide = true},
+    {ASKS(RENAME, DONE), WORDS(2, 2), BYTES("so long a name that more is wanted\0the other name"),
+     .is_wide = true},
     {ASKS(INIT, INIT), WORDS(16, 7, 38, 4096)},
     {ASKS(SETXATTR, DONE), WORDS(2, 6), BYTES("user.name\0value"), .slips = true},
     {ASKS(CREATE, CREATE), WORDS(4, 0102, 0100644), BYTES("made")},
@@ -315,7 +372,8 @@ static const struct row rows[] = {
 static size_t length(const struct row *row) { return 40 + 4 * row->word_count + row->byte_count; }
 
 static void put_request(const struct row *row) {
-    uint64_t head[] = {length(row) | (uint64_t)row->opcode << 32, now.offered, 1, 0, 0}, guest = REQUEST;
+    uint64_t head[] = {length(row) | (uint64_t)row->opcode << 32, now.offered, 1, 0, 0},
+             guest = REQUEST;
     for (size_t k = 0; k < 5; k++, guest += 8) put(guest, head[k], 8);
     for (size_t k = 0; k < row->word_count; k++, guest += 4) put(guest, row->words[k], 4);
     for (size_t k = 0; k < row->byte_count; k++) put(guest++, (uint8_t)row->bytes[k], 1);
@@ -330,7 +388,8 @@ static void offer(const struct row *row) {
         for (size_t k = 0; k < len; k += PIECE)
             put_descriptor(TABLE, count++, REQUEST + k, len - k < PIECE ? len - k : PIECE, 1);
         for (unsigned k = 1; k <= ROOM_PIECES; k++)
-            put_descriptor(TABLE, count++, ROOM + 2 * ROOM_PIECE * k, ROOM_PIECE, k < ROOM_PIECES ? 3 : 2);
+            put_descriptor(TABLE, count++, ROOM + 2 * ROOM_PIECE * k, ROOM_PIECE,
+                           k < ROOM_PIECES ? 3 : 2);
         put_descriptor(DESC, 0, TABLE, 16 * (uint64_t)count, 4);
     } else {
         put_descriptor(DESC, 0, REQUEST, len, 1);
@@ -344,12 +403,14 @@ static void offer(const struct row *row) {
 
 static void tell_memory(unsigned low, uint64_t high, uint32_t wanted) {
     uintptr_t host = (uintptr_t)now.pages;
-    struct pk_region regions[] = {{high, PAGE, host + HIGH * PAGE}, {0, 2 * PAGE, host + low * PAGE}};
+    struct pk_region regions[] = {{high, PAGE, host + HIGH * PAGE},
+                                  {0, 2 * PAGE, host + low * PAGE}};
     do begin(SET_MEMORY);
     while (again(pk_chain_set_memory(chain, &now.device, regions, 2), wanted));
 }
 
-/* Walks on to a place that is to be loaded, or to the end where there is none. How many bytes a load has is the library's. */
+/* Walks on to a place that is to be loaded, or to the end where there is none. How many bytes a
+ * load has is the library's. */
 static void walk_to(uintptr_t end, uint32_t wanted) {
     uint8_t bytes[PK_LOAD_MAX];
     uint32_t status;
@@ -380,7 +441,8 @@ static void ask(const struct row *row) {
         memcpy(request + have, (const void *)now.seen.request[k].at, now.seen.request[k].len);
     now.device.options = row->options;
     do begin(ASK);
-    while (again(pk_decode(chain, &now.device, request, first, &now.call), first < whole ? more : PK_DONE));
+    while (again(pk_decode(chain, &now.device, request, first, &now.call),
+                 first < whole ? more : PK_DONE));
     if (now.status == PK_MORE) {
         do begin(ASK);
         while (again(pk_decode(chain, &now.device, request, have, &now.call), PK_DONE));
@@ -390,13 +452,16 @@ static void ask(const struct row *row) {
         wrong("another call: ", pk_call_name(now.call.kind));
 }
 
-static const struct pk_entry entry = {.node = 2, .entry_secs = 1, .attr = {.ino = 2, .mode = 0100644, .nlink = 1}};
+static const struct pk_entry entry = {
+    .node = 2, .entry_secs = 1, .attr = {.ino = 2, .mode = 0100644, .nlink = 1}};
 
 static uint32_t add(const char *name, uint64_t next) {
     const uint8_t *bytes = (const uint8_t *)name;
     if (now.call.kind == PK_CALL_READDIR)
-        return pk_add_direntry(chain, tickets[chain - chains], now.list, sizeof now.list, bytes, strlen(name), 2, next, 8);
-    return pk_add_direntry_plus(chain, tickets[chain - chains], now.list, sizeof now.list, bytes, strlen(name), &entry, next);
+        return pk_add_direntry(chain, tickets[chain - chains], now.list, sizeof now.list, bytes,
+                               strlen(name), 2, next, 8);
+    return pk_add_direntry_plus(chain, tickets[chain - chains], now.list, sizeof now.list, bytes,
+                                strlen(name), &entry, next);
 }
 
 static uint32_t answer_so(uint32_t answer) {
@@ -441,7 +506,8 @@ static void scatter(const uint8_t *bytes, size_t len) {
 static void give_back(void) {
     uint16_t seen;
     do begin(RETURN);
-    while (again(pk_push(chain, &now.queues[0], now.front, sizeof now.front, &now.stores), PK_DONE));
+    while (
+        again(pk_push(chain, &now.queues[0], now.front, sizeof now.front, &now.stores), PK_DONE));
     scatter(now.front, now.stores.front_len);
     memcpy((void *)now.stores.id_at, &now.stores.id, 4);
     memcpy((void *)now.stores.len_at, &now.stores.len, 4);
@@ -470,7 +536,8 @@ static void play(const struct row *row) {
     give_back();
 }
 
-/* Each of the other handles has a LOOKUP out: one that wasn't asked, one that waits for its answer, one that has it. */
+/* Each of the other handles has a LOOKUP out: one that wasn't asked, one that waits for its answer,
+ * one that has it. */
 static const struct row held = {ASKS(LOOKUP, ENTRY), BYTES("held")};
 
 static void look_at(size_t handle) {
@@ -517,13 +584,15 @@ static void save(size_t room, uint32_t wanted) {
 
 static void restore(size_t room, uint32_t wanted) {
     do begin(RESTORE);
-    while (again(pk_restore(&now.moved, now.restored, room, now.record, now.len, &now.count), wanted));
+    while (
+        again(pk_restore(&now.moved, now.restored, room, now.record, now.len, &now.count), wanted));
 }
 
 /* A queue of a record is begun anew, so it isn't the same in all. */
 static bool is_alike(const struct pk_queue *a, const struct pk_queue *b) {
-    return a->desc == b->desc && a->avail == b->avail && a->used == b->used && a->size == b->size && a->next_avail == b->next_avail &&
-           a->next_used == b->next_used && a->stopped == b->stopped;
+    return a->desc == b->desc && a->avail == b->avail && a->used == b->used && a->size == b->size &&
+           a->next_avail == b->next_avail && a->next_used == b->next_used &&
+           a->stopped == b->stopped;
 }
 
 static void move(void) {
@@ -579,8 +648,10 @@ static bool run(uint64_t number, bool goes_on) {
     heap.goes_on = goes_on;
     now.low = LOW;
     now.device = now.moved = (struct pk_device)PK_DEVICE;
-    now.queues[0] = (struct pk_queue){.desc = DESC, .avail = AVAIL, .used = USED, .size = SIZE, .max_in_flight = HANDLES};
-    now.queues[1] = (struct pk_queue){.used = 0x1000, .size = 8, .next_avail = 7, .next_used = 7, .stopped = PK_STOPPED};
+    now.queues[0] = (struct pk_queue){
+        .desc = DESC, .avail = AVAIL, .used = USED, .size = SIZE, .max_in_flight = HANDLES};
+    now.queues[1] = (struct pk_queue){
+        .used = 0x1000, .size = 8, .next_avail = 7, .next_used = 7, .stopped = PK_STOPPED};
     memset(chains, 0, sizeof chains);
     memset(tickets, 0, sizeof tickets);
     chain = chains;

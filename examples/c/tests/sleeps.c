@@ -1,6 +1,7 @@
-/* No notification is lost: sleeps COUNT [THREADS [event]], with an event index or flags. A driver sleeps as soon as it may (VIRTIO 1.2,
- * 2.7.7), beside a device that is as fast as it can be, and asks for no kick while it looks anyway (2.7.10). Each chain comes back once. With
- * several threads of the queue each has a handle of its own, and chains go back in any order. */
+/* No notification is lost: sleeps COUNT [THREADS [event]], with an event index or flags. A driver
+ * sleeps as soon as it may (VIRTIO 1.2, 2.7.7), beside a device that is as fast as it can be, and
+ * asks for no kick while it looks anyway (2.7.10). Each chain comes back once. With several threads
+ * of the queue each has a handle of its own, and chains go back in any order. */
 #include "driver.h"
 #include <linux/fuse.h>
 #include <stdio.h>
@@ -13,7 +14,8 @@ static struct driver driver;
 
 /* A GETATTR at each even descriptor, and its room behind it. */
 static void draw_requests(void) {
-    struct fuse_in_header head = {.len = 56, .opcode = FUSE_GETATTR, .unique = 1, .nodeid = FUSE_ROOT_ID};
+    struct fuse_in_header head = {
+        .len = 56, .opcode = FUSE_GETATTR, .unique = 1, .nodeid = FUSE_ROOT_ID};
     for (unsigned k = 0; k < RING_SIZE; k += 2) {
         uint64_t at = REQUESTS + 64 * k, room = HIGH + 256 * k;
         memcpy(place_of(&driver, at), &head, sizeof head);
@@ -25,19 +27,22 @@ static void draw_requests(void) {
 int main(int argc, char **argv) {
     uint64_t wanted = argc > 1 ? strtoull(argv[1], NULL, 10) : 0, seed = 1, slept = 0, chains = 0;
     size_t thread_count = argc > 2 ? strtoul(argv[2], NULL, 10) : 1;
-    if (wanted == 0 || thread_count == 0) return fprintf(stderr, "usage: sleeps COUNT [THREADS [event]]\n"), 2;
+    if (wanted == 0 || thread_count == 0)
+        return fprintf(stderr, "usage: sleeps COUNT [THREADS [event]]\n"), 2;
     driver_begin(&driver, thread_count, argc > 3);
     draw_requests();
     for (; slept < wanted; slept++) {
         seed = seed * 6364136223846793005u + 1442695040888963407u;
-        for (unsigned k = 0; k <= seed >> 62; k++, chains++) offer(&driver, (uint16_t)(2 * driver.offered % RING_SIZE));
+        for (unsigned k = 0; k <= seed >> 62; k++, chains++)
+            offer(&driver, (uint16_t)(2 * driver.offered % RING_SIZE));
         kick(&driver);
         for (volatile unsigned wait = seed >> 40 & 255; wait > 0;) wait = wait - 1;
-        if (!wait_for_all(&driver, TOO_LONG)) die("a notification is lost after %llu sleeps", (unsigned long long)slept);
+        if (!wait_for_all(&driver, TOO_LONG))
+            die("a notification is lost after %llu sleeps", (unsigned long long)slept);
     }
     driver_end(&driver);
     if (driver.served != chains) die("%llu chains came back", (unsigned long long)driver.served);
-    printf("%llu sleeps, %llu chains, up to %u out at once: none lost\n", (unsigned long long)slept, (unsigned long long)chains,
-           driver.most);
+    printf("%llu sleeps, %llu chains, up to %u out at once: none lost\n", (unsigned long long)slept,
+           (unsigned long long)chains, driver.most);
     return 0;
 }

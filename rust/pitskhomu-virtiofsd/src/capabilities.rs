@@ -4,7 +4,8 @@ use capng::{Action, Set, Type};
 use log::debug;
 
 /// To make files as other users, with any bits, and to change them as root does.
-const KEPT: [&str; 8] = ["chown", "dac_override", "fowner", "fsetid", "mknod", "setfcap", "setgid", "setuid"];
+const KEPT: [&str; 8] =
+    ["chown", "dac_override", "fowner", "fsetid", "mknod", "setfcap", "setgid", "setuid"];
 /// To open inodes by their handles.
 const FOR_HANDLES: &str = "dac_read_search";
 
@@ -17,7 +18,8 @@ pub struct Changes {
 impl Changes {
     /// By --modcaps and --inode-file-handles; or why these don't go together.
     pub fn new(options: &Options) -> Result<Changes, String> {
-        let changes = options.modcaps.as_deref().map_or(Ok(CapabilityChanges::default()), str::parse)?;
+        let changes =
+            options.modcaps.as_deref().map_or(Ok(CapabilityChanges::default()), str::parse)?;
         Changes::of(changes, options.inode_file_handles)
     }
 
@@ -26,7 +28,9 @@ impl Changes {
         let last = changes.0.iter().rfind(|change| change.name == FOR_HANDLES);
         if for_handles && last.is_some_and(|change| !change.keep) {
             let name = FOR_HANDLES.to_uppercase();
-            return Err(format!("can't disable {name} when using --inode-file-handles={handles:?}"));
+            return Err(format!(
+                "can't disable {name} when using --inode-file-handles={handles:?}"
+            ));
         }
         Ok(Changes { changes, for_handles })
     }
@@ -48,12 +52,19 @@ impl Changes {
 /// Gives up all but what is wanted. What isn't had can't be kept; a user who isn't root has none.
 pub fn give_up(changes: &Changes) -> capng::Result<()> {
     let names = changes.wanted();
-    let named = names.iter().map(|name| capng::name_to_capability(name)).collect::<capng::Result<Vec<_>>>()?;
+    let named = names
+        .iter()
+        .map(|name| capng::name_to_capability(name))
+        .collect::<capng::Result<Vec<_>>>()?;
     capng::get_caps_process()?;
     let has = |capability| capng::have_capability(Type::PERMITTED, capability);
     let may_bound = capng::name_to_capability("setpcap").is_ok_and(has);
-    let kept: Vec<&str> =
-        names.iter().zip(named).filter(|(_, capability)| has(*capability)).map(|(name, _)| name.as_str()).collect();
+    let kept: Vec<&str> = names
+        .iter()
+        .zip(named)
+        .filter(|(_, capability)| has(*capability))
+        .map(|(name, _)| name.as_str())
+        .collect();
     debug!("capabilities: {kept:?}");
     let set = if may_bound { Set::BOTH } else { Set::CAPS };
     capng::clear(set);
@@ -71,8 +82,12 @@ mod tests {
 
     #[test]
     fn changes_come_after_the_habit() {
-        let names = changes("+sys_admin:-chown:+fowner", Handles::Prefer).expect("changes").wanted();
-        assert!(names.iter().any(|name| name == "sys_admin") && names.iter().any(|name| name == FOR_HANDLES));
+        let names =
+            changes("+sys_admin:-chown:+fowner", Handles::Prefer).expect("changes").wanted();
+        assert!(
+            names.iter().any(|name| name == "sys_admin")
+                && names.iter().any(|name| name == FOR_HANDLES)
+        );
         assert!(names.iter().all(|name| name != "chown"));
         assert_eq!(names.iter().filter(|name| *name == "fowner").count(), 1);
     }

@@ -1,13 +1,15 @@
-//! The front-end's messages (vhost-user), over crate vhost, which reads and checks them. It is written here rather than taken from
-//! vhost-user-backend, since that one tells 509 slots of memory where the library takes 64, marks pages after the log is gone, and
-//! tells nobody of err descriptors.
+//! The front-end's messages (vhost-user), over crate vhost, which reads and checks them. It is
+//! written here rather than taken from vhost-user-backend, since that one tells 509 slots of memory
+//! where the library takes 64, marks pages after the log is gone, and tells nobody of err
+//! descriptors.
 //!
-//! An error of kind `ReqHandlerError` is told to the front-end, if it asked, and the share goes on; after any other the connection ends.
+//! An error of kind `ReqHandlerError` is told to the front-end, if it asked, and the share goes on;
+//! after any other the connection ends.
 use crate::marks::Log;
 use crate::memory::Table;
 use crate::migration::Migration;
 use crate::ring::{Ring, SIZE_MAX};
-use crate::serve::{QueueWorker, Core, ServedFs};
+use crate::serve::{Core, QueueWorker, ServedFs};
 use log::{debug, error, info};
 use std::fs::File;
 use std::io;
@@ -15,15 +17,19 @@ use std::sync::Arc;
 use vhost::vhost_user::message::*;
 use vhost::vhost_user::{Backend, Error, GpuBackend, Result, VhostUserBackendReqHandlerMut};
 use virtio_bindings::bindings::virtio_config::{VIRTIO_F_ACCESS_PLATFORM, VIRTIO_F_VERSION_1};
-use virtio_bindings::bindings::virtio_ring::{VIRTIO_RING_F_EVENT_IDX, VIRTIO_RING_F_INDIRECT_DESC};
+use virtio_bindings::bindings::virtio_ring::{
+    VIRTIO_RING_F_EVENT_IDX, VIRTIO_RING_F_INDIRECT_DESC,
+};
 use virtiofsd::vhost_user::MAX_TAG_LEN;
 
-/// The bit that a guest takes whose device accesses memory as the platform says. QEMU keeps it for itself unless the
-/// guest has a vIOMMU in front of the device: only then it is in SET_FEATURES, and ring addresses are IOVAs.
+/// The bit that a guest takes whose device accesses memory as the platform says. QEMU keeps it for
+/// itself unless the guest has a vIOMMU in front of the device: only then it is in SET_FEATURES,
+/// and ring addresses are IOVAs.
 const ACCESS_PLATFORM: u64 = 1 << VIRTIO_F_ACCESS_PLATFORM;
 const NO_IOMMU: &str =
-    "the guest has a vIOMMU in front of this device (VIRTIO_F_ACCESS_PLATFORM in SET_FEATURES), and \
-                        no translation is served yet: leave the vIOMMU out, or this device out of it";
+    "the guest has a vIOMMU in front of this device (VIRTIO_F_ACCESS_PLATFORM in SET_FEATURES), \
+                        and no translation is served yet: leave the vIOMMU out, or this device \
+                        out of it";
 
 /// What the daemon does on behalf of one front-end.
 pub struct FrontEnd<F> {
@@ -34,7 +40,8 @@ pub struct FrontEnd<F> {
     migration: Migration<F>,
     /// What rings are told with that stop.
     worker: QueueWorker<F>,
-    /// The back-end's own channel. QEMU offers VIRTIO_F_ACCESS_PLATFORM to the guest only if there is one.
+    /// The back-end's own channel. QEMU offers VIRTIO_F_ACCESS_PLATFORM to the guest only if there
+    /// is one.
     channel: Option<Backend>,
 }
 
@@ -53,7 +60,8 @@ fn no_queue() -> Error {
 impl<F: ServedFs> FrontEnd<F> {
     /// `scratch` is state::scratch's.
     pub fn new(core: Arc<Core<F>>, tag: Option<String>, scratch: File) -> FrontEnd<F> {
-        let (migration, worker) = (Migration::new(core.clone(), scratch), QueueWorker::new(core.clone(), 0));
+        let (migration, worker) =
+            (Migration::new(core.clone(), scratch), QueueWorker::new(core.clone(), 0));
         FrontEnd { core, tag, features: 0, log: None, migration, worker, channel: None }
     }
 
@@ -120,11 +128,15 @@ impl<F: ServedFs> VhostUserBackendReqHandlerMut for FrontEnd<F> {
             return Err(told(io::Error::other("features that weren't offered")));
         }
         if features & ACCESS_PLATFORM != 0 {
-            return Err(Error::InvalidOperation(NO_IOMMU)); // it ends the connection, since QEMU wants no answer
+            // it ends the connection, since QEMU wants no answer
+            return Err(Error::InvalidOperation(NO_IOMMU));
         }
         self.features = features;
         let has_event_index = features & (1 << VIRTIO_RING_F_EVENT_IDX) != 0;
-        self.core.rings.iter().for_each(|ring| ring.tell(|numbers| numbers.has_event_index = has_event_index));
+        self.core
+            .rings
+            .iter()
+            .for_each(|ring| ring.tell(|numbers| numbers.has_event_index = has_event_index));
         if features & VhostUserVirtioFeatures::PROTOCOL_FEATURES.bits() == 0 {
             self.enable_all(true);
         }
@@ -181,7 +193,8 @@ impl<F: ServedFs> VhostUserBackendReqHandlerMut for FrontEnd<F> {
     }
 
     fn set_vring_base(&mut self, index: u32, base: u32) -> Result<()> {
-        let next_avail = u16::try_from(base).map_err(|_| told(io::Error::other("a base that no split queue has")))?;
+        let next_avail = u16::try_from(base)
+            .map_err(|_| told(io::Error::other("a base that no split queue has")))?;
         self.ring(index)?.tell(|numbers| numbers.next_avail = next_avail);
         Ok(())
     }
@@ -221,8 +234,11 @@ impl<F: ServedFs> VhostUserBackendReqHandlerMut for FrontEnd<F> {
             | VhostUserProtocolFeatures::LOG_SHMFD
             | VhostUserProtocolFeatures::DEVICE_STATE
             | VhostUserProtocolFeatures::RESET_DEVICE;
-        let config =
-            if self.tag.is_some() { VhostUserProtocolFeatures::CONFIG } else { VhostUserProtocolFeatures::empty() };
+        let config = if self.tag.is_some() {
+            VhostUserProtocolFeatures::CONFIG
+        } else {
+            VhostUserProtocolFeatures::empty()
+        };
         Ok(features | config)
     }
 
@@ -248,13 +264,28 @@ impl<F: ServedFs> VhostUserBackendReqHandlerMut for FrontEnd<F> {
         Ok(())
     }
 
-    fn get_config(&mut self, offset: u32, size: u32, _flags: VhostUserConfigFlags) -> Result<Vec<u8>> {
+    fn get_config(
+        &mut self,
+        offset: u32,
+        size: u32,
+        _flags: VhostUserConfigFlags,
+    ) -> Result<Vec<u8>> {
         // What is behind the device's own configuration is zeros.
         let config = self.config();
-        Ok(config.into_iter().chain(std::iter::repeat(0)).skip(offset as usize).take(size as usize).collect())
+        Ok(config
+            .into_iter()
+            .chain(std::iter::repeat(0))
+            .skip(offset as usize)
+            .take(size as usize)
+            .collect())
     }
 
-    fn set_config(&mut self, _offset: u32, _bytes: &[u8], _flags: VhostUserConfigFlags) -> Result<()> {
+    fn set_config(
+        &mut self,
+        _offset: u32,
+        _bytes: &[u8],
+        _flags: VhostUserConfigFlags,
+    ) -> Result<()> {
         Err(unsupported("SET_CONFIG: the driver writes nothing there"))
     }
 
@@ -262,7 +293,10 @@ impl<F: ServedFs> VhostUserBackendReqHandlerMut for FrontEnd<F> {
         Err(unsupported("GPU_SET_SOCKET"))
     }
 
-    fn get_inflight_fd(&mut self, _inflight: &VhostUserInflight) -> Result<(VhostUserInflight, File)> {
+    fn get_inflight_fd(
+        &mut self,
+        _inflight: &VhostUserInflight,
+    ) -> Result<(VhostUserInflight, File)> {
         Err(Error::InvalidOperation("GET_INFLIGHT_FD wasn't offered"))
     }
 

@@ -39,7 +39,8 @@ impl Doing {
 
 impl fmt::Display for Doing {
     fn fmt(&self, f: &mut fmt::Formatter<'_>) -> fmt::Result {
-        let (opcode, unique) = (self.opcode.load(Ordering::Relaxed), self.unique.load(Ordering::Relaxed));
+        let (opcode, unique) =
+            (self.opcode.load(Ordering::Relaxed), self.unique.load(Ordering::Relaxed));
         write!(f, "request {unique} with FUSE opcode {opcode}")
     }
 }

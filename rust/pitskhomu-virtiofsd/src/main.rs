@@ -1,5 +1,5 @@
-//! The daemon: from the command line to a served directory. What has to be done outside the sandbox is done before it is entered:
-//! log, limit, socket, and a file in memory for migrations.
+//! The daemon: from the command line to a served directory. What has to be done outside the sandbox
+//! is done before it is entered: log, limit, socket, and a file in memory for migrations.
 mod adapter;
 mod capabilities;
 mod front_end;

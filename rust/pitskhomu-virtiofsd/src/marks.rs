@@ -22,7 +22,8 @@ impl Log {
     /// Maps `len` bytes of a file from `offset` on.
     pub fn new(file: File, offset: u64, len: u64) -> io::Result<Log> {
         let len = usize::try_from(len).map_err(io::Error::other)?;
-        let map = MmapRegion::from_file(FileOffset::new(file, offset), len).map_err(io::Error::other)?;
+        let map =
+            MmapRegion::from_file(FileOffset::new(file, offset), len).map_err(io::Error::other)?;
         Ok(Log { map })
     }
 
@@ -31,7 +32,8 @@ impl Log {
         let pages = 8 * self.map.size() as u64;
         for page in first / PAGE..(last / PAGE + 1).min(pages) {
             if let Ok(byte) = bits.get_atomic_ref::<AtomicU8>((page / 8) as usize) {
-                byte.fetch_or(1 << (page % 8), Ordering::Release); // who sees the mark sees what was written
+                // who sees the mark sees what was written
+                byte.fetch_or(1 << (page % 8), Ordering::Release);
             }
         }
     }

@@ -12,7 +12,8 @@ use std::sync::Arc;
 use vhost::vhost_user::message::VhostUserMemoryRegion;
 use vm_memory::bitmap::Bitmap;
 use vm_memory::{
-    Address, Bytes, GuestAddress, GuestMemory, GuestMemoryMmap, GuestMemoryRegion, GuestRegionMmap, VolatileSlice,
+    Address, Bytes, GuestAddress, GuestMemory, GuestMemoryMmap, GuestMemoryRegion, GuestRegionMmap,
+    VolatileSlice,
 };
 
 /// All of a region's numbers are multiples of it.
@@ -59,20 +60,30 @@ fn invalid(why: &str) -> io::Error {
 type Mapped = (Arc<GuestRegionMmap<Marks>>, Place);
 
 fn map(region: &VhostUserMemoryRegion, file: File, logging: &Arc<Logging>) -> io::Result<Mapped> {
-    let place = Place { front_end: region.user_addr, guest: region.guest_phys_addr, len: region.memory_size };
+    let place = Place {
+        front_end: region.user_addr,
+        guest: region.guest_phys_addr,
+        len: region.memory_size,
+    };
     if (place.guest | place.len) % PAGE != 0 || place.len == 0 {
         return Err(invalid("a region that isn't of whole pages"));
     }
     let mapped = region.mmap_region::<Marks>(file).map_err(io::Error::other)?;
-    let region = GuestRegionMmap::new(mapped, GuestAddress(place.guest)).map_err(io::Error::other)?;
+    let region =
+        GuestRegionMmap::new(mapped, GuestAddress(place.guest)).map_err(io::Error::other)?;
     region.bitmap().tie(logging, place.guest);
     Ok((Arc::new(region), place))
 }
 
 impl Table {
     /// A table of these regions, which has this one's log.
-    pub fn replaced(&self, regions: &[VhostUserMemoryRegion], files: Vec<File>) -> io::Result<Table> {
-        let mapped = regions.iter().zip(files).map(|(region, file)| map(region, file, &self.logging));
+    pub fn replaced(
+        &self,
+        regions: &[VhostUserMemoryRegion],
+        files: Vec<File>,
+    ) -> io::Result<Table> {
+        let mapped =
+            regions.iter().zip(files).map(|(region, file)| map(region, file, &self.logging));
         let (mut regions, places) = mapped.collect::<io::Result<(Vec<_>, Vec<_>)>>()?;
         regions.sort_by_key(|region| region.start_addr());
         self.over(GuestMemoryMmap::from_arc_regions(regions).map_err(io::Error::other)?, places)
@@ -87,7 +98,8 @@ impl Table {
 
     /// One region less.
     pub fn without(&self, guest: u64, len: u64) -> io::Result<Table> {
-        let (memory, _) = self.guest.remove_region(GuestAddress(guest), len).map_err(io::Error::other)?;
+        let (memory, _) =
+            self.guest.remove_region(GuestAddress(guest), len).map_err(io::Error::other)?;
         let places = self.places.iter().copied().filter(|place| place.guest != guest).collect();
         self.over(memory, places)
     }
@@ -114,7 +126,9 @@ impl Table {
 
     /// The guest's address for one of the front-end's.
     pub fn guest_address(&self, front_end: u64) -> io::Result<u64> {
-        let offset_in = |place: &Place| front_end.checked_sub(place.front_end).filter(|offset| *offset < place.len);
+        let offset_in = |place: &Place| {
+            front_end.checked_sub(place.front_end).filter(|offset| *offset < place.len)
+        };
         self.places
             .iter()
             .find_map(|place| offset_in(place).map(|offset| place.guest + offset))
@@ -129,14 +143,19 @@ impl Table {
     /// The regions as the library takes them.
     pub fn regions(&self) -> Vec<pitskhomu::Region> {
         let region = |guest: u64, len: u64| pitskhomu::Region { guest, len, host: guest as usize };
-        self.guest.iter().map(|mapped| region(mapped.start_addr().raw_value(), mapped.len())).collect()
+        self.guest
+            .iter()
+            .map(|mapped| region(mapped.start_addr().raw_value(), mapped.len()))
+            .collect()
     }
 
     /// A stretch within one region, if it is one.
     pub fn slice(&self, at: usize, len: usize) -> Option<Slice<'_>> {
-        let offset_in =
-            |stretch: &Stretch| (at as u64).checked_sub(stretch.guest).filter(|offset| *offset < stretch.len);
-        let (stretch, offset) = self.stretches.iter().find_map(|stretch| Some((stretch, offset_in(stretch)?)))?;
+        let offset_in = |stretch: &Stretch| {
+            (at as u64).checked_sub(stretch.guest).filter(|offset| *offset < stretch.len)
+        };
+        let (stretch, offset) =
+            self.stretches.iter().find_map(|stretch| Some((stretch, offset_in(stretch)?)))?;
         if len as u64 > stretch.len - offset {
             return None;
         }
@@ -184,7 +203,9 @@ impl pitskhomu::GuestMemory for Table {
         }
     }
     fn load_u16(&self, at: usize) -> u16 {
-        self.slice(at, 2).and_then(|slice| slice.load(0, Ordering::Acquire).ok()).map_or(0, u16::from_le)
+        self.slice(at, 2)
+            .and_then(|slice| slice.load(0, Ordering::Acquire).ok())
+            .map_or(0, u16::from_le)
     }
     fn store(&self, at: usize, bytes: &[u8]) {
         if let Some(slice) = self.slice(at, bytes.len()) {
@@ -209,9 +230,12 @@ mod tests {
     fn table() -> Table {
         let file = crate::state::scratch().expect("a file in memory");
         file.set_len(4 * PAGE).expect("room");
-        let regions = [(HIGH, 2 * PAGE), (0x4000, 0)]
-            .map(|(guest, offset)| VhostUserMemoryRegion::new(guest, 2 * PAGE, 0x7000_0000 + offset, offset));
-        Table::default().replaced(&regions, vec![file.try_clone().expect("a descriptor"), file]).expect("a table")
+        let regions = [(HIGH, 2 * PAGE), (0x4000, 0)].map(|(guest, offset)| {
+            VhostUserMemoryRegion::new(guest, 2 * PAGE, 0x7000_0000 + offset, offset)
+        });
+        Table::default()
+            .replaced(&regions, vec![file.try_clone().expect("a descriptor"), file])
+            .expect("a table")
     }
 
     #[test]
@@ -219,8 +243,16 @@ mod tests {
         let table = table();
         let has = |at: u64, len| table.slice(at as usize, len).is_some();
         assert!(has(0x4000, 0x2000) && has(0x5fff, 1) && has(HIGH + 8, 8) && has(HIGH, 0x2000));
-        assert!(!has(0x3fff, 1) && !has(0x3fff, 2) && !has(0x5fff, 2) && !has(0x6000, 1) && !has(0x4000, 0x2001));
-        assert!(!has(0, 1) && !has(HIGH - 1, 2) && !has(HIGH + 0x1fff, usize::MAX) && !has(u64::MAX, 1));
+        assert!(
+            !has(0x3fff, 1)
+                && !has(0x3fff, 2)
+                && !has(0x5fff, 2)
+                && !has(0x6000, 1)
+                && !has(0x4000, 0x2001)
+        );
+        assert!(
+            !has(0, 1) && !has(HIGH - 1, 2) && !has(HIGH + 0x1fff, usize::MAX) && !has(u64::MAX, 1)
+        );
         let without = table.without(HIGH, 2 * PAGE).expect("a table");
         assert!(without.slice(HIGH as usize, 1).is_none() && without.slice(0x4000, 1).is_some());
     }
@@ -230,7 +262,9 @@ mod tests {
         let table = table();
         let less = table.without(HIGH, 2 * PAGE).expect("a table");
         let at = |available, used| QueueLayout { size: 64, descriptors: 0, available, used };
-        assert!(table.agrees(&less, &at(0x4000, 0x5000)) && less.agrees(&table, &at(0x7000, 0x9000)));
+        assert!(
+            table.agrees(&less, &at(0x4000, 0x5000)) && less.agrees(&table, &at(0x7000, 0x9000))
+        );
         assert!(!table.agrees(&less, &at(0x4000, HIGH)) && !less.agrees(&table, &at(HIGH, 0x4000)));
         assert!(!table.agrees(&less, &at(0x4000, HIGH - 4))); // its end alone
         assert!(table.agrees(&less, &QueueLayout { size: 0, ..at(HIGH, HIGH) }));
@@ -247,8 +281,14 @@ mod tests {
         table.load(0x5ffd, &mut bytes);
         assert_eq!((bytes, table.load_u16(HIGH as usize + 2)), ([1, 2, 3], 0x1234));
         table.load(0x5ffe, &mut bytes);
-        assert_eq!((bytes, table.load_u16(HIGH as usize + 3), table.load_u16(0x6000)), ([0, 0, 0], 0, 0));
-        assert_eq!((table.available_index(HIGH), table.available_index(u64::MAX)), (Some(0x1234), None));
+        assert_eq!(
+            (bytes, table.load_u16(HIGH as usize + 3), table.load_u16(0x6000)),
+            ([0, 0, 0], 0, 0)
+        );
+        assert_eq!(
+            (table.available_index(HIGH), table.available_index(u64::MAX)),
+            (Some(0x1234), None)
+        );
         assert_eq!(table.guest_address(0x7000_2008).ok(), Some(HIGH + 8));
     }
 }

@@ -1,5 +1,5 @@
-//! A migration, from the daemon's side: virtiofsd's file system prepares while the guest runs, and its state comes or goes by a
-//! thread while the rings stand.
+//! A migration, from the daemon's side: virtiofsd's file system prepares while the guest runs, and
+//! its state comes or goes by a thread while the rings stand.
 use crate::serve::{Core, ServedFs};
 use crate::state;
 use log::warn;
@@ -55,7 +55,8 @@ impl<F: ServedFs> Migration<F> {
 
     /// The state goes out by this pipe.
     pub fn save(&mut self, pipe: File) {
-        let (core, scratch, preparation) = (self.core.clone(), self.scratch.clone(), self.preparation.take());
+        let (core, scratch, preparation) =
+            (self.core.clone(), self.scratch.clone(), self.preparation.take());
         self.transfer = Some(thread::spawn(move || {
             match preparation {
                 Some(preparation) => joined(preparation.thread)?,
@@ -76,7 +77,8 @@ impl<F: ServedFs> Migration<F> {
 
     /// Waits for the transfer, and says how it ended.
     pub fn finish(&mut self) -> io::Result<()> {
-        let transfer = self.transfer.take().ok_or_else(|| io::Error::other("no state was transferred"))?;
+        let transfer =
+            self.transfer.take().ok_or_else(|| io::Error::other("no state was transferred"))?;
         joined(transfer)?
     }
 }

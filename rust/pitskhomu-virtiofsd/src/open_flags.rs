@@ -37,7 +37,8 @@ impl OpenFlags {
     pub fn for_host(self, flags: u32) -> u32 {
         let flags = flags as i32;
         let is_for_writing = flags & libc::O_ACCMODE == libc::O_WRONLY && flags & libc::O_PATH == 0;
-        let access = if self.writeback && is_for_writing { libc::O_WRONLY ^ libc::O_RDWR } else { 0 };
+        let access =
+            if self.writeback && is_for_writing { libc::O_WRONLY ^ libc::O_RDWR } else { 0 };
         ((flags ^ access) & !self.dropped()) as u32
     }
 
@@ -113,11 +114,21 @@ mod tests {
 
     #[test]
     fn flags_of_the_guest_that_do_not_hold() {
-        let (usual, all) =
-            (OpenFlags::default(), OpenFlags { allow_direct_io: true, preserve_noatime: true, writeback: true });
-        let asked = libc::O_APPEND | libc::O_DIRECT | libc::O_NOATIME | libc::O_SYNC | libc::O_TRUNC | libc::O_CREAT;
+        let (usual, all) = (
+            OpenFlags::default(),
+            OpenFlags { allow_direct_io: true, preserve_noatime: true, writeback: true },
+        );
+        let asked = libc::O_APPEND
+            | libc::O_DIRECT
+            | libc::O_NOATIME
+            | libc::O_SYNC
+            | libc::O_TRUNC
+            | libc::O_CREAT;
         for access in [libc::O_RDONLY, libc::O_WRONLY, libc::O_RDWR] {
-            assert_eq!(flags(asked | access, usual), libc::O_SYNC | libc::O_TRUNC | libc::O_CREAT | access);
+            assert_eq!(
+                flags(asked | access, usual),
+                libc::O_SYNC | libc::O_TRUNC | libc::O_CREAT | access
+            );
         }
         let kept = asked & !libc::O_APPEND;
         assert_eq!(flags(asked | libc::O_WRONLY, all), kept | libc::O_RDWR);
@@ -131,7 +142,13 @@ mod tests {
         let path = std::env::temp_dir().join(format!("pitskhomu-flags-{}", std::process::id()));
         let open = || {
             let mut options = std::fs::OpenOptions::new();
-            options.read(true).append(true).create(true).custom_flags(libc::O_NONBLOCK).open(&path).expect("a file")
+            options
+                .read(true)
+                .append(true)
+                .create(true)
+                .custom_flags(libc::O_NONBLOCK)
+                .open(&path)
+                .expect("a file")
         };
         let descriptors = Descriptors::new(None).expect("/proc/self/fd");
         let mut old = open();

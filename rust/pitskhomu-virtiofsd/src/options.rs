@@ -22,7 +22,8 @@ use virtiofsd::soft_idmap::cmdline::IdMap;
     version,
     args_override_self = true,
     arg_required_else_help = true,
-    override_usage = "pitskhomu-virtiofsd --shared-dir <SHARED_DIR> --socket-path <SOCKET_PATH> [OPTIONS]"
+    override_usage = "pitskhomu-virtiofsd --shared-dir <SHARED_DIR> --socket-path <SOCKET_PATH> \
+        [OPTIONS]"
 )]
 pub struct Options {
     /// The directory that the guest is to see
@@ -177,8 +178,15 @@ impl Options {
     pub fn refusal(&self) -> Option<String> {
         let asked = &self.refused;
         let refusals = [
-            (asked.posix_acl, "--posix-acl: the core doesn't tell the flags of FUSE_SETXATTR_EXT, which these want"),
-            (asked.security_label, "--security-label: the core doesn't tell the label of a new file"),
+            (
+                asked.posix_acl,
+                "--posix-acl: the core doesn't tell the flags of FUSE_SETXATTR_EXT, \
+                which these want",
+            ),
+            (
+                asked.security_label,
+                "--security-label: the core doesn't tell the label of a new file",
+            ),
         ];
         refusals.into_iter().find_map(|(is_asked, why)| is_asked.then(|| why.into()))
     }
@@ -186,20 +194,28 @@ impl Options {
     /// What virtiofsd says of options that are served, and that its next version may not have.
     pub fn warnings(&self) -> Vec<&'static str> {
         let warnings = [
-            (self.foreground, "Use of deprecated flag '-f': This flag has no effect, please remove it"),
-            (self.debug, "Use of deprecated flag '-d': Please use the '--log-level debug' option instead"),
+            (
+                self.foreground,
+                "Use of deprecated flag '-f': This flag has no effect, please remove it",
+            ),
+            (
+                self.debug,
+                "Use of deprecated flag '-d': Please use the '--log-level debug' option instead",
+            ),
             (
                 self.is_compat,
-                "Use of deprecated option format '-o': Please specify options without it (e.g., '--cache auto' \
-                 instead of '-o cache=auto')",
+                "Use of deprecated option format '-o': Please specify options without it (e.g., \
+                 '--cache auto' instead of '-o cache=auto')",
             ),
             (
                 self.inode_file_handles == Handles::Fallback,
-                "Use of deprecated value 'fallback' for '--inode-file-handles': Please use 'prefer' instead",
+                "Use of deprecated value 'fallback' for '--inode-file-handles': Please use \
+                 'prefer' instead",
             ),
             (
                 self.socket.is_some() && self.socket_path.is_none(),
-                "use of deprecated parameter '--socket': Please use the '--socket-path' option instead",
+                "use of deprecated parameter '--socket': Please use the '--socket-path' option \
+                 instead",
             ),
         ];
         warnings.into_iter().filter_map(|(is_used, warning)| is_used.then_some(warning)).collect()
@@ -211,11 +227,13 @@ impl Options {
         let contradictions = [
             (
                 by_handles && self.migration_confirm_paths,
-                "Cannot use --migration-confirm-paths with --migration-mode=file-handles (because it is unnecessary)",
+                "Cannot use --migration-confirm-paths with --migration-mode=file-handles (because \
+                 it is unnecessary)",
             ),
             (
                 by_handles && self.migration_verify_handles,
-                "Cannot use --migration-verify-handles with --migration-mode=file-handles (because it is unnecessary)",
+                "Cannot use --migration-verify-handles with --migration-mode=file-handles \
+                 (because it is unnecessary)",
             ),
         ];
         contradictions.into_iter().filter_map(|(is_so, why)| is_so.then_some(why)).collect()
@@ -245,7 +263,8 @@ mod tests {
     }
 
     fn options(words: &str) -> Result<Options, String> {
-        parsed(&format!("daemon --socket-path=/s --shared-dir=/d {words}")).map_err(|e| e.to_string())
+        parsed(&format!("daemon --socket-path=/s --shared-dir=/d {words}"))
+            .map_err(|e| e.to_string())
     }
 
     #[test]
@@ -262,19 +281,26 @@ mod tests {
         let opposite = |words| options(words).expect(words).no_announce_submounts;
         assert!(!opposite("") && !opposite("--no-announce-submounts --announce-submounts"));
         assert!(opposite("--announce-submounts --no-announce-submounts"));
-        assert!(matches!(options("--cache=auto --cache=never").expect("options").cache, CachePolicy::Never));
+        assert!(matches!(
+            options("--cache=auto --cache=never").expect("options").cache,
+            CachePolicy::Never
+        ));
     }
 
     #[test]
     fn virtiofsds_words_are_taken() {
-        let all =
-            "--sandbox=chroot --seccomp=log --cache=never --allow-mmap --xattrmap=:map::user.virtiofs.: --killpriv-v2 \
-                   --announce-submounts --inode-file-handles=mandatory --rlimit-nofile=0 --modcaps=+sys_admin:-chown \
-                   --translate-uid=map:0:1000:1 --migration-mode=file-handles --log-level=debug --syslog --tag=shared \
-                   --thread-pool-size=64";
+        let all = "--sandbox=chroot --seccomp=log --cache=never --allow-mmap \
+                   --xattrmap=:map::user.virtiofs.: --killpriv-v2 --announce-submounts \
+                   --inode-file-handles=mandatory --rlimit-nofile=0 --modcaps=+sys_admin:-chown \
+                   --translate-uid=map:0:1000:1 --migration-mode=file-handles --log-level=debug \
+                   --syslog --tag=shared --thread-pool-size=64";
         assert_eq!(options(all).expect("options").refusal(), None);
-        let old = parsed("daemon --socket /s --shared-dir /d -f -d --inode-file-handles=fallback").expect("options");
-        assert_eq!((old.messages(), old.socket.clone()), (log::LevelFilter::Debug, Some("/s".into())));
+        let old = parsed("daemon --socket /s --shared-dir /d -f -d --inode-file-handles=fallback")
+            .expect("options");
+        assert_eq!(
+            (old.messages(), old.socket.clone()),
+            (log::LevelFilter::Debug, Some("/s".into()))
+        );
         let warned = old.warnings();
         assert!(warned.len() == 4 && warned.iter().all(|warning| warning.contains("eprecated")));
         assert!(options(all).expect("options").warnings().is_empty());
@@ -286,21 +312,30 @@ mod tests {
         for (words, wanted) in [
             ("--cache=some", "invalid value 'some' for '--cache <CACHE>': invalid cache policy"),
             ("--sandbox=x", "invalid value 'x' for '--sandbox <SANDBOX>': Unknown sandbox mode"),
-            ("--seccomp=x", "invalid value 'x' for '--seccomp <SECCOMP>': Matching variant not found"),
+            (
+                "--seccomp=x",
+                "invalid value 'x' for '--seccomp <SECCOMP>': Matching variant not found",
+            ),
             (
                 "--inode-file-handles=x",
-                "invalid value 'x' for '--inode-file-handles=<INODE_FILE_HANDLES>': invalid inode file handles mode",
+                "invalid value 'x' for '--inode-file-handles=<INODE_FILE_HANDLES>': invalid inode \
+                 file handles mode",
             ),
             (
                 "--inode-file-handles",
-                "equal sign is needed when assigning values to '--inode-file-handles=<INODE_FILE_HANDLES>'",
+                "equal sign is needed when assigning values to \
+                 '--inode-file-handles=<INODE_FILE_HANDLES>'",
             ),
             (
                 "--tag=",
-                "invalid value '' for '--tag <TAG>': The tag may not be empty or longer than 36 bytes (encoded as UTF-8).",
+                "invalid value '' for '--tag <TAG>': The tag may not be empty or longer than 36 \
+                 bytes (encoded as UTF-8).",
             ),
             ("--log-level=x", "invalid value 'x' for '--log-level <LOG_LEVEL>'"),
-            ("--fd=3", "the argument '--socket-path <SOCKET_PATH>' cannot be used with '--fd <FD>'"),
+            (
+                "--fd=3",
+                "the argument '--socket-path <SOCKET_PATH>' cannot be used with '--fd <FD>'",
+            ),
             ("--no-such-option", "unexpected argument '--no-such-option' found"),
             ("-o cache=some", "Invalid compat value 'some' for '-o cache'"),
             ("-o cache=never", "Invalid compat value 'never' for '-o cache'"),
@@ -323,29 +358,48 @@ mod tests {
 
     #[test]
     fn compat_options_come_last() {
-        let of_libvirt =
-            "daemon --fd=3 -o source=/srv/shared,cache=always,sandbox=chroot,xattr,no_flock,no_posix_lock -d";
+        let of_libvirt = "daemon --fd=3 -o \
+             source=/srv/shared,cache=always,sandbox=chroot,xattr,no_flock,no_posix_lock -d";
         let options = parsed(of_libvirt).expect("options");
         assert_eq!((options.shared_dir.as_deref(), options.fd), (Some("/srv/shared"), Some(3)));
-        assert!(matches!((&options.cache, options.sandbox), (CachePolicy::Always, SandboxMode::Chroot)));
+        assert!(matches!(
+            (&options.cache, options.sandbox),
+            (CachePolicy::Always, SandboxMode::Chroot)
+        ));
         assert!(options.has_xattr() && options.warnings().len() == 2);
-        let both =
-            parsed("daemon --fd=3 --cache=auto -o source=/a,cache=none,loglevel=err,modcaps=-chown --cache=auto");
+        let both = parsed(
+            "daemon --fd=3 --cache=auto -o \
+                source=/a,cache=none,loglevel=err,modcaps=-chown --cache=auto",
+        );
         let both = both.expect("options");
-        assert!(matches!((&both.cache, both.messages()), (CachePolicy::Never, log::LevelFilter::Error)));
+        assert!(matches!(
+            (&both.cache, both.messages()),
+            (CachePolicy::Never, log::LevelFilter::Error)
+        ));
         assert_eq!(both.modcaps.as_deref(), Some("-chown"));
-        let several = parsed("daemon --fd=3 -o source=/a,xattr,writeback -o no_xattr,killpriv_v2,no_readdirplus")
-            .expect("options");
-        assert!(!several.has_xattr() && several.writeback && several.killpriv_v2 && several.no_readdirplus);
-        assert_eq!(parsed("daemon --fd=3 -o xattr").expect("options").shared_dir, None); // `start::run` refuses it
+        let several = parsed(
+            "daemon --fd=3 -o source=/a,xattr,writeback -o no_xattr,killpriv_v2,no_readdirplus",
+        )
+        .expect("options");
+        assert!(
+            !several.has_xattr()
+                && several.writeback
+                && several.killpriv_v2
+                && several.no_readdirplus
+        );
+        // `start::run` refuses it
+        assert_eq!(parsed("daemon --fd=3 -o xattr").expect("options").shared_dir, None);
         assert!(parsed("daemon --fd=3").is_err());
     }
 
     #[test]
     fn what_migrates_by_handles_needs_no_paths() {
-        let both = "--migration-mode=file-handles --migration-confirm-paths --migration-verify-handles";
+        let both =
+            "--migration-mode=file-handles --migration-confirm-paths --migration-verify-handles";
         let why = options(both).expect("options").contradictions();
-        assert!(why.len() == 2 && why.iter().all(|why| why.ends_with("(because it is unnecessary)")));
+        assert!(
+            why.len() == 2 && why.iter().all(|why| why.ends_with("(because it is unnecessary)"))
+        );
         assert!(options("--migration-confirm-paths --migration-verify-handles")
             .expect("options")
             .contradictions()

@@ -108,7 +108,12 @@ impl State {
 
     /// Says to the driver whether its kicks are wanted, if it doesn't know. Whether it had to be
     /// told: then a chain may have come before. After an error it knows what it knew.
-    fn want_kicks(&mut self, wanted: bool, server: &mut impl Server, memory: &Arc<Table>) -> Result<bool, Status> {
+    fn want_kicks(
+        &mut self,
+        wanted: bool,
+        server: &mut impl Server,
+        memory: &Arc<Table>,
+    ) -> Result<bool, Status> {
         let Numbers { next_avail, has_event_index, .. } = self.numbers;
         let telling = Some((wanted, if wanted && has_event_index { next_avail } else { 0 }));
         if !self.is_live() || self.is_new || self.told == telling {
@@ -126,7 +131,9 @@ impl State {
     /// Whether the driver has offered a chain that isn't taken: by the ring's own word, so it is a
     /// hint. The ring is asked only if its index, as it was loaded last, tells of none.
     fn has_more(&self, memory: &Table) -> bool {
-        self.queue.knows_more() || memory.available_index(self.numbers.layout.available) != Some(self.numbers.next_avail)
+        self.queue.knows_more()
+            || memory.available_index(self.numbers.layout.available)
+                != Some(self.numbers.next_avail)
     }
 
     /// Interrupts the driver, as soon as it is known where.
@@ -174,7 +181,12 @@ pub trait Server {
 
     /// Says to the driver whether its kicks are wanted. Whether something had to be stored for
     /// that.
-    fn set_notification(&mut self, queue: &Queue, wanted: bool, memory: &Arc<Table>) -> Result<bool, Status>;
+    fn set_notification(
+        &mut self,
+        queue: &Queue,
+        wanted: bool,
+        memory: &Arc<Table>,
+    ) -> Result<bool, Status>;
 }
 
 /// A queue, shared by its threads and the front-end's.
@@ -196,7 +208,15 @@ impl Ring {
     pub fn new(index: usize, threads: u16) -> io::Result<Ring> {
         let (events, wake) = (Epoll::new()?, EventFd::new(libc::EFD_NONBLOCK | libc::EFD_CLOEXEC)?);
         let doing = (0..threads).map(|_| Doing::default()).collect();
-        let ring = Ring { index, threads, state: Mutex::default(), changed: Condvar::new(), events, wake, doing };
+        let ring = Ring {
+            index,
+            threads,
+            state: Mutex::default(),
+            changed: Condvar::new(),
+            events,
+            wake,
+            doing,
+        };
         ring.listen(ring.wake.as_raw_fd(), Source::Wake)?;
         Ok(ring)
     }
@@ -244,7 +264,8 @@ impl Ring {
     fn forget_kick(&self, state: &mut State) {
         if let Some(kick) = state.kick.take() {
             // What was taken out already, because it ended, can't be taken out again.
-            let _ = self.events.ctl(ControlOperation::Delete, kick.as_raw_fd(), EpollEvent::default());
+            let _ =
+                self.events.ctl(ControlOperation::Delete, kick.as_raw_fd(), EpollEvent::default());
         }
     }
 
@@ -267,7 +288,10 @@ impl Ring {
         self.take_last(memory, "GET_VRING_BASE");
         let mut state = self.quiet("GET_VRING_BASE");
         if let Err(status) = state.want_kicks(true, server, memory) {
-            warn!("queue {}: it ends, and the driver may not kick who goes on with it: {status}", self.index);
+            warn!(
+                "queue {}: it ends, and the driver may not kick who goes on with it: {status}",
+                self.index
+            );
         }
         self.forget_kick(&mut state);
         state.call = None;
@@ -347,13 +371,16 @@ impl Ring {
                     Looked::Idle
                 }
             }
-            Err(Status::InFlight) => Looked::Idle, // who gives one back looks again
+            Err(Status::ChainInFlight) => Looked::Idle, // who gives one back looks again
             Err(status) if status.is_out_of_memory() => {
                 warn!("queue {}: memory is wanting, and a chain waits", self.index);
                 Looked::Again
             }
             Err(status) => {
-                error!("queue {} is refused, and isn't served until it begins anew: {status}", self.index);
+                error!(
+                    "queue {} is refused, and isn't served until it begins anew: {status}",
+                    self.index
+                );
                 state.refuse();
                 Looked::Idle
             }
@@ -387,7 +414,12 @@ impl Ring {
 
     /// Serves chains until none waits. A chain that comes while kicks aren't wanted is met by the
     /// look after they are.
-    fn serve_all(&self, server: &mut impl Server, memory: &impl Fn() -> Arc<Table>, doing: &Doing) -> Looked {
+    fn serve_all(
+        &self,
+        server: &mut impl Server,
+        memory: &impl Fn() -> Arc<Table>,
+        doing: &Doing,
+    ) -> Looked {
         let mut state = self.lock();
         state.sleeping -= 1;
         loop {
@@ -438,7 +470,11 @@ impl Ring {
                 error!("queue {} isn't served any more: {e}", self.index);
                 return;
             }
-            wait = if self.serve_all(server, &memory, doing) == Looked::Again { AGAIN_MILLISECONDS } else { -1 };
+            wait = if self.serve_all(server, &memory, doing) == Looked::Again {
+                AGAIN_MILLISECONDS
+            } else {
+                -1
+            };
         }
     }
 }
@@ -479,7 +515,12 @@ mod tests {
             Ok(false)
         }
 
-        fn set_notification(&mut self, _queue: &Queue, _wanted: bool, _memory: &Arc<Table>) -> Result<bool, Status> {
+        fn set_notification(
+            &mut self,
+            _queue: &Queue,
+            _wanted: bool,
+            _memory: &Arc<Table>,
+        ) -> Result<bool, Status> {
             let failing = self.0 > 0;
             self.0 = self.0.saturating_sub(1);
             if failing {
@@ -492,11 +533,19 @@ mod tests {
 
     #[test]
     fn what_could_not_be_said_of_kicks_is_said_again() {
-        let (ring, memory, mut server) = (Ring::new(0, 1).expect("a ring"), Arc::new(Table::default()), Failing(1));
-        *ring.lock() = State { is_started: true, is_enabled: true, sleeping: 1, ..State::default() };
-        assert_eq!(ring.serve_all(&mut server, &|| memory.clone(), &Doing::default()), Looked::Again);
+        let (ring, memory, mut server) =
+            (Ring::new(0, 1).expect("a ring"), Arc::new(Table::default()), Failing(1));
+        *ring.lock() =
+            State { is_started: true, is_enabled: true, sleeping: 1, ..State::default() };
+        assert_eq!(
+            ring.serve_all(&mut server, &|| memory.clone(), &Doing::default()),
+            Looked::Again
+        );
         assert_eq!(ring.lock().told, None);
-        assert_eq!(ring.serve_all(&mut server, &|| memory.clone(), &Doing::default()), Looked::Idle);
+        assert_eq!(
+            ring.serve_all(&mut server, &|| memory.clone(), &Doing::default()),
+            Looked::Idle
+        );
         assert_eq!(ring.lock().told, Some((true, 0)));
     }
 
@@ -515,7 +564,12 @@ mod tests {
             Ok(false)
         }
 
-        fn set_notification(&mut self, _queue: &Queue, _wanted: bool, _memory: &Arc<Table>) -> Result<bool, Status> {
+        fn set_notification(
+            &mut self,
+            _queue: &Queue,
+            _wanted: bool,
+            _memory: &Arc<Table>,
+        ) -> Result<bool, Status> {
             Ok(false)
         }
     }
@@ -524,7 +578,8 @@ mod tests {
     fn a_thread_looks_before_it_sleeps() {
         let (ring, (asked, answers)) = (Ring::new(0, 2).expect("a ring"), channel());
         *ring.lock() = State { is_started: true, is_enabled: true, ..State::default() };
-        thread::spawn(move || ring.run(&mut Asked(asked), Arc::default)); // it ends with the process
+        // it ends with the process
+        thread::spawn(move || ring.run(&mut Asked(asked), Arc::default));
         assert_eq!(answers.recv_timeout(Duration::from_secs(20)), Ok(()));
     }
 

@@ -57,7 +57,14 @@ impl<F: ServedFs> Core<F> {
         }
         let ring = |index| Ring::new(index, if index == 0 { 1 } else { threads });
         let rings = (0..=request_queues).map(ring).collect::<io::Result<_>>()?;
-        Ok(Core { fs, device: pitskhomu::Device::default(), rings, flags, descriptors, memory: RwLock::default() })
+        Ok(Core {
+            fs,
+            device: pitskhomu::Device::default(),
+            rings,
+            flags,
+            descriptors,
+            memory: RwLock::default(),
+        })
     }
 
     /// The memory as it is.
@@ -70,8 +77,10 @@ impl<F: ServedFs> Core<F> {
     /// flight then.
     pub fn set_memory(&self, table: Table) {
         let (old, new) = (self.memory(), Arc::new(table));
-        let (agree, differ): (Vec<&Ring>, Vec<&Ring>) = self.rings.iter().partition(|ring| ring.agrees_on(&old, &new));
-        let quiet: Vec<_> = differ.iter().map(|ring| ring.quiet("a memory without the queue's parts")).collect();
+        let (agree, differ): (Vec<&Ring>, Vec<&Ring>) =
+            self.rings.iter().partition(|ring| ring.agrees_on(&old, &new));
+        let quiet: Vec<_> =
+            differ.iter().map(|ring| ring.quiet("a memory without the queue's parts")).collect();
         let locked: Vec<_> = agree.iter().map(|ring| ring.lock()).collect();
         *self.memory.write().unwrap_or_else(PoisonError::into_inner) = new;
         drop((quiet, locked));
@@ -131,7 +140,10 @@ impl<F: ServedFs> QueueWorker<F> {
             debug!("queue {}: a faulty chain went back with no reply: {fault}", self.index);
         }
         if let Some(fault) = served.request_fault {
-            debug!("queue {}: a request {} went back with no reply: {fault}", self.index, served.opcode);
+            debug!(
+                "queue {}: a request {} went back with no reply: {fault}",
+                self.index, served.opcode
+            );
         }
     }
 }
@@ -150,7 +162,8 @@ impl<F: ServedFs> Server for QueueWorker<F> {
         let adapter = Adapter { fs: &core.fs, memory, doing, flags: core.flags };
         let mut answer = || self.worker.answer(&core.device, &adapter, &**memory);
         let answered = catch_unwind(AssertUnwindSafe(&mut answer)).or_else(|_| {
-            debug!("queue {}: a call panicked, and is answered EIO", self.index); // start::log tells the panic
+            // start::log tells the panic
+            debug!("queue {}: a call panicked, and is answered EIO", self.index);
             catch_unwind(AssertUnwindSafe(&mut answer))
         });
         if let Ok(Err(status)) = answered {
@@ -168,7 +181,12 @@ impl<F: ServedFs> Server for QueueWorker<F> {
         })
     }
 
-    fn set_notification(&mut self, queue: &Queue, wanted: bool, memory: &Arc<Table>) -> Result<bool, Status> {
+    fn set_notification(
+        &mut self,
+        queue: &Queue,
+        wanted: bool,
+        memory: &Arc<Table>,
+    ) -> Result<bool, Status> {
         self.work_over(memory)?;
         self.worker.set_notification(queue, wanted, &**memory)
     }

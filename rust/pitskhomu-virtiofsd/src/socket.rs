@@ -42,7 +42,8 @@ fn lock(file: &File) -> bool {
     })
 }
 
-/// Locks `PATH.pid`, so that no second daemon takes the socket of one that runs, and writes the daemon's number there.
+/// Locks `PATH.pid`, so that no second daemon takes the socket of one that runs, and writes the
+/// daemon's number there.
 fn number_file(path: &Path) -> io::Result<File> {
     let mut options = OpenOptions::new();
     options.write(true).create(true).truncate(false).mode(0o644).custom_flags(libc::O_NOFOLLOW);
@@ -74,7 +75,8 @@ fn bind(path: &Path, group: Option<u32>) -> io::Result<UnixListener> {
 }
 
 impl Socket {
-    /// Makes the socket, or takes the one that is handed in. Once it is there, a front-end may connect. Errors are in words.
+    /// Makes the socket, or takes the one that is handed in. Once it is there, a front-end may
+    /// connect. Errors are in words.
     pub fn open(options: &Options) -> Result<Socket, String> {
         let path = options.socket_path.as_ref().or(options.socket.as_ref());
         let (listener, number) = match (path, options.fd) {
@@ -85,8 +87,8 @@ impl Socket {
         };
         // Whoever made it may want no waiting.
         listener.set_nonblocking(false).map_err(|e| format!("Error creating listener: {e}"))?;
-        // Crate vhost's own would remove the path when it is dropped, which in the sandbox is a path of the guest's.
-        // SAFETY: the descriptor is open, and is given up here.
+        // Crate vhost's own would remove the path when it is dropped, which in the sandbox is a
+        // path of the guest's. SAFETY: the descriptor is open, and is given up here.
         Ok(Socket { listener: unsafe { Listener::from_raw_fd(listener.into_raw_fd()) }, number })
     }
 

@@ -3,7 +3,7 @@ use crate::capabilities;
 use crate::front_end::FrontEnd;
 use crate::open_flags::{Descriptors, OpenFlags};
 use crate::options::Options;
-use crate::serve::{QueueWorker, Core, Parts, ServedFs};
+use crate::serve::{Core, Parts, QueueWorker, ServedFs};
 use crate::socket::Socket;
 use crate::state;
 use log::{debug, error, info, warn};
@@ -54,7 +54,12 @@ pub fn log(options: &Options) -> Result<(), Failure> {
     std::panic::set_hook(Box::new(tell_panic));
     if options.syslog {
         let process = "pitskhomu-virtiofsd".into();
-        let format = Formatter3164 { facility: Facility::LOG_DAEMON, hostname: None, process, pid: std::process::id() };
+        let format = Formatter3164 {
+            facility: Facility::LOG_DAEMON,
+            hostname: None,
+            process,
+            pid: std::process::id(),
+        };
         log::set_boxed_logger(Box::new(BasicLogger::new(syslog::unix(format)?)))?;
         log::set_max_level(options.messages());
     } else {
@@ -77,7 +82,8 @@ extern "C" fn end(_signal: libc::c_int) {
 /// that looks at it, and whoever lent it is the only one that is served.
 extern "C" fn end_for_lost_memory(_signal: libc::c_int) {
     const WHY: &[u8] =
-        b"pitskhomu-virtiofsd: memory that the front-end lent is gone (SIGBUS), so nothing more can be served\n";
+        b"pitskhomu-virtiofsd: memory that the front-end lent is gone (SIGBUS), so nothing more \
+         can be served\n";
     // SAFETY: both may be called by a signal's handler, and the bytes are static.
     unsafe {
         libc::write(libc::STDERR_FILENO, WHY.as_ptr().cast(), WHY.len());
@@ -92,7 +98,9 @@ fn handle_signals() {
     let end = end as *const () as libc::sighandler_t;
     let lost = end_for_lost_memory as *const () as libc::sighandler_t;
     let ended = [libc::SIGHUP, libc::SIGINT, libc::SIGTERM].map(|signal| (signal, end));
-    for (signal, handler) in ended.into_iter().chain([(libc::SIGBUS, lost), (libc::SIGXFSZ, libc::SIG_IGN)]) {
+    for (signal, handler) in
+        ended.into_iter().chain([(libc::SIGBUS, lost), (libc::SIGXFSZ, libc::SIG_IGN)])
+    {
         // SAFETY: the handlers do nothing but what a handler may.
         unsafe { libc::signal(signal, handler) };
     }
@@ -107,7 +115,12 @@ fn timeout(cache: &CachePolicy) -> Duration {
     }
 }
 
-fn config(options: Options, sandbox: &mut Sandbox, proc_self_fd: Option<File>, guest_descriptors: u64) -> Config {
+fn config(
+    options: Options,
+    sandbox: &mut Sandbox,
+    proc_self_fd: Option<File>,
+    guest_descriptors: u64,
+) -> Config {
     let timeout = timeout(&options.cache);
     Config {
         entry_timeout: timeout,
@@ -142,13 +155,20 @@ fn config(options: Options, sandbox: &mut Sandbox, proc_self_fd: Option<File>, g
 fn guest_descriptors(options: &Options) -> Result<u64, Failure> {
     let limit = setup_rlimit_nofile(options.rlimit_nofile)
         .map_err(|why| format!("Error increasing number of open files: {why}"))?;
-    let threads = u64::from(options.thread_pool_size.max(1)) * u64::from(options.num_request_queues);
+    let threads =
+        u64::from(options.thread_pool_size.max(1)) * u64::from(options.num_request_queues);
     let own = OWN_DESCRIPTORS + threads;
     let left = limit.checked_sub(own).ok_or_else(|| {
-        format!("Maximum number of file descriptors too small: Limit is {limit}, must be at least {own}")
+        format!(
+            "Maximum number of file descriptors too small: Limit is {limit}, must be at least \
+            {own}"
+        )
     })?;
     if left < FEW_DESCRIPTORS {
-        warn!("File descriptor count limit is very small, leaving only {left} file descriptors for the guest");
+        warn!(
+            "File descriptor count limit is very small, leaving only {left} file descriptors \
+            for the guest"
+        );
     }
     Ok(left)
 }
@@ -164,7 +184,9 @@ fn sandbox_error(e: sandbox::Error) -> String {
         CreateTempDir(e) => ("make a directory for a while", e),
         DropSupplementalGroups(e) | GetSupplementalGroups(e) => ("give up groups", e),
         Fork(e) => ("fork", e),
-        BindMountSharedDir(e) | MountBind(e) | MountTarget(e) | MountNewRoot(e) => ("mount the shared directory", e),
+        BindMountSharedDir(e) | MountBind(e) | MountTarget(e) | MountNewRoot(e) => {
+            ("mount the shared directory", e)
+        }
         MountOldRoot(e) | UmountOldRoot(e) | OpenOldRoot(e) => ("leave the old root directory", e),
         MountProc(e) => ("mount /proc", e),
         OpenMountinfo(e) => ("open /proc/self/mountinfo", e),
@@ -187,7 +209,8 @@ fn no_file_system(e: io::Error) -> String {
 /// Does all that these options say, and returns when the front-end is gone.
 pub fn run(mut options: Options) -> Result<(), Failure> {
     handle_signals();
-    let shared_dir = options.shared_dir.take().ok_or("missing \"--shared-dir\" or \"-o source\" option")?;
+    let shared_dir =
+        options.shared_dir.take().ok_or("missing \"--shared-dir\" or \"-o source\" option")?;
     if !Path::new(&shared_dir).is_dir() && !Path::new(&shared_dir).is_file() {
         return Err(format!("{shared_dir} does not exist").into());
     }
@@ -198,15 +221,19 @@ pub fn run(mut options: Options) -> Result<(), Failure> {
     }
     let capabilities = capabilities::Changes::new(&options)?;
     let guest_descriptors = guest_descriptors(&options)?;
-    let (uid_map, gid_map) = (std::mem::take(&mut options.uid_map), std::mem::take(&mut options.gid_map));
+    let (uid_map, gid_map) =
+        (std::mem::take(&mut options.uid_map), std::mem::take(&mut options.gid_map));
     let sandboxed = Sandbox::new(shared_dir, options.sandbox, uid_map, gid_map);
     let mut sandbox = sandboxed.map_err(|e| format!("Error creating sandbox: {e}"))?;
     let scratch = state::scratch()?;
     let Socket { listener, number: _number } = Socket::open(&options)?;
-    let listener = sandbox.enter(listener).map_err(|e| format!("Error entering sandbox: {}", sandbox_error(e)))?;
+    let listener = sandbox
+        .enter(listener)
+        .map_err(|e| format!("Error entering sandbox: {}", sandbox_error(e)))?;
 
     let proc_self_fd = sandbox.get_proc_self_fd();
-    let descriptors = Descriptors::new(proc_self_fd.as_ref()).map_err(|e| format!("/proc/self/fd: {e}"))?;
+    let descriptors =
+        Descriptors::new(proc_self_fd.as_ref()).map_err(|e| format!("/proc/self/fd: {e}"))?;
 
     let serving = Serving::new(&mut options, listener, Kept { capabilities, scratch, descriptors });
     let readonly = options.readonly;

@@ -70,7 +70,8 @@ fn send(
 pub fn load<F: ServedFs>(core: &Core<F>, scratch: &File, pipe: File) -> io::Result<()> {
     let before = core.descriptors.open()?;
     receive(&core.fs, &core.device, scratch, pipe)?;
-    core.descriptors.mend_since(&before, core.flags) // virtiofsd's own has the flags that the guest asked for
+    // virtiofsd's own has the flags that the guest asked for
+    core.descriptors.mend_since(&before, core.flags)
 }
 
 /// A state in its two parts: virtiofsd's own, as it wrote it, and the library's record, if it has
@@ -105,7 +106,11 @@ enum Scratch<'b> {
 }
 
 /// Hands a file in memory to virtiofsd, and empties it afterwards.
-fn over(mut scratch: &File, call: impl FnOnce(File) -> io::Result<()>, way: Scratch<'_>) -> io::Result<Vec<u8>> {
+fn over(
+    mut scratch: &File,
+    call: impl FnOnce(File) -> io::Result<()>,
+    way: Scratch<'_>,
+) -> io::Result<Vec<u8>> {
     let mut bytes = Vec::new();
     scratch.set_len(0)?;
     scratch.rewind()?;
@@ -122,7 +127,12 @@ fn over(mut scratch: &File, call: impl FnOnce(File) -> io::Result<()>, way: Scra
     Ok(bytes)
 }
 
-fn receive(fs: &impl SerializableFileSystem, device: &p::Device, scratch: &File, pipe: File) -> io::Result<()> {
+fn receive(
+    fs: &impl SerializableFileSystem,
+    device: &p::Device,
+    scratch: &File,
+    pipe: File,
+) -> io::Result<()> {
     let mut bytes = Vec::new();
     if pipe.take(STATE_MAX + 1).read_to_end(&mut bytes)? as u64 > STATE_MAX {
         return Err(io::Error::other("the state is longer than any"));
@@ -137,7 +147,10 @@ fn receive(fs: &impl SerializableFileSystem, device: &p::Device, scratch: &File,
         }
         Some(_) => {}
         None => {
-            log::warn!("the state is virtiofsd's, which doesn't say what INIT agreed on: nothing is taken as agreed")
+            log::warn!(
+                "the state is virtiofsd's, which doesn't say what INIT agreed on: nothing \
+                is taken as agreed"
+            )
         }
     }
     Ok(())
@@ -174,7 +187,8 @@ mod tests {
     #[test]
     fn goes_and_comes() {
         let (source, device) = (Fs(Mutex::new(b"\x01virtiofsd's".to_vec())), p::Device::default());
-        let layout = p::QueueLayout { size: 64, descriptors: 0x10000, available: 0x11000, used: 0x12000 };
+        let layout =
+            p::QueueLayout { size: 64, descriptors: 0x10000, available: 0x11000, used: 0x12000 };
         let room = scratch().unwrap();
         for queues in [vec![], vec![p::Queue::new(layout, 7)]] {
             let pipe = scratch().unwrap();
@@ -193,7 +207,8 @@ mod tests {
 
     #[test]
     fn a_plain_virtiofsds_comes() {
-        let (target, room, device) = (Fs(Mutex::default()), scratch().unwrap(), p::Device::default());
+        let (target, room, device) =
+            (Fs(Mutex::default()), scratch().unwrap(), p::Device::default());
         receive(&target, &device, &room, file(b"\x01virtiofsd's")).unwrap();
         assert_eq!(*target.0.lock().unwrap(), b"\x01virtiofsd's");
     }
@@ -222,11 +237,13 @@ mod tests {
 
     #[test]
     fn bad_records_are_refused() {
-        let (target, room, device) = (Fs(Mutex::default()), scratch().unwrap(), p::Device::default());
+        let (target, room, device) =
+            (Fs(Mutex::default()), scratch().unwrap(), p::Device::default());
         for (len, record) in [(5u32, &b""[..]), (u32::MAX, b"xx"), (3, b"abc"), (32, &[0; 32])] {
             let sent = [b"bytes", record, &len.to_le_bytes(), &MARK[..]].concat();
             let loaded = receive(&target, &device, &room, file(&sent));
-            assert!(loaded.is_err() || len == 5, "{len}"); // 5: the length reaches into virtiofsd's own bytes
+            // 5: the length reaches into virtiofsd's own bytes
+            assert!(loaded.is_err() || len == 5, "{len}");
         }
     }
 }

@@ -1,8 +1,10 @@
-//! The calls of the library, each behind a safe function: with `sys` the one place of the crate that is `unsafe`.
+//! The calls of the library, each behind a safe function: with `sys` the one place of the crate
+//! that is `unsafe`.
 //!
-//! What each block owes is the header's first and seventh rule, and Rust's borrows keep both: handles, queues and records are borrowed, so
-//! they are good and don't overlap; slices are good for their lengths, and their pointers aren't NULL; what a call changes is borrowed
-//! mutably, so it is that call's alone. No call keeps a pointer, and none answers one.
+//! What each block owes is the header's first and seventh rule, and Rust's borrows keep both:
+//! handles, queues and records are borrowed, so they are good and don't overlap; slices are good
+//! for their lengths, and their pointers aren't NULL; what a call changes is borrowed mutably, so
+//! it is that call's alone. No call keeps a pointer, and none answers one.
 #![allow(unsafe_code)]
 
 use crate::errno::Errno;
@@ -52,15 +54,16 @@ pub(crate) enum Added {
     NoRoom,
 }
 
-/// The one handle of the library (struct pk_chain), and the ticket of the chain that is out: each answer brings it. A worker answers before
-/// it takes another, so no answer comes late.
+/// The one handle of the library (struct pk_chain), and the ticket of the chain that is out: each
+/// answer brings it. A worker answers before it takes another, so no answer comes late.
 #[derive(Debug)]
 pub(crate) struct Chain {
     handle: sys::Chain,
     ticket: u32,
 }
 
-// SAFETY: the handle's memory is malloc's, and the library keeps nothing of a thread's (pitskhomu.h, THREADS).
+// SAFETY: the handle's memory is malloc's, and the library keeps nothing of a thread's
+// (pitskhomu.h, THREADS).
 unsafe impl Send for Chain {}
 
 impl Drop for Chain {
@@ -77,13 +80,22 @@ impl Chain {
 
     pub fn set_memory(&mut self, device: &sys::Device, regions: &[Region]) -> Result<(), Status> {
         // SAFETY: as the module says.
-        Status::check(unsafe { sys::pk_chain_set_memory(&mut self.handle, device, regions.as_ptr(), regions.len()) })
+        Status::check(unsafe {
+            sys::pk_chain_set_memory(&mut self.handle, device, regions.as_ptr(), regions.len())
+        })
     }
 
     /// `loaded` has the bytes that the step before wanted; at first none.
-    pub fn pop(&mut self, queue: &mut Queue, loaded: &[u8], step: &mut sys::Pop) -> Result<Popped, Status> {
+    pub fn pop(
+        &mut self,
+        queue: &mut Queue,
+        loaded: &[u8],
+        step: &mut sys::Pop,
+    ) -> Result<Popped, Status> {
         // SAFETY: as the module says.
-        match unsafe { sys::pk_pop(&mut self.handle, queue.numbers_mut(), loaded.as_ptr(), loaded.len(), step) } {
+        match unsafe {
+            sys::pk_pop(&mut self.handle, queue.numbers_mut(), loaded.as_ptr(), loaded.len(), step)
+        } {
             status::DONE => {
                 self.ticket = step.ticket;
                 Ok(Popped::Out)
@@ -109,32 +121,67 @@ impl Chain {
     pub fn set_notification(&mut self, queue: &Queue, wanted: bool) -> Result<sys::Store, Status> {
         let mut store = sys::Store::default();
         // SAFETY: as the module says.
-        Status::check(unsafe { sys::pk_set_notification(&mut self.handle, queue.numbers(), wanted.into(), &mut store) })?;
+        Status::check(unsafe {
+            sys::pk_set_notification(&mut self.handle, queue.numbers(), wanted.into(), &mut store)
+        })?;
         Ok(store)
     }
 
-    pub fn request_windows<'w>(&mut self, from: u64, len: u64, windows: &'w mut [Window]) -> &'w [Window] {
+    pub fn request_windows<'w>(
+        &mut self,
+        from: u64,
+        len: u64,
+        windows: &'w mut [Window],
+    ) -> &'w [Window] {
         // SAFETY: as the module says; it fills no more than the slice has.
-        let count =
-            unsafe { sys::pk_request_windows(&mut self.handle, from, len, windows.as_mut_ptr(), windows.len()) };
+        let count = unsafe {
+            sys::pk_request_windows(
+                &mut self.handle,
+                from,
+                len,
+                windows.as_mut_ptr(),
+                windows.len(),
+            )
+        };
         windows.get(..count).unwrap_or_default()
     }
 
-    pub fn reply_windows<'w>(&mut self, from: u64, len: u64, windows: &'w mut [Window]) -> &'w [Window] {
+    pub fn reply_windows<'w>(
+        &mut self,
+        from: u64,
+        len: u64,
+        windows: &'w mut [Window],
+    ) -> &'w [Window] {
         // SAFETY: as of `request_windows`.
-        let count = unsafe { sys::pk_reply_windows(&mut self.handle, from, len, windows.as_mut_ptr(), windows.len()) };
+        let count = unsafe {
+            sys::pk_reply_windows(&mut self.handle, from, len, windows.as_mut_ptr(), windows.len())
+        };
         windows.get(..count).unwrap_or_default()
     }
 
-    pub fn reply_ranges<'r>(&mut self, from: u64, len: u64, ranges: &'r mut [GuestRange]) -> &'r [GuestRange] {
+    pub fn reply_ranges<'r>(
+        &mut self,
+        from: u64,
+        len: u64,
+        ranges: &'r mut [GuestRange],
+    ) -> &'r [GuestRange] {
         // SAFETY: as of `request_windows`.
-        let count = unsafe { sys::pk_reply_ranges(&mut self.handle, from, len, ranges.as_mut_ptr(), ranges.len()) };
+        let count = unsafe {
+            sys::pk_reply_ranges(&mut self.handle, from, len, ranges.as_mut_ptr(), ranges.len())
+        };
         ranges.get(..count).unwrap_or_default()
     }
 
-    pub fn decode(&mut self, device: &sys::Device, request: &[u8], call: &mut sys::Call) -> Result<Decoded, Status> {
+    pub fn decode(
+        &mut self,
+        device: &sys::Device,
+        request: &[u8],
+        call: &mut sys::Call,
+    ) -> Result<Decoded, Status> {
         // SAFETY: as the module says.
-        match unsafe { sys::pk_decode(&mut self.handle, device, request.as_ptr(), request.len(), call) } {
+        match unsafe {
+            sys::pk_decode(&mut self.handle, device, request.as_ptr(), request.len(), call)
+        } {
             status::DONE => Ok(Decoded::Call),
             status::MORE => Ok(Decoded::More(call.needed as usize)),
             number => Err(Status::of(number)),
@@ -156,12 +203,24 @@ impl Chain {
         replied(unsafe { sys::pk_reply_entry(&mut self.handle, self.ticket, entry) })
     }
 
-    pub fn reply_create(&mut self, entry: &sys::Entry, handle: u64, options: u32) -> Result<Replied, Status> {
+    pub fn reply_create(
+        &mut self,
+        entry: &sys::Entry,
+        handle: u64,
+        options: u32,
+    ) -> Result<Replied, Status> {
         // SAFETY: as the module says.
-        replied(unsafe { sys::pk_reply_create(&mut self.handle, self.ticket, entry, handle, options) })
+        replied(unsafe {
+            sys::pk_reply_create(&mut self.handle, self.ticket, entry, handle, options)
+        })
     }
 
-    pub fn reply_attributes(&mut self, attr: &sys::Attr, secs: u64, nanos: u32) -> Result<Replied, Status> {
+    pub fn reply_attributes(
+        &mut self,
+        attr: &sys::Attr,
+        secs: u64,
+        nanos: u32,
+    ) -> Result<Replied, Status> {
         // SAFETY: as the module says.
         replied(unsafe { sys::pk_reply_attr(&mut self.handle, self.ticket, attr, secs, nanos) })
     }
@@ -201,20 +260,52 @@ impl Chain {
         replied(unsafe { sys::pk_reply_init(&mut self.handle, self.ticket, device, wanted) })
     }
 
-    pub fn add(&mut self, list: &mut [u8], name: &[u8], inode: u64, next: u64, kind: u32) -> Result<Added, Status> {
+    pub fn add(
+        &mut self,
+        list: &mut [u8],
+        name: &[u8],
+        inode: u64,
+        next: u64,
+        kind: u32,
+    ) -> Result<Added, Status> {
         let (at, len) = (list.as_mut_ptr(), list.len());
         // SAFETY: as the module says; list and name are apart, since the list is borrowed mutably.
         let number = unsafe {
-            sys::pk_add_direntry(&mut self.handle, self.ticket, at, len, name.as_ptr(), name.len(), inode, next, kind)
+            sys::pk_add_direntry(
+                &mut self.handle,
+                self.ticket,
+                at,
+                len,
+                name.as_ptr(),
+                name.len(),
+                inode,
+                next,
+                kind,
+            )
         };
         added(number)
     }
 
-    pub fn add_entry(&mut self, list: &mut [u8], name: &[u8], entry: &sys::Entry, next: u64) -> Result<Added, Status> {
+    pub fn add_entry(
+        &mut self,
+        list: &mut [u8],
+        name: &[u8],
+        entry: &sys::Entry,
+        next: u64,
+    ) -> Result<Added, Status> {
         let (at, len) = (list.as_mut_ptr(), list.len());
         // SAFETY: as of `add`.
         let number = unsafe {
-            sys::pk_add_direntry_plus(&mut self.handle, self.ticket, at, len, name.as_ptr(), name.len(), entry, next)
+            sys::pk_add_direntry_plus(
+                &mut self.handle,
+                self.ticket,
+                at,
+                len,
+                name.as_ptr(),
+                name.len(),
+                entry,
+                next,
+            )
         };
         added(number)
     }
@@ -223,7 +314,8 @@ impl Chain {
     pub fn reply_entries(&mut self) -> Result<(Replied, u64), Status> {
         let mut len = 0;
         // SAFETY: as the module says.
-        let reply = replied(unsafe { sys::pk_reply_entries(&mut self.handle, self.ticket, &mut len) })?;
+        let reply =
+            replied(unsafe { sys::pk_reply_entries(&mut self.handle, self.ticket, &mut len) })?;
         Ok((reply, len))
     }
 
@@ -237,7 +329,13 @@ impl Chain {
         let mut stores = sys::Stores::default();
         // SAFETY: as the module says.
         Status::check(unsafe {
-            sys::pk_push(&mut self.handle, queue.numbers_mut(), front.as_mut_ptr(), front.len(), &mut stores)
+            sys::pk_push(
+                &mut self.handle,
+                queue.numbers_mut(),
+                front.as_mut_ptr(),
+                front.len(),
+                &mut stores,
+            )
         })?;
         Ok(stores)
     }
@@ -246,7 +344,9 @@ impl Chain {
     pub fn pushed(&mut self, queue: &mut Queue, seen: u16) -> Result<bool, Status> {
         let mut notify = 0;
         // SAFETY: as the module says.
-        Status::check(unsafe { sys::pk_pushed(&mut self.handle, queue.numbers_mut(), seen, &mut notify) })?;
+        Status::check(unsafe {
+            sys::pk_pushed(&mut self.handle, queue.numbers_mut(), seen, &mut notify)
+        })?;
         Ok(notify != 0)
     }
 }
@@ -288,20 +388,43 @@ pub(crate) fn is_name(name: &[u8]) -> bool {
 }
 
 /// How long the record is, also with `ShortBuffer`, and whether it stands in the buffer.
-pub(crate) fn save(device: &sys::Device, queues: &[sys::Queue], buffer: &mut [u8]) -> (usize, Result<(), Status>) {
+pub(crate) fn save(
+    device: &sys::Device,
+    queues: &[sys::Queue],
+    buffer: &mut [u8],
+) -> (usize, Result<(), Status>) {
     let mut len = 0;
     // SAFETY: as the module says.
-    let number =
-        unsafe { sys::pk_save(device, queues.as_ptr(), queues.len(), buffer.as_mut_ptr(), buffer.len(), &mut len) };
+    let number = unsafe {
+        sys::pk_save(
+            device,
+            queues.as_ptr(),
+            queues.len(),
+            buffer.as_mut_ptr(),
+            buffer.len(),
+            &mut len,
+        )
+    };
     (len, Status::check(number))
 }
 
 /// How many queues the record has.
-pub(crate) fn restore(device: &mut sys::Device, queues: &mut [sys::Queue], record: &[u8]) -> Result<usize, Status> {
+pub(crate) fn restore(
+    device: &mut sys::Device,
+    queues: &mut [sys::Queue],
+    record: &[u8],
+) -> Result<usize, Status> {
     let mut count = 0;
     // SAFETY: as the module says.
     let number = unsafe {
-        sys::pk_restore(device, queues.as_mut_ptr(), queues.len(), record.as_ptr(), record.len(), &mut count)
+        sys::pk_restore(
+            device,
+            queues.as_mut_ptr(),
+            queues.len(),
+            record.as_ptr(),
+            record.len(),
+            &mut count,
+        )
     };
     Status::check(number).map(|()| count)
 }

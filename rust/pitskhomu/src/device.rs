@@ -7,8 +7,8 @@ use crate::sys;
 use alloc::vec::Vec;
 use core::sync::atomic::{AtomicU64, Ordering};
 
-/// What all queues of a device share (struct pk_device). The options that INIT agreed on are one atomic word, so that workers of several
-/// threads share it by reference, without a lock.
+/// What all queues of a device share (struct pk_device). The options that INIT agreed on are one
+/// atomic word, so that workers of several threads share it by reference, without a lock.
 #[derive(Debug)]
 pub struct Device {
     page_size: u32,
@@ -33,8 +33,9 @@ impl Device {
     /// The most queues that a record has.
     pub const MOST_QUEUES: usize = sys::QUEUES_MAX;
 
-    /// `page_size` is the guest's, in bytes: a power of two from 4096 to 65536. A request or a room of more than `limit` bytes, from
-    /// `LEAST_LIMIT` to 2^31, makes a chain faulty. Other numbers are refused by the first call with it (`Status::BadArgument`).
+    /// `page_size` is the guest's, in bytes: a power of two from 4096 to 65536. A request or a room
+    /// of more than `limit` bytes, from `LEAST_LIMIT` to 2^31, makes a chain faulty. Other numbers
+    /// are refused by the first call with it (`Status::BadArgument`).
     pub const fn new(page_size: u32, limit: u32) -> Device {
         Device { page_size, limit, options: AtomicU64::new(0) }
     }
@@ -54,14 +55,16 @@ impl Device {
         Options::from_bits(self.options.load(Ordering::Acquire))
     }
 
-    /// The session ends, or it goes on from another host's: sets what INIT agreed on. A reset of the device sets no flag.
+    /// The session ends, or it goes on from another host's: sets what INIT agreed on. A reset of
+    /// the device sets no flag.
     pub fn set_options(&self, options: Options) {
         self.options.store(options.bits(), Ordering::Release);
     }
 
-    /// The record of the device and its queues, 1 to `MOST_QUEUES` of them: positions, layouts, which are stopped, options, page size and
-    /// limit, and no memory and no file. Errors: `BadArgument` (numbers of the device or of a queue that are none; options that aren't known),
-    /// `InFlight` (of a queue), `OutOfMemory`.
+    /// The record of the device and its queues, 1 to `MOST_QUEUES` of them: positions, layouts,
+    /// which are stopped, options, page size and limit, and no memory and no file. Errors:
+    /// `BadArgument` (numbers of the device or of a queue that are none; options that aren't
+    /// known), `ChainInFlight` (of a queue), `OutOfMemory`.
     pub fn save(&self, queues: &[Queue]) -> Result<Vec<u8>, Status> {
         let numbers = self.numbers();
         let mut places = [sys::Queue::default(); Device::MOST_QUEUES];
@@ -78,9 +81,10 @@ impl Device {
         saved.map(|()| record)
     }
 
-    /// Takes options and queues over from a record of a device with the same page size and limit. Other bytes may stand behind it. A queue
-    /// that was stopped is so here (`Status::Stopped`). Errors: `BadArgument` (of the device), those that begin with `Record`; then options stay
-    /// as they were.
+    /// Takes options and queues over from a record of a device with the same page size and limit.
+    /// Other bytes may stand behind it. A queue that was stopped is so here (`Status::Stopped`).
+    /// Errors: `BadArgument` (of the device), those that begin with `Record`; then options stay as
+    /// they were.
     pub fn restore(&self, record: &[u8]) -> Result<Vec<Queue>, Status> {
         let mut queues = Vec::new();
         queues.try_reserve_exact(Device::MOST_QUEUES).map_err(|_| Status::OutOfMemory)?;

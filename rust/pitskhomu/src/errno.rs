@@ -5,7 +5,8 @@ use core::num::NonZeroU32;
 /// What a call answers: a value, or an errno.
 pub type Answer<T> = Result<T, Errno>;
 
-/// An errno of Linux (errno.h), from 1 to 4095: what a file system's call fails by, and what the guest's system call returns.
+/// An errno of Linux (errno.h), from 1 to 4095: what a file system's call fails by, and what the
+/// guest's system call returns.
 #[derive(Clone, Copy, PartialEq, Eq, Hash, PartialOrd, Ord)]
 pub struct Errno(NonZeroU32);
 
@@ -55,7 +56,8 @@ impl std::error::Error for Errno {}
 
 #[cfg(feature = "std")]
 impl From<std::io::Error> for Errno {
-    /// The errno of the system call that failed; of an error that no system call made, the errno that comes next to its kind, or EIO.
+    /// The errno of the system call that failed; of an error that no system call made, the errno
+    /// that comes next to its kind, or EIO.
     fn from(error: std::io::Error) -> Errno {
         use std::io::ErrorKind;
         match (error.raw_os_error(), error.kind()) {

@@ -8,7 +8,8 @@ use core::fmt;
 /// A reply's header (struct fuse_out_header).
 const HEADER_LEN: usize = 16;
 
-/// A chain that is out: the bytes of its request, and the room for a reply, header and all (`FileSystem::reply_by_bytes`).
+/// A chain that is out: the bytes of its request, and the room for a reply, header and all
+/// (`FileSystem::reply_by_bytes`).
 pub struct Exchange<'a> {
     chain: &'a mut Chain,
     memory: &'a dyn GuestMemory,
@@ -61,13 +62,19 @@ impl<'a> Exchange<'a> {
         unique(self.front)
     }
 
-    /// Copies bytes of the request out, from one on, and says how many there were. The guest may write meanwhile: take each byte once. The
-    /// first bytes, which have the header, stay what they were.
+    /// Copies bytes of the request out, from one on, and says how many there were. The guest may
+    /// write meanwhile: take each byte once. The first bytes, which have the header, stay what they
+    /// were.
     pub fn load(&mut self, from: u64, bytes: &mut [u8]) -> usize {
         let known = self.front.get(from.min(usize::MAX as u64) as usize..).unwrap_or_default();
         let len = known.len().min(bytes.len());
         bytes[..len].copy_from_slice(&known[..len]);
-        len + load_request(self.chain, self.memory, from.saturating_add(len as u64), &mut bytes[len..])
+        len + load_request(
+            self.chain,
+            self.memory,
+            from.saturating_add(len as u64),
+            &mut bytes[len..],
+        )
     }
 
     /// The windows of the request's bytes from one on, as many as the slice takes.
@@ -82,17 +89,20 @@ impl<'a> Exchange<'a> {
         stored
     }
 
-    /// The windows of the room from one of its bytes on, as many as the slice takes. What was stored by them is told by `written_up_to`.
+    /// The windows of the room from one of its bytes on, as many as the slice takes. What was
+    /// stored by them is told by `written_up_to`.
     pub fn reply_windows<'w>(&mut self, from: u64, windows: &'w mut [Window]) -> &'w [Window] {
         self.chain.reply_windows(from, u64::MAX - from, windows)
     }
 
-    /// The room was written up to this byte of it, by its windows: for a migration's log, where the reply ends before.
+    /// The room was written up to this byte of it, by its windows: for a migration's log, where the
+    /// reply ends before.
     pub fn written_up_to(&mut self, end: u64) {
         self.written = self.written.max(end.min(self.room_len));
     }
 
-    /// Stores the reply of an error, and says how many bytes it has: 0 if the request has no number or the room no place for it.
+    /// Stores the reply of an error, and says how many bytes it has: 0 if the request has no number
+    /// or the room no place for it.
     pub fn store_error(&mut self, error: Errno) -> u64 {
         if self.front.len() < HEADER_LEN || self.room_len < HEADER_LEN as u64 {
             return 0;

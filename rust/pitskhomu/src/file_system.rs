@@ -9,21 +9,26 @@ use crate::values::{Attributes, Context, Entry, Handle, Node, Opened, Statistics
 use crate::CStr;
 use core::time::Duration;
 
-/// A file system, which workers of several threads share by reference. Numbers of nodes and open files are its own. A name is any bytes but
-/// zero: who serves a directory of the host refuses what [`is_name`](crate::is_name) does. What isn't implemented answers ENOSYS, or "done" where that is
-/// harmless. An answer whose reply has no room is taken back: an entry by `forget`, an open file by `release`.
+/// A file system, which workers of several threads share by reference. Numbers of nodes and open
+/// files are its own. A name is any bytes but zero: who serves a directory of the host refuses what
+/// [`is_name`](crate::is_name) does. What isn't implemented answers ENOSYS, or "done" where that is
+/// harmless. An answer whose reply has no room is taken back: an entry by `forget`, an open file by
+/// `release`.
 #[allow(unused_variables)]
 pub trait FileSystem {
-    /// Any request, before the library reads it: `Some` if it is replied here, by bytes of one's own, and how many they are, header and all
-    /// (struct fuse_out_header); they stand in the room from its front on by then, and 0 is silence. So a request that the library doesn't
-    /// serve is served, or each by a FUSE server of one's own. More bytes than the room has are answered EIO. What the guest is told so the
-    /// library has no part in: nothing is taken back, and after INIT the device's options are to be set. `None`: the library reads it.
+    /// Any request, before the library reads it: `Some` if it is replied here, by bytes of one's
+    /// own, and how many they are, header and all (struct fuse_out_header); they stand in the room
+    /// from its front on by then, and 0 is silence. So a request that the library doesn't serve is
+    /// served, or each by a FUSE server of one's own. More bytes than the room has are answered
+    /// EIO. What the guest is told so the library has no part in: nothing is taken back, and after
+    /// INIT the device's options are to be set. `None`: the library reads it.
     fn reply_by_bytes(&self, exchange: &mut Exchange<'_>) -> Option<u64> {
         None
     }
 
-    /// INIT: a session begins. The guest holds no node but the root, and nothing is open. Which options are wanted, of those that the guest
-    /// can, besides those that are agreed on anyway. An error ends the session before it began.
+    /// INIT: a session begins. The guest holds no node but the root, and nothing is open. Which
+    /// options are wanted, of those that the guest can, besides those that are agreed on anyway. An
+    /// error ends the session before it began.
     fn init(&self, init: Init) -> Answer<Options> {
         Ok(Options::empty())
     }
@@ -31,7 +36,8 @@ pub trait FileSystem {
     /// DESTROY: the session ends.
     fn destroy(&self) {}
 
-    /// LOOKUP of a name in a directory: the guest holds its node once more. ENOENT, or an entry with node 0, if it isn't there.
+    /// LOOKUP of a name in a directory: the guest holds its node once more. ENOENT, or an entry
+    /// with node 0, if it isn't there.
     fn lookup(&self, context: &Context, parent: Node, name: &CStr) -> Answer<Entry>;
 
     /// FORGET: the guest holds a node so many times less.
@@ -42,16 +48,28 @@ pub trait FileSystem {
         forgets.for_each(|(node, count)| self.forget(node, count));
     }
 
-    /// GETATTR: attributes, and how long they stay good. `handle` is of the open file that the guest asks by.
-    fn getattr(&self, context: &Context, node: Node, handle: Option<Handle>) -> Answer<(Attributes, Duration)>;
+    /// GETATTR: attributes, and how long they stay good. `handle` is of the open file that the
+    /// guest asks by.
+    fn getattr(
+        &self,
+        context: &Context,
+        node: Node,
+        handle: Option<Handle>,
+    ) -> Answer<(Attributes, Duration)>;
 
     /// SETATTR: sets some attributes, and answers all, as `getattr` does.
-    fn setattr(&self, context: &Context, node: Node, set: &SetAttributes) -> Answer<(Attributes, Duration)> {
+    fn setattr(
+        &self,
+        context: &Context,
+        node: Node,
+        set: &SetAttributes,
+    ) -> Answer<(Attributes, Duration)> {
         Err(Errno::ENOSYS)
     }
 
-    /// READLINK: puts what a link leads to at the front of `target`, and says how many bytes it has. What stands in `target` before means
-    /// nothing. More bytes than `target` has are answered ERANGE.
+    /// READLINK: puts what a link leads to at the front of `target`, and says how many bytes it
+    /// has. What stands in `target` before means nothing. More bytes than `target` has are answered
+    /// ERANGE.
     fn readlink(&self, context: &Context, node: Node, target: &mut [u8]) -> Answer<usize> {
         Err(Errno::ENOSYS)
     }
@@ -82,7 +100,13 @@ pub trait FileSystem {
     }
 
     /// RENAME and RENAME2: one name becomes the other.
-    fn rename(&self, context: &Context, from: Child<'_>, to: Child<'_>, flags: RenameFlags) -> Answer<()> {
+    fn rename(
+        &self,
+        context: &Context,
+        from: Child<'_>,
+        to: Child<'_>,
+        flags: RenameFlags,
+    ) -> Answer<()> {
         Err(Errno::ENOSYS)
     }
 
@@ -97,17 +121,34 @@ pub trait FileSystem {
     }
 
     /// CREATE: makes a file and opens it; the guest holds the new node once.
-    fn create(&self, context: &Context, child: Child<'_>, create: Create) -> Answer<(Entry, Opened)> {
+    fn create(
+        &self,
+        context: &Context,
+        child: Child<'_>,
+        create: Create,
+    ) -> Answer<(Entry, Opened)> {
         Err(Errno::ENOSYS)
     }
 
     /// READ: puts data in. What was put in by then is the answer; none ends the file.
-    fn read(&self, context: &Context, node: Node, read: Read, data: &mut ReadData<'_>) -> Answer<()> {
+    fn read(
+        &self,
+        context: &Context,
+        node: Node,
+        read: Read,
+        data: &mut ReadData<'_>,
+    ) -> Answer<()> {
         Err(Errno::ENOSYS)
     }
 
     /// WRITE: takes data out. What was taken out by then is the answer.
-    fn write(&self, context: &Context, node: Node, write: Write, data: &mut WriteData<'_>) -> Answer<()> {
+    fn write(
+        &self,
+        context: &Context,
+        node: Node,
+        write: Write,
+        data: &mut WriteData<'_>,
+    ) -> Answer<()> {
         Err(Errno::ENOSYS)
     }
 
@@ -131,14 +172,29 @@ pub trait FileSystem {
         Err(Errno::ENOSYS)
     }
 
-    /// SETXATTR: sets an extended attribute; `flags` as of setxattr (XATTR_CREATE 1, XATTR_REPLACE 2).
-    fn setxattr(&self, context: &Context, node: Node, name: &CStr, value: &[u8], flags: u32) -> Answer<()> {
+    /// SETXATTR: sets an extended attribute; `flags` as of setxattr (XATTR_CREATE 1, XATTR_REPLACE
+    /// 2).
+    fn setxattr(
+        &self,
+        context: &Context,
+        node: Node,
+        name: &CStr,
+        value: &[u8],
+        flags: u32,
+    ) -> Answer<()> {
         Err(Errno::ENOSYS)
     }
 
-    /// GETXATTR: puts the value at the front of `value`, and says how many bytes it has. An empty `value` asks for the number alone. ERANGE if
-    /// it doesn't fit, ENODATA if there is none. What stands in `value` before means nothing.
-    fn getxattr(&self, context: &Context, node: Node, name: &CStr, value: &mut [u8]) -> Answer<usize> {
+    /// GETXATTR: puts the value at the front of `value`, and says how many bytes it has. An empty
+    /// `value` asks for the number alone. ERANGE if it doesn't fit, ENODATA if there is none. What
+    /// stands in `value` before means nothing.
+    fn getxattr(
+        &self,
+        context: &Context,
+        node: Node,
+        name: &CStr,
+        value: &mut [u8],
+    ) -> Answer<usize> {
         Err(Errno::ENOSYS)
     }
 
@@ -152,13 +208,21 @@ pub trait FileSystem {
         Err(Errno::ENOSYS)
     }
 
-    /// OPENDIR: what it answers, READDIR and its kin bring back until RELEASEDIR; `flags` as of `Open`.
+    /// OPENDIR: what it answers, READDIR and its kin bring back until RELEASEDIR; `flags` as of
+    /// `Open`.
     fn opendir(&self, context: &Context, node: Node, flags: u32) -> Answer<Opened> {
         Ok(Opened::default())
     }
 
-    /// READDIR and READDIRPLUS: adds entries until none is left or none fits; none at all ends the directory.
-    fn readdir(&self, context: &Context, node: Node, read: ReadDirectory, list: &mut Listing<'_>) -> Answer<()> {
+    /// READDIR and READDIRPLUS: adds entries until none is left or none fits; none at all ends the
+    /// directory.
+    fn readdir(
+        &self,
+        context: &Context,
+        node: Node,
+        read: ReadDirectory,
+        list: &mut Listing<'_>,
+    ) -> Answer<()> {
         Err(Errno::ENOSYS)
     }
 
@@ -168,7 +232,13 @@ pub trait FileSystem {
     }
 
     /// FSYNCDIR: a directory's entries last; as `fsync`.
-    fn fsyncdir(&self, context: &Context, node: Node, handle: Handle, data_only: bool) -> Answer<()> {
+    fn fsyncdir(
+        &self,
+        context: &Context,
+        node: Node,
+        handle: Handle,
+        data_only: bool,
+    ) -> Answer<()> {
         Err(Errno::ENOSYS)
     }
 
@@ -182,7 +252,8 @@ pub trait FileSystem {
         Err(Errno::ENOSYS)
     }
 
-    /// LSEEK: where it comes to, in bytes from the file's beginning. ENXIO if there is no such place.
+    /// LSEEK: where it comes to, in bytes from the file's beginning. ENXIO if there is no such
+    /// place.
     fn lseek(&self, context: &Context, node: Node, seek: Seek) -> Answer<u64> {
         Err(Errno::ENOSYS)
     }

@@ -2,7 +2,8 @@
 use core::fmt;
 use core::ops::{BitAnd, BitOr, BitOrAssign, Sub};
 
-/// A set of flags over an integer, with a constant for each flag. Bits without a name stay in a set.
+/// A set of flags over an integer, with a constant for each flag. Bits without a name stay in a
+/// set.
 macro_rules! flags {
     ($(#[$about:meta])* $type:ident: $bits:ident {
         $($(#[$doc:meta])* $name:ident = $value:expr;)*
@@ -14,7 +15,8 @@ macro_rules! flags {
         impl $type {
             $($(#[$doc])* pub const $name: $type = $type($value);)*
 
-            const NAMES: &'static [(&'static str, $type)] = &[$((stringify!($name), $type::$name)),*];
+            const NAMES: &'static [(&'static str,
+                $type)] = &[$((stringify!($name), $type::$name)),*];
 
             /// No flag.
             pub const fn empty() -> $type {
@@ -87,8 +89,8 @@ macro_rules! flags {
 }
 
 flags! {
-    /// The FUSE_ flags of INIT (struct fuse_init_in of linux/fuse.h, `flags | flags2 << 32`): what the guest can, what is wanted, and what
-    /// was agreed on.
+    /// The FUSE_ flags of INIT (struct fuse_init_in of linux/fuse.h, `flags | flags2 << 32`): what
+    /// the guest can, what is wanted, and what was agreed on.
     Options: u64 {
         /// Reads may be asynchronous.
         ASYNC_READ = 1 << 0;

@@ -1,11 +1,16 @@
-//! The device's side of virtio-fs (VIRTIO 1.2, 2.7 and 5.11; FUSE 7.38): a safe wrapper of Pitskhomu's proved C library.
+//! The device's side of virtio-fs (VIRTIO 1.2, 2.7 and 5.11; FUSE 7.38): a safe wrapper of
+//! Pitskhomu's proved C library.
 //!
-//! The library walks the split virtqueue, reads each FUSE request, and makes each reply; it touches no memory, no file and no clock. This
-//! crate has the loop round it. Who uses it writes no `unsafe`:
+//! The library walks the split virtqueue, reads each FUSE request, and makes each reply; it touches
+//! no memory, no file and no clock. This crate has the loop round it. Who uses it writes no
+//! `unsafe`:
 //!
-//! - [`GuestMemory`] is the guest's memory, which runs meanwhile: copies in and out of it by number.
-//! - [`FileSystem`] is what the guest mounts: a method for each call, with a default for all but two.
-//! - A [`Worker`] on each thread serves a [`Queue`] of its own, or one that several serve ([`Worker::take`]); all share a [`Device`].
+//! - [`GuestMemory`] is the guest's memory, which runs meanwhile: copies in and out of it by
+//!   number.
+//! - [`FileSystem`] is what the guest mounts: a method for each call, with a default for all but
+//!   two.
+//! - A [`Worker`] on each thread serves a [`Queue`] of its own, or one that several serve
+//!   ([`Worker::take`]); all share a [`Device`].
 //!
 //! ```no_run
 //! use pitskhomu::{Device, FileSystem, GuestMemory, Queue, QueueLayout, Region, Status, Worker};
@@ -35,11 +40,12 @@
 //! # }
 //! ```
 //!
-//! What is proved is the library: each of its functions, whatever the guest writes (docs/PROVED.md of the repository). This crate is tested
-//! and not proved. The example `monitor` has a file system and a guest in memory.
+//! What is proved is the library: each of its functions, whatever the guest writes (docs/PROVED.md
+//! of the repository). This crate is tested and not proved. The example `monitor` has a file system
+//! and a guest in memory.
 //!
-//! The feature `std`, which is on by default, has [`Errno`] made of `std::io::Error`, and makes it and [`Status`] errors. Without it the crate
-//! is `no_std` with `alloc`.
+//! The feature `std`, which is on by default, has [`Errno`] made of `std::io::Error`, and makes it
+//! and [`Status`] errors. Without it the crate is `no_std` with `alloc`.
 #![no_std]
 #![deny(missing_docs, missing_debug_implementations, unsafe_code, unsafe_op_in_unsafe_fn)]
 
@@ -78,22 +84,26 @@ pub use listing::Listing;
 pub use memory::{GuestMemory, GuestRange, Region, Window};
 pub use queue::{Queue, QueueLayout};
 pub use requests::{
-    Allocate, Child, CopyFileRange, Create, FilePlace, Forgets, Init, MakeDirectory, MakeNode, Open, Read,
-    ReadDirectory, Release, Seek, SetAttributes, SetTime, Write,
+    Allocate, Child, CopyFileRange, Create, FilePlace, Forgets, Init, MakeDirectory, MakeNode,
+    Open, Read, ReadDirectory, Release, Seek, SetAttributes, SetTime, Write,
 };
 pub use status::{Fault, RequestFault, Status};
-pub use values::{Attributes, Context, DirectoryEntry, Entry, Handle, Node, Opened, Statistics, Time};
+pub use values::{
+    Attributes, Context, DirectoryEntry, Entry, Handle, Node, Opened, Statistics, Time,
+};
 pub use worker::{Served, Worker};
 
 /// The version of pitskhomu.h that this crate follows (PK_VERSION).
 pub const VERSION: u32 = sys::VERSION;
 
-/// The version of the archive that is linked: compare it once with [`VERSION`], where the two may be of two releases.
+/// The version of the archive that is linked: compare it once with [`VERSION`], where the two may
+/// be of two releases.
 pub fn version() -> u32 {
     chain::version()
 }
 
-/// Whether a name is one component of a path. If not, it is empty, `.` or `..`, or has a slash or a zero byte. A link leads elsewhere still.
+/// Whether a name is one component of a path. If not, it is empty, `.` or `..`, or has a slash or a
+/// zero byte. A link leads elsewhere still.
 pub fn is_name(name: &[u8]) -> bool {
     chain::is_name(name)
 }

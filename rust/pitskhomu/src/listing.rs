@@ -44,8 +44,8 @@ impl<'a> Listing<'a> {
         Listing { chain, list, file_system, context, directory, with_nodes, used: 0, ended: false }
     }
 
-    /// How many bytes of entries may be put in yet. One takes 24 and its name, with nodes 152 and its name, rounded up to 8
-    /// (struct fuse_dirent, struct fuse_direntplus).
+    /// How many bytes of entries may be put in yet. One takes 24 and its name, with nodes 152 and
+    /// its name, rounded up to 8 (struct fuse_dirent, struct fuse_direntplus).
     pub fn left(&self) -> usize {
         if self.ended {
             0
@@ -59,10 +59,12 @@ impl<'a> Listing<'a> {
         self.with_nodes
     }
 
-    /// Adds an entry behind those before it; `false` if it doesn't fit, which ends the list. With nodes it is looked up first by
-    /// `FileSystem::lookup`, but `.` and `..` aren't; what the guest isn't told after all is forgotten. Errors, which `readdir` answers in its
-    /// turn: those of the look-up, `EINVAL` (the first entry doesn't fit: no entry at all would end the directory), `ENAMETOOLONG` (a name that
-    /// is empty or longer than 255 bytes), `EIO` (the room is shorter than the guest asked for, or the name has a slash).
+    /// Adds an entry behind those before it; `false` if it doesn't fit, which ends the list. With
+    /// nodes it is looked up first by `FileSystem::lookup`, but `.` and `..` aren't; what the guest
+    /// isn't told after all is forgotten. Errors, which `readdir` answers in its turn: those of the
+    /// look-up, `EINVAL` (the first entry doesn't fit: no entry at all would end the directory),
+    /// `ENAMETOOLONG` (a name that is empty or longer than 255 bytes), `EIO` (the room is shorter
+    /// than the guest asked for, or the name has a slash).
     pub fn add(&mut self, entry: DirectoryEntry<'_>) -> Answer<bool> {
         let name = entry.name.to_bytes();
         if name.is_empty() || name.len() > NAME_MAX {
@@ -73,7 +75,8 @@ impl<'a> Listing<'a> {
             self.ended = true;
             return if self.used == 0 { Err(Errno::EINVAL) } else { Ok(false) };
         }
-        let added = if self.with_nodes { self.add_with_node(&entry)? } else { self.add_plain(&entry)? };
+        let added =
+            if self.with_nodes { self.add_with_node(&entry)? } else { self.add_plain(&entry)? };
         match added {
             Added::In => {
                 self.used += len;
@@ -92,14 +95,17 @@ impl<'a> Listing<'a> {
 
     fn add_plain(&mut self, entry: &DirectoryEntry<'_>) -> Answer<Added> {
         let DirectoryEntry { name, inode, next_offset, kind } = *entry;
-        self.chain.add(self.list, name.to_bytes(), inode, next_offset, kind.0).map_err(|_| Errno::EIO)
+        self.chain
+            .add(self.list, name.to_bytes(), inode, next_offset, kind.0)
+            .map_err(|_| Errno::EIO)
     }
 
     fn add_with_node(&mut self, entry: &DirectoryEntry<'_>) -> Answer<Added> {
         let name = entry.name.to_bytes();
         let is_dots = name == b"." || name == b"..";
         let found = if is_dots {
-            let attributes = Attributes { inode: entry.inode, mode: entry.kind.mode(), ..Attributes::default() };
+            let attributes =
+                Attributes { inode: entry.inode, mode: entry.kind.mode(), ..Attributes::default() };
             Entry { attributes, ..Entry::default() }
         } else {
             self.file_system.lookup(self.context, self.directory, entry.name)?

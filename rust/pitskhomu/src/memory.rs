@@ -1,22 +1,25 @@
 //! The guest's memory, by numbers: the library touches none, and the worker asks whoever keeps it.
 use core::sync::atomic::{AtomicUsize, Ordering};
 
-/// The guest's memory, by the numbers of `Region::host`. A worker asks for bytes of regions alone, and for no more of them than the
-/// regions have. The guest and other threads write to it meanwhile, so no reference to its bytes may be had: each method copies, and
-/// looks at each byte once. No method fails: keep the memory mapped while a worker has regions of it.
+/// The guest's memory, by the numbers of `Region::host`. A worker asks for bytes of regions alone,
+/// and for no more of them than the regions have. The guest and other threads write to it
+/// meanwhile, so no reference to its bytes may be had: each method copies, and looks at each byte
+/// once. No method fails: keep the memory mapped while a worker has regions of it.
 pub trait GuestMemory {
-    /// Copies bytes out, from any place: `bytes` is filled. It is asked for tables of descriptors, up to 4,096 bytes of one at a time, and
-    /// for what a guest puts into its request, which may have any length and stand at any place: so two bytes here aren't a ring's.
+    /// Copies bytes out, from any place: `bytes` is filled. It is asked for tables of descriptors,
+    /// up to 4,096 bytes of one at a time, and for what a guest puts into its request, which may
+    /// have any length and stand at any place: so two bytes here aren't a ring's.
     fn load(&self, at: usize, bytes: &mut [u8]);
 
-    /// Takes a little-endian number of two bytes out of a ring, by one atomic load (relaxed is enough: the worker has the fences). `at` is
-    /// even.
+    /// Takes a little-endian number of two bytes out of a ring, by one atomic load (relaxed is
+    /// enough: the worker has the fences). `at` is even.
     fn load_u16(&self, at: usize) -> u16;
 
     /// Copies bytes in, to any place.
     fn store(&self, at: usize, bytes: &[u8]);
 
-    /// Stores a little-endian number of two bytes in a ring, by one atomic store (relaxed is enough). `at` is even.
+    /// Stores a little-endian number of two bytes in a ring, by one atomic store (relaxed is
+    /// enough). `at` is even.
     fn store_u16(&self, at: usize, value: u16);
 
     /// Whether `mark` is to be told what was written: while a migration's log is on.
@@ -24,8 +27,8 @@ pub trait GuestMemory {
         false
     }
 
-    /// These bytes of the guest were written: mark their pages in the migration's log. Told after the stores and before the driver is.
-    /// What a file system wrote by windows is among them.
+    /// These bytes of the guest were written: mark their pages in the migration's log. Told after
+    /// the stores and before the driver is. What a file system wrote by windows is among them.
     fn mark(&self, _written: GuestRange) {}
 }
 
@@ -37,15 +40,16 @@ pub struct Region {
     pub guest: u64,
     /// Its length in bytes, not 0.
     pub len: u64,
-    /// The number that `GuestMemory` knows its first byte by: its address here, its guest address, an offset.
+    /// The number that `GuestMemory` knows its first byte by: its address here, its guest address,
+    /// an offset.
     pub host: usize,
 }
 
 /// How often regions were told, to any worker.
 static TOLD: AtomicUsize = AtomicUsize::new(0);
 
-/// The number of a telling of regions, above those of all before. Other memory may stand behind the same regions, so they tell nothing by
-/// themselves.
+/// The number of a telling of regions, above those of all before. Other memory may stand behind the
+/// same regions, so they tell nothing by themselves.
 pub(crate) fn next_telling() -> usize {
     TOLD.fetch_add(1, Ordering::Relaxed) + 1
 }

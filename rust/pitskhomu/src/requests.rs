@@ -11,7 +11,8 @@ pub struct MakeNode {
     pub mode: u32,
     /// Of a device its number, packed as `Attributes::rdev` is.
     pub rdev: u32,
-    /// The permissions that `mode` loses, which it has lost already if `Options::DONT_MASK` wasn't agreed on.
+    /// The permissions that `mode` loses, which it has lost already if `Options::DONT_MASK` wasn't
+    /// agreed on.
     pub umask: u32,
 }
 
@@ -31,7 +32,8 @@ pub struct MakeDirectory {
 pub struct Open {
     /// O_ flags of Linux x86 (fcntl.h).
     pub flags: u32,
-    /// FUSE_OPEN_KILL_SUIDGID: set-user and set-group bits are to be cleared (with O_TRUNC; `Options::HANDLE_KILLPRIV_V2`).
+    /// FUSE_OPEN_KILL_SUIDGID: set-user and set-group bits are to be cleared (with O_TRUNC;
+    /// `Options::HANDLE_KILLPRIV_V2`).
     pub kill_priv: bool,
 }
 
@@ -150,7 +152,8 @@ pub struct FilePlace {
     pub offset: u64,
 }
 
-/// What COPY_FILE_RANGE copies (struct fuse_copy_file_range_in). Its flags, 0 in Linux, aren't told.
+/// What COPY_FILE_RANGE copies (struct fuse_copy_file_range_in). Its flags, 0 in Linux, aren't
+/// told.
 #[derive(Clone, Copy, Debug)]
 #[non_exhaustive]
 pub struct CopyFileRange {
@@ -198,7 +201,8 @@ pub struct SetAttributes {
     pub attributes: Attributes,
     /// The open file, with FATTR_FH.
     pub handle: Option<Handle>,
-    /// Whose locks count, where the guest says so (FATTR_LOCKOWNER, which isn't told); Linux writes 0 else.
+    /// Whose locks count, where the guest says so (FATTR_LOCKOWNER, which isn't told); Linux writes
+    /// 0 else.
     pub lock_owner: u64,
 }
 

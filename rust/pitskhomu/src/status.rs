@@ -1,9 +1,11 @@
-//! What the library's numbers say: why a call was refused, what is wrong with a chain, and what with a request.
+//! What the library's numbers say: why a call was refused, what is wrong with a chain, and what
+//! with a request.
 use core::fmt;
 
 /// An enum over numbers of the header: each with its number, and with the text that tells it.
 macro_rules! numbered {
-    ($(#[$about:meta])* $type:ident, $header:literal { $($(#[$doc:meta])* $name:ident = $number:literal, $text:literal;)* }) => {
+    ($(#[$about:meta])* $type:ident,
+        $header:literal { $($(#[$doc:meta])* $name:ident = $number:literal, $text:literal;)* }) => {
         $(#[$about])*
         #[derive(Clone, Copy, Debug, PartialEq, Eq, Hash)]
         #[non_exhaustive]
@@ -56,11 +58,13 @@ numbered! {
         HeadOutOfTable = 5, "a chain's head is out of the descriptor table";
         /// The used ring lies in no region, or avail_event at its end. It stops the queue.
         UsedUnreachable = 6, "the used ring is unreachable";
-        /// The available flags lie in no region, or used_event of a queue with an event index. It stops the queue.
+        /// The available flags lie in no region, or used_event of a queue with an event index. It
+        /// stops the queue.
         AvailFlagsUnreachable = 7, "the available flags or used_event are unreachable";
         /// A descriptor of the table lies in no region. It stops the queue.
         DescriptorUnreachable = 8, "a descriptor is unreachable";
-        /// Memory is wanting; the call may be made again. The driver doesn't notify again of a chain that waits.
+        /// Memory is wanting; the call may be made again. The driver doesn't notify again of a
+        /// chain that waits.
         OutOfMemory = 9, "memory is wanting";
         /// A number that isn't one of those that a call takes: of a queue, of a device, of regions.
         BadArgument = 66, "a number of the queue, the device or the regions is none that it may be";
@@ -75,7 +79,7 @@ numbered! {
         /// An answer of another kind than the call's.
         OtherKind = 75, "an answer of another kind than the call's";
         /// The queue has as many chains out as it may, or the worker's chain is walked or out.
-        InFlight = 76, "a chain is out";
+        ChainInFlight = 76, "a chain is out";
         /// What is to be loaded or stored has no place.
         NotMapped = 77, "what is to be loaded or stored has no place";
         /// Another chain of the queue is being returned.
@@ -104,7 +108,8 @@ numbered! {
 }
 
 impl Status {
-    /// Whether the queue is stopped by it, or was before: set DEVICE_NEEDS_RESET (VIRTIO 1.2, 2.1.2).
+    /// Whether the queue is stopped by it, or was before: set DEVICE_NEEDS_RESET (VIRTIO 1.2,
+    /// 2.1.2).
     pub fn stops_queue(self) -> bool {
         matches!(self.number(), 1..=8)
     }
@@ -129,13 +134,18 @@ impl std::error::Error for Status {}
 #[cfg(feature = "std")]
 impl From<Status> for std::io::Error {
     fn from(status: Status) -> std::io::Error {
-        let kind = if status.is_out_of_memory() { std::io::ErrorKind::OutOfMemory } else { std::io::ErrorKind::Other };
+        let kind = if status.is_out_of_memory() {
+            std::io::ErrorKind::OutOfMemory
+        } else {
+            std::io::ErrorKind::Other
+        };
         std::io::Error::new(kind, status)
     }
 }
 
 numbered! {
-    /// What is wrong with a chain of descriptors (enum pk_fault; VIRTIO 1.2, 2.7.5): it goes back with no reply.
+    /// What is wrong with a chain of descriptors (enum pk_fault; VIRTIO 1.2, 2.7.5): it goes back
+    /// with no reply.
     Fault, "enum pk_fault" {
         /// More descriptors than the table has.
         TooLong = 1, "the chain is longer than its table";
@@ -161,7 +171,8 @@ numbered! {
 }
 
 numbered! {
-    /// What is wrong with a FUSE request (enum pk_request_fault): no call is made, and there is no reply.
+    /// What is wrong with a FUSE request (enum pk_request_fault): no call is made, and there is no
+    /// reply.
     RequestFault, "enum pk_request_fault" {
         /// The request ends early.
         Decode = 1, "the request ends early";

@@ -1,5 +1,5 @@
-//! What pitskhomu.h declares, in its order, with its names (without `fs_` and `FS_`). The header says what each function does and
-//! owes. The script `tools/declared` compares the two.
+//! What pitskhomu.h declares, in its order, with its names (without `fs_` and `FS_`). The header
+//! says what each function does and owes. The script `tools/declared` compares the two.
 use crate::memory::{GuestRange as Range, Region, Window};
 use core::ffi::c_void;
 
@@ -241,22 +241,30 @@ pub struct Store {
 extern "C" {
     pub fn pk_version() -> u32;
     pub fn pk_is_name(name: *const u8, name_len: usize) -> u8;
-    pub fn pk_chain_set_memory(chain: &mut Chain, device: &Device, regions: *const Region, region_count: usize) -> u32;
+    pub fn pk_chain_set_memory(chain: &mut Chain, device: &Device, regions: *const Region,
+        region_count: usize) -> u32;
     pub fn pk_chain_free(chain: &mut Chain);
     #[allow(dead_code)] // a worker's answers go to its own chain
     pub fn pk_chain_set_ticket(chain: &mut Chain, first: u32) -> u32;
-    pub fn pk_pop(chain: &mut Chain, queue: &mut Queue, loaded: *const u8, loaded_len: usize, pop: &mut Pop) -> u32;
+    pub fn pk_pop(chain: &mut Chain, queue: &mut Queue, loaded: *const u8, loaded_len: usize,
+        pop: &mut Pop) -> u32;
     pub fn pk_queue_begin(queue: &mut Queue, next_avail: u16) -> u32;
     pub fn pk_abandon(chain: &mut Chain);
-    pub fn pk_set_notification(chain: &mut Chain, queue: &Queue, enabled: u32, store: &mut Store) -> u32;
+    pub fn pk_set_notification(chain: &mut Chain, queue: &Queue, enabled: u32,
+        store: &mut Store) -> u32;
     pub fn pk_drop(chain: &mut Chain, queue: &mut Queue) -> u32;
-    pub fn pk_request_windows(chain: &mut Chain, from: u64, len: u64, windows: *mut Window, window_count: usize) -> usize;
-    pub fn pk_reply_windows(chain: &mut Chain, from: u64, len: u64, windows: *mut Window, window_count: usize) -> usize;
-    pub fn pk_reply_ranges(chain: &mut Chain, from: u64, len: u64, ranges: *mut Range, range_count: usize) -> usize;
-    pub fn pk_decode(chain: &mut Chain, device: &Device, request: *const u8, request_len: usize, call: &mut Call) -> u32;
+    pub fn pk_request_windows(chain: &mut Chain, from: u64, len: u64, windows: *mut Window,
+        window_count: usize) -> usize;
+    pub fn pk_reply_windows(chain: &mut Chain, from: u64, len: u64, windows: *mut Window,
+        window_count: usize) -> usize;
+    pub fn pk_reply_ranges(chain: &mut Chain, from: u64, len: u64, ranges: *mut Range,
+        range_count: usize) -> usize;
+    pub fn pk_decode(chain: &mut Chain, device: &Device, request: *const u8, request_len: usize,
+        call: &mut Call) -> u32;
     pub fn pk_reply_err(chain: &mut Chain, ticket: u32, error: u32) -> u32;
     pub fn pk_reply_entry(chain: &mut Chain, ticket: u32, entry: &Entry) -> u32;
-    pub fn pk_reply_create(chain: &mut Chain, ticket: u32, entry: &Entry, handle: u64, open_flags: u32) -> u32;
+    pub fn pk_reply_create(chain: &mut Chain, ticket: u32, entry: &Entry, handle: u64,
+        open_flags: u32) -> u32;
     pub fn pk_reply_attr(chain: &mut Chain, ticket: u32, attr: &Attr, secs: u64, nanos: u32) -> u32;
     pub fn pk_reply_open(chain: &mut Chain, ticket: u32, handle: u64, open_flags: u32) -> u32;
     pub fn pk_reply_data(chain: &mut Chain, ticket: u32, len: u64) -> u32;
@@ -265,16 +273,21 @@ extern "C" {
     pub fn pk_reply_statfs(chain: &mut Chain, ticket: u32, statfs: &Statfs) -> u32;
     pub fn pk_reply_lseek(chain: &mut Chain, ticket: u32, offset: u64) -> u32;
     pub fn pk_reply_init(chain: &mut Chain, ticket: u32, device: &mut Device, wanted: u64) -> u32;
-    pub fn pk_add_direntry(chain: &mut Chain, ticket: u32, list: *mut u8, list_len: usize, name: *const u8, name_len: usize,
+    pub fn pk_add_direntry(chain: &mut Chain, ticket: u32, list: *mut u8, list_len: usize,
+        name: *const u8, name_len: usize,
         ino: u64, next_offset: u64, r#type: u32) -> u32;
-    pub fn pk_add_direntry_plus(chain: &mut Chain, ticket: u32, list: *mut u8, list_len: usize, name: *const u8,
+    pub fn pk_add_direntry_plus(chain: &mut Chain, ticket: u32, list: *mut u8, list_len: usize,
+        name: *const u8,
         name_len: usize, entry: &Entry, next_offset: u64) -> u32;
     pub fn pk_reply_entries(chain: &mut Chain, ticket: u32, len: &mut u64) -> u32;
     pub fn pk_reply_bytes(chain: &mut Chain, ticket: u32, len: u64) -> u32;
-    pub fn pk_push(chain: &mut Chain, queue: &mut Queue, front: *mut u8, front_len: usize, stores: &mut Stores) -> u32;
+    pub fn pk_push(chain: &mut Chain, queue: &mut Queue, front: *mut u8, front_len: usize,
+        stores: &mut Stores) -> u32;
     pub fn pk_pushed(chain: &mut Chain, queue: &mut Queue, seen: u16, notify: &mut u8) -> u32;
-    pub fn pk_save(device: &Device, queues: *const Queue, queue_count: usize, buffer: *mut u8, buffer_len: usize,
+    pub fn pk_save(device: &Device, queues: *const Queue, queue_count: usize, buffer: *mut u8,
+        buffer_len: usize,
         len: &mut usize) -> u32;
-    pub fn pk_restore(device: &mut Device, queues: *mut Queue, queue_count: usize, saved: *const u8, saved_len: usize,
+    pub fn pk_restore(device: &mut Device, queues: *mut Queue, queue_count: usize, saved: *const u8,
+        saved_len: usize,
         count: &mut usize) -> u32;
 }

@@ -28,13 +28,15 @@ pub struct Handle(
 pub struct Context {
     /// The guest's number of the request.
     pub unique: u64,
-    /// The user; with `Options::ALLOW_IDMAP` Linux since 6.12 tells it with calls that make a node, and else `u32::MAX`.
+    /// The user; with `Options::ALLOW_IDMAP` Linux since 6.12 tells it with calls that make a node,
+    /// and else `u32::MAX`.
     pub uid: u32,
     /// The group; as `uid`.
     pub gid: u32,
     /// The process.
     pub pid: u32,
-    /// With a call that makes a node: one of the caller's groups besides `gid`, if the guest tells one.
+    /// With a call that makes a node: one of the caller's groups besides `gid`, if the guest tells
+    /// one.
     pub supplementary_group: Option<u32>,
 }
 
@@ -70,7 +72,8 @@ pub struct Attributes {
     pub uid: u32,
     /// Its group.
     pub gid: u32,
-    /// Of a device its number, as Linux packs it in 32 bits: bits 8 to 19 are the major number, the others the minor.
+    /// Of a device its number, as Linux packs it in 32 bits: bits 8 to 19 are the major number, the
+    /// others the minor.
     pub rdev: u32,
     /// How many bytes are best read at a time.
     pub block_size: u32,
@@ -125,7 +128,8 @@ impl Attributes {
     }
 }
 
-/// What a name stands for (struct fuse_entry_out). The default is node 0: it is known that the name isn't there, for `entry_timeout`.
+/// What a name stands for (struct fuse_entry_out). The default is node 0: it is known that the name
+/// isn't there, for `entry_timeout`.
 #[derive(Clone, Copy, Debug, Default, PartialEq, Eq)]
 pub struct Entry {
     /// The node, which the guest holds once more; `Node(0)` if the name isn't there.

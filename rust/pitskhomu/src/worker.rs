@@ -1,7 +1,7 @@
 //! The worker: from a chain's walk to its return.
 mod answering;
 
-use crate::chain::{Decoded, Chain, Replied, Popped};
+use crate::chain::{Chain, Decoded, Popped, Replied};
 use crate::data::{load_request, store_room};
 use crate::device::Device;
 use crate::errno::Errno;
@@ -25,8 +25,8 @@ pub struct Served {
     pub request_len: u64,
     /// How many bytes the room for the reply has; 0 with a fault.
     pub room_len: u64,
-    /// The request's opcode, as the guest wrote it (enum fuse_opcode of linux/fuse.h); 0 if the request was too short to have one, or with a
-    /// fault.
+    /// The request's opcode, as the guest wrote it (enum fuse_opcode of linux/fuse.h); 0 if the
+    /// request was too short to have one, or with a fault.
     pub opcode: u32,
     /// The guest's number of the request.
     pub unique: u64,
@@ -34,11 +34,14 @@ pub struct Served {
     pub reply_len: u32,
     /// What is wrong with the chain, if anything: it went back with no reply.
     pub fault: Option<Fault>,
-    /// What is wrong with the request, if anything: it went back with no reply, and no call was made.
+    /// What is wrong with the request, if anything: it went back with no reply, and no call was
+    /// made.
     pub request_fault: Option<RequestFault>,
-    /// Whether the answer had no room: the chain went back with no reply, and what the call gave the guest was taken back.
+    /// Whether the answer had no room: the chain went back with no reply, and what the call gave
+    /// the guest was taken back.
     pub had_no_room: bool,
-    /// Whether the driver wants to be told (VIRTIO 1.2, 2.7.7). One notification will do for several chains.
+    /// Whether the driver wants to be told (VIRTIO 1.2, 2.7.7). One notification will do for
+    /// several chains.
     pub notify: bool,
 }
 
@@ -60,8 +63,9 @@ enum Phase {
     Returning,
 }
 
-/// What serves the chains of queues, one at a time: the handle of the library and its buffers, which grow as they are needed, to some 2 MiB
-/// at most. A thread has one of its own; it may be handed from thread to thread.
+/// What serves the chains of queues, one at a time: the handle of the library and its buffers,
+/// which grow as they are needed, to some 2 MiB at most. A thread has one of its own; it may be
+/// handed from thread to thread.
 pub struct Worker {
     chain: Chain,
     phase: Phase,
@@ -83,7 +87,10 @@ pub struct Worker {
 
 impl fmt::Debug for Worker {
     fn fmt(&self, f: &mut fmt::Formatter<'_>) -> fmt::Result {
-        f.debug_struct("Worker").field("phase", &self.phase).field("step", &self.step).finish_non_exhaustive()
+        f.debug_struct("Worker")
+            .field("phase", &self.phase)
+            .field("step", &self.step)
+            .finish_non_exhaustive()
     }
 }
 
@@ -111,22 +118,24 @@ impl Worker {
         }
     }
 
-    /// Over which memory the next chains go: at most `Device::MOST_REGIONS` regions that don't overlap, none empty, in any order. They are
-    /// copied. Call it first, and after each change of the guest's memory. Errors, after which the regions stay as they were:
-    /// `BadArgument`, `OutOfMemory`, `InFlight` (after a panic).
+    /// Over which memory the next chains go: at most `Device::MOST_REGIONS` regions that don't
+    /// overlap, none empty, in any order. They are copied. Call it first, and after each change of
+    /// the guest's memory. Errors, after which the regions stay as they were: `BadArgument`,
+    /// `OutOfMemory`, `ChainInFlight` (after a panic).
     pub fn set_memory(&mut self, device: &Device, regions: &[Region]) -> Result<(), Status> {
         self.chain.set_memory(&device.numbers(), regions)?;
         self.told = memory::next_telling();
         Ok(())
     }
 
-    /// Serves the next chain of a queue, if one waits: takes it, asks the file system, and gives it back with the reply. Errors, after which
-    /// this worker has no chain out: those of `Status::stops_queue`, `OutOfMemory` (the chain waits still; the driver doesn't notify again),
-    /// `BadArgument` (numbers of the queue or the device that are none), `WrongOrder` (no memory was told), `InFlight` (as many are out by
-    /// other workers as may be).
+    /// Serves the next chain of a queue, if one waits: takes it, asks the file system, and gives it
+    /// back with the reply. Errors, after which this worker has no chain out: those of
+    /// `Status::stops_queue`, `OutOfMemory` (the chain waits still; the driver doesn't notify
+    /// again), `BadArgument` (numbers of the queue or the device that are none), `WrongOrder` (no
+    /// memory was told), `ChainInFlight` (as many are out by other workers as may be).
     ///
-    /// After a panic of the file system, hand the same queue again: the call is answered EIO, and that chain is what was served. After
-    /// one of the memory a chain may be lost to the guest.
+    /// After a panic of the file system, hand the same queue again: the call is answered EIO, and
+    /// that chain is what was served. After one of the memory a chain may be lost to the guest.
     pub fn serve(
         &mut self,
         queue: &mut Queue,
@@ -147,10 +156,11 @@ impl Worker {
         self.give_back(queue, memory).map(Some)
     }
 
-    /// Takes the next chain of a queue, if one waits: then `answer` it and `give_back`, in this order. Several workers may have a chain each
-    /// out of one queue, up to `Queue::max_in_flight`: keep it behind a lock, and hold that for `take` and for `give_back`, and not for
-    /// `answer`. Chains go back in any order. Errors, after which this worker has no chain but one that it had before: those of `serve`,
-    /// and `WrongOrder` (it has one).
+    /// Takes the next chain of a queue, if one waits: then `answer` it and `give_back`, in this
+    /// order. Several workers may have a chain each out of one queue, up to `Queue::max_in_flight`:
+    /// keep it behind a lock, and hold that for `take` and for `give_back`, and not for `answer`.
+    /// Chains go back in any order. Errors, after which this worker has no chain but one that it
+    /// had before: those of `serve`, and `WrongOrder` (it has one).
     pub fn take(&mut self, queue: &mut Queue, memory: &dyn GuestMemory) -> Result<bool, Status> {
         match self.phase {
             Phase::Free => {}
@@ -174,9 +184,10 @@ impl Worker {
         walked
     }
 
-    /// Asks the file system what the chain that was taken asks for, and makes the reply. After a panic of the file system call it again: EIO
-    /// is the answer. Without a chain, or where one is answered, it does nothing. Errors: `BadArgument` (numbers of the device that are
-    /// none), and the chain is answered EIO.
+    /// Asks the file system what the chain that was taken asks for, and makes the reply. After a
+    /// panic of the file system call it again: EIO is the answer. Without a chain, or where one is
+    /// answered, it does nothing. Errors: `BadArgument` (numbers of the device that are none), and
+    /// the chain is answered EIO.
     pub fn answer(
         &mut self,
         device: &Device,
@@ -230,9 +241,11 @@ impl Worker {
         Ok(())
     }
 
-    /// Has no chain out: one of which nobody was told waits again, any other goes back with no reply.
+    /// Has no chain out: one of which nobody was told waits again, any other goes back with no
+    /// reply.
     fn give_up(&mut self, queue: &mut Queue, memory: &dyn GuestMemory) {
-        if matches!(self.phase, Phase::Walking | Phase::Taken) && self.chain.give_up(queue).is_ok() {
+        if matches!(self.phase, Phase::Walking | Phase::Taken) && self.chain.give_up(queue).is_ok()
+        {
             self.phase = Phase::Free;
         }
         if matches!(self.phase, Phase::Taken | Phase::Handed | Phase::Asked) {
@@ -245,7 +258,8 @@ impl Worker {
         self.abandon();
     }
 
-    /// Lets go of a chain whose queue was begun anew (`Queue::begin`), or is gone. A queue that goes on has it out for ever.
+    /// Lets go of a chain whose queue was begun anew (`Queue::begin`), or is gone. A queue that
+    /// goes on has it out for ever.
     pub fn abandon(&mut self) {
         if self.phase != Phase::Free {
             self.chain.abandon();
@@ -270,10 +284,12 @@ impl Worker {
         }
         self.phase = Phase::Taken;
         self.ask(front, device, memory)?;
-        self.phase = if self.call.answer == sys::answer::NONE { Phase::Answered } else { Phase::Asked };
+        self.phase =
+            if self.call.answer == sys::answer::NONE { Phase::Answered } else { Phase::Asked };
         match self.answer_call(device, file_system, memory) {
             Ok(replied) => self.replied = replied,
-            // An answer that the library doesn't take: files may have changed, so the call isn't asked again.
+            // An answer that the library doesn't take: files may have changed, so the call isn't
+            // asked again.
             Err(_) => self.answer_error()?,
         }
         self.phase = Phase::Answered;
@@ -296,7 +312,8 @@ impl Worker {
         }
     }
 
-    /// What a walk wants first: the available index. The one that was loaded last is taken again while it tells of chains that weren't taken.
+    /// What a walk wants first: the available index. The one that was loaded last is taken again
+    /// while it tells of chains that weren't taken.
     fn load_index(&mut self, queue: &mut Queue, memory: &dyn GuestMemory) -> Result<(), Status> {
         grow(&mut self.loaded, 2)?;
         if let Some(index) = queue.seen_index(self.told) {
@@ -308,8 +325,9 @@ impl Worker {
         Ok(())
     }
 
-    /// Loads what a walk wants. Two bytes are a ring's: index, entry or flags; or they are the part of a table on one side of a region's
-    /// end, and so at an even place too. Of a table it wants up to 4,096 bytes at once.
+    /// Loads what a walk wants. Two bytes are a ring's: index, entry or flags; or they are the part
+    /// of a table on one side of a region's end, and so at an even place too. Of a table it wants
+    /// up to 4,096 bytes at once.
     fn load(&mut self, memory: &dyn GuestMemory) -> Result<(), Status> {
         let sys::Pop { load_at: at, load_len: len, .. } = self.step;
         grow(&mut self.loaded, len)?;
@@ -361,9 +379,15 @@ impl Worker {
         self.chain.reply_bytes(len)
     }
 
-    /// What the request asks, by as many of its bytes as are wanted. One that is longer than any that a driver makes (a limit above the least
-    /// allows it), or for which memory is wanting, can't stay where it is, since it would block its queue: it is answered ENOMEM.
-    fn ask(&mut self, front: usize, device: &Device, memory: &dyn GuestMemory) -> Result<(), Status> {
+    /// What the request asks, by as many of its bytes as are wanted. One that is longer than any
+    /// that a driver makes (a limit above the least allows it), or for which memory is wanting,
+    /// can't stay where it is, since it would block its queue: it is answered ENOMEM.
+    fn ask(
+        &mut self,
+        front: usize,
+        device: &Device,
+        memory: &dyn GuestMemory,
+    ) -> Result<(), Status> {
         let numbers = device.numbers();
         let mut have = front;
         loop {
@@ -380,12 +404,18 @@ impl Worker {
         }
     }
 
-    /// Gives the chain back: stores the reply, the used element and the used index, in this order (VIRTIO 1.2, 2.7.8), and says what came of
-    /// it. Errors: `WrongOrder` (no chain is answered), `Returning` (another chain of the queue is between its stores, by a worker whose
-    /// memory panicked; this one may be given back later); after any other this worker has no chain: `OtherQueue` (the queue was begun anew).
+    /// Gives the chain back: stores the reply, the used element and the used index, in this order
+    /// (VIRTIO 1.2, 2.7.8), and says what came of it. Errors: `WrongOrder` (no chain is answered),
+    /// `Returning` (another chain of the queue is between its stores, by a worker whose memory
+    /// panicked; this one may be given back later); after any other this worker has no chain:
+    /// `OtherQueue` (the queue was begun anew).
     ///
     /// After a panic of the memory call it again: the chain ends, and `WrongOrder` is told.
-    pub fn give_back(&mut self, queue: &mut Queue, memory: &dyn GuestMemory) -> Result<Served, Status> {
+    pub fn give_back(
+        &mut self,
+        queue: &mut Queue,
+        memory: &dyn GuestMemory,
+    ) -> Result<Served, Status> {
         match self.phase {
             Phase::Answered => {}
             Phase::Returning => {
@@ -409,14 +439,20 @@ impl Worker {
         }
     }
 
-    /// Ends a return whose stores weren't all made: whether the driver wants to be told isn't known.
+    /// Ends a return whose stores weren't all made: whether the driver wants to be told isn't
+    /// known.
     fn end_return(&mut self, queue: &mut Queue) {
         let _ = self.chain.pushed(queue, 0);
         self.abandon();
     }
 
     /// Makes the stores of a return, and says whether the driver wants to be told.
-    fn store(&mut self, queue: &mut Queue, memory: &dyn GuestMemory, stores: &sys::Stores) -> Result<bool, Status> {
+    fn store(
+        &mut self,
+        queue: &mut Queue,
+        memory: &dyn GuestMemory,
+        stores: &sys::Stores,
+    ) -> Result<bool, Status> {
         if self.replied == Replied::Entries {
             let len = (stores.len as usize).saturating_sub(stores.front_len);
             store_room(&mut self.chain, memory, sys::HEADER, &self.list[..len]);
@@ -434,20 +470,27 @@ impl Worker {
         self.chain.pushed(queue, memory.load_u16(stores.seen_at))
     }
 
-    /// Says to the driver whether its kicks are wanted (VIRTIO 1.2, 2.7.10): they are before you sleep, and needn't be while a worker looks for
-    /// chains anyway. Whether something was stored: where they are wanted look once more then, by `take`, since a chain may have come before
-    /// the driver could know. It is no matter whether this worker has a chain. If several workers serve the queue, it is locked from here to
-    /// the end of that `take`.
+    /// Says to the driver whether its kicks are wanted (VIRTIO 1.2, 2.7.10): they are before you
+    /// sleep, and needn't be while a worker looks for chains anyway. Whether something was stored:
+    /// where they are wanted look once more then, by `take`, since a chain may have come before the
+    /// driver could know. It is no matter whether this worker has a chain. If several workers serve
+    /// the queue, it is locked from here to the end of that `take`.
     ///
-    /// A worker that takes a chain while another worker of the queue sleeps looks once more before the
-    /// queue is unlocked, with an event index and without one: it calls this with `wanted`, and loads the
-    /// available index again behind it. An index that was loaded before may show that a chain is
-    /// available, but never that none is. If one is, the worker wakes one that sleeps, or takes it. The
-    /// driver notifies once for several chains, and with an event index for the next chain alone.
+    /// A worker that takes a chain while another worker of the queue sleeps looks once more before
+    /// the queue is unlocked, with an event index and without one: it calls this with `wanted`, and
+    /// loads the available index again behind it. An index that was loaded before may show that a
+    /// chain is available, but never that none is. If one is, the worker wakes one that sleeps, or
+    /// takes it. The driver notifies once for several chains, and with an event index for the next
+    /// chain alone.
     ///
-    /// Errors: `WrongOrder` (no memory was told), `BadArgument` (the queue's numbers are none), `NotMapped`
-    /// (the flags, or avail_event, aren't in the memory).
-    pub fn set_notification(&mut self, queue: &Queue, wanted: bool, memory: &dyn GuestMemory) -> Result<bool, Status> {
+    /// Errors: `WrongOrder` (no memory was told), `BadArgument` (the queue's numbers are none),
+    /// `NotMapped` (the flags, or avail_event, aren't in the memory).
+    pub fn set_notification(
+        &mut self,
+        queue: &Queue,
+        wanted: bool,
+        memory: &dyn GuestMemory,
+    ) -> Result<bool, Status> {
         let store = self.chain.set_notification(queue, wanted)?;
         if store.len == 0 {
             return Ok(false);
@@ -460,7 +503,8 @@ impl Worker {
         Ok(true)
     }
 
-    /// Tells what was written: the room as far as the reply goes and the file system may have written, the used element and the used index.
+    /// Tells what was written: the room as far as the reply goes and the file system may have
+    /// written, the used element and the used index.
     fn mark_written(&mut self, memory: &dyn GuestMemory, stores: &sys::Stores) {
         let written = u64::from(stores.len).max(self.written);
         let mut ranges = [GuestRange::default(); 16];
@@ -488,7 +532,9 @@ impl Worker {
             unique: self.call.unique,
             reply_len,
             fault: Some(self.step.fault).filter(|&number| number != 0).map(Fault::of),
-            request_fault: Some(self.call.fault).filter(|&number| number != 0).map(RequestFault::of),
+            request_fault: Some(self.call.fault)
+                .filter(|&number| number != 0)
+                .map(RequestFault::of),
             had_no_room: self.replied == Replied::NoRoom,
             notify,
         }

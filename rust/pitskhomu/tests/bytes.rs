@@ -20,7 +20,12 @@ impl FileSystem for Polls {
     fn lookup(&self, context: &Context, parent: Node, name: &CStr) -> Answer<Entry> {
         self.1.lookup(context, parent, name)
     }
-    fn getattr(&self, context: &Context, node: Node, handle: Option<Handle>) -> Answer<(Attributes, Duration)> {
+    fn getattr(
+        &self,
+        context: &Context,
+        node: Node,
+        handle: Option<Handle>,
+    ) -> Answer<(Attributes, Duration)> {
         self.1.getattr(context, node, handle)
     }
 }
@@ -110,8 +115,9 @@ fn a_server_that_panics_is_answered_eio() {
     let (mut guest, recorder) = (Guest::new(), Recorder::default());
     let panics = Polls(|_| panic!("the server panics, as it was told to"), Recorder::default());
     guest.offer_request(&request(POLL, 5, &poll().0), 24);
-    let served =
-        catch_unwind(AssertUnwindSafe(|| guest.worker.serve(&mut guest.queue, &guest.device, &panics, &guest.memory)));
+    let served = catch_unwind(AssertUnwindSafe(|| {
+        guest.worker.serve(&mut guest.queue, &guest.device, &panics, &guest.memory)
+    }));
     assert!(served.is_err());
     assert_eq!(guest.serve(&recorder).1, Reply::Error(5));
     assert!(guest.is_idle(&recorder));
@@ -129,7 +135,12 @@ fn short_requests() {
         fn lookup(&self, _: &Context, _: Node, _: &CStr) -> Answer<Entry> {
             Err(Errno::ENOENT)
         }
-        fn getattr(&self, _: &Context, _: Node, _: Option<Handle>) -> Answer<(Attributes, Duration)> {
+        fn getattr(
+            &self,
+            _: &Context,
+            _: Node,
+            _: Option<Handle>,
+        ) -> Answer<(Attributes, Duration)> {
             Err(Errno::EIO)
         }
     }

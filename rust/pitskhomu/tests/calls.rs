@@ -1,4 +1,5 @@
-//! Each call of FUSE once, by requests and replies as linux/fuse.h lays them out: what the file system is told, and what the guest reads.
+//! Each call of FUSE once, by requests and replies as linux/fuse.h lays them out: what the file
+//! system is told, and what the guest reads.
 mod guest;
 
 use guest::recorder::{opened, Recorder};
@@ -93,14 +94,21 @@ fn names_are_found_and_made() {
 #[test]
 fn a_group_of_the_callers_is_told() {
     let extension = args().d(16).d(32).d(1).d(4711);
-    let (call, _) = told(8, args().d(0o100644).d(0).d(0).d(0).bytes(b"name\0").bytes(&extension.0), 144);
+    let (call, _) =
+        told(8, args().d(0o100644).d(0).d(0).d(0).bytes(b"name\0").bytes(&extension.0), 144);
     assert!(call.ends_with(", Some(4711))"), "{call}");
 }
 
 #[test]
 fn names_go_and_change() {
-    assert_eq!(told(10, args().bytes(b"name\0"), 16).0, r#"unlink Child { parent: Node(5), name: "name" }"#);
-    assert_eq!(told(11, args().bytes(b"name\0"), 16).0, r#"rmdir Child { parent: Node(5), name: "name" }"#);
+    assert_eq!(
+        told(10, args().bytes(b"name\0"), 16).0,
+        r#"unlink Child { parent: Node(5), name: "name" }"#
+    );
+    assert_eq!(
+        told(11, args().bytes(b"name\0"), 16).0,
+        r#"rmdir Child { parent: Node(5), name: "name" }"#
+    );
     let names = r#"Child { parent: Node(5), name: "old" }, Child { parent: Node(9), name: "new" }"#;
     let (call, reply) = told(12, args().q(9).bytes(b"old\0new\0"), 16);
     assert_eq!((call, reply), (format!("rename ({names}, RenameFlags(0x0))"), Reply::Data(vec![])));
@@ -123,10 +131,12 @@ fn files_are_opened_and_closed() {
     check_entry(&data);
     check_opened(&data[128..]);
     let (call, _) = told(18, args().q(3).d(2).d(3).q(77), 16);
-    let release = "Release { handle: Handle(3), flags: 2, flush: true, unlock: true, lock_owner: Some(77) }";
+    let release =
+        "Release { handle: Handle(3), flags: 2, flush: true, unlock: true, lock_owner: Some(77) }";
     assert_eq!(call, format!("release (Node(5), {release})"));
     let (call, _) = told(18, args().q(3).d(2).d(0).q(77), 16);
-    let release = "Release { handle: Handle(3), flags: 2, flush: false, unlock: false, lock_owner: None }";
+    let release =
+        "Release { handle: Handle(3), flags: 2, flush: false, unlock: false, lock_owner: None }";
     assert_eq!(call, format!("release (Node(5), {release})"));
     assert_eq!(told(29, args().q(3).d(2).d(0).q(0), 16).0, "releasedir (Node(5), Handle(3), 2)");
     assert_eq!(told(25, args().q(3).d(0).d(0).q(77), 16).0, "flush (Node(5), Handle(3), 77)");
@@ -149,19 +159,24 @@ fn attributes_are_told_and_set() {
     let (call, _) = told(4, set, 120);
     let flags = "MODE | UID | GID | SIZE | ATIME | MTIME | MTIME_NOW | CTIME | KILL_SUIDGID | 0x0";
     let (atime, ctime) = ("To(Time { seconds: 10, nanos: 20 })", "Time { seconds: -1, nanos: 22 }");
-    let values = format!("Some(416), Some(1), Some(2), Some(99), Some({atime}), Some(Now), Some({ctime})");
+    let values =
+        format!("Some(416), Some(1), Some(2), Some(99), Some({atime}), Some(Now), Some({ctime})");
     let told_flags = format!("SetAttributesValid({flags}), Some(Handle(3)), 77");
     assert_eq!(call, format!("setattr (Node(5), {told_flags}, ({values}), true)"));
     let (call, _) = told(4, args().bytes(&[0; 88]), 120);
     let values = "None, None, None, None, None, None, None";
-    assert_eq!(call, format!("setattr (Node(5), SetAttributesValid(0x0), None, 0, ({values}), false)"));
+    assert_eq!(
+        call,
+        format!("setattr (Node(5), SetAttributesValid(0x0), None, 0, ({values}), false)")
+    );
 }
 
 #[test]
 fn data_is_read_and_written() {
     // FUSE_READ_LOCKOWNER is 2.
     let (call, reply) = told(15, args().q(3).q(4096).d(100).d(2).q(77).d(0x8000).d(0), 116);
-    let read = "Read { handle: Handle(3), offset: 4096, size: 100, flags: 32768, lock_owner: Some(77) }";
+    let read =
+        "Read { handle: Handle(3), offset: 4096, size: 100, flags: 32768, lock_owner: Some(77) }";
     assert_eq!(call, format!("read (Node(5), {read}, 100, (5, 4), 9)"));
     assert_eq!(reply, Reply::Data(b"some data".to_vec()));
     // A room for less than is asked for.
@@ -170,7 +185,8 @@ fn data_is_read_and_written() {
     assert_eq!(call, format!("read (Node(5), {read}, 6, (5, 1), 6)"));
     assert_eq!(reply, Reply::Data(b"some d".to_vec()));
     // FUSE_WRITE_CACHE, LOCKOWNER and KILL_SUIDGID.
-    let (call, reply) = told(16, args().q(3).q(4096).d(5).d(7).q(77).d(0x8001).d(0).bytes(b"hello"), 24);
+    let (call, reply) =
+        told(16, args().q(3).q(4096).d(5).d(7).q(77).d(0x8001).d(0).bytes(b"hello"), 24);
     let flags = "flags: 32769, lock_owner: Some(77), delayed: true, kill_priv: true";
     let write = format!("Write {{ handle: Handle(3), offset: 4096, size: 5, {flags} }}");
     assert_eq!(call, format!("write (Node(5), {write}, \"hello\")"));
@@ -180,15 +196,27 @@ fn data_is_read_and_written() {
 #[test]
 fn values_are_told_and_set() {
     let (call, reply) = told(5, args(), 16 + 4096);
-    assert_eq!((call.as_str(), reply), ("readlink (Node(5), 4096)", Reply::Data(b"where/it/leads".to_vec())));
+    assert_eq!(
+        (call.as_str(), reply),
+        ("readlink (Node(5), 4096)", Reply::Data(b"where/it/leads".to_vec()))
+    );
     let (call, reply) = told(22, args().d(64).d(0).bytes(b"user.a\0"), 80);
-    assert_eq!((call.as_str(), reply), (r#"getxattr (Node(5), "user.a", 64)"#, Reply::Data(b"value".to_vec())));
+    assert_eq!(
+        (call.as_str(), reply),
+        (r#"getxattr (Node(5), "user.a", 64)"#, Reply::Data(b"value".to_vec()))
+    );
     let (call, reply) = told(22, args().d(0).d(0).bytes(b"user.a\0"), 80);
-    assert_eq!((call.as_str(), numbers(&reply.data(), 4)), (r#"getxattr (Node(5), "user.a", 0)"#, vec![5, 0]));
+    assert_eq!(
+        (call.as_str(), numbers(&reply.data(), 4)),
+        (r#"getxattr (Node(5), "user.a", 0)"#, vec![5, 0])
+    );
     let (call, reply) = told(22, args().d(4).d(0).bytes(b"user.a\0"), 80);
     assert_eq!((call.as_str(), reply), (r#"getxattr (Node(5), "user.a", 4)"#, Reply::Error(34)));
     let (call, reply) = told(23, args().d(64).d(0), 80);
-    assert_eq!((call.as_str(), reply), ("listxattr (Node(5), 64)", Reply::Data(b"user.a\0user.b\0".to_vec())));
+    assert_eq!(
+        (call.as_str(), reply),
+        ("listxattr (Node(5), 64)", Reply::Data(b"user.a\0user.b\0".to_vec()))
+    );
     let (call, reply) = told(23, args().d(0).d(0), 80);
     assert_eq!((call.as_str(), numbers(&reply.data(), 4)), ("listxattr (Node(5), 0)", vec![14, 0]));
     let (call, _) = told(21, args().d(3).d(2).bytes(b"user.a\0x\0y"), 16);
@@ -203,9 +231,15 @@ fn other_calls() {
     assert_eq!(call, "statfs Node(5)");
     assert_eq!(numbers(&data[..40], 8), [0x501, 0x502, 0x503, 0x504, 0x505]);
     assert_eq!(numbers(&data[40..56], 4), [0x506, 0x507, 0x508, 0]);
-    assert_eq!(told(34, args().d(5).d(0), 16).0, "access (Node(5), AccessMask(EXECUTE | READ | 0x0))");
+    assert_eq!(
+        told(34, args().d(5).d(0), 16).0,
+        "access (Node(5), AccessMask(EXECUTE | READ | 0x0))"
+    );
     let (call, _) = told(43, args().q(3).q(10).q(20).d(1).d(0), 16);
-    assert_eq!(call, "fallocate (Node(5), Allocate { handle: Handle(3), mode: 1, offset: 10, len: 20 })");
+    assert_eq!(
+        call,
+        "fallocate (Node(5), Allocate { handle: Handle(3), mode: 1, offset: 10, len: 20 })"
+    );
     let (call, reply) = told(46, args().q(3).q(10).d(4).d(0), 24);
     assert_eq!(call, "lseek (Node(5), Seek { handle: Handle(3), offset: 10, whence: 4 })");
     assert_eq!(numbers(&reply.data(), 8), [0x701]);
@@ -250,7 +284,11 @@ fn errors_are_told() {
         (47, args().bytes(&[0; 56])),
     ];
     for (opcode, args) in requests {
-        assert_eq!(guest.ask(&recorder, opcode, 5, args, 256), Reply::Error(122), "opcode {opcode}");
+        assert_eq!(
+            guest.ask(&recorder, opcode, 5, args, 256),
+            Reply::Error(122),
+            "opcode {opcode}"
+        );
         assert_eq!(recorder.taken().len(), 1);
     }
 }
@@ -263,7 +301,12 @@ fn defaults() {
         fn lookup(&self, _: &Context, _: Node, _: &CStr) -> Answer<Entry> {
             Ok(Entry::default()) // it is known that the name isn't there
         }
-        fn getattr(&self, _: &Context, _: Node, _: Option<Handle>) -> Answer<(Attributes, std::time::Duration)> {
+        fn getattr(
+            &self,
+            _: &Context,
+            _: Node,
+            _: Option<Handle>,
+        ) -> Answer<(Attributes, std::time::Duration)> {
             Err(Errno::EIO)
         }
     }
@@ -315,12 +358,17 @@ fn defaults() {
     assert_eq!(guest.ask(&Nothing, 38, 1, args(), 16), Reply::None);
 }
 
-/// Calls that the library answers by itself: locks, BMAP, IOCTL, POLL, mappings, TMPFILE, and an opcode that FUSE doesn't have.
+/// Calls that the library answers by itself: locks, BMAP, IOCTL, POLL, mappings, TMPFILE, and an
+/// opcode that FUSE doesn't have.
 #[test]
 fn calls_that_are_not_told() {
     let (mut guest, recorder) = (Guest::new(), Recorder::default());
     for opcode in [31, 32, 33, 37, 39, 40, 48, 49, 51, 99] {
-        assert_eq!(guest.ask(&recorder, opcode, 1, args().bytes(&[0; 64]), 256), Reply::Error(38), "{opcode}");
+        assert_eq!(
+            guest.ask(&recorder, opcode, 1, args().bytes(&[0; 64]), 256),
+            Reply::Error(38),
+            "{opcode}"
+        );
     }
     assert_eq!(recorder.taken(), [""; 0]);
 }

@@ -1,4 +1,5 @@
-//! Requests, rooms and rings by chance: whatever a guest writes, the worker doesn't panic, stays in the regions, and goes on.
+//! Requests, rooms and rings by chance: whatever a guest writes, the worker doesn't panic, stays in
+//! the regions, and goes on.
 mod guest;
 
 use guest::recorder::Recorder;
@@ -77,7 +78,11 @@ fn offer_by_chance(guest: &mut Guest, chance: &mut Chance) {
     }
     if chance.below(8) == 0 {
         let k = chance.below(buffers.len() as u64) as u16;
-        guest.descriptor(table, k, (chance.number(), chance.number() as u32, chance.below(8) as u16, k + 1));
+        guest.descriptor(
+            table,
+            k,
+            (chance.number(), chance.number() as u32, chance.below(8) as u16, k + 1),
+        );
     }
     let head = if chance.below(50) == 0 { chance.next() as u16 } else { 0 };
     guest.offer(head);
@@ -85,7 +90,8 @@ fn offer_by_chance(guest: &mut Guest, chance: &mut Chance) {
 
 #[test]
 fn requests_and_rings_by_chance() {
-    let names = [&b".\0"[..], b"..\0", b"one\0", b"two\0"].map(|name| CStr::from_bytes_with_nul(name).unwrap());
+    let names = [&b".\0"[..], b"..\0", b"one\0", b"two\0"]
+        .map(|name| CStr::from_bytes_with_nul(name).unwrap());
     let mut served_well = 0;
     for seed in 1..=400 {
         let mut chance = Chance(0x9e37_79b9_7f4a_7c15_u64.wrapping_mul(seed));

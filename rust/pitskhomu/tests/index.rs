@@ -1,4 +1,5 @@
-//! The available index is loaded once for all chains that it tells of (VIRTIO 1.2, 2.7.6): a guest that changes it meanwhile isn't met before.
+//! The available index is loaded once for all chains that it tells of (VIRTIO 1.2, 2.7.6): a guest
+//! that changes it meanwhile isn't met before.
 mod guest;
 
 use guest::recorder::Recorder;
@@ -42,7 +43,11 @@ fn what_is_offered_at_once_takes_one_load() {
         offer(&mut guest, count);
         assert_eq!(serve(&mut guest, count), 1, "{count}");
     }
-    assert_eq!((take(&mut guest), loads(&guest)), (Ok(false), 1), "none waits, by the guest's word");
+    assert_eq!(
+        (take(&mut guest), loads(&guest)),
+        (Ok(false), 1),
+        "none waits, by the guest's word"
+    );
     assert_eq!((take(&mut guest), loads(&guest)), (Ok(false), 1));
 }
 
@@ -76,7 +81,8 @@ fn an_index_that_is_wrong_is_refused_at_the_next_load() {
     }
 }
 
-/// A queue whose driver has offered three chains, one of which was served, while no other waits by the guest's word any more.
+/// A queue whose driver has offered three chains, one of which was served, while no other waits by
+/// the guest's word any more.
 fn one_of_three() -> Guest {
     let mut guest = Guest::new();
     offer(&mut guest, 3);

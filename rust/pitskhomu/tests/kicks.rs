@@ -72,7 +72,10 @@ fn while_a_chain_is_out() {
     assert_eq!(ask(&mut guest, true), Ok(true));
     assert_eq!(number_at(&guest, AVAIL_EVENT), guest.offered);
     guest.worker.answer(&guest.device, &recorder, &guest.memory).unwrap();
-    assert_eq!(guest.worker.give_back(&mut guest.queue, &guest.memory).map(|served| served.reply_len), Ok(144));
+    assert_eq!(
+        guest.worker.give_back(&mut guest.queue, &guest.memory).map(|served| served.reply_len),
+        Ok(144)
+    );
 }
 
 #[test]
@@ -81,14 +84,20 @@ fn rings_that_do_not_reach_behind_their_ends() {
     let serve = |guest: &mut Guest, layout: QueueLayout, has_event_index: bool| {
         guest.queue = Queue::new(layout, guest.offered).with_event_index(has_event_index);
         guest.offer_request(&request(1, 1, HELLO), 144);
-        guest.worker.serve(&mut guest.queue, &guest.device, &recorder, &guest.memory).map(|served| served.is_some())
+        guest
+            .worker
+            .serve(&mut guest.queue, &guest.device, &recorder, &guest.memory)
+            .map(|served| served.is_some())
     };
     // All of the used ring has a place, but not what stands behind it.
     let used = QueueLayout { used: LEN as u64 - 4 - 8 * u64::from(SIZE), ..layout() };
     assert_eq!(serve(&mut guest, used, false), Ok(true));
     assert_eq!(serve(&mut guest, used, true), Err(Status::UsedUnreachable));
     assert_eq!(ask(&mut guest, true), Err(Status::NotMapped));
-    assert_eq!(Worker::new().set_notification(&guest.queue, true, &guest.memory), Err(Status::WrongOrder));
+    assert_eq!(
+        Worker::new().set_notification(&guest.queue, true, &guest.memory),
+        Err(Status::WrongOrder)
+    );
     let bad = Queue::new(QueueLayout { size: 3, ..layout() }, 0);
     assert_eq!(guest.worker.set_notification(&bad, true, &guest.memory), Err(Status::BadArgument));
 }

@@ -21,7 +21,8 @@ fn read(size: u32) -> Bytes {
     args().q(3).q(0).d(size).d(0).q(0).d(0).d(0)
 }
 
-/// The entries of a reply: number, offset, kind and name; with nodes, each begins with struct fuse_entry_out.
+/// The entries of a reply: number, offset, kind and name; with nodes, each begins with struct
+/// fuse_entry_out.
 fn entries(bytes: &[u8], front: usize) -> Vec<(u64, u64, u64, String)> {
     let (mut found, mut at) = (Vec::new(), 0);
     while at < bytes.len() {
@@ -40,7 +41,8 @@ fn found(k: u64, name: &str) -> (u64, u64, u64, String) {
 
 #[test]
 fn names_are_listed() {
-    let (mut guest, recorder) = (Guest::new(), listing(vec![c(b".\0"), c(b"a\0"), c(b"longer name\0")]));
+    let (mut guest, recorder) =
+        (Guest::new(), listing(vec![c(b".\0"), c(b"a\0"), c(b"longer name\0")]));
     let data = guest.ask(&recorder, READDIR, 5, read(4096), 16 + 4096).data();
     assert_eq!(entries(&data, 0), [found(1, "."), found(2, "a"), found(3, "longer name")]);
     let told = "ReadDirectory { handle: Handle(3), offset: 0, size: 4096 }, 4096, false";
@@ -64,7 +66,11 @@ fn nodes_are_listed() {
     let data = guest.ask(&recorder, READDIRPLUS, 5, read(4096), 16 + 4096).data();
     assert_eq!(entries(&data[..160], 128), [found(1, ".")]);
     assert_eq!(number(&data, 0, 8), 0, "no node is held of .");
-    assert_eq!((number(&data, 40, 8), number(&data, 40 + 60, 4)), (0x601, 0o100000), "its number and kind");
+    assert_eq!(
+        (number(&data, 40, 8), number(&data, 40 + 60, 4)),
+        (0x601, 0o100000),
+        "its number and kind"
+    );
     let attributes = entry().attributes;
     assert_eq!(entries(&data[320..], 128), [(attributes.inode, 3, 8, "a".to_owned())]);
     assert_eq!(number(&data, 320, 8), entry().node.0);
@@ -93,12 +99,28 @@ impl FileSystem for Fails {
         }
         Ok(entry())
     }
-    fn getattr(&self, _: &Context, _: Node, _: Option<Handle>) -> Answer<(Attributes, std::time::Duration)> {
+    fn getattr(
+        &self,
+        _: &Context,
+        _: Node,
+        _: Option<Handle>,
+    ) -> Answer<(Attributes, std::time::Duration)> {
         Err(Errno::EIO)
     }
-    fn readdir(&self, _: &Context, _: Node, _: ReadDirectory, list: &mut Listing<'_>) -> Answer<()> {
+    fn readdir(
+        &self,
+        _: &Context,
+        _: Node,
+        _: ReadDirectory,
+        list: &mut Listing<'_>,
+    ) -> Answer<()> {
         for (name, k) in [c(b"a\0"), c(b"b\0")].into_iter().zip(1..) {
-            list.add(DirectoryEntry { name, inode: 0x600 + k, next_offset: k, kind: FileKind::REGULAR })?;
+            list.add(DirectoryEntry {
+                name,
+                inode: 0x600 + k,
+                next_offset: k,
+                kind: FileKind::REGULAR,
+            })?;
         }
         Err(Errno::EIO)
     }
@@ -125,11 +147,23 @@ fn names_that_no_directory_has() {
         fn lookup(&self, _: &Context, _: Node, _: &CStr) -> Answer<Entry> {
             Err(Errno::ENOENT)
         }
-        fn getattr(&self, _: &Context, _: Node, _: Option<Handle>) -> Answer<(Attributes, std::time::Duration)> {
+        fn getattr(
+            &self,
+            _: &Context,
+            _: Node,
+            _: Option<Handle>,
+        ) -> Answer<(Attributes, std::time::Duration)> {
             Err(Errno::EIO)
         }
-        fn readdir(&self, _: &Context, _: Node, _: ReadDirectory, list: &mut Listing<'_>) -> Answer<()> {
-            let entry = DirectoryEntry { name: self.0, inode: 1, next_offset: 1, kind: FileKind::UNKNOWN };
+        fn readdir(
+            &self,
+            _: &Context,
+            _: Node,
+            _: ReadDirectory,
+            list: &mut Listing<'_>,
+        ) -> Answer<()> {
+            let entry =
+                DirectoryEntry { name: self.0, inode: 1, next_offset: 1, kind: FileKind::UNKNOWN };
             assert_eq!(list.add(entry), Err(self.1));
             list.add(entry).map(|_| ())
         }
@@ -141,8 +175,15 @@ fn names_that_no_directory_has() {
     };
     let mut guest = Guest::new();
     for name in [c(b"\0"), c(&LONG)] {
-        assert_eq!(guest.ask(&Named(name, Errno::ENAMETOOLONG), READDIR, 5, read(4096), 16 + 4096), Reply::Error(36));
+        assert_eq!(
+            guest.ask(&Named(name, Errno::ENAMETOOLONG), READDIR, 5, read(4096), 16 + 4096),
+            Reply::Error(36)
+        );
     }
-    // A Linux guest answers EIO to a listing that has such a name (parse_dirfile of fs/fuse/readdir.c).
-    assert_eq!(guest.ask(&Named(c(b"a/b\0"), Errno::EIO), READDIR, 5, read(4096), 16 + 4096), Reply::Error(5));
+    // A Linux guest answers EIO to a listing that has such a name (parse_dirfile of
+    // fs/fuse/readdir.c).
+    assert_eq!(
+        guest.ask(&Named(c(b"a/b\0"), Errno::EIO), READDIR, 5, read(4096), 16 + 4096),
+        Reply::Error(5)
+    );
 }

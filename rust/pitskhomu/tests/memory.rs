@@ -67,7 +67,10 @@ fn long_requests_and_replies_are_answered_enomem() {
     // With memory each is served.
     recorder.taken();
     assert_eq!(guest.ask(&recorder, 21, 5, setxattr, 16), Reply::Data(vec![]));
-    assert_eq!(guest.ask(&recorder, 22, 5, getxattr, 16 + 0x1_0000), Reply::Data(b"value".to_vec()));
+    assert_eq!(
+        guest.ask(&recorder, 22, 5, getxattr, 16 + 0x1_0000),
+        Reply::Data(b"value".to_vec())
+    );
     assert_eq!(guest.ask(&recorder, 28, 5, readdir, 16 + 0x2_0000), Reply::Data(vec![]));
     assert_eq!(recorder.taken().len(), 3);
 }

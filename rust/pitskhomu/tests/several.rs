@@ -1,4 +1,5 @@
-//! Several chains out of one queue: workers that take turns at its lock, and give back in any order (VIRTIO 1.2, 2.7.8).
+//! Several chains out of one queue: workers that take turns at its lock, and give back in any order
+//! (VIRTIO 1.2, 2.7.8).
 mod guest;
 
 use guest::recorder::Recorder;
@@ -55,7 +56,9 @@ fn give_back(guest: &mut Guest, worker: &mut Worker) -> Result<Served, Status> {
 /// The used index, and the heads of the elements from a position on.
 fn used(guest: &Guest, from: u16, count: u16) -> (u16, Vec<u64>) {
     let index = number(&guest.memory.read(USED + 2, 2), 0, 2) as u16;
-    let head = |k: u16| number(&guest.memory.read(USED + 4 + 8 * u64::from(from.wrapping_add(k) % SIZE), 4), 0, 4);
+    let head = |k: u16| {
+        number(&guest.memory.read(USED + 4 + 8 * u64::from(from.wrapping_add(k) % SIZE), 4), 0, 4)
+    };
     (index, (0..count).map(head).collect())
 }
 
@@ -79,7 +82,10 @@ fn chains_go_back_in_any_order() {
         worker.answer(&guest.device, &recorder, &guest.memory).unwrap();
         let served = give_back(&mut guest, worker).unwrap();
         assert_eq!((served.head, served.unique, served.reply_len), (2 * k as u16, k as u64, 144));
-        assert_eq!((guest.queue.in_flight(), guest.queue.next_used()), (3 - turn, first.wrapping_add(turn + 1)));
+        assert_eq!(
+            (guest.queue.in_flight(), guest.queue.next_used()),
+            (3 - turn, first.wrapping_add(turn + 1))
+        );
         let element = USED + 4 + 8 * u64::from(first.wrapping_add(turn) % SIZE);
         assert!(guest.memory.marks.take().contains(&GuestRange { guest: element, len: 8 }));
         let (_, room) = places(k as u16);
@@ -97,11 +103,11 @@ fn no_more_are_out_than_may_be() {
             offer(&mut guest, k);
         }
         for (k, worker) in workers.iter_mut().enumerate() {
-            let wanted = if k < may { Ok(true) } else { Err(Status::InFlight) };
+            let wanted = if k < may { Ok(true) } else { Err(Status::ChainInFlight) };
             assert_eq!(take(&mut guest, worker), wanted, "{k} of {max_in_flight}");
         }
         assert_eq!(usize::from(guest.queue.in_flight()), may);
-        assert_eq!(guest.device.save(&[guest.queue]), Err(Status::InFlight));
+        assert_eq!(guest.device.save(&[guest.queue]), Err(Status::ChainInFlight));
     }
     let (mut guest, mut workers) = several(SIZE + 1);
     assert_eq!(take(&mut guest, &mut workers[0]), Err(Status::BadArgument));
@@ -115,10 +121,14 @@ fn a_worker_has_one_chain_at_a_time() {
     offer(&mut guest, 1);
     let worker = &mut workers[0];
     assert_eq!(give_back(&mut guest, worker), Err(Status::WrongOrder));
-    assert_eq!(worker.answer(&guest.device, &recorder, &guest.memory), Ok(()), "there is none to answer");
+    assert_eq!(
+        worker.answer(&guest.device, &recorder, &guest.memory),
+        Ok(()),
+        "there is none to answer"
+    );
     assert_eq!(take(&mut guest, worker), Ok(true));
     assert_eq!(take(&mut guest, worker), Err(Status::WrongOrder));
-    assert_eq!(worker.set_memory(&guest.device, &[]), Err(Status::InFlight));
+    assert_eq!(worker.set_memory(&guest.device, &[]), Err(Status::ChainInFlight));
     worker.answer(&guest.device, &recorder, &guest.memory).unwrap();
     worker.answer(&guest.device, &recorder, &guest.memory).unwrap();
     assert_eq!(recorder.taken().len(), 1, "nothing is asked twice");
@@ -143,7 +153,10 @@ fn a_queue_that_begins_anew_refuses_its_chains() {
     assert_eq!(guest.queue.in_flight(), 1);
     // The same numbers, from the same position on.
     guest.queue.begin(Queue::new(layout(), first).with_max_in_flight(2)).unwrap();
-    assert_eq!((guest.queue.in_flight(), guest.queue.next_avail(), guest.queue.max_in_flight()), (0, first, 2));
+    assert_eq!(
+        (guest.queue.in_flight(), guest.queue.next_avail(), guest.queue.max_in_flight()),
+        (0, first, 2)
+    );
     assert_eq!(give_back(&mut guest, &mut workers[0]), Err(Status::OtherQueue));
     assert!(!workers[0].has_chain());
     assert_eq!(take(&mut guest, &mut workers[0]), Ok(true));
@@ -160,7 +173,12 @@ impl FileSystem for Panics {
     fn lookup(&self, _: &Context, _: Node, _: &CStr) -> Answer<Entry> {
         panic!("the file system panics, as it was told to")
     }
-    fn getattr(&self, _: &Context, _: Node, _: Option<Handle>) -> Answer<(Attributes, std::time::Duration)> {
+    fn getattr(
+        &self,
+        _: &Context,
+        _: Node,
+        _: Option<Handle>,
+    ) -> Answer<(Attributes, std::time::Duration)> {
         Err(Errno::EIO)
     }
 }
@@ -171,8 +189,13 @@ fn a_call_that_panics_is_answered_eio_behind_another() {
     let recorder = recorder();
     offer(&mut guest, 0);
     offer(&mut guest, 1);
-    assert_eq!((take(&mut guest, &mut workers[0]), take(&mut guest, &mut workers[1])), (Ok(true), Ok(true)));
-    let answer = |worker: &mut Worker, files: &dyn FileSystem| worker.answer(&guest.device, files, &guest.memory);
+    assert_eq!(
+        (take(&mut guest, &mut workers[0]), take(&mut guest, &mut workers[1])),
+        (Ok(true), Ok(true))
+    );
+    let answer = |worker: &mut Worker, files: &dyn FileSystem| {
+        worker.answer(&guest.device, files, &guest.memory)
+    };
     let panicked = catch_unwind(AssertUnwindSafe(|| answer(&mut workers[0], &Panics)));
     assert!(panicked.is_err());
     answer(&mut workers[0], &recorder).unwrap();
@@ -209,7 +232,12 @@ impl FileSystem for Slow {
         std::thread::yield_now();
         Ok(guest::recorder::entry())
     }
-    fn getattr(&self, _: &Context, _: Node, _: Option<Handle>) -> Answer<(Attributes, std::time::Duration)> {
+    fn getattr(
+        &self,
+        _: &Context,
+        _: Node,
+        _: Option<Handle>,
+    ) -> Answer<(Attributes, std::time::Duration)> {
         Err(Errno::EIO)
     }
 }

@@ -1,11 +1,18 @@
-//! Numbers with names, and the record of a device: by errno.h, linux/fuse.h, linux/fs.h and dirent.h.
+//! Numbers with names, and the record of a device: by errno.h, linux/fuse.h, linux/fs.h and
+//! dirent.h.
 use pitskhomu::*;
 use std::error::Error;
 use std::io;
 
 #[test]
 fn errnos() {
-    let numbers = [(Errno::EPERM, 1), (Errno::ENOENT, 2), (Errno::EIO, 5), (Errno::ENOSYS, 38), (Errno::EDQUOT, 122)];
+    let numbers = [
+        (Errno::EPERM, 1),
+        (Errno::ENOENT, 2),
+        (Errno::EIO, 5),
+        (Errno::ENOSYS, 38),
+        (Errno::EDQUOT, 122),
+    ];
     for (errno, number) in numbers {
         assert_eq!((errno.number(), Errno::new(number)), (number, Some(errno)));
         assert_eq!(Errno::of_system(number as i32), errno);
@@ -14,7 +21,10 @@ fn errnos() {
     assert_eq!((Errno::of_system(0), Errno::of_system(-1)), (Errno::EIO, Errno::EIO));
     let odd = Errno::new(4095).unwrap();
     assert_eq!((Errno::ENOENT.name(), odd.name()), (Some("ENOENT"), None));
-    assert_eq!((format!("{:?}", Errno::ENOENT), format!("{odd:?}")), ("ENOENT".into(), "Errno(4095)".into()));
+    assert_eq!(
+        (format!("{:?}", Errno::ENOENT), format!("{odd:?}")),
+        ("ENOENT".into(), "Errno(4095)".into())
+    );
     assert_eq!(Errno::ENOENT.to_string(), "no such file or directory (ENOENT)");
     assert_eq!(odd.to_string(), "errno 4095");
 }
@@ -42,17 +52,17 @@ fn errors_of_std() {
     assert_eq!(io::Error::from(Errno::ENOENT).kind(), io::ErrorKind::NotFound);
     assert_eq!(io::Error::from(Status::OutOfMemory).kind(), io::ErrorKind::OutOfMemory);
     fn fails() -> Result<(), Box<dyn Error + Send + Sync>> {
-        Err(Status::InFlight)?
+        Err(Status::ChainInFlight)?
     }
     assert_eq!(fails().unwrap_err().to_string(), "a chain is out");
-    assert_eq!(io::Error::from(Status::InFlight).to_string(), "a chain is out");
+    assert_eq!(io::Error::from(Status::ChainInFlight).to_string(), "a chain is out");
 }
 
 #[test]
 fn statuses_and_faults() {
     assert_eq!((Status::OutOfMemory.number(), Status::RecordMismatch.number()), (9, 90));
     assert!(Status::Stopped.stops_queue() && Status::DescriptorUnreachable.stops_queue());
-    assert!(!Status::OutOfMemory.stops_queue() && !Status::InFlight.stops_queue());
+    assert!(!Status::OutOfMemory.stops_queue() && !Status::ChainInFlight.stops_queue());
     assert!(Status::RecordOutOfMemory.is_out_of_memory() && !Status::Stopped.is_out_of_memory());
     assert_eq!(
         (Status::Unknown(99).number(), Status::Unknown(99).to_string().as_str()),
@@ -71,19 +81,27 @@ fn flags() {
     let both = OpenOptions::DIRECT_IO | OpenOptions::NOFLUSH;
     assert_eq!((both.bits(), OpenOptions::from_bits(33)), (33, both));
     assert!(both.contains(OpenOptions::NOFLUSH) && !both.contains(OpenOptions::STREAM));
-    assert!(both.contains(OpenOptions::empty()) && OpenOptions::empty().is_empty() && !both.is_empty());
+    assert!(
+        both.contains(OpenOptions::empty()) && OpenOptions::empty().is_empty() && !both.is_empty()
+    );
     assert_eq!(
         (both & OpenOptions::NOFLUSH, both - OpenOptions::NOFLUSH),
         (OpenOptions::NOFLUSH, OpenOptions::DIRECT_IO)
     );
     let mut all = OpenOptions::default();
     all |= both;
-    assert_eq!(format!("{:?}", all | OpenOptions::from_bits(0x100)), "OpenOptions(DIRECT_IO | NOFLUSH | 0x100)");
+    assert_eq!(
+        format!("{:?}", all | OpenOptions::from_bits(0x100)),
+        "OpenOptions(DIRECT_IO | NOFLUSH | 0x100)"
+    );
     assert_eq!(
         (Options::INIT_EXT.bits(), Options::CREATE_SUPP_GROUP.bits(), Options::ALLOW_IDMAP.bits()),
         (1 << 30, 1 << 34, 1 << 40)
     );
-    assert_eq!((SetAttributesValid::CTIME.bits(), RenameFlags::WHITEOUT.bits(), AccessMask::READ.bits()), (1024, 4, 4));
+    assert_eq!(
+        (SetAttributesValid::CTIME.bits(), RenameFlags::WHITEOUT.bits(), AccessMask::READ.bits()),
+        (1024, 4, 4)
+    );
 }
 
 #[test]
@@ -116,7 +134,10 @@ fn kinds_of_files() {
 #[test]
 fn the_archive_is_of_this_header() {
     assert_eq!(version(), VERSION);
-    assert_eq!((Device::MOST_REGIONS, Device::MOST_QUEUES, Device::LEAST_LIMIT), (64, 64, 0x101000));
+    assert_eq!(
+        (Device::MOST_REGIONS, Device::MOST_QUEUES, Device::LEAST_LIMIT),
+        (64, 64, 0x101000)
+    );
     assert_eq!((Node::ROOT, Attributes::SUBMOUNT, Attributes::DAX), (Node(1), 1, 2));
 }
 
@@ -137,7 +158,10 @@ fn a_device_is_saved_and_restored() {
     assert_eq!(target.options(), device.options());
     assert_eq!(restored.len(), 3);
     for (queue, saved) in restored.iter().zip(&queues()) {
-        assert_eq!((queue.layout(), queue.next_avail(), queue.stopped()), (saved.layout(), saved.next_avail(), None));
+        assert_eq!(
+            (queue.layout(), queue.next_avail(), queue.stopped()),
+            (saved.layout(), saved.next_avail(), None)
+        );
     }
 }
 
@@ -147,7 +171,8 @@ fn records_that_are_refused() {
     assert_eq!(device.save(&[]), Err(Status::BadArgument));
     assert_eq!(device.save(&[Queue::default()]), Err(Status::BadArgument));
     let record = device.save(&queues()).unwrap();
-    let restored = |target: &Device, record: &[u8]| target.restore(record).map(|queues| queues.len());
+    let restored =
+        |target: &Device, record: &[u8]| target.restore(record).map(|queues| queues.len());
     for len in 0..record.len() {
         assert_eq!(restored(&device, &record[..len]), Err(Status::RecordTruncated), "{len}");
     }

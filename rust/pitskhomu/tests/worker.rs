@@ -1,4 +1,5 @@
-//! From a chain's walk to its return: rings as VIRTIO 1.2, 2.7 has them, bad ones among them, and what a worker does after a panic.
+//! From a chain's walk to its return: rings as VIRTIO 1.2, 2.7 has them, bad ones among them, and
+//! what a worker does after a panic.
 mod guest;
 
 use guest::recorder::{entry, opened, Recorder};
@@ -45,7 +46,10 @@ fn what_came_of_a_chain() {
     let (mut guest, recorder) = (Guest::new(), Recorder::default());
     guest.offer_request(&request(1, 1, HELLO), 144);
     let (served, reply) = guest.serve(&recorder);
-    assert_eq!((served.head, served.request_len, served.room_len, served.reply_len), (0, 46, 144, 144));
+    assert_eq!(
+        (served.head, served.request_len, served.room_len, served.reply_len),
+        (0, 46, 144, 144)
+    );
     assert_eq!((served.opcode, served.unique, served.notify), (1, UNIQUE, true));
     assert_eq!((served.fault, served.request_fault, served.had_no_room), (None, None, false));
     assert_eq!(reply.data().len(), 128);
@@ -81,10 +85,18 @@ fn calls_without_memory_or_with_bad_numbers_are_refused() {
         assert_eq!(served, Err(Status::BadArgument), "{bad:?}");
     }
     let region = Region { guest: 0, len: 0x1000, host: 0 };
-    let bad_regions =
-        [vec![region, region], vec![Region { len: 0, ..region }], vec![Region { host: 1, ..region }], vec![region; 65]];
+    let bad_regions = [
+        vec![region, region],
+        vec![Region { len: 0, ..region }],
+        vec![Region { host: 1, ..region }],
+        vec![region; 65],
+    ];
     for regions in bad_regions {
-        assert_eq!(guest.worker.set_memory(&guest.device, &regions), Err(Status::BadArgument), "{regions:?}");
+        assert_eq!(
+            guest.worker.set_memory(&guest.device, &regions),
+            Err(Status::BadArgument),
+            "{regions:?}"
+        );
     }
     let device = Device::new(4096, Device::LEAST_LIMIT - 1);
     assert_eq!(guest.worker.set_memory(&device, &[region]), Err(Status::BadArgument));
@@ -159,7 +171,8 @@ fn faulty_requests_go_back_with_no_reply() {
     assert_eq!(recorder.taken(), [""; 0]);
 }
 
-/// A request in pieces of two bytes at odd places: these come by `load`, which says nothing of them.
+/// A request in pieces of two bytes at odd places: these come by `load`, which says nothing of
+/// them.
 #[test]
 fn two_bytes_of_a_request_may_be_at_an_odd_place() {
     let (mut guest, recorder) = (Guest::new(), Recorder::default());
@@ -172,14 +185,19 @@ fn two_bytes_of_a_request_may_be_at_an_odd_place() {
         at += len;
     }
     assert_eq!(at, bytes.len());
-    buffers.extend([Buffer(ROOM, 2, true), Buffer(ROOM + 2, 14, true), Buffer(ROOM + 0x1000, 128, true)]);
+    buffers.extend([
+        Buffer(ROOM, 2, true),
+        Buffer(ROOM + 2, 14, true),
+        Buffer(ROOM + 0x1000, 128, true),
+    ]);
     guest.draw(DESCRIPTORS, 0, &buffers);
     guest.offer(0);
     assert_eq!(guest.serve(&recorder).1.data().len(), 128);
     assert_eq!(recorder.taken(), [r#"lookup (Node(1), "hello")"#]);
 }
 
-/// An indirect table, whose first descriptor stands in two regions that are at other places here: two bytes of it in the first.
+/// An indirect table, whose first descriptor stands in two regions that are at other places here:
+/// two bytes of it in the first.
 #[test]
 fn an_indirect_table_over_two_regions() {
     let (mut guest, recorder) = (Guest::new(), Recorder::default());
@@ -192,21 +210,28 @@ fn an_indirect_table_over_two_regions() {
     guest.worker.set_memory(&guest.device, &regions).unwrap();
     let table = end as u64 - 2;
     guest.memory.write(REQUEST, &request(1, 1, HELLO));
-    guest.draw(table, 0, &[Buffer(REQUEST, 46, false), Buffer(ROOM, 16, true), Buffer(ROOM + 0x1000, 128, true)]);
+    guest.draw(
+        table,
+        0,
+        &[Buffer(REQUEST, 46, false), Buffer(ROOM, 16, true), Buffer(ROOM + 0x1000, 128, true)],
+    );
     guest.descriptor(DESCRIPTORS, 7, (table, 48, INDIRECT, 0));
     guest.offer(7);
     let (served, reply) = guest.serve(&recorder);
     assert_eq!((served.head, reply.data().len()), (7, 128));
 }
 
-/// An indirect table of 300 descriptors, longer than a load, whose chain goes to and fro in it; at odd places too.
+/// An indirect table of 300 descriptors, longer than a load, whose chain goes to and fro in it; at
+/// odd places too.
 #[test]
 fn a_long_indirect_table() {
     let (mut guest, recorder) = (Guest::new(), Recorder::default());
     guest.memory.write(REQUEST, &request(1, 1, HELLO));
     for table in [TABLE, TABLE + 7, LEN as u64 - 4800] {
         let mut at = 0;
-        for (buffer, next) in [(Buffer(REQUEST, 40, false), 299), (Buffer(REQUEST + 40, 6, false), 150)] {
+        for (buffer, next) in
+            [(Buffer(REQUEST, 40, false), 299), (Buffer(REQUEST + 40, 6, false), 150)]
+        {
             guest.descriptor(table, at, (buffer.0, buffer.1, NEXT, next));
             at = next;
         }
@@ -241,7 +266,12 @@ fn answers_without_room_are_taken_back() {
         (1, args().bytes(HELLO), 143, vec![forget.clone()]),
         (14, args().d(2).d(0), 31, vec![released("release", Node(5))]),
         (27, args().d(2).d(0), 31, vec![released("releasedir", Node(5))]),
-        (35, args().d(2).bytes(&[0; 12]).bytes(HELLO), 159, vec![released("release", node), forget]),
+        (
+            35,
+            args().d(2).bytes(&[0; 12]).bytes(HELLO),
+            159,
+            vec![released("release", node), forget],
+        ),
         (3, args().bytes(&[0; 16]), 119, vec![]),
     ];
     for (opcode, args, room, after) in cases {
@@ -260,7 +290,12 @@ impl FileSystem for Panics {
         assert_ne!(self.0, "lookup", "the file system panics, as it was told to");
         Ok(entry())
     }
-    fn getattr(&self, _: &Context, _: Node, _: Option<Handle>) -> Answer<(Attributes, std::time::Duration)> {
+    fn getattr(
+        &self,
+        _: &Context,
+        _: Node,
+        _: Option<Handle>,
+    ) -> Answer<(Attributes, std::time::Duration)> {
         Err(Errno::EIO)
     }
     fn forget(&self, _: Node, _: u64) {
@@ -287,9 +322,12 @@ fn a_call_that_panics_is_answered_eio() {
         guest.offer_request(&request(opcode, 5, &args.0), room);
         panics(&mut guest, &Panics(call));
         assert_eq!(guest.queue.in_flight(), 1);
-        assert_eq!(guest.worker.set_memory(&guest.device, &[]), Err(Status::InFlight));
+        assert_eq!(guest.worker.set_memory(&guest.device, &[]), Err(Status::ChainInFlight));
         let (served, reply) = guest.serve(&recorder);
-        assert_eq!((served.opcode, served.unique, served.notify, reply), (opcode, UNIQUE, true, wanted));
+        assert_eq!(
+            (served.opcode, served.unique, served.notify, reply),
+            (opcode, UNIQUE, true, wanted)
+        );
         assert!(guest.is_idle(&recorder));
         assert_eq!(recorder.taken(), [""; 0], "nothing is asked twice");
     }
@@ -307,7 +345,8 @@ fn a_memory_that_panics_loses_no_other_chain() {
         match loads {
             // In the walk: the chain waits still.
             0 | 1 => assert_eq!(guest.serve(&recorder).1.data().len(), 128),
-            // At the flags, when all was stored: the chain went back, and whether the driver wants to be told isn't known.
+            // At the flags, when all was stored: the chain went back, and whether the driver wants
+            // to be told isn't known.
             _ => assert_eq!(guest.queue.in_flight(), 1),
         }
         assert!(guest.is_idle(&recorder));
@@ -316,7 +355,8 @@ fn a_memory_that_panics_loses_no_other_chain() {
     }
 }
 
-/// A limit above the least lets a request be longer than any buffer here: it must not stay in its queue.
+/// A limit above the least lets a request be longer than any buffer here: it must not stay in its
+/// queue.
 #[test]
 fn a_request_that_is_too_long_is_refused() {
     let (mut guest, recorder) = (Guest::over(Device::new(4096, 1 << 31)), Recorder::default());
@@ -335,7 +375,11 @@ fn a_request_that_is_too_long_is_refused() {
     guest.draw(
         DESCRIPTORS,
         0,
-        &[Buffer(REQUEST, long - 1, false), Buffer(ROOM, 16, true), Buffer(ROOM + 0x1000, 128, true)],
+        &[
+            Buffer(REQUEST, long - 1, false),
+            Buffer(ROOM, 16, true),
+            Buffer(ROOM + 0x1000, 128, true),
+        ],
     );
     guest.offer(0);
     assert_eq!(guest.serve(&recorder).1.data().len(), 128);
@@ -367,7 +411,12 @@ impl FileSystem for ByWindows<'_> {
     fn lookup(&self, _: &Context, _: Node, _: &CStr) -> Answer<Entry> {
         Err(Errno::ENOENT)
     }
-    fn getattr(&self, _: &Context, _: Node, _: Option<Handle>) -> Answer<(Attributes, std::time::Duration)> {
+    fn getattr(
+        &self,
+        _: &Context,
+        _: Node,
+        _: Option<Handle>,
+    ) -> Answer<(Attributes, std::time::Duration)> {
         Err(Errno::EIO)
     }
     fn read(&self, _: &Context, _: Node, _: Read, data: &mut ReadData<'_>) -> Answer<()> {
@@ -386,7 +435,10 @@ impl FileSystem for ByWindows<'_> {
     fn write(&self, _: &Context, _: Node, write: Write, data: &mut WriteData<'_>) -> Answer<()> {
         let mut windows = [Window::default(); 4];
         let windows = data.windows(&mut windows).to_vec();
-        assert_eq!(windows, [Window { at: self.0.host + REQUEST as usize + 80, len: write.size as usize }]);
+        assert_eq!(
+            windows,
+            [Window { at: self.0.host + REQUEST as usize + 80, len: write.size as usize }]
+        );
         data.advance(3);
         let mut rest = [0; 8];
         assert_eq!((data.take(&mut rest), &rest[..2]), (2, &b"lo"[..]));
@@ -409,7 +461,11 @@ fn data_moves_by_windows() {
     let mut ask = |bytes: &[u8], room| {
         guest.offer_request(bytes, room);
         memory.write(0, &guest.memory.read(0, ROOM as usize));
-        let served = guest.worker.serve(&mut guest.queue, &guest.device, &by_windows, &memory).unwrap().unwrap();
+        let served = guest
+            .worker
+            .serve(&mut guest.queue, &guest.device, &by_windows, &memory)
+            .unwrap()
+            .unwrap();
         guest.memory.write(0, &memory.read(0, LEN));
         served
     };

@@ -1,4 +1,5 @@
-/* Runs in the guest: asks for one thing many times, and tells how long it took; or makes calls of many kinds (calls.c).
+/* Runs in the guest: asks for one thing many times, and tells how long it took; or makes calls of
+ * many kinds (calls.c).
  *   ask stat N PATH             attributes, past the guest's cache
  *   ask missing N PATH          names that aren't there
  *   ask open N PATH             opens and closes
@@ -8,7 +9,8 @@
  *   ask read N PATH [direct]    the whole file, N bytes a call
  *   ask write N PATH [direct]   64 MiB, N bytes a call, and fsync
  *   ask small N PATH THREADS    4 KiB at places by chance, past the guest's cache, N times in all
- *   ask jobs N PATH THREADS     64 KiB in order, past the guest's cache, N times in all, each thread in a stretch of its own
+ * ask jobs N PATH THREADS 64 KiB in order, past the guest's cache, N times in all, each thread in a
+ * stretch of its own
  *   ask run COMMAND ..          a command
  *   ask calls DIR */
 #define _GNU_SOURCE
@@ -35,8 +37,11 @@ static double now(void) {
 
 /* Reads or writes a file: how many bytes, or -1. */
 static long stream(const char *path, size_t each, bool is_write, bool is_direct) {
-    int fd = open(path, (is_write ? O_WRONLY | O_CREAT | O_TRUNC : O_RDONLY) | (is_direct ? O_DIRECT : 0), 0644);
-    char *bytes = mmap(NULL, each, PROT_READ | PROT_WRITE, MAP_PRIVATE | MAP_ANONYMOUS | MAP_POPULATE, -1, 0);
+    int fd = open(path,
+                  (is_write ? O_WRONLY | O_CREAT | O_TRUNC : O_RDONLY) | (is_direct ? O_DIRECT : 0),
+                  0644);
+    char *bytes =
+        mmap(NULL, each, PROT_READ | PROT_WRITE, MAP_PRIVATE | MAP_ANONYMOUS | MAP_POPULATE, -1, 0);
     long total = 0;
     ssize_t moved = fd < 0 || bytes == MAP_FAILED ? -1 : 1;
     while (moved > 0) {
@@ -54,7 +59,8 @@ static bool list(const char *path, bool with_attributes) {
     DIR *dir = opendir(path);
     if (!dir) return false;
     for (struct dirent *entry; (entry = readdir(dir));)
-        if (with_attributes && fstatat(dirfd(dir), entry->d_name, &st, AT_SYMLINK_NOFOLLOW)) return false;
+        if (with_attributes && fstatat(dirfd(dir), entry->d_name, &st, AT_SYMLINK_NOFOLLOW))
+            return false;
     return closedir(dir) == 0;
 }
 
@@ -77,7 +83,8 @@ static void *read_part(void *argument) {
     long places = part->failed ? 1 : (long)(st.st_size / (off_t)part->each);
     for (long k = 0; k < part->count && !part->failed; k++) {
         long place = (part->by_chance ? rand_r(&seed) : part->first + k) % places;
-        part->failed = pread(fd, bytes, part->each, place * (off_t)part->each) != (ssize_t)part->each;
+        part->failed =
+            pread(fd, bytes, part->each, place * (off_t)part->each) != (ssize_t)part->each;
     }
     free(bytes);
     close(fd);
@@ -89,7 +96,8 @@ static bool read_parts(const char *path, long count, long threads, size_t each, 
     bool failed = threads < 1 || threads > MOST_THREADS;
     for (long k = 0; k < threads && !failed; k++) {
         long part = count / threads;
-        parts[k] = (struct part){.path = path, .each = each, .count = part, .first = k * part, .by_chance = by_chance};
+        parts[k] = (struct part){
+            .path = path, .each = each, .count = part, .first = k * part, .by_chance = by_chance};
         failed = pthread_create(&parts[k].thread, NULL, read_part, &parts[k]) != 0;
     }
     for (long k = 0; k < threads && !failed; k++) pthread_join(parts[k].thread, NULL);
@@ -111,7 +119,8 @@ static bool run(char **command) {
 static bool once(const char *what, const char *path, long k) {
     struct statx st;
     char name[300];
-    if (!strcmp(what, "stat")) return statx(AT_FDCWD, path, AT_STATX_FORCE_SYNC, STATX_BASIC_STATS, &st) == 0;
+    if (!strcmp(what, "stat"))
+        return statx(AT_FDCWD, path, AT_STATX_FORCE_SYNC, STATX_BASIC_STATS, &st) == 0;
     if (!strcmp(what, "list") || !strcmp(what, "look")) return list(path, !strcmp(what, "look"));
     if (!strcmp(what, "create")) {
         snprintf(name, sizeof name, "%s%ld", path, k);
@@ -140,14 +149,16 @@ int main(int argc, char **argv) {
     double began = now();
     if (is_write || !strcmp(argv[1], "read")) {
         long total = stream(argv[3], (size_t)count, is_write, is_direct);
-        printf("TIME %.1f ms: %s%s %ld bytes, %ld each\n", now() - began, argv[1], is_direct ? " direct" : "", total,
-               count);
+        printf("TIME %.1f ms: %s%s %ld bytes, %ld each\n", now() - began, argv[1],
+               is_direct ? " direct" : "", total, count);
         return total < 0;
     }
     bool is_small = !strcmp(argv[1], "small");
     if (argc == 5 && (is_small || !strcmp(argv[1], "jobs"))) {
-        bool is_good = read_parts(argv[3], count, atol(argv[4]), is_small ? SMALL : MIDDLE, is_small);
-        printf("TIME %.1f ms: %s reads %ld times by %s%s\n", now() - began, argv[1], count, argv[4], is_good ? "" : " FAILED");
+        bool is_good =
+            read_parts(argv[3], count, atol(argv[4]), is_small ? SMALL : MIDDLE, is_small);
+        printf("TIME %.1f ms: %s reads %ld times by %s%s\n", now() - began, argv[1], count, argv[4],
+               is_good ? "" : " FAILED");
         return !is_good;
     }
     for (long k = 0; k < count; k++) failed += !once(argv[1], argv[3], k);

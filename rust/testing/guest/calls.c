@@ -17,7 +17,8 @@
 #define TELL(call) tell(#call, (long)(call))
 
 static void tell(const char *what, long result) {
-    printf("%s: %ld%s%s\n", what, result, result < 0 ? " " : "", result < 0 ? strerrorname_np(errno) : "");
+    printf("%s: %ld%s%s\n", what, result, result < 0 ? " " : "",
+           result < 0 ? strerrorname_np(errno) : "");
 }
 
 static void tell_stat(const char *path) {
@@ -25,8 +26,9 @@ static void tell_stat(const char *path) {
     if (lstat(path, &st))
         printf("%s: %s\n", path, strerrorname_np(errno));
     else
-        printf("%s: mode %o links %u uid %u gid %u size %ld\n", path, st.st_mode, (unsigned)st.st_nlink, st.st_uid,
-               st.st_gid, S_ISDIR(st.st_mode) ? 0 : (long)st.st_size);
+        printf("%s: mode %o links %u uid %u gid %u size %ld\n", path, st.st_mode,
+               (unsigned)st.st_nlink, st.st_uid, st.st_gid,
+               S_ISDIR(st.st_mode) ? 0 : (long)st.st_size);
 }
 
 static void tell_text(const char *path) {
@@ -110,7 +112,8 @@ static void attributes(void) {
     tell_stat("out");
     TELL(utimensat(AT_FDCWD, "pipe", times, 0));
     TELL(stat("pipe", &st));
-    printf("times %ld.%ld %ld.%ld\n", st.st_atim.tv_sec, st.st_atim.tv_nsec, st.st_mtim.tv_sec, st.st_mtim.tv_nsec);
+    printf("times %ld.%ld %ld.%ld\n", st.st_atim.tv_sec, st.st_atim.tv_nsec, st.st_mtim.tv_sec,
+           st.st_mtim.tv_nsec);
     TELL(truncate("pipe", 5000));
     TELL(truncate("d", 5000));
     TELL(access("pipe", X_OK));
@@ -139,7 +142,8 @@ static void extended(void) {
     TELL(getxattr("pipe", "user.empty", value, 300));
 }
 
-/* What a user of no rights makes is that user's, and what they write to loses the bits that run it as its owner. */
+/* What a user of no rights makes is that user's, and what they write to loses the bits that run it
+ * as its owner. */
 static void another_user(void) {
     TELL(mkdir("free", 0777));
     TELL(chmod("free", 02777));
@@ -174,7 +178,9 @@ static void another_user(void) {
     tell_stat("free/suid");
 }
 
-static int by_name(const void *a, const void *b) { return strcmp(*(char *const *)a, *(char *const *)b); }
+static int by_name(const void *a, const void *b) {
+    return strcmp(*(char *const *)a, *(char *const *)b);
+}
 
 /* The names of a directory, in their order, as one number. */
 static void tell_names(const char *path) {
@@ -182,7 +188,8 @@ static void tell_names(const char *path) {
     size_t count = 0;
     uint64_t mixed = 14695981039346656037u;
     DIR *dir = opendir(path);
-    for (struct dirent *d; dir && count < 1000 && (d = readdir(dir));) all[count++] = strdup(d->d_name);
+    for (struct dirent *d; dir && count < 1000 && (d = readdir(dir));)
+        all[count++] = strdup(d->d_name);
     if (dir) closedir(dir);
     qsort(all, count, sizeof all[0], by_name);
     for (size_t k = 0; k < count; k++) {

@@ -1,5 +1,5 @@
-/* Runs in the guest: hold N PREFIX makes files PREFIX0, PREFIX1, .. and holds them open until it is killed. It tells how many it has, and
- * why there is no next one. */
+/* Runs in the guest: hold N PREFIX makes files PREFIX0, PREFIX1, .. and holds them open until it is
+ * killed. It tells how many it has, and why there is no next one. */
 #include <errno.h>
 #include <fcntl.h>
 #include <stdio.h>

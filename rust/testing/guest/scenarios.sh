@@ -1,5 +1,5 @@
-# What a guest does with what is shared, in functions by name. Lines that the host compares begin with a word in
-# capitals.
+# What a guest does with what is shared, in functions by name. Lines that the host compares begin
+# with a word in capitals.
 
 # A line of commands is echoed and run; a status other than 0 is told.
 run() {
@@ -10,8 +10,10 @@ mount_it() { run mount -t virtiofs shared /mnt; }
 drop() { echo 3 > /proc/sys/vm/drop_caches; }
 sum_of() { sha256sum | sed 's/ .*//'; }
 names() { (cd "$1" && find . | sort | sed 's/^/NAME /'); }
-sums() { (cd "$1" && find . -type f | sort | while read -r f; do echo "SUM $(sha256sum "$f")"; done); }
-# The driver goes and comes back: as a module, or from its device where it is a part of the kernel itself.
+sums() { (cd "$1" && find . -type f | sort |
+    while read -r f; do echo "SUM $(sha256sum "$f")"; done); }
+# The driver goes and comes back: as a module, or from its device where it is a part of the kernel
+# itself.
 reload() {
     local at=/sys/bus/virtio/drivers/virtiofs device
     device=$(basename $at/virtio*)
@@ -25,8 +27,9 @@ reload() {
 }
 kilobytes() { sed -n 's/MemTotal: *\([0-9]*\).*/\1/p' /proc/meminfo; }
 
-# Bytes by chance are written in three ways, and read back when no cache has them. The host sums the files. (A file that is made
-# with O_DIRECT has it on the host too, over virtiofsd, and takes no odd length; one that is there already hasn't.)
+# Bytes by chance are written in three ways, and read back when no cache has them. The host sums the
+# files. (A file that is made with O_DIRECT has it on the host too, over virtiofsd, and takes no odd
+# length; one that is there already hasn't.)
 write_back() {
     head -c 5000001 /dev/urandom > /tmp/r
     cp /tmp/r /mnt/work/copy
@@ -82,7 +85,8 @@ scenario_whole() {
     run umount /mnt
 }
 
-# The host stops and resumes the guest meanwhile: each time the rings stop and go on where they stood.
+# The host stops and resumes the guest meanwhile: each time the rings stop and go on where they
+# stood.
 scenario_pause() {
     mount_it
     echo READY
@@ -200,11 +204,14 @@ scenario_reset() {
 scenario_readonly() {
     mount_it
     sums /mnt/files
-    for command in 'echo x > /mnt/files/greeting' 'echo x > /mnt/new' 'mkdir /mnt/d' 'rm /mnt/files/greeting' \
+    for command in 'echo x > /mnt/files/greeting' 'echo x > /mnt/new' 'mkdir /mnt/d' \
+        'rm /mnt/files/greeting' \
         'mv /mnt/files/greeting /mnt/g' 'ln /mnt/files/greeting /mnt/g' 'ln -s a /mnt/l' \
-        'chmod 600 /mnt/files/greeting' 'touch /mnt/files/greeting' 'truncate -s 1 /mnt/files/greeting' \
+        'chmod 600 /mnt/files/greeting' 'touch /mnt/files/greeting' \
+        'truncate -s 1 /mnt/files/greeting' \
         'rmdir /mnt/files/many' 'mknod /mnt/p p'; do
-        eval "$command" 2>&1 | grep -q 'Read-only file system' && echo "REFUSED $command" || echo "NOT REFUSED $command"
+        eval "$command" 2>&1 | grep -q 'Read-only file system' && echo "REFUSED $command" ||
+            echo "NOT REFUSED $command"
     done
     run umount /mnt
 }
@@ -217,7 +224,9 @@ time_it() {
     ask "$@" | tee /tmp/timed
     echo "TIME $(($(interrupts) - before)).0 interrupts: $(sed 's/.*ms: //' /tmp/timed)"
 }
-interrupts() { awk '/virtio/ { for (k = 2; k <= NF && $k ~ /^[0-9]+$/; k++) sum += $k } END { print sum + 0 }' /proc/interrupts; }
+interrupts() { awk \
+    '/virtio/ { for (k = 2; k <= NF && $k ~ /^[0-9]+$/; k++) sum += $k } END { print sum + 0 }' \
+    /proc/interrupts; }
 
 scenario_times() {
     local how each threads
@@ -284,7 +293,8 @@ scenario_killed() {
     done
 }
 
-# The guest holds all descriptors that it may have while it goes to another host. It hears of the end by a file that it has open already.
+# The guest holds all descriptors that it may have while it goes to another host. It hears of the
+# end by a file that it has open already.
 scenario_migrate_full() {
     local line
     ulimit -n 20000
@@ -314,7 +324,8 @@ scenario_migrate() {
     (
         i=0
         while [ ! -e /mnt/work/over ]; do
-            echo $i > /mnt/work/moved/a && mv /mnt/work/moved/a /mnt/work/moved/b && rm /mnt/work/moved/b ||
+            echo $i > /mnt/work/moved/a && mv /mnt/work/moved/a /mnt/work/moved/b &&
+                rm /mnt/work/moved/b ||
                 echo "FAILED $i"
             i=$((i + 1))
         done

@@ -1,5 +1,5 @@
-//! `-o`: options as the C virtiofsd took them, in one word with commas. libvirt before 9.1 starts its daemon so. The names,
-//! the values and the refusals are virtiofsd 1.13.2's.
+//! `-o`: options as the C virtiofsd took them, in one word with commas. libvirt before 9.1 starts
+//! its daemon so. The names, the values and the refusals are virtiofsd 1.13.2's.
 use super::values::xattr_map;
 use super::Options;
 use clap::error::ErrorKind;
@@ -9,11 +9,13 @@ use virtiofsd::passthrough::CachePolicy;
 use virtiofsd::sandbox::SandboxMode;
 
 fn unknown(option: &str) -> Error {
-    Options::command().error(ErrorKind::UnknownArgument, format!("Invalid compat argument '-o {option}'"))
+    Options::command()
+        .error(ErrorKind::UnknownArgument, format!("Invalid compat argument '-o {option}'"))
 }
 
 fn wrong(name: &str, value: &str) -> Error {
-    Options::command().error(ErrorKind::InvalidValue, format!("Invalid compat value '{value}' for '-o {name}'"))
+    Options::command()
+        .error(ErrorKind::InvalidValue, format!("Invalid compat value '{value}' for '-o {name}'"))
 }
 
 impl Options {
@@ -49,7 +51,8 @@ impl Options {
             "no_posix_acl" => self.refused.posix_acl = false,
             "security_label" => self.refused.security_label = true,
             "no_security_label" => self.refused.security_label = false,
-            "no_posix_lock" | "no_flock" => {} // there are no locks that the guest's kernel doesn't keep itself
+            // there are no locks that the guest's kernel doesn't keep itself
+            "no_posix_lock" | "no_flock" => {}
             _ => return Err(unknown(name)),
         }
         Ok(())
@@ -59,7 +62,9 @@ impl Options {
         match (name, value) {
             ("source", _) => self.shared_dir = Some(value.into()),
             ("modcaps", _) => self.modcaps = Some(value.into()),
-            ("xattrmap", _) => self.xattrmap = Some(xattr_map(value).map_err(|_| wrong(name, value))?),
+            ("xattrmap", _) => {
+                self.xattrmap = Some(xattr_map(value).map_err(|_| wrong(name, value))?)
+            }
             ("cache", "auto") => self.cache = CachePolicy::Auto,
             ("cache", "always") => self.cache = CachePolicy::Always,
             ("cache", "none") => self.cache = CachePolicy::Never,

@@ -105,7 +105,9 @@ fn change(word: &str) -> Result<CapabilityChange, String> {
         None => return Err("empty modcap found: expected (+|-)capability:...".into()),
         Some('+') => true,
         Some('-') => false,
-        Some(other) => return Err(format!("invalid modcap action: expecting '+'|'-' but found '{other}'")),
+        Some(other) => {
+            return Err(format!("invalid modcap action: expecting '+'|'-' but found '{other}'"))
+        }
     };
     let name = rest.as_str().to_uppercase();
     match capng::name_to_capability(&name) {

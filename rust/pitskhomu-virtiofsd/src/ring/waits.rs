@@ -53,7 +53,9 @@ impl Ring {
         message: &str,
     ) -> MutexGuard<'a, State> {
         let last = state.taken;
-        let is_out = |state: &mut State| state.queue.in_flight() > 0 && self.doing.iter().any(|doing| doing.has_one_of(last));
+        let is_out = |state: &mut State| {
+            state.queue.in_flight() > 0 && self.doing.iter().any(|doing| doing.has_one_of(last))
+        };
         state.is_awaited = true;
         let (waited, is_long) = self.wait_a_while(state, SILENT, is_out);
         state = waited;
@@ -89,11 +91,15 @@ impl Ring {
     pub(super) fn take_last(&self, memory: &Table, message: &str) {
         let mut state = self.lock();
         let Numbers { layout, next_avail: first, .. } = state.numbers;
-        let Some(end) = memory.available_index(layout.available).filter(|_| state.is_live()) else { return };
+        let Some(end) = memory.available_index(layout.available).filter(|_| state.is_live()) else {
+            return;
+        };
         state.is_awaited = true;
         self.look();
-        let is_wanting =
-            |state: &mut State| state.is_live() && state.numbers.next_avail.wrapping_sub(first) < end.wrapping_sub(first);
+        let is_wanting = |state: &mut State| {
+            state.is_live()
+                && state.numbers.next_avail.wrapping_sub(first) < end.wrapping_sub(first)
+        };
         let (mut idle, mut is_said) = (Duration::ZERO, false);
         loop {
             let (waited, is_long) = self.wait_a_while(state, SILENT, is_wanting);

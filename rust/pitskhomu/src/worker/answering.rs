@@ -52,7 +52,9 @@ impl Worker {
                 device.set_options(Options::empty());
                 self.chain.reply_done()
             }
-            kind::LOOKUP | kind::SYMLINK | kind::MKNOD | kind::MKDIR | kind::LINK => self.entry(file_system),
+            kind::LOOKUP | kind::SYMLINK | kind::MKNOD | kind::MKDIR | kind::LINK => {
+                self.entry(file_system)
+            }
             kind::CREATE => self.create(file_system),
             kind::GETATTR | kind::SETATTR => self.attributes(file_system),
             kind::OPEN | kind::OPENDIR => self.open(file_system),
@@ -110,7 +112,9 @@ impl Worker {
     fn forget(&self, file_system: &dyn FileSystem) {
         match self.call.kind {
             kind::FORGET => file_system.forget(self.node(), self.call.count),
-            _ => file_system.forget_all(Forgets::new(bytes(&self.request, self.call.value).unwrap_or_default())),
+            _ => file_system.forget_all(Forgets::new(
+                bytes(&self.request, self.call.value).unwrap_or_default(),
+            )),
         }
     }
 
@@ -141,7 +145,9 @@ impl Worker {
         let (context, call) = (&self.context(), &self.call);
         match call.kind {
             kind::LOOKUP => file_system.lookup(context, self.node(), self.name()?),
-            kind::SYMLINK => file_system.symlink(context, self.child()?, name(&self.request, call.value)?),
+            kind::SYMLINK => {
+                file_system.symlink(context, self.child()?, name(&self.request, call.value)?)
+            }
             kind::MKNOD => {
                 let make = MakeNode { mode: call.mode, rdev: call.rdev, umask: call.umask };
                 file_system.mknod(context, self.child()?, make)
@@ -167,7 +173,11 @@ impl Worker {
             let replied = worker.chain.reply_create(&entry.raw(), handle.0, options.bits());
             if replied != Ok(Replied::Whole) {
                 // The guest never had it open, and so it never closes it.
-                let _ = file_system.release(&context, entry.node, Release { handle, flags, ..Release::default() });
+                let _ = file_system.release(
+                    &context,
+                    entry.node,
+                    Release { handle, flags, ..Release::default() },
+                );
                 file_system.forget(entry.node, 1);
             }
             replied
@@ -189,7 +199,11 @@ impl Worker {
                 let _ = if is_directory {
                     file_system.releasedir(&context, node, handle, flags)
                 } else {
-                    file_system.release(&context, node, Release { handle, flags, ..Release::default() })
+                    file_system.release(
+                        &context,
+                        node,
+                        Release { handle, flags, ..Release::default() },
+                    )
                 };
             }
             replied
@@ -212,7 +226,11 @@ impl Worker {
             }
         };
         self.reply(found, |worker, (attributes, timeout)| {
-            worker.chain.reply_attributes(&attributes.raw(), timeout.as_secs(), timeout.subsec_nanos())
+            worker.chain.reply_attributes(
+                &attributes.raw(),
+                timeout.as_secs(),
+                timeout.subsec_nanos(),
+            )
         })
     }
 
@@ -221,7 +239,9 @@ impl Worker {
         match call.kind {
             kind::STATFS => {
                 let statistics = file_system.statfs(&context, self.node());
-                self.reply(statistics, |worker, statistics| worker.chain.reply_statfs(&statistics.raw()))
+                self.reply(statistics, |worker, statistics| {
+                    worker.chain.reply_statfs(&statistics.raw())
+                })
             }
             kind::LSEEK => {
                 let seek = Seek { handle: self.handle(), offset: call.offset, whence: call.flags };
@@ -229,9 +249,15 @@ impl Worker {
                 self.reply(offset, |worker, offset| worker.chain.reply_lseek(offset))
             }
             _ => {
-                let from = FilePlace { node: self.node(), handle: self.handle(), offset: call.offset };
-                let to = FilePlace { node: Node(call.node2), handle: Handle(call.handle2), offset: call.offset2 };
-                let count = file_system.copy_file_range(&context, CopyFileRange { from, to, len: call.size });
+                let from =
+                    FilePlace { node: self.node(), handle: self.handle(), offset: call.offset };
+                let to = FilePlace {
+                    node: Node(call.node2),
+                    handle: Handle(call.handle2),
+                    offset: call.offset2,
+                };
+                let count = file_system
+                    .copy_file_range(&context, CopyFileRange { from, to, len: call.size });
                 let most = call.size.min(u64::from(u32::MAX));
                 self.reply(count, |worker, count| worker.chain.reply_write(count.min(most) as u32))
             }
@@ -240,7 +266,8 @@ impl Worker {
 
     /// The calls that are done or fail.
     fn done(&self, file_system: &dyn FileSystem) -> Answer<()> {
-        let (context, call, node, handle) = (&self.context(), &self.call, self.node(), self.handle());
+        let (context, call, node, handle) =
+            (&self.context(), &self.call, self.node(), self.handle());
         let data_only = call.data_only != 0;
         match call.kind {
             kind::UNLINK => file_system.unlink(context, self.child()?),
@@ -260,12 +287,19 @@ impl Worker {
             kind::FLUSH => file_system.flush(context, node, handle, call.owner),
             kind::RELEASE => {
                 let (flush, unlock) = (call.flush != 0, call.unlock != 0);
-                let release = Release { handle, flags: call.flags, flush, unlock, lock_owner: self.lock_owner() };
+                let release = Release {
+                    handle,
+                    flags: call.flags,
+                    flush,
+                    unlock,
+                    lock_owner: self.lock_owner(),
+                };
                 file_system.release(context, node, release)
             }
             kind::RELEASEDIR => file_system.releasedir(context, node, handle, call.flags),
             kind::FALLOCATE => {
-                let allocate = Allocate { handle, mode: call.mode, offset: call.offset, len: call.size };
+                let allocate =
+                    Allocate { handle, mode: call.mode, offset: call.offset, len: call.size };
                 file_system.fallocate(context, node, allocate)
             }
             kind::SYNCFS => file_system.syncfs(context, node),
@@ -275,10 +309,15 @@ impl Worker {
 
     // ------------------------------------------------------------- data
 
-    fn read(&mut self, file_system: &dyn FileSystem, memory: &dyn GuestMemory) -> Result<Replied, Status> {
+    fn read(
+        &mut self,
+        file_system: &dyn FileSystem,
+        memory: &dyn GuestMemory,
+    ) -> Result<Replied, Status> {
         let (context, node) = (self.context(), self.node());
         let sys::Call { offset, size, flags, data_at, data_len, .. } = self.call;
-        let read = Read { handle: self.handle(), offset, size, flags, lock_owner: self.lock_owner() };
+        let read =
+            Read { handle: self.handle(), offset, size, flags, lock_owner: self.lock_owner() };
         let mut data = ReadData::new(&mut self.chain, memory, data_at, data_len.min(size));
         let answer = file_system.read(&context, node, read, &mut data);
         let done = data.done();
@@ -286,9 +325,14 @@ impl Worker {
         self.reply(answer, |worker, ()| worker.chain.reply_data(done))
     }
 
-    fn write(&mut self, file_system: &dyn FileSystem, memory: &dyn GuestMemory) -> Result<Replied, Status> {
+    fn write(
+        &mut self,
+        file_system: &dyn FileSystem,
+        memory: &dyn GuestMemory,
+    ) -> Result<Replied, Status> {
         let (context, node) = (self.context(), self.node());
-        let sys::Call { offset, size, flags, delayed, kill_priv, data_at, data_len, .. } = self.call;
+        let sys::Call { offset, size, flags, delayed, kill_priv, data_at, data_len, .. } =
+            self.call;
         let write = Write {
             handle: self.handle(),
             offset,
@@ -306,14 +350,19 @@ impl Worker {
 
     /// Has the list's buffer as long as the reply's data may be.
     fn list_len(&mut self) -> Answer<usize> {
-        // What has room for more is answered by no more: a link or a value has at most 64 KiB in Linux, a listing 1 MiB here.
+        // What has room for more is answered by no more: a link or a value has at most 64 KiB in
+        // Linux, a listing 1 MiB here.
         let len = self.call.data_len.min(sys::REQUEST_MAX as u64) as usize;
         grow(&mut self.list, len).map_err(|_| Errno::ENOMEM)?;
         Ok(len)
     }
 
     /// READLINK, GETXATTR, LISTXATTR: the bytes, or how many there are if that alone was asked.
-    fn value(&mut self, file_system: &dyn FileSystem, memory: &dyn GuestMemory) -> Result<Replied, Status> {
+    fn value(
+        &mut self,
+        file_system: &dyn FileSystem,
+        memory: &dyn GuestMemory,
+    ) -> Result<Replied, Status> {
         let value = self.fill_value(file_system);
         let counts = self.call.answer == sys::answer::XATTR;
         self.reply(value, |worker, len| {
@@ -332,16 +381,24 @@ impl Worker {
         let buffer = &mut self.list[..most];
         let len = match call.kind {
             kind::READLINK => file_system.readlink(&context, node, buffer)?,
-            kind::GETXATTR => file_system.getxattr(&context, node, name(&self.request, call.name)?, buffer)?,
+            kind::GETXATTR => {
+                file_system.getxattr(&context, node, name(&self.request, call.name)?, buffer)?
+            }
             _ => file_system.listxattr(&context, node, buffer)?,
         };
         match call.answer {
-            sys::answer::XATTR => u32::try_from(len).map(|len| len as usize).map_err(|_| Errno::E2BIG),
+            sys::answer::XATTR => {
+                u32::try_from(len).map(|len| len as usize).map_err(|_| Errno::E2BIG)
+            }
             _ => Some(len).filter(|&len| len <= most).ok_or(Errno::ERANGE),
         }
     }
 
-    fn list(&mut self, file_system: &dyn FileSystem, memory: &dyn GuestMemory) -> Result<Replied, Status> {
+    fn list(
+        &mut self,
+        file_system: &dyn FileSystem,
+        memory: &dyn GuestMemory,
+    ) -> Result<Replied, Status> {
         let (context, node) = (self.context(), self.node());
         let sys::Call { kind, offset, size, .. } = self.call;
         let read = ReadDirectory { handle: self.handle(), offset, size };

@@ -1,5 +1,5 @@
-//! A guest in memory that stands still while it is served: it draws a ring, asks by FUSE, and reads what came back. Numbers are those of
-//! VIRTIO 1.2 (2.7) and linux/fuse.h.
+//! A guest in memory that stands still while it is served: it draws a ring, asks by FUSE, and reads
+//! what came back. Numbers are those of VIRTIO 1.2 (2.7) and linux/fuse.h.
 #![allow(dead_code)]
 pub mod recorder;
 
@@ -130,7 +130,8 @@ pub fn args() -> Bytes {
     Bytes::default()
 }
 
-/// A request: its header (struct fuse_in_header) and what stands behind it. The caller is user 1000, group 100, process 7.
+/// A request: its header (struct fuse_in_header) and what stands behind it. The caller is user
+/// 1000, group 100, process 7.
 pub fn request(opcode: u32, node: u64, args: &[u8]) -> Vec<u8> {
     let len = 40 + args.len() as u32;
     Bytes::default().d(len).d(opcode).q(UNIQUE).q(node).d(1000).d(100).d(7).w(0).w(0).bytes(args).0
@@ -139,7 +140,8 @@ pub fn request(opcode: u32, node: u64, args: &[u8]) -> Vec<u8> {
 /// The number of each request.
 pub const UNIQUE: u64 = 0x1122_3344_5566_7788;
 
-/// What came back: the number of the error, and what stands behind the header (struct fuse_out_header).
+/// What came back: the number of the error, and what stands behind the header (struct
+/// fuse_out_header).
 #[derive(Debug, PartialEq, Eq)]
 pub enum Reply {
     None,
@@ -184,13 +186,27 @@ impl Guest {
     pub fn over(device: Device) -> Guest {
         let (memory, first) = (Memory::new(LEN, 0x7000_0000), u16::MAX - 2);
         let mut worker = Worker::new();
-        worker.set_memory(&device, &[Region { guest: 0, len: LEN as u64, host: memory.host }]).unwrap();
+        worker
+            .set_memory(&device, &[Region { guest: 0, len: LEN as u64, host: memory.host }])
+            .unwrap();
         memory.write(AVAILABLE + 2, &first.to_le_bytes());
-        Guest { memory, device, worker, queue: Queue::new(layout(), first), offered: first, next_descriptor: 0 }
+        Guest {
+            memory,
+            device,
+            worker,
+            queue: Queue::new(layout(), first),
+            offered: first,
+            next_descriptor: 0,
+        }
     }
 
     /// Writes a descriptor (struct virtq_desc) of a table.
-    pub fn descriptor(&self, table: u64, k: u16, (address, len, flags, next): (u64, u32, u16, u16)) {
+    pub fn descriptor(
+        &self,
+        table: u64,
+        k: u16,
+        (address, len, flags, next): (u64, u32, u16, u16),
+    ) {
         self.memory.write(table + 16 * u64::from(k), &args().q(address).d(len).w(flags).w(next).0);
     }
 
@@ -218,7 +234,9 @@ impl Guest {
         let mut buffers = vec![Buffer(REQUEST, cut, false)];
         buffers.extend(Some(Buffer(REQUEST + 40, behind, false)).filter(|_| behind > 0));
         buffers.extend(Some(Buffer(ROOM, room.min(16), true)).filter(|_| room > 0));
-        buffers.extend(Some(Buffer(ROOM + 0x1000, room.saturating_sub(16), true)).filter(|_| room > 16));
+        buffers.extend(
+            Some(Buffer(ROOM + 0x1000, room.saturating_sub(16), true)).filter(|_| room > 16),
+        );
         self.draw(DESCRIPTORS, 0, &buffers);
         self.offer(0);
     }
@@ -226,7 +244,8 @@ impl Guest {
     /// Serves one chain, and looks at what came back by the used ring.
     pub fn serve(&mut self, file_system: &dyn FileSystem) -> (Served, Reply) {
         let position = self.queue.next_used();
-        let served = self.worker.serve(&mut self.queue, &self.device, file_system, &self.memory).unwrap();
+        let served =
+            self.worker.serve(&mut self.queue, &self.device, file_system, &self.memory).unwrap();
         let served = served.expect("a chain waits");
         assert_eq!(self.queue.next_used(), position.wrapping_add(1));
         let index = number(&self.memory.read(USED + 2, 2), 0, 2) as u16;
@@ -243,7 +262,11 @@ impl Guest {
             return Reply::None;
         }
         let header = self.memory.read(ROOM, 16);
-        assert_eq!((number(&header, 0, 4), number(&header, 8, 8)), (len as u64, UNIQUE), "the reply's header");
+        assert_eq!(
+            (number(&header, 0, 4), number(&header, 8, 8)),
+            (len as u64, UNIQUE),
+            "the reply's header"
+        );
         match number(&header, 4, 4) as i32 {
             0 => Reply::Data(self.memory.read(ROOM + 0x1000, len - 16)),
             error => {
@@ -254,7 +277,14 @@ impl Guest {
     }
 
     /// Asks, and is served.
-    pub fn ask(&mut self, file_system: &dyn FileSystem, opcode: u32, node: u64, args: Bytes, room: u32) -> Reply {
+    pub fn ask(
+        &mut self,
+        file_system: &dyn FileSystem,
+        opcode: u32,
+        node: u64,
+        args: Bytes,
+        room: u32,
+    ) -> Reply {
         self.offer_request(&request(opcode, node, &args.0), room);
         let (served, reply) = self.serve(file_system);
         assert_eq!((served.opcode, served.unique, served.fault), (opcode, UNIQUE, None));
@@ -263,7 +293,10 @@ impl Guest {
     }
 
     pub fn is_idle(&mut self, file_system: &dyn FileSystem) -> bool {
-        self.worker.serve(&mut self.queue, &self.device, file_system, &self.memory).unwrap().is_none()
+        self.worker
+            .serve(&mut self.queue, &self.device, file_system, &self.memory)
+            .unwrap()
+            .is_none()
     }
 
     /// INIT, by a guest that can all of FUSE 7.38's options that a device may agree on.

@@ -93,11 +93,22 @@ impl FileSystem for Recorder {
     fn forget(&self, node: Node, count: u64) {
         let _ = self.note("forget", &(node, count), ());
     }
-    fn getattr(&self, context: &Context, node: Node, handle: Option<Handle>) -> Answer<(Attributes, Duration)> {
+    fn getattr(
+        &self,
+        context: &Context,
+        node: Node,
+        handle: Option<Handle>,
+    ) -> Answer<(Attributes, Duration)> {
         self.asked(context, "getattr", &(node, handle), (attributes(), Duration::new(0x401, 0x402)))
     }
-    fn setattr(&self, context: &Context, node: Node, set: &SetAttributes) -> Answer<(Attributes, Duration)> {
-        let told = (set.mode(), set.uid(), set.gid(), set.size(), set.atime(), set.mtime(), set.ctime());
+    fn setattr(
+        &self,
+        context: &Context,
+        node: Node,
+        set: &SetAttributes,
+    ) -> Answer<(Attributes, Duration)> {
+        let told =
+            (set.mode(), set.uid(), set.gid(), set.size(), set.atime(), set.mtime(), set.ctime());
         let told = (node, set.valid, set.handle, set.lock_owner, told, set.kills_priv());
         self.asked(context, "setattr", &told, (attributes(), Duration::new(0x401, 0x402)))
     }
@@ -119,7 +130,13 @@ impl FileSystem for Recorder {
     fn rmdir(&self, context: &Context, child: Child<'_>) -> Answer<()> {
         self.asked(context, "rmdir", &child, ())
     }
-    fn rename(&self, context: &Context, from: Child<'_>, to: Child<'_>, flags: RenameFlags) -> Answer<()> {
+    fn rename(
+        &self,
+        context: &Context,
+        from: Child<'_>,
+        to: Child<'_>,
+        flags: RenameFlags,
+    ) -> Answer<()> {
         self.asked(context, "rename", &(from, to, flags), ())
     }
     fn link(&self, context: &Context, node: Node, child: Child<'_>) -> Answer<Entry> {
@@ -128,15 +145,32 @@ impl FileSystem for Recorder {
     fn open(&self, context: &Context, node: Node, open: Open) -> Answer<Opened> {
         self.asked(context, "open", &(node, open), opened())
     }
-    fn create(&self, context: &Context, child: Child<'_>, create: Create) -> Answer<(Entry, Opened)> {
+    fn create(
+        &self,
+        context: &Context,
+        child: Child<'_>,
+        create: Create,
+    ) -> Answer<(Entry, Opened)> {
         self.asked(context, "create", &(child, create), (entry(), opened()))
     }
-    fn read(&self, context: &Context, node: Node, read: Read, data: &mut ReadData<'_>) -> Answer<()> {
+    fn read(
+        &self,
+        context: &Context,
+        node: Node,
+        read: Read,
+        data: &mut ReadData<'_>,
+    ) -> Answer<()> {
         let left = data.left();
         let put = (data.put(b"some "), data.put(b"data"));
         self.asked(context, "read", &(node, read, left, put, data.done()), ())
     }
-    fn write(&self, context: &Context, node: Node, write: Write, data: &mut WriteData<'_>) -> Answer<()> {
+    fn write(
+        &self,
+        context: &Context,
+        node: Node,
+        write: Write,
+        data: &mut WriteData<'_>,
+    ) -> Answer<()> {
         let mut bytes = vec![0; data.left() as usize + 1];
         let taken = data.take(&mut bytes);
         bytes.truncate(taken);
@@ -164,10 +198,23 @@ impl FileSystem for Recorder {
     fn flush(&self, context: &Context, node: Node, handle: Handle, lock_owner: u64) -> Answer<()> {
         self.asked(context, "flush", &(node, handle, lock_owner), ())
     }
-    fn setxattr(&self, context: &Context, node: Node, name: &CStr, value: &[u8], flags: u32) -> Answer<()> {
+    fn setxattr(
+        &self,
+        context: &Context,
+        node: Node,
+        name: &CStr,
+        value: &[u8],
+        flags: u32,
+    ) -> Answer<()> {
         self.asked(context, "setxattr", &(node, name, value, flags), ())
     }
-    fn getxattr(&self, context: &Context, node: Node, name: &CStr, value: &mut [u8]) -> Answer<usize> {
+    fn getxattr(
+        &self,
+        context: &Context,
+        node: Node,
+        name: &CStr,
+        value: &mut [u8],
+    ) -> Answer<usize> {
         self.asked(context, "getxattr", &(node, name, value.len()), fill(value, b"value"))
     }
     fn listxattr(&self, context: &Context, node: Node, names: &mut [u8]) -> Answer<usize> {
@@ -179,10 +226,17 @@ impl FileSystem for Recorder {
     fn opendir(&self, context: &Context, node: Node, flags: u32) -> Answer<Opened> {
         self.asked(context, "opendir", &(node, flags), opened())
     }
-    fn readdir(&self, context: &Context, node: Node, read: ReadDirectory, list: &mut Listing<'_>) -> Answer<()> {
+    fn readdir(
+        &self,
+        context: &Context,
+        node: Node,
+        read: ReadDirectory,
+        list: &mut Listing<'_>,
+    ) -> Answer<()> {
         self.asked(context, "readdir", &(node, read, list.left(), list.has_nodes()), ())?;
         for (&name, k) in self.names.iter().zip(1..) {
-            let entry = DirectoryEntry { name, inode: 0x600 + k, next_offset: k, kind: FileKind::REGULAR };
+            let entry =
+                DirectoryEntry { name, inode: 0x600 + k, next_offset: k, kind: FileKind::REGULAR };
             if !list.add(entry)? {
                 break;
             }
@@ -192,7 +246,13 @@ impl FileSystem for Recorder {
     fn releasedir(&self, context: &Context, node: Node, handle: Handle, flags: u32) -> Answer<()> {
         self.asked(context, "releasedir", &(node, handle, flags), ())
     }
-    fn fsyncdir(&self, context: &Context, node: Node, handle: Handle, data_only: bool) -> Answer<()> {
+    fn fsyncdir(
+        &self,
+        context: &Context,
+        node: Node,
+        handle: Handle,
+        data_only: bool,
+    ) -> Answer<()> {
         self.asked(context, "fsyncdir", &(node, handle, data_only), ())
     }
     fn access(&self, context: &Context, node: Node, mask: AccessMask) -> Answer<()> {
