@@ -5,20 +5,20 @@ ghost use Rattle.fs_chain_c.specs.Numbers.{answer_number, call_number, listing, 
 
 use fuse_wire::Opcode;
 
-/// What a call waits for (PK_ANSWER_).
+/// The kind of answer that a call has (PK_ANSWER_).
 #[derive(Clone, Copy, Debug, PartialEq, Eq)]
 pub enum AnswerKind {
     /// None: it is answered, or no call is made.
     None = 0,
     /// That it is done.
     Done = 1,
-    /// What a name stands for.
+    /// An entry: the node of a name.
     Entry = 2,
     /// Attributes.
     Attr = 3,
     /// An open file.
     Open = 4,
-    /// What a name stands for, and an open file.
+    /// An entry, and an open file.
     Create = 5,
     /// Data.
     Data = 6,

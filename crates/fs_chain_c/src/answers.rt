@@ -1,4 +1,4 @@
-//! Answers, as C tells them.
+//! Answers, as C passes them.
 
 ghost use Rattle.std.specs.Prelude.{◌≡◌};
 ghost use Rattle.fs_chain_c.specs.Replies.{attr_of, attr_said, create_said, entry_of, entry_said, open_said};
@@ -10,7 +10,7 @@ use fuse_base::{Attr, FsOptions, GuestGid, GuestUid, OpenOptions, StatVfs};
 use fuse_fs::{Entry, Timeout};
 use fuse_values::FileAnswer;
 
-/// What a name stands for. Node 0: it is known that the name isn't there.
+/// An entry: the node of a name. Node 0: the name is known not to exist.
 #[repr(C)]
 #[derive(Clone, Copy)]
 pub struct FsEntry {
@@ -30,7 +30,7 @@ pub struct FsEntry {
     pub attr: FsAttr,
 }
 
-/// What the file system holds and has room for.
+/// Sizes and free space of the file system.
 #[repr(C)]
 #[derive(Clone, Copy)]
 pub struct FsStatfs {
@@ -76,7 +76,7 @@ fn attr_of(attr: &FsAttr) -> Attr
     }
 }
 
-/// What a name stands for; None if a time isn't one.
+/// An entry; None if a time isn't one.
 pub fn entry_of(entry: &FsEntry) -> Option<Entry<u64>>
     ensures { result ≡ entry_of entry.now }
 {

@@ -1,4 +1,4 @@
-//! What a request asks, as C is told: the fields of its call.
+//! The file call of a request, with the fields that C gets.
 
 ghost use Rattle.std.specs.Prelude.{◌≡◌, ◌-◌};
 ghost use Rattle.fs_chain_c.specs.Calls.{attr_told, behind, data_len, low, made, made_by, no_call, span};
@@ -22,7 +22,7 @@ pub struct FsSpan {
 #[repr(C)]
 #[derive(Clone, Copy)]
 pub struct FsAttr {
-    /// The number that `stat` tells.
+    /// The number that `stat` returns.
     pub ino: u64,
     /// How many bytes it has.
     pub size: u64,
@@ -62,7 +62,7 @@ pub struct FsAttr {
 pub struct FsCall {
     /// The call's number (PK_CALL_).
     pub kind: u32,
-    /// What it waits for (PK_ANSWER_).
+    /// The kind of its answer (PK_ANSWER_).
     pub answer: u32,
     /// The number of the request, as the guest wrote it.
     pub opcode: u32,
@@ -106,9 +106,9 @@ pub struct FsCall {
     pub name2: FsSpan,
     /// The value, what a link leads to, or the pairs.
     pub value: FsSpan,
-    /// Where data stands, in the room or the request.
+    /// The offset of data, in the reply buffer or the request.
     pub data_at: u64,
-    /// How many bytes of data there are, or have room.
+    /// How many bytes of data there are, or fit.
     pub data_len: u64,
     /// Flags of the call.
     pub flags: u32,
@@ -134,7 +134,7 @@ pub struct FsCall {
     pub unlock: u8,
     /// Whether the data alone.
     pub data_only: u8,
-    /// Whether a group of the caller's is told besides its own.
+    /// Whether `group` is set: one of the caller's groups besides its own.
     pub has_group: u8,
     /// The attributes to be set.
     pub attr: FsAttr,
@@ -220,7 +220,7 @@ impl FsCall {
         NO_CALL
     }
 
-    // A call that waits for this kind of answer, and that no one process makes.
+    // A call with this kind of answer, of no process.
     pub(crate) fn made(opcode: Opcode, answer: AnswerKind) -> FsCall
         ensures { result ≡ made opcode answer }
     {
@@ -243,7 +243,7 @@ impl FsCall {
     }
 }
 
-/// How many bytes a reply's header has: data stands behind it.
+/// The bytes of a reply's header: data lies behind it.
 pub(crate) const HEADER: u64 = 16;
 
 // A number in 32 bits: the greatest, if it has none.
@@ -263,21 +263,21 @@ pub(crate) fn span(at: usize, len: usize) -> FsSpan
     }
 }
 
-// Where stands what comes behind a name.
+// The offset behind a name and its zero byte.
 pub(crate) fn behind(at: usize, len: usize) -> usize
     ensures { result ≡ behind at len }
 {
     at.saturating_add(len.saturating_add(1))
 }
 
-// How many bytes stand behind a reply's header in a room.
+// The bytes of a reply buffer behind the reply's header.
 pub(crate) fn behind_header(room: usize) -> u64
     ensures { result ≡ room - 16 }
 {
     (room as u64).saturating_sub(HEADER)
 }
 
-// How many bytes of data have room, of those that are asked for.
+// How many bytes of data fit, of those that are asked for.
 pub(crate) fn data_len(size: u32, room: usize) -> u64
     ensures { result ≡ data_len size room }
 {

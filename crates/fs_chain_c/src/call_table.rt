@@ -1,4 +1,4 @@
-//! What C is told of each call of a file system: one row for each.
+//! The fields that C gets of each file call: one row for each.
 
 ghost use Rattle.std.specs.Prelude.{◌≡◌, true};
 ghost use Rattle.fs_chain_c.specs.Calls.{at_rename, at_setxattr, has_name, is_of_open_file, told_call};
@@ -13,7 +13,7 @@ use virtiofsd_fuse::REQUEST_FRONT;
 /// The option by which SETXATTR has a longer record (FUSE_SETXATTR_EXT).
 const SETXATTR_EXT: u64 = 1 << 29;
 
-/// Where a request's first name stands: behind its header (struct fuse_in_header).
+/// The offset of a request's first name: behind its header (struct fuse_in_header).
 const AT: usize = 40;
 
 /// Behind the header and a record of 8 bytes.
@@ -22,7 +22,7 @@ const AT_8: usize = AT + 8;
 /// Behind the header and a record of 16 bytes.
 const AT_16: usize = AT + 16;
 
-// Where the first name of RENAME or RENAME2 stands (struct fuse_rename_in, struct fuse_rename2_in).
+// The offset of the first name of RENAME or RENAME2 (struct fuse_rename_in, struct fuse_rename2_in).
 fn at_rename(opcode: u32) -> usize
     ensures { result ≡ at_rename opcode }
 {
@@ -33,7 +33,7 @@ fn at_rename(opcode: u32) -> usize
     }
 }
 
-// Where the name of SETXATTR stands: behind the long record, if that was agreed (struct fuse_setxattr_in).
+// The offset of the name of SETXATTR: behind the long record, if that was agreed (struct fuse_setxattr_in).
 fn at_setxattr(options: u64) -> usize
     ensures { result ≡ at_setxattr options }
 {
@@ -139,7 +139,8 @@ fn open_file_call(opcode: u32, options: u64, room: usize, call: &FileCall<'_>) -
     } others {} _ => unreachable!())
 }
 
-/// What is told of a call: by the opcode of its request, the options that were agreed, and the room.
+/// A call as C gets it, by the opcode of its request, the agreed options, and the length of the reply
+/// buffer.
 pub(crate) fn told_call(opcode: u32, options: u64, room: usize, call: &FileCall<'_>) -> FsCall
     ensures { result ≡ told_call opcode options room call.now }
 {

@@ -16,10 +16,10 @@ use server_phases::Session;
 /// More of the request is wanted.
 const MORE: u32 = 34;
 
-/// The answer is taken, but the room holds no such reply.
+/// The answer is taken, but the reply buffer is too small.
 pub const NO_ROOM: u32 = 35;
 
-/// Answers the call with this ticket, if it waits, and says a status.
+/// Answers the call with this ticket, if it is unanswered, and returns a status.
 pub fn answer_handle(handle: &mut ChainHandle, ticket: u32, answer: FileAnswer) -> u32
     ensures { AnswersHandle handle.old ticket answer result handle.new }
 {
@@ -29,7 +29,7 @@ pub fn answer_handle(handle: &mut ChainHandle, ticket: u32, answer: FileAnswer) 
     }
 }
 
-// The answer to a call that nobody waits for, or that no file system of C's has: ENOSYS, as by its default.
+// The answer to a call without a reply, or that no file system in C has: ENOSYS, as by its default.
 fn answer_unasked(call: &FileCall<'_>) -> Option<FileAnswer>
     ensures { result ≡ answer_unasked call.now }
 {

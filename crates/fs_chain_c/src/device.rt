@@ -16,7 +16,7 @@ const PAGE_SIZES: [u32; 5] = [4 << 10, 8 << 10, 16 << 10, 32 << 10, 64 << 10];
 pub struct FsDevice {
     /// How many bytes the guest's pages have.
     pub page_size: u32,
-    /// How many bytes a request or a room has at most.
+    /// The most bytes of a request, and of a reply buffer.
     pub limit: u32,
     /// The options that INIT agreed on.
     pub options: u64,

@@ -1,4 +1,4 @@
-//! The functions on a chain that C calls. Each answers 0, or a number that says why not.
+//! The functions on a chain that C calls. Each returns 0, or the number of a status.
 
 ghost use Rattle.std.specs.Prelude.{◌≡◌, false, true, None};
 ghost use Rattle.fs_chain_c.specs.Handles.{AbandonsChain, DropsChain, EndsPush, IsZeros, Numbers};
@@ -19,7 +19,7 @@ use std::alloc::Global;
 /// The header's number.
 const VERSION: u32 = 8;
 
-/// What is told of a handle that has no `ChainHandle`.
+/// The status of a handle whose memory was never set: WrongOrder.
 pub(crate) fn wrong_order() -> u32
     ensures { result ≡ 73 }
 {
@@ -34,8 +34,7 @@ pub extern "C" fn pk_version() -> u32
     VERSION
 }
 
-/// Over which memory the chain's next walks go, and the device's limit. A handle without a `ChainHandle` gets
-/// one.
+/// Sets the memory of the chain's next pops, and the device's limit. A handle of zeros gets its box.
 #[unsafe(no_mangle)]
 pub extern "C" fn pk_chain_set_memory(
     alloc: Global,
@@ -64,7 +63,7 @@ pub extern "C" fn pk_chain_set_memory(
     }
 }
 
-/// Frees what a handle holds; then it has no `ChainHandle`. The queue of a chain that is out isn't told.
+/// Frees a handle's memory, and makes it zeros. The queue of a chain in flight isn't changed.
 #[unsafe(no_mangle)]
 pub extern "C" fn pk_chain_free(alloc: Global, chain: &mut FsChain)
     ensures { IsZeros chain.new }
@@ -72,7 +71,7 @@ pub extern "C" fn pk_chain_free(alloc: Global, chain: &mut FsChain)
     *chain = FsChain::empty(alloc);
 }
 
-// Chooses the number of a `ChainHandle`'s next chain, and says a status.
+// Sets the ticket of a handle's next chain, and returns a status.
 fn number_handle(handle: &mut ChainHandle, first: u32) -> u32
     ensures { NumbersHandle handle.old first result handle.new }
 {
@@ -95,7 +94,7 @@ pub extern "C" fn pk_chain_set_ticket(alloc: Global, chain: &mut FsChain, first:
     status
 }
 
-/// Takes the next chain of a queue: at first without bytes, then with those of each load that was told.
+/// Pops the next chain of a queue: at first without bytes, then with those of each load.
 #[unsafe(no_mangle)]
 pub extern "C" fn pk_pop(
     alloc: Global,
@@ -129,7 +128,7 @@ pub extern "C" fn pk_queue_begin(queue: &mut FsQueue, next_avail: u16) -> u32
     }
 }
 
-/// Frees a handle whose queue was begun anew: no queue is told.
+/// Frees a handle whose queue was reset: no queue is changed.
 #[unsafe(no_mangle)]
 pub extern "C" fn pk_abandon(alloc: Global, chain: &mut FsChain)
     ensures { AbandonsChain chain.old.value chain.new.value }
@@ -141,7 +140,7 @@ pub extern "C" fn pk_abandon(alloc: Global, chain: &mut FsChain)
     *chain = FsChain::of_box(handle);
 }
 
-/// Gives a chain up that wasn't asked; the queue hands it out again at its next walk. A walk ends.
+/// Drops a chain that wasn't decoded: the queue's next pop returns it again. Ends a pop under way.
 #[unsafe(no_mangle)]
 pub extern "C" fn pk_drop(alloc: Global, chain: &mut FsChain, queue: &mut FsQueue) -> u32
     ensures { DropsChain chain.old.value queue.old result chain.new.value queue.new }
@@ -154,7 +153,7 @@ pub extern "C" fn pk_drop(alloc: Global, chain: &mut FsChain, queue: &mut FsQueu
     status
 }
 
-/// Where the bytes of a chain's request stand from one on, at most so many: how many windows are filled.
+/// Fills the windows of a request's bytes from one on, at most so many; returns how many windows.
 #[unsafe(no_mangle)]
 pub extern "C" fn pk_request_windows(
     alloc: Global,
@@ -173,7 +172,7 @@ pub extern "C" fn pk_request_windows(
     count
 }
 
-/// Where the bytes of a chain's room stand from one on, at most so many: how many windows are filled.
+/// Fills the windows of a reply buffer's bytes from one on, at most so many; returns how many windows.
 #[unsafe(no_mangle)]
 pub extern "C" fn pk_reply_windows(
     alloc: Global,
@@ -192,8 +191,8 @@ pub extern "C" fn pk_reply_windows(
     count
 }
 
-/// Says how a chain goes back: its reply's front at the front of a buffer, and the stores. Until they are
-/// made no other chain of the queue goes back.
+/// Returns the stores of a push, and writes the reply's front to a buffer. Until they are made no other
+/// chain of the queue is pushed.
 #[unsafe(no_mangle)]
 pub extern "C" fn pk_push(
     alloc: Global,

@@ -50,7 +50,7 @@ pub fn number(request: &[u8], call: &mut FsCall)
     call.unique = unique_in(request);
 }
 
-/// The fields of a call, by its request, the options that were agreed, and the room.
+/// The fields of a call, by its request, the agreed options, and the length of the reply buffer.
 pub fn call_fields(request: &[u8], options: u64, room: usize, call: &FileCall<'_>) -> FsCall
     ensures { result ≡ call_fields request.now options room call.now }
 {

@@ -1,4 +1,4 @@
-//! One chain of a virtio-fs device from its walk to its return, for monitors in C: a static library, whose
+//! One chain of a virtio-fs device from its pop to its push, for VMMs in C: a static library, whose
 //! header is pitskhomu.h, beside it.
 #![tactic(auto)]
 

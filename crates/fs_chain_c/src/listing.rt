@@ -35,7 +35,7 @@ const ENTRIES: u32 = 38;
 /// The longest name.
 const NAME_MAX: usize = 255;
 
-// What is told of an entry.
+// The status of an added entry.
 fn added_status(told: Result<Added, ChainError>) -> u32
     ensures { result ≡ added_status told }
 {

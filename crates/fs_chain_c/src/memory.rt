@@ -1,4 +1,4 @@
-//! The memory over which walks go: regions that C tells, in any order.
+//! The memory of pops: regions that C passes, in any order.
 
 ghost use Rattle.std.specs.Prelude.{◌≡◌, ◌⊎◌, ◌<◌, ◌≤◌, true, false, Err, None, All, IsPermutation, IfOk};
 ghost use Rattle.std.specs.Prelude.{IfErr, IfSome, IfNone, OnOk, OnSome, map, length};
@@ -20,7 +20,7 @@ use vm_bitmaps::PAGE_SIZE;
 /// How many regions there are at most.
 const MOST_REGIONS: usize = 64;
 
-/// Where a stretch of the guest's memory stands.
+/// A region of the guest's memory.
 #[repr(C)]
 #[derive(Clone, Copy, Default)]
 pub struct FsRegion {

@@ -1,4 +1,4 @@
-//! What C stores to be told of new chains, or of none.
+//! The store by which C enables or disables available buffer notifications.
 
 ghost use Rattle.std.specs.Prelude.{◌≡◌};
 ghost use Rattle.fs_chain_c.specs.Notifications.{AsksKicks, SetsNotification, no_store};
@@ -16,7 +16,7 @@ use vm_memory_core::Permissions;
 #[repr(C)]
 #[derive(Clone, Copy)]
 pub struct FsStore {
-    /// Where its bytes stand.
+    /// The host address of its bytes.
     pub at: usize,
     /// What is stored.
     pub value: u16,
@@ -59,7 +59,7 @@ fn set_notification(handle: &ChainHandle, queue: &FsQueue, enabled: u32) -> (FsS
     }
 }
 
-/// What is stored to be told of the next chain of a queue, or of none (0), over a handle's regions.
+/// The store that enables (1) or disables (0) notifications of a queue, over a handle's regions.
 #[unsafe(no_mangle)]
 pub extern "C" fn pk_set_notification(
     alloc: Global,

@@ -6,9 +6,9 @@ ghost use Rattle.std.specs.Box.Ownership.{box_owns};
 use std::alloc::Allocator;
 use std::marker::Model;
 
-/// A box that was taken apart: where its value stands, and its allocator.
+/// A box that was taken apart: the address of its value, and its allocator.
 pub struct BoxParts<T, A: Allocator> {
-    /// Where the value stands.
+    /// The address of the value.
     pub ptr: *mut T,
     /// What its memory came from.
     pub alloc: A,

@@ -11,13 +11,13 @@ use vm_memory_core::VolatileSlice;
 /// Load these bytes, and call again with them.
 const LOAD: u32 = 32;
 
-/// No chain waits.
+/// No chain is available.
 const IDLE: u32 = 33;
 
 /// What is asked for has no place.
 pub const NOT_MAPPED: u32 = 77;
 
-/// What a walk says: a load, or a chain. Else all is 0.
+/// A pop's result: a load, or a chain. Else all is 0.
 #[repr(C)]
 #[derive(Clone, Copy)]
 pub struct FsPop {
@@ -27,7 +27,7 @@ pub struct FsPop {
     pub load_len: usize,
     /// How many bytes the chain's request has.
     pub request_len: u64,
-    /// How many bytes of reply it has room for.
+    /// The bytes of its reply buffer.
     pub reply_len: u64,
     /// Its fault's number, from 1 to 10 (0: none).
     pub fault: u32,
@@ -38,7 +38,7 @@ pub struct FsPop {
 }
 
 impl FsPop {
-    /// Nothing is told.
+    /// Neither a load nor a chain.
     pub fn nothing() -> FsPop
         ensures { result ≡ no_step }
     {
@@ -54,14 +54,14 @@ impl FsPop {
     }
 }
 
-/// Where a window stands here: behind the number of its region.
+/// The host address of a window: the number of its region, and the offset in it.
 pub fn host_at(window: &VolatileSlice) -> usize
     ensures { result ≡ host_at window.now }
 {
     window.block().wrapping_add(window.block_offset())
 }
 
-// Where the load is made that a walk still wants, if it wants one.
+// The load that a pop still needs, if any.
 fn still_wanted(handle: &ChainHandle) -> FsPop
     ensures { TellsWanted handle.now result }
 {
@@ -91,7 +91,7 @@ fn told_load(handle: &ChainHandle) -> (FsPop, u32)
     }
 }
 
-// Tells what a walk came to.
+// A pop's result, as C gets it.
 fn told(handle: &ChainHandle, went: LoadOutcome) -> (FsPop, u32)
     ensures { TellsWent handle.now went result.0 result.1 }
 {
@@ -121,7 +121,7 @@ fn told(handle: &ChainHandle, went: LoadOutcome) -> (FsPop, u32)
     }
 }
 
-/// Takes the next chain of a queue: at first without bytes, then with those of each load that was told.
+/// Pops the next chain of a queue: at first without bytes, then with those of each load.
 pub fn pop_handle(handle: &mut ChainHandle, queue: &mut FsQueue, loaded: &[u8]) -> (FsPop, u32)
     ensures { PopsHandle handle.old queue.old loaded.now result.0 result.1 handle.new queue.new }
 {

@@ -1,4 +1,4 @@
-//! How a chain goes back to its queue, and how it is given up.
+//! How a chain is pushed to its queue, and how it is dropped.
 
 ghost use Rattle.std.specs.Prelude.{◌≡◌, ◌<◌, None, IfSome};
 ghost use Rattle.fs_chain_c.specs.Pushing.{DropsHandleChain, DropsKept, EndsHandlePush, EndsKept};
@@ -14,21 +14,21 @@ use vm_memory_core::Permissions;
 #[repr(C)]
 #[derive(Clone, Copy)]
 pub struct FsStores {
-    /// How many bytes of the front go over the room's first.
+    /// The bytes of the front, which go over the reply buffer's first.
     pub front_len: usize,
-    /// Where the used element's first half stands: 4 bytes.
+    /// The host address of the used element's first half, 4 bytes.
     pub id_at: usize,
-    /// Where its second half stands: 4 bytes.
+    /// The host address of its second half, 4 bytes.
     pub len_at: usize,
     /// What is stored there: the chain's number.
     pub id: u32,
     /// How many bytes the reply has.
     pub len: u32,
-    /// Where the used index stands: 2 bytes.
+    /// The host address of the used index, 2 bytes.
     pub index_at: usize,
     /// What is stored there, by a store that releases.
     pub index: u16,
-    /// Where 2 bytes stand that are loaded after a full barrier: whether the driver wants to be told.
+    /// The host address of 2 bytes to load after a full barrier: the available flags, or used_event.
     pub seen_at: usize,
     /// The guest address of the used element's 8 bytes.
     pub element_guest: u64,
@@ -80,7 +80,7 @@ pub(crate) fn here(
     }
 }
 
-// The stores of a return, told by where they are made here; None if some have no places.
+// The stores of a push by their host addresses; None if one isn't mapped.
 fn told_stores(handle: &ChainHandle, stores: &PushStores) -> Option<FsStores>
     ensures some { IfSome result (TellsStores handle.now.regions stores.now) }
     ensures none { result ≡ None → HaveNoPlaces handle.now.regions stores.now }
@@ -112,7 +112,7 @@ fn told_stores(handle: &ChainHandle, stores: &PushStores) -> Option<FsStores>
     })
 }
 
-// Tells how a chain goes back to the core's queue.
+// Pushes a chain to the core's queue.
 fn return_kept(
     handle: &mut ChainHandle,
     queue: &mut FsQueue,
@@ -134,7 +134,7 @@ fn return_kept(
     }
 }
 
-/// Tells how a chain goes back: the reply's front at the front of a buffer, and the stores.
+/// Returns the stores of a push, and writes the reply's front to a buffer.
 pub fn push_handle(
     handle: &mut ChainHandle,
     queue: &mut FsQueue,
@@ -170,7 +170,7 @@ fn end_kept(
     }
 }
 
-/// The stores are made: whether the driver wants to be told (1 or 0), and a status.
+/// Ends a push whose stores are made: whether to notify the driver (1 or 0), and a status.
 pub fn end_handle_push(handle: &mut ChainHandle, queue: &mut FsQueue, seen: u16) -> (u8, u32)
     ensures { EndsHandlePush handle.old queue.old seen result.0 result.1 handle.new queue.new }
 {
@@ -180,7 +180,7 @@ pub fn end_handle_push(handle: &mut ChainHandle, queue: &mut FsQueue, seen: u16)
     }
 }
 
-// Gives up a chain, or a walk, over the core's queue.
+// Drops a chain, or ends a pop, over the core's queue.
 fn drop_kept(handle: &mut ChainHandle, queue: &mut FsQueue, mut kept: QueueState) -> u32
     ensures { DropsKept handle.old queue.old kept result handle.new queue.new }
 {

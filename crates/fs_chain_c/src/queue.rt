@@ -19,25 +19,25 @@ pub struct FsQueue {
     pub used: u64,
     /// How many descriptors it has.
     pub size: u16,
-    /// Where in the available ring the next chain is taken, modulo 2^16.
+    /// The available ring position of the next pop, modulo 2^16.
     pub next_avail: u16,
-    /// Where in the used ring the next chain goes back, modulo 2^16.
+    /// The used ring position of the next push, modulo 2^16.
     pub next_used: u16,
-    /// How many chains may be out, up to its size: 0 counts as 1.
+    /// How many chains may be in flight, up to its size: 0 counts as 1.
     pub max_in_flight: u16,
-    /// The refusal that stopped it, from 2 to 8, 1 if a record tells that one did, or 0.
+    /// The refusal that stopped it, from 2 to 8; 1 if a record was of a stopped queue; or 0.
     pub stopped: u16,
-    /// Whether the stores of a return were told, and not made yet: 0 or 1.
+    /// Whether a push is under way: 0 or 1.
     pub pushing: u8,
     /// Whether VIRTIO_F_EVENT_IDX was agreed on: 0 or 1.
     pub event_index: u8,
-    /// How often it was begun anew, modulo 2^32.
+    /// How often it was reset, modulo 2^32.
     pub reset_count: u32,
-    /// How often a chain was taken or given up, modulo 2^32.
+    /// How often a chain was popped or dropped, modulo 2^32.
     pub pop_count: u32,
 }
 
-// The refusal that a number tells of a queue, if it tells one; 0 is none.
+// The refusal of a number of `stopped`, if there is one; 0 is none.
 fn stop_of(number: u16) -> Option<Option<QueueError>>
     ensures { result ≡ stop_of number }
 {
@@ -66,7 +66,7 @@ fn stop_number(stopped: &Option<QueueError>) -> u16
 }
 
 impl FsQueue {
-    /// How many chains are out.
+    /// How many chains are in flight.
     pub fn in_flight(&self) -> u16
         ensures { result ≡ chains_in_flight self.now }
     {
@@ -116,7 +116,7 @@ impl FsQueue {
         self.stopped = stop_number(&kept.stopped);
     }
 
-    /// Begins the queue anew at a position, if its numbers are a queue's then: no chain is out of it.
+    /// Resets the queue to a position, if its numbers are a queue's then: no chain of it is in flight.
     pub fn begin(&mut self, position: u16) -> bool
         ensures begun { result ≡ true
             → IsQueue (reset_to self.old position) × (self.new ≡ reset_to self.old position) }

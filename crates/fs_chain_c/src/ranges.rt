@@ -1,4 +1,4 @@
-//! Where a room's bytes stand for the guest.
+//! The guest addresses of a reply buffer.
 
 ghost use Rattle.std.specs.Prelude.{◌≡◌, ◌<◌, ◌≤◌, ◌-◌, ◌^◌, min, IfSome, None};
 ghost use Rattle.fs_chain_c.specs.Ranges.{FillsRanges, IsReplyRange, RoomEnds, TellsRanges};
@@ -17,7 +17,7 @@ pub struct FsRange {
     pub len: u64,
 }
 
-// The stretch of the room's bytes from one on, at most so many.
+// The guest range of the reply buffer's bytes from one on, at most so many.
 fn range(handle: &ChainHandle, from: u64, most: u64) -> Option<FsRange>
     requires { 0 < most }
     ensures some { IfSome result (IsReplyRange handle.now from most) }
@@ -53,7 +53,7 @@ fn fill_ranges(handle: &ChainHandle, from: u64, most: u64, ranges: &mut [FsRange
     ranges.len()
 }
 
-/// The guest's addresses of the bytes of a chain's room from one on, at most so many: how many ranges are
+/// The guest ranges of a reply buffer's bytes from one on, at most so many: how many ranges are
 /// filled.
 #[unsafe(no_mangle)]
 pub extern "C" fn pk_reply_ranges(

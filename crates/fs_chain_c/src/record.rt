@@ -129,7 +129,7 @@ fn save(
     (len, None)
 }
 
-// What is told of a record that was saved, or why it wasn't.
+// The status of a saved record.
 fn saved_status(refused: Option<ChainError>) -> u32
     ensures { result ≡ saved_status refused }
 {

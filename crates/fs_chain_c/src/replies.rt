@@ -125,7 +125,7 @@ pub extern "C" fn pk_reply_open(
     reply(alloc, chain, ticket, open_said(handle, open_flags))
 }
 
-/// Answers a call that wants data: so many bytes, which stand in the room behind the header.
+/// Answers a call with data: so many bytes, which lie in the reply buffer behind the header.
 #[unsafe(no_mangle)]
 pub extern "C" fn pk_reply_data(alloc: Global, chain: &mut FsChain, ticket: u32, len: u64) -> u32
     ensures { RepliesWith (answer.Bytes len) ticket chain.old.value result chain.new.value }
@@ -209,7 +209,7 @@ fn reply_own(handle: &mut ChainHandle, ticket: u32, len: usize) -> u32
     }
 }
 
-/// Replies so many bytes of C's own, which stand in the room from its first place on: in place of
+/// Replies so many bytes of C's own, which lie in the reply buffer from its first byte on: in place of
 /// `pk_decode`, or of an answer.
 #[unsafe(no_mangle)]
 pub extern "C" fn pk_reply_bytes(alloc: Global, chain: &mut FsChain, ticket: u32, len: u64) -> u32

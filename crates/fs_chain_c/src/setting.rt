@@ -1,4 +1,4 @@
-//! A `ChainHandle` is told its memory.
+//! Setting a handle's memory.
 
 ghost use Rattle.std.specs.Prelude.{◌≡◌, IfOk, IfErr, OnErr, OnOk, option_map};
 ghost use Rattle.fs_chain_c.specs.Handles.{GoesOver, IsNewHandle, MakesHandle, RefusesMemory, RefusesNew};
@@ -11,7 +11,7 @@ use fs_regions::GuestMap;
 use memory_requests::boxed;
 use std::alloc::Global;
 
-// The next walks go over these regions, by the device's limit.
+// Sets the regions of the next pops, and the device's limit.
 fn go_over(
     alloc: Global,
     handle: &mut ChainHandle,
@@ -31,7 +31,7 @@ fn go_over(
     }
 }
 
-/// Tells a `ChainHandle` its memory, and says a status.
+/// Sets a handle's memory, and returns a status.
 pub fn set_handle(
     alloc: Global,
     handle: &mut ChainHandle,
@@ -46,7 +46,7 @@ pub fn set_handle(
     }
 }
 
-// A new `ChainHandle` whose walks go over these regions, by the device's limit.
+// A new handle over these regions, with the device's limit.
 fn made(
     alloc: Global,
     device: &FsDevice,
@@ -69,7 +69,7 @@ fn made(
     }
 }
 
-/// A new `ChainHandle` that is told its memory, if one is made, and a status.
+/// A new handle with its memory, if one is made, and a status.
 pub fn make_handle(
     alloc: Global,
     device: &FsDevice,

@@ -1,4 +1,4 @@
-//! Where a chain's bytes stand.
+//! The host addresses of a chain's bytes.
 
 ghost use Rattle.std.specs.Prelude.{◌≡◌, ◌<◌, ◌≤◌, ◌-◌, ◌^◌, min, true, IfSome, None};
 ghost use Rattle.fs_chain.specs.Passing.{HasPassed};
@@ -11,7 +11,7 @@ use fs_chain::{ChainHandle, WindowCursor};
 #[repr(C)]
 #[derive(Clone, Copy)]
 pub struct FsWindow {
-    /// Where it stands.
+    /// Its host address.
     pub at: usize,
     /// How many bytes it has.
     pub len: usize,

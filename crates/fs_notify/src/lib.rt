@@ -2,17 +2,20 @@
 //! so that no notification of this library's queues is lost. Laws, as contracts of functions that do
 //! nothing.
 //!
-//! The model's steps of a device are those of its threads (`Act`), and of a giver of used chains (`Step`):
+//! The model's steps are those of the device's threads (`ThreadStep`), and of a giver of used chains
+//! (`NotifyStep`):
 //!
 //! | Call | Step |
 //! |---|---|
 //! | `notification_store(true)`, its store, the barrier | `Wishes`, `WishIsThere` |
 //! | `notification_store(false)`, its store | `Silences` |
-//! | `walk`: the load of the available index; a chain | `Loads`, `TakesOne` |
-//! | `walk` behind the barrier: no chain, or as many in flight as may be | `SleepsNow` |
+//! | `pop`: the load of the available index; a chain | `Loads`, `TakesOne` |
+//! | `pop` behind the barrier: no chain, or as many in flight as may be | `SleepsNow` |
 //! | `give_up` | `DropsOne` |
-//! | `begin_return`: its last store, that of the used index | `Publishes` |
-//! | `end_return`, by a load behind the barrier | `Checks`, and `Returns` |
+//! | `push`: its last store, that of the used index | `Publishes`, `Returns` |
+//! | `pushed`, with a load behind the barrier | `Checks` |
+//!
+//! The lock is held from `push` to `pushed`, so no step of another thread comes between.
 #![tactic(auto)]
 
 ghost use Rattle.fs_notify.specs.Givers.{ChecksBySeen, MachineChecks, PublishesByStore, ReturnsInOrder};
