@@ -1,11 +1,13 @@
 #!/usr/bin/env python3
-"""Plays scripts made by chance on the script program and on a plain machine, and compares what they
-print.
+"""Plays random scripts on the script program, on the handle and on a plain machine, and compares
+what the three print.
 
-usage: fuzz.py SECONDS [SEED], with the path of a built program in PROGRAM (./run --fuzz has one).
-Status 0 if nothing differed, 1 if something did, 2 if it couldn't begin."""
+usage: fuzz.py SECONDS [SEED], with the paths of built programs in PROGRAM and, if the handle is to
+be played, in HANDLE (./run --fuzz has both). Status 0 if nothing differed, 1 if something did, 2 if
+it couldn't begin."""
 
 import os
+import re
 import sys
 import time
 from collections import Counter
@@ -19,17 +21,36 @@ from scripts import made, stored
 from shrink import shrunk
 
 FOLDER = Path(__file__).resolve().parent / "out"
-# A run of so many seconds plays the scripts that take a while: of an index that wraps, and of kicks
-# that cost much.
+# A run of so many seconds plays the slow scripts, too: of an index that wraps, and of kicks that
+# cost much.
 SECONDS_TO_WRAP = 200
 MOST_DIFFERENCES = 10
+# A script ends with this status and line if it meets a command that the device lacks.
+LACKING = 4
+LAST_LINE = re.compile(rb"line (\d+): not on this device\n\Z")
+
+
+class Device:
+    """A device that is compared with the plain machine."""
+
+    def __init__(self, name, path):
+        self.name = name
+        self.program = Built(path)
+
+    def agrees(self, want, found):
+        """Whether it printed the plain machine's lines, at least up to a command that it lacks."""
+        printed, status = found
+        if status != LACKING:
+            return want[:2] == found
+        last = LAST_LINE.search(printed)
+        return last is not None and want[0].startswith(printed[:last.start()])
 
 
 class Fuzzer:
     """What was tried and what differed."""
 
-    def __init__(self, program, seed, end):
-        self.program = program
+    def __init__(self, devices, seed, end):
+        self.devices = devices
         self.seed = seed
         self.end = end
         self.coverage = Counter()
@@ -42,12 +63,12 @@ class Fuzzer:
         so that one can be played again."""
         store = stored()
         fixed = [(f"stored script {index}", script) for index, script in enumerate(store)]
-        fixed += [("a script of 1 MiB", long_script(0)),
-            ("a script that is too long", long_script(1))]
+        fixed.append(("a script of 1 MiB", long_script(0)))
+        fixed.append(("a script that is too long", long_script(1)))
         if self.end - time.monotonic() > SECONDS_TO_WRAP:
-            fixed += [("a script that wraps an index", wraps()),
-                ("a script of kicks that cost much", heavy())]
-        size = self.program.batch
+            fixed.append(("a script that wraps an index", wraps()))
+            fixed.append(("a script of kicks that cost much", heavy()))
+        size = Built.batch
         while fixed or time.monotonic() < self.end and self.differences < MOST_DIFFERENCES:
             played, fixed = fixed[:size - 1], fixed[size - 1:]
             seeds = range(self.seed, self.seed + size - len(played))
@@ -55,17 +76,22 @@ class Fuzzer:
             self.seed = seeds.stop
 
     def compare(self, named):
-        """Plays scripts on both, and tells each difference."""
-        started = self.program.start([script for _, script in named])
-        wanted = [self.plain(script) for _, script in named]
-        for (name, script), want, found in zip(named, wanted, self.program.results(started)):
+        """Plays scripts on all, and tells each difference."""
+        scripts = [script for _, script in named]
+        started = [device.program.start(scripts) for device in self.devices]
+        wanted = [self.plain(script) for script in scripts]
+        pairs = zip(self.devices, started)
+        found = [device.program.results(processes) for device, processes in pairs]
+        for index, ((name, script), want) in enumerate(zip(named, wanted)):
             if want is None:
                 self.skipped += 1
                 continue
             self.scripts += 1
             self.coverage += want[2]
-            if want[:2] != found:
-                self.tell(name, script)
+            for device, results in zip(self.devices, found):
+                self.coverage[device.name, played(script, *results[index])] += 1
+                if not device.agrees(want, results[index]):
+                    self.tell(name, script, device)
 
     def plain(self, script):
         """What the plain machine prints, its status and its coverage, or None where it would take
@@ -75,29 +101,31 @@ class Fuzzer:
         except TooMuchWork:
             return None
 
-    def differ(self, scripts):
-        """For each script whether the two differ."""
-        started = self.program.start(scripts)
+    def differ(self, device, scripts):
+        """For each script whether the device and the plain machine differ."""
+        started = device.program.start(scripts)
         wanted = [self.plain(script) for script in scripts]
-        return [want is not None and want[:2] != found
-            for want, found in zip(wanted, self.program.results(started))]
+        results = device.program.results(started)
+        pairs = zip(wanted, results)
+        return [want is not None and not device.agrees(want, found) for want, found in pairs]
 
-    def tell(self, name, script):
+    def tell(self, name, script, device):
         """Shrinks a script and tells what differs."""
         self.differences += 1
-        say(f"\nDIFFERENCE: {name}")
-        small = shrunk(script, self.differ, self.program.batch, self.program.seconds_to_shrink)
+        say(f"\nDIFFERENCE of {device.name}: {name}")
+        differs = lambda scripts: self.differ(device, scripts)
+        small = shrunk(script, differs, Built.batch, Built.seconds_to_shrink)
         FOLDER.mkdir(exist_ok=True)
-        path = FOLDER / (name.replace(" ", "_") + ".fs")
+        path = FOLDER / f"{device.name} {name}.fs".replace(" ", "_")
         path.write_bytes(small)
-        (found,) = self.program.results(self.program.start([small]))
+        (found,) = device.program.results(device.program.start([small]))
         want = self.plain(small)
         say(f"  the smallest script is {path}")
-        say(f"  the program ends with {found[1]}, the plain machine with {want[1]}")
+        say(f"  {device.name} ends with {found[1]}, the plain machine with {want[1]}")
         for line, (one, other) in enumerate(zip_lines(found[0], want[0]), 1):
             if one != other:
-                say(f"  in line {line} the program prints\n    {one}\n  and the plain "
-                    f"machine\n    {other}")
+                say(f"  in line {line} {device.name} prints\n    {one}")
+                say(f"  and the plain machine\n    {other}")
                 break
 
     def report(self):
@@ -106,21 +134,30 @@ class Fuzzer:
         for (kind, name), count in self.coverage.items():
             kinds.setdefault(kind, {})[name] = count
         for kind in sorted(kinds):
-            counts = sorted(kinds[kind].items(),
-                key=lambda pair: (isinstance(pair[0], str), pair[0]))
+            by_name = lambda pair: (isinstance(pair[0], str), pair[0])
+            counts = sorted(kinds[kind].items(), key=by_name)
             say(f"{kind}: " + ", ".join(f"{name} {count}" for name, count in counts))
         commands = sum(kinds.get("command", {}).values())
         say(f"scripts {self.scripts}, commands {commands}, left out as too long {self.skipped}, "
             f"differences {self.differences}")
 
 
+def played(script, printed, status):
+    """How much of a script was played, for the coverage."""
+    last = LAST_LINE.search(printed) if status == LACKING else None
+    if last is None:
+        return "whole scripts"
+    return "up to " + script.split(b"\n")[int(last[1]) - 1].split(b" ")[0].decode()
+
+
 def zip_lines(first, second):
     """Lines side by side, as long as one of the two has some."""
-    ones, others = first.decode(errors="replace").split("\n"), second.decode(
-        errors="replace").split("\n")
+    ones = first.decode(errors="replace").split("\n")
+    others = second.decode(errors="replace").split("\n")
     longest = max(len(ones), len(others))
-    return zip(ones + ["(nothing)"] * (longest - len(ones)),
-        others + ["(nothing)"] * (longest - len(others)))
+    ones += ["(nothing)"] * (longest - len(ones))
+    others += ["(nothing)"] * (longest - len(others))
+    return zip(ones, others)
 
 
 def say(text):
@@ -138,7 +175,9 @@ def main(arguments):
         print(__doc__, file=sys.stderr)
         return 2
     say(f"seed {seed}")
-    fuzzer = Fuzzer(Built(os.environ["PROGRAM"]), seed, time.monotonic() + seconds)
+    named = [("the program", os.environ["PROGRAM"]), ("the handle", os.environ.get("HANDLE"))]
+    devices = [Device(name, path) for name, path in named if path]
+    fuzzer = Fuzzer(devices, seed, time.monotonic() + seconds)
     try:
         fuzzer.run()
     except KeyboardInterrupt:

@@ -35,7 +35,9 @@ class Guest:
         self.rng = rng
         self.lines = []
         self.base = rng.choice(BASES)
-        self.iommu = rng.random() < 0.4
+        # The handle has no IOMMU, and regions of whole pages.
+        self.for_handle = rng.random() < 0.4
+        self.iommu = not self.for_handle and rng.random() < 0.6
         self.start = self.base
         if self.iommu:
             self.start = rng.choice([0, 0x1000, 2**20, 2**64 - SPAN - 0x1000])
@@ -118,8 +120,9 @@ class Guest:
         """Beginnings and ends of parts of the memory, which has so many cuts, at pages or
         anywhere."""
         rng = self.rng
-        cuts = {rng.choice([rng.randrange(1, SPAN), 0x1000 * rng.randint(1, SPAN // 0x1000 - 1)])
-            for _ in range(count)}
+        anywhere, pages = range(1, SPAN), range(0x1000, SPAN, 0x1000)
+        kinds = [pages] if self.for_handle else [anywhere, pages]
+        cuts = {rng.choice(rng.choice(kinds)) for _ in range(count)}
         places = sorted({0, SPAN, *cuts})
         return list(zip(places, places[1:]))
 
@@ -152,7 +155,7 @@ class Guest:
         parts = self.cut_span(rng.choice([0, 0, 1, 1, 2, 3]))
         if self.chance(0.15):
             rng.shuffle(parts)
-        hole = self.somewhere() - self.start if self.chance(0.06) else None
+        hole = self.somewhere() - self.start if not self.for_handle and self.chance(0.06) else None
         for begin, end in parts:
             if self.chance(0.02):
                 continue
@@ -174,7 +177,7 @@ class Guest:
         permissions."""
         rng = self.rng
         if not self.iommu:
-            if self.chance(0.1):
+            if not self.for_handle and self.chance(0.1):
                 self.change_mappings()
             return
         pages = SPAN // 0x1000
@@ -371,8 +374,9 @@ class Guest:
     def disturb(self):
         """Something that isn't a kick."""
         rng = self.rng
-        rng.choice([self.change_regions, self.change_mappings, self.overwrite, self.other,
-            self.other, self.overwrite])()
+        change = self.change_regions if self.for_handle else self.change_mappings
+        kinds = [self.change_regions, change, self.overwrite, self.overwrite]
+        rng.choice([*kinds, self.other, self.other])()
 
     def change_regions(self):
         """Regions come, go, and come back elsewhere."""
@@ -380,6 +384,10 @@ class Guest:
         kind = rng.randrange(4)
         base, size = rng.choice(self.regions or [(self.base, SPAN)])
         place = rng.choice([self.base + SPAN, base + size, base, number(rng)]) % 2**64
+        sizes = [0, 1, 2, 0x800, 0x1000, 0x1001, 2**63, 2**64 - 1]
+        if self.for_handle:
+            place = place // 0x1000 * 0x1000
+            sizes = [0, 0x1000, 0x2000, 0x5000, 2**63, 2**64 - 1]
         if kind == 0:
             self.say(f"unregion {base:#x} {size + rng.choice([0, 0, 0, 1]):#x}")
             if self.chance(0.7) and self.blocks:
@@ -388,8 +396,7 @@ class Guest:
         elif kind == 1:
             self.say(f"alias {place:#x} {rng.choice([0, 0, 1, self.blocks, number(rng)])}")
         elif kind == 2:
-            size = rng.choice([0, 1, 2, 0x800, 0x1000, 0x1001, 2**63, 2**64 - 1])
-            self.say(f"region {place:#x} {size:#x}")
+            self.say(f"region {place:#x} {rng.choice(sizes):#x}")
         else:
             self.say(f"unregion {number(rng):#x} {number(rng):#x}")
 

@@ -32,8 +32,9 @@ class Built:
         source, printed = tempfile.TemporaryFile(), tempfile.TemporaryFile()
         source.write(script)
         source.seek(0)
-        return subprocess.Popen([self.path], stdin=source, stdout=printed,
-            stderr=subprocess.DEVNULL, preexec_fn=limit), printed
+        process = subprocess.Popen(
+            [self.path], stdin=source, stdout=printed, stderr=subprocess.DEVNULL, preexec_fn=limit)
+        return process, printed
 
     def results(self, started):
         """What each script printed, and its status."""

@@ -22,31 +22,9 @@ SHORT_LINES = [b"move", b"harvest", b"iommu on", b"iommu off", b"kick 0 1", b"ki
 
 
 def stored():
-    """Each script that the repository has: its examples, those of this folder, the program's own,
-    those of its tests."""
-    found = [path.read_bytes() for path in sorted(ROOT.glob("examples/*.fs"))]
-    found += [path.read_bytes() for path in sorted(ROOT.glob("tools/fuzz/worked/*.fs"))]
-    found.append((ROOT / "crates/virtio_fs_run/stdin").read_bytes())
-    tests = ROOT / "tests/machine_tests/src/program"
-    offered = transcripts((tests / "offered.rt.txt").read_bytes())[0]
-    for path in sorted(tests.glob("*.rt.txt")):
-        for lines in transcripts(path.read_bytes()):
-            begins = any(line.startswith(b"queue") for line in lines[:3])
-            found.append(b"\n".join(lines if begins else offered + lines) + b"\n")
-    return [script for script in found if is_playable(script)]
-
-
-def transcripts(text):
-    """The scripts of a file of transcripts, line by line: what stands behind `> `, up to a status
-    or the text's end."""
-    found, lines = [], []
-    for line in text.split(b"\n"):
-        if line.startswith(b"> "):
-            lines.append(line[2:])
-        elif lines and (line.startswith(b"status ") or line.startswith(b'"')):
-            found.append(lines)
-            lines = []
-    return found
+    """Each script that the repository has: its examples, and the vectors."""
+    paths = [*sorted(ROOT.glob("examples/*.fs")), *sorted(ROOT.glob("vectors/scripts/*.fs"))]
+    return [script for script in (path.read_bytes() for path in paths) if is_playable(script)]
 
 
 def is_playable(script):

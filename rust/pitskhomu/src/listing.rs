@@ -16,6 +16,8 @@ pub struct Listing<'a> {
     context: &'a Context,
     directory: Node,
     with_nodes: bool,
+    /// How many bytes of entries the guest asked for.
+    asked: u64,
     used: usize,
     ended: bool,
 }
@@ -40,8 +42,10 @@ impl<'a> Listing<'a> {
         context: &'a Context,
         directory: Node,
         with_nodes: bool,
+        asked: u64,
     ) -> Listing<'a> {
-        Listing { chain, list, file_system, context, directory, with_nodes, used: 0, ended: false }
+        let (used, ended) = (0, false);
+        Listing { chain, list, file_system, context, directory, with_nodes, asked, used, ended }
     }
 
     /// How many bytes of entries may be put in yet. One takes 24 and its name, with nodes 152 and
@@ -63,8 +67,8 @@ impl<'a> Listing<'a> {
     /// nodes it is looked up first by `FileSystem::lookup`, but `.` and `..` aren't; what the guest
     /// isn't told after all is forgotten. Errors, which `readdir` answers in its turn: those of the
     /// look-up, `EINVAL` (the first entry doesn't fit: no entry at all would end the directory),
-    /// `ENAMETOOLONG` (a name that is empty or longer than 255 bytes), `EIO` (the room is shorter
-    /// than the guest asked for, or the name has a slash).
+    /// `ENAMETOOLONG` (a name that is empty or longer than 255 bytes), `EIO` (the entry fits the
+    /// size that the guest asked for, and the room is shorter; or the name has a slash).
     pub fn add(&mut self, entry: DirectoryEntry<'_>) -> Answer<bool> {
         let name = entry.name.to_bytes();
         if name.is_empty() || name.len() > NAME_MAX {
@@ -73,7 +77,11 @@ impl<'a> Listing<'a> {
         let len = entry_len(name.len(), self.with_nodes);
         if len > self.left() {
             self.ended = true;
-            return if self.used == 0 { Err(Errno::EINVAL) } else { Ok(false) };
+            return match self.asked.saturating_sub(self.used as u64) {
+                asked if len as u64 <= asked => Err(Errno::EIO),
+                _ if self.used == 0 => Err(Errno::EINVAL),
+                _ => Ok(false),
+            };
         }
         let added =
             if self.with_nodes { self.add_with_node(&entry)? } else { self.add_plain(&entry)? };

@@ -83,8 +83,19 @@ fn a_node_that_is_not_told_is_not_looked_up() {
     let data = guest.ask(&recorder, READDIRPLUS, 5, read(319), 16 + 319).data();
     assert_eq!(entries(&data, 128).len(), 1);
     assert_eq!(recorder.taken()[1..], [r#"lookup (Node(5), "a")"#]);
-    // The room is shorter than the guest asked for: what was looked up is forgotten.
-    assert_eq!(guest.ask(&recorder, READDIRPLUS, 5, read(160), 160), Reply::Error(22));
+}
+
+#[test]
+fn an_entry_that_was_asked_for_and_has_no_room() {
+    let (mut guest, recorder) = (Guest::new(), listing(vec![c(b"a\0"), c(b"b\0")]));
+    // The first entry fits the size, and the room is shorter. virtiofsd answers EIO, too.
+    for (opcode, len) in [(READDIR, 32), (READDIRPLUS, 160)] {
+        assert_eq!(guest.ask(&recorder, opcode, 5, read(len), 16 + len - 1), Reply::Error(5));
+    }
+    // The second: READDIR fails; by READDIRPLUS the guest gets the entries whose nodes it holds.
+    assert_eq!(guest.ask(&recorder, READDIR, 5, read(64), 64), Reply::Error(5));
+    let data = guest.ask(&recorder, READDIRPLUS, 5, read(320), 320).data();
+    assert_eq!(entries(&data, 128).len(), 1);
 }
 
 /// Lists two names and fails then, or fails at the look-up of the second.

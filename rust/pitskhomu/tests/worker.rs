@@ -282,6 +282,26 @@ fn answers_without_room_are_taken_back() {
     }
 }
 
+/// The library replies ENOSYS to these opcodes by itself. The wrapper reports that such a reply
+/// doesn't fit.
+#[test]
+fn a_reply_without_a_call_that_has_no_room() {
+    let (mut guest, recorder) = (Guest::new(), Recorder::default());
+    for opcode in [31, 32, 33, 37, 39, 40, 41, 51] {
+        for (room, found) in [(15, (Reply::None, true)), (16, (Reply::Error(38), false))] {
+            guest.offer_request(&request(opcode, 5, &[0; 80]), room);
+            let (served, reply) = guest.serve(&recorder);
+            assert_eq!((reply, served.had_no_room), found, "opcode {opcode}, room {room}");
+            assert_eq!(served.request_fault, None);
+        }
+    }
+    // INTERRUPT has no reply, and needs no room.
+    guest.offer_request(&request(36, 5, &[0; 8]), 0);
+    let (served, reply) = guest.serve(&recorder);
+    assert_eq!((reply, served.had_no_room), (Reply::None, false));
+    assert!(recorder.taken().is_empty());
+}
+
 /// A file system that panics, in what each test says.
 struct Panics(&'static str);
 

@@ -1,0 +1,189 @@
+//! The commands of a script, and the reasons why a line is no command.
+use pitskhomu::QueueLayout;
+use std::fmt;
+
+/// A command of a script.
+#[derive(Debug)]
+pub enum Command {
+    Queue(QueueLayout),
+    Region {
+        base: u64,
+        size: u64,
+    },
+    Alias {
+        base: u64,
+        block: u64,
+    },
+    Unregion {
+        base: u64,
+        size: u64,
+    },
+    Write {
+        address: u64,
+        bytes: Vec<u8>,
+    },
+    Read {
+        address: u64,
+        len: u64,
+    },
+    /// `map`, `unmap` and `iommu on`.
+    Iommu,
+    IommuOff,
+    Kick {
+        queue: u64,
+        most: u16,
+    },
+    Reset {
+        queue: u64,
+        layout: QueueLayout,
+    },
+    Move,
+    Harvest,
+}
+
+/// Why a line is no command, or no command that may stand there.
+#[derive(Clone, Copy, Debug, PartialEq, Eq)]
+pub enum WrongLine {
+    UnknownCommand,
+    MissingWord,
+    ExtraWord,
+    ExtraBlank,
+    CarriageReturn,
+    NotANumber,
+    BigNumber,
+    BigShort,
+    NotBytes,
+    NotPermissions,
+    NotASwitch,
+    NoQueue,
+    LateQueue,
+    ManyQueues,
+}
+
+impl fmt::Display for WrongLine {
+    fn fmt(&self, f: &mut fmt::Formatter<'_>) -> fmt::Result {
+        f.write_str(match self {
+            WrongLine::UnknownCommand => "there is no such command",
+            WrongLine::MissingWord => "a word is missing at the end",
+            WrongLine::ExtraWord => "there is a word too many",
+            WrongLine::ExtraBlank => "a blank stands at an end of the line, or behind another",
+            WrongLine::CarriageReturn => "a carriage return stands behind a word",
+            WrongLine::NotANumber => "a word that has to be a number isn't one",
+            WrongLine::BigNumber => "a number doesn't fit 64 bits",
+            WrongLine::BigShort => "a number that has to fit 16 bits doesn't",
+            WrongLine::NotBytes => "a word isn't whole bytes in hexadecimal digits",
+            WrongLine::NotPermissions => "what a mapping allows isn't none, r, w or rw",
+            WrongLine::NotASwitch => "a switch isn't on or off",
+            WrongLine::NoQueue => "there is no queue yet: lines of queue come first",
+            WrongLine::LateQueue => "no queue can be added once another command has run",
+            WrongLine::ManyQueues => "there are 64 queues already",
+        })
+    }
+}
+
+/// The words of a line that are left; `None` after the last.
+struct Words<'a>(Option<&'a [u8]>);
+
+impl<'a> Words<'a> {
+    fn word(&mut self) -> Result<&'a [u8], WrongLine> {
+        let rest = self.0.ok_or(WrongLine::MissingWord)?;
+        let mut parts = rest.splitn(2, |&byte| byte == b' ');
+        let word = parts.next().unwrap_or_default();
+        self.0 = parts.next();
+        match word.last() {
+            None => Err(WrongLine::ExtraBlank),
+            Some(b'\r') => Err(WrongLine::CarriageReturn),
+            Some(_) => Ok(word),
+        }
+    }
+
+    fn number(&mut self) -> Result<u64, WrongLine> {
+        let word = self.word()?;
+        let (digits, radix) = match word.strip_prefix(b"0x") {
+            Some(digits) => (digits, 16),
+            None => (word, 10),
+        };
+        let digit = |&byte: &u8| char::from(byte).to_digit(radix).map(u64::from);
+        let digits: Option<Vec<u64>> = digits.iter().map(digit).collect();
+        let digits = digits.filter(|digits| !digits.is_empty()).ok_or(WrongLine::NotANumber)?;
+        let add = |value: u64, digit| value.checked_mul(radix.into())?.checked_add(digit);
+        digits.into_iter().try_fold(0, add).ok_or(WrongLine::BigNumber)
+    }
+
+    fn short(&mut self) -> Result<u16, WrongLine> {
+        self.number()?.try_into().map_err(|_| WrongLine::BigShort)
+    }
+
+    fn layout(&mut self) -> Result<QueueLayout, WrongLine> {
+        let size = self.short()?;
+        let (descriptors, available, used) = (self.number()?, self.number()?, self.number()?);
+        Ok(QueueLayout { size, descriptors, available, used })
+    }
+
+    fn permissions(&mut self) -> Result<(), WrongLine> {
+        match self.word()? {
+            b"none" | b"r" | b"w" | b"rw" => Ok(()),
+            _ => Err(WrongLine::NotPermissions),
+        }
+    }
+
+    fn end(&mut self) -> Result<(), WrongLine> {
+        match self.word() {
+            Err(WrongLine::MissingWord) => Ok(()),
+            Err(wrong) => Err(wrong),
+            Ok(_) => Err(WrongLine::ExtraWord),
+        }
+    }
+
+    fn command(&mut self) -> Result<Command, WrongLine> {
+        let name = self.word()?;
+        match name {
+            b"queue" => Ok(Command::Queue(self.layout()?)),
+            b"region" => Ok(Command::Region { base: self.number()?, size: self.number()? }),
+            b"alias" => Ok(Command::Alias { base: self.number()?, block: self.number()? }),
+            b"unregion" => Ok(Command::Unregion { base: self.number()?, size: self.number()? }),
+            b"write" => self.write(),
+            b"read" => Ok(Command::Read { address: self.number()?, len: self.number()? }),
+            b"map" => {
+                let _mapping = (self.number()?, self.number()?, self.number()?);
+                self.permissions().map(|()| Command::Iommu)
+            }
+            b"unmap" => {
+                let _range = (self.number()?, self.number()?);
+                Ok(Command::Iommu)
+            }
+            b"iommu" => match self.word()? {
+                b"on" => Ok(Command::Iommu),
+                b"off" => Ok(Command::IommuOff),
+                _ => Err(WrongLine::NotASwitch),
+            },
+            b"kick" => Ok(Command::Kick { queue: self.number()?, most: self.short()? }),
+            b"reset" => Ok(Command::Reset { queue: self.number()?, layout: self.layout()? }),
+            b"move" => Ok(Command::Move),
+            b"harvest" => Ok(Command::Harvest),
+            _ => Err(WrongLine::UnknownCommand),
+        }
+    }
+
+    /// The rest of a `write` line. Its bytes are looked at once the line is seen to end there.
+    fn write(&mut self) -> Result<Command, WrongLine> {
+        let (address, word) = (self.number()?, self.word()?);
+        self.end()?;
+        let digits: Option<Vec<u32>> =
+            word.iter().map(|&byte| char::from(byte).to_digit(16)).collect();
+        let digits = digits.filter(|digits| digits.len() % 2 == 0).ok_or(WrongLine::NotBytes)?;
+        let bytes = digits.chunks_exact(2).map(|pair| (pair[0] << 4 | pair[1]) as u8).collect();
+        Ok(Command::Write { address, bytes })
+    }
+}
+
+/// The command of a line. A line without a byte and a comment are none.
+pub fn parse(line: &[u8]) -> Result<Option<Command>, WrongLine> {
+    if matches!(line.first(), None | Some(b'#')) {
+        return Ok(None);
+    }
+    let mut words = Words(Some(line));
+    let command = words.command()?;
+    words.end()?;
+    Ok(Some(command))
+}

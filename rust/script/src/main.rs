@@ -1,0 +1,75 @@
+//! Plays a script (docs/SCRIPT.md) on the handle: on the C library, through the crate `pitskhomu`.
+//! It prints the same lines as the script program, which is a device of its own. vectors/README.md
+//! lists the few commands that the handle can't play; there the script ends with status 4.
+//!
+//! This program is the VMM and the guest. It keeps the guest's memory, marks the pages that are
+//! written, and has the small file system of the script language. The library reads the queues
+//! and the requests, and makes the replies.
+#![forbid(unsafe_code)]
+mod files;
+mod halt;
+mod line;
+mod machine;
+mod memory;
+mod session;
+
+use halt::Halt;
+use session::Session;
+use std::env;
+use std::io::{self, BufWriter, Read, Write};
+use std::process::ExitCode;
+
+/// The most bytes of a script.
+const SCRIPT_MAX: usize = 1 << 20;
+
+/// Reads a whole script, if it isn't too long.
+fn read_script(reader: &mut dyn Read) -> Result<Vec<u8>, Halt> {
+    let mut script = Vec::new();
+    let mut buffer = [0; 4096];
+    while script.len() <= SCRIPT_MAX {
+        match reader.read(&mut buffer)? {
+            0 => return Ok(script),
+            count => script.extend_from_slice(&buffer[..count]),
+        }
+    }
+    Err(Halt::TooLong)
+}
+
+fn play(reader: &mut dyn Read, writer: &mut dyn Write) -> Result<(), Halt> {
+    let script = read_script(reader)?;
+    let mut session = Session::new();
+    for (number, text) in (1..).zip(script.split(|&byte| byte == b'\n')) {
+        session.run(number, text, writer)?;
+    }
+    Ok(())
+}
+
+/// Plays the script, and prints why it ended early, if it did. Returns the program's status.
+fn play_and_report(reader: &mut dyn Read, writer: &mut dyn Write) -> u8 {
+    let mut writer = BufWriter::new(writer);
+    let ended = match play(reader, &mut writer) {
+        Err(halt) => match halt.print(&mut writer) {
+            Ok(()) => Err(halt),
+            Err(error) => Err(error.into()),
+        },
+        Ok(()) => Ok(()),
+    };
+    match writer.flush().map_err(Halt::from).and(ended) {
+        Ok(()) => 0,
+        Err(halt) => {
+            if let Some(reason) = halt.reason() {
+                eprintln!("{reason}");
+            }
+            halt.status()
+        }
+    }
+}
+
+fn main() -> ExitCode {
+    let (stdin, stdout) = (io::stdin(), io::stdout());
+    if env::args_os().len() > 1 {
+        let printed = writeln!(stdout.lock(), "usage: pitskhomu-script < script");
+        return ExitCode::from(if printed.is_ok() { 1 } else { 3 });
+    }
+    ExitCode::from(play_and_report(&mut stdin.lock(), &mut stdout.lock()))
+}

@@ -1,0 +1,240 @@
+//! The guest's memory: blocks, regions over them, and marks of the pages that were written.
+use pitskhomu::{GuestMemory, Region};
+use std::cell::{Cell, RefCell};
+use std::collections::{BTreeMap, BTreeSet};
+use std::ops::Range;
+
+/// How many bytes a page has.
+const PAGE: usize = 4096;
+
+/// Why a command is refused, by the script language's number.
+#[derive(Clone, Copy, Debug)]
+pub enum Refusal {
+    NoPlace = 1,
+    EmptyBlock = 2,
+    UnknownBlock = 3,
+    BadRegion = 4,
+    Overlap = 5,
+    NoRegion = 6,
+    NoSuchQueue = 8,
+    OutOfMemory = 9,
+}
+
+/// Bytes that a guest may see as its memory. The library knows byte k by the number `host` + k.
+struct Block {
+    host: usize,
+    bytes: Vec<Cell<u8>>,
+    marked: RefCell<BTreeSet<usize>>,
+}
+
+impl Block {
+    /// Zeros, with no page marked; `None` if the allocation fails.
+    fn new(host: usize, len: u64) -> Option<Block> {
+        let mut bytes = Vec::new();
+        let len = usize::try_from(len).ok()?;
+        bytes.try_reserve_exact(len).ok()?;
+        bytes.resize(len, Cell::new(0));
+        Some(Block { host, bytes, marked: RefCell::default() })
+    }
+
+    /// The first page's number behind the block, for the next one.
+    fn end(&self) -> usize {
+        self.host + (self.bytes.len() + PAGE - 1) / PAGE * PAGE
+    }
+
+    fn load(&self, from: usize, bytes: &mut [u8]) {
+        let cells = &self.bytes[from..from + bytes.len()];
+        bytes.iter_mut().zip(cells).for_each(|(byte, cell)| *byte = cell.get());
+    }
+
+    fn store(&self, from: usize, bytes: &[u8]) {
+        let cells = &self.bytes[from..from + bytes.len()];
+        cells.iter().zip(bytes).for_each(|(cell, &byte)| cell.set(byte));
+        if let Some(last) = bytes.len().checked_sub(1) {
+            self.marked.borrow_mut().extend(from / PAGE..=(from + last) / PAGE);
+        }
+    }
+}
+
+/// A region without its first address.
+#[derive(Clone, Copy)]
+struct Mapping {
+    size: u64,
+    block: usize,
+}
+
+/// A part of a range of guest addresses that lies in one region.
+struct Part {
+    block: usize,
+    offset: usize,
+    len: usize,
+}
+
+#[derive(Default)]
+pub struct Memory {
+    blocks: Vec<Block>,
+    regions: BTreeMap<u64, Mapping>,
+    /// What the device stored since `begin_step`: ranges of the library's numbers, in order.
+    stored: RefCell<Vec<Range<usize>>>,
+}
+
+impl Memory {
+    /// Makes a block of zeros, and returns its number.
+    pub fn new_block(&mut self, size: u64) -> Result<usize, Refusal> {
+        if size == 0 {
+            return Err(Refusal::EmptyBlock);
+        }
+        let host = self.blocks.last().map_or(PAGE, Block::end);
+        self.blocks.push(Block::new(host, size).ok_or(Refusal::OutOfMemory)?);
+        Ok(self.blocks.len() - 1)
+    }
+
+    /// Adds a region over a whole block.
+    pub fn insert(&mut self, base: u64, block: u64) -> Result<(), Refusal> {
+        let block = usize::try_from(block).map_err(|_| Refusal::UnknownBlock)?;
+        let size = self.blocks.get(block).ok_or(Refusal::UnknownBlock)?.bytes.len() as u64;
+        let last = base.checked_add(size - 1).ok_or(Refusal::BadRegion)?;
+        if let Some((&other, mapping)) = self.regions.range(..=last).next_back() {
+            if other + (mapping.size - 1) >= base {
+                return Err(Refusal::Overlap);
+            }
+        }
+        self.regions.insert(base, Mapping { size, block });
+        Ok(())
+    }
+
+    /// Removes a region. Its block stays.
+    pub fn remove(&mut self, base: u64, size: u64) -> Result<(), Refusal> {
+        match self.regions.get(&base) {
+            Some(mapping) if mapping.size == size => {
+                self.regions.remove(&base);
+                Ok(())
+            }
+            _ => Err(Refusal::NoRegion),
+        }
+    }
+
+    /// The regions as the library takes them.
+    pub fn regions(&self) -> Vec<Region> {
+        let region = |(&guest, mapping): (&u64, &Mapping)| {
+            let host = self.blocks[mapping.block].host;
+            Region { guest, len: mapping.size, host }
+        };
+        self.regions.iter().map(region).collect()
+    }
+
+    /// The bytes of a range of guest addresses, region by region.
+    fn parts(&self, address: u64, len: u64) -> Result<Vec<Part>, Refusal> {
+        let end = address.checked_add(len).ok_or(Refusal::NoPlace)?;
+        let (mut at, mut parts) = (address, Vec::new());
+        while at < end {
+            let (&base, mapping) = self.regions.range(..=at).next_back().ok_or(Refusal::NoPlace)?;
+            let offset = at - base;
+            let rest = mapping.size.checked_sub(offset).filter(|&rest| rest > 0);
+            let len = rest.ok_or(Refusal::NoPlace)?.min(end - at);
+            parts.push(Part { block: mapping.block, offset: offset as usize, len: len as usize });
+            at += len;
+        }
+        Ok(parts)
+    }
+
+    /// The guest writes.
+    pub fn guest_write(&self, address: u64, bytes: &[u8]) -> Result<(), Refusal> {
+        let mut rest = bytes;
+        for part in self.parts(address, bytes.len() as u64)? {
+            let (now, behind) = rest.split_at(part.len);
+            self.blocks[part.block].store(part.offset, now);
+            rest = behind;
+        }
+        Ok(())
+    }
+
+    /// The guest reads.
+    pub fn guest_read(&self, address: u64, len: u64) -> Result<Vec<u8>, Refusal> {
+        let parts = self.parts(address, len)?;
+        let mut bytes = vec![0; parts.iter().map(|part| part.len).sum()];
+        let mut rest = &mut bytes[..];
+        for part in parts {
+            let (now, behind) = rest.split_at_mut(part.len);
+            self.blocks[part.block].load(part.offset, now);
+            rest = behind;
+        }
+        Ok(bytes)
+    }
+
+    /// The marked pages, each as its block's number and its own. Their marks are cleared.
+    pub fn harvest(&mut self) -> Vec<(usize, usize)> {
+        let pages = |(number, block): (usize, &mut Block)| -> Vec<_> {
+            block.marked.take().into_iter().map(|page| (number, page)).collect()
+        };
+        self.blocks.iter_mut().enumerate().flat_map(pages).collect()
+    }
+
+    /// The same bytes and regions on another host, with no page marked.
+    pub fn moved(&self) -> Option<Memory> {
+        let mut moved = Memory { regions: self.regions.clone(), ..Memory::default() };
+        for block in &self.blocks {
+            let other = Block::new(block.host, block.bytes.len() as u64)?;
+            other.bytes.iter().zip(&block.bytes).for_each(|(to, from)| to.set(from.get()));
+            moved.blocks.push(other);
+        }
+        Some(moved)
+    }
+
+    /// From here on the device's stores are kept in order.
+    pub fn begin_step(&self) {
+        self.stored.borrow_mut().clear();
+    }
+
+    /// Whether two of the reply's parts share a byte, of which `data_len` bytes were stored first
+    /// and then `header_len`.
+    pub fn header_meets_data(&self, data_len: usize, header_len: usize) -> bool {
+        let stored = self.stored.borrow();
+        let (mut left, mut data) = (data_len + header_len, Vec::new());
+        for range in stored.iter() {
+            if left <= header_len {
+                let meets =
+                    |other: &Range<usize>| range.start < other.end && other.start < range.end;
+                if data.iter().any(meets) {
+                    return true;
+                }
+            } else {
+                data.push(range.clone());
+            }
+            left = left.saturating_sub(range.len());
+            if left == 0 {
+                break;
+            }
+        }
+        false
+    }
+
+    /// The block of a number of the library, and the offset there.
+    fn place(&self, at: usize) -> (&Block, usize) {
+        let block = &self.blocks[self.blocks.partition_point(|block| block.host <= at) - 1];
+        (block, at - block.host)
+    }
+}
+
+impl GuestMemory for Memory {
+    fn load(&self, at: usize, bytes: &mut [u8]) {
+        let (block, offset) = self.place(at);
+        block.load(offset, bytes);
+    }
+
+    fn load_u16(&self, at: usize) -> u16 {
+        let mut bytes = [0; 2];
+        self.load(at, &mut bytes);
+        u16::from_le_bytes(bytes)
+    }
+
+    fn store(&self, at: usize, bytes: &[u8]) {
+        let (block, offset) = self.place(at);
+        block.store(offset, bytes);
+        self.stored.borrow_mut().push(at..at + bytes.len());
+    }
+
+    fn store_u16(&self, at: usize, value: u16) {
+        self.store(at, &value.to_le_bytes());
+    }
+}

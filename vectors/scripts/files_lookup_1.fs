@@ -1,0 +1,16 @@
+# LOOKUP of the file. If the reply does not fit, the file system is asked, and the node is
+# forgotten.
+queue 4 0 0x100 0x200
+region 0 0x10000
+# LOOKUP of `a` in the root
+write 0x1000 2a000000010000000300000000000000010000000000000000000000000000000000000000000000
+write 0x1028 6100
+# Chain 0: reads 42 at 0x1000; writes 144 at 0x2000
+write 0 00100000000000002a0000000100010000200000000000009000000002000000
+# Offers 0
+write 0x100 000001000000
+kick 0 1
+read 0x2000 40
+read 0x2028 40
+read 0x2050 40
+read 0x2078 24

@@ -1,0 +1,27 @@
+# The IOMMU is switched off between two kicks, and on again. Its mappings stay.
+queue 4 0 0x100 0x200
+region 0 0x10000
+write 0x1000 28000000070000000100000000000000000000000000000000000000000000000000000000000000
+# Chain 0: reads 40 at 0x1000; writes 16 at 0x2000
+write 0 0010000000000000280000000100010000200000000000001000000002000000
+# Offers 0
+write 0x100 000001000000
+harvest
+map 0 0 0x2000 rw
+map 0x2000 0x3000 0x1000 w
+kick 0 1
+harvest
+iommu on
+write 0x1008 02
+write 0x102 0200
+harvest
+kick 0 1
+harvest
+iommu off
+write 0x1008 03
+write 0x102 0300
+read 0x2000 16
+kick 0 1
+harvest
+read 0x2000 16
+read 0x3000 16

@@ -1,0 +1,4 @@
+# A comment and an empty line count as lines. A command other than `queue` needs a queue.
+#
+
+harvest

@@ -1,0 +1,3 @@
+# A number at its limit, in decimal or hexadecimal digits, with leading zeros.
+queue 4 0 0x100 0x200
+read 0x00000000000000000000ffffffffffffffff 0

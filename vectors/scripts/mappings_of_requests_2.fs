@@ -1,0 +1,14 @@
+# A request that is mapped for writing only or for nothing, or only in part; an indirect table
+# that is not mapped.
+queue 4 0 0x100 0x200
+region 0 0x10000
+write 0x1000 28000000070000000100000000000000000000000000000000000000000000000000000000000000
+# Chain 0: reads 40 at 0x1000; writes 16 at 0x2000
+write 0 0010000000000000280000000100010000200000000000001000000002000000
+# Offers 0
+write 0x100 000001000000
+harvest
+map 0 0 0x10000 rw
+map 0x1000 0x1000 0x1000 w
+iommu on
+kick 0 1

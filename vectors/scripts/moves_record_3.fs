@@ -1,0 +1,7 @@
+# A move is no first command and takes no word. The record has 32 bytes, and 32 more for each
+# queue.
+queue 4 0 0x100 0x200
+queue 8 0x1000 0x1100 0x1200
+move
+move
+queue 4 0 0x100 0x200

@@ -1,0 +1,7 @@
+# Every refusal of a kick that stops a queue. A reset lets the queue go on.
+queue 4 0x1000 0xfffc 0x2000
+region 0x1000 0xf000
+write 0xfffc 00000100
+kick 0 1
+kick 0 1
+kick 0 0

@@ -1,0 +1,7 @@
+# Every refusal of a kick that stops a queue. A reset lets the queue go on.
+queue 4 0 0x1000 0x10000
+region 0x1000 0xf000
+write 0x1000 000001000000
+kick 0 1
+kick 0 1
+kick 0 0

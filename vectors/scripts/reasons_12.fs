@@ -1,0 +1,3 @@
+# The reason why a line is no command, on standard error.
+queue 4 0 0x100 0x200
+map 0 0 1 wr

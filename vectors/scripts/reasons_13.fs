@@ -1,0 +1,2 @@
+# The reason why a line is no command, on standard error.
+iommu yes

@@ -1,0 +1,3 @@
+# The reason why a line is no command, on standard error.
+
+harvest

@@ -1,0 +1,2 @@
+# The reason why a line is no command, on standard error.
+queue 4 0 0x100 0x200 0
