@@ -29,7 +29,6 @@ enum {
 enum {
     LOG_LEN = 1 << 18,
     AT_ONCE = 100,
-    FEW = 3,
     ELSEWHERE = 0x800,
     SLOW_SLOT = 1,
     QUICK_SLOT = 2
@@ -37,14 +36,23 @@ enum {
 
 static bool has_threads;
 static int lease = -1;
-static unsigned longest; /* milliseconds of a request beside the one that takes long */
-static unsigned late; /* how many took more than they may: of thousands a few, where other programs
-                         have the processors */
+static unsigned longest;     /* milliseconds of one of them beside the request that takes long */
+static unsigned asked, late; /* how many requests and messages there were, and how many were late */
 
 static uint64_t now(void) {
     struct timespec t;
     clock_gettime(CLOCK_MONOTONIC, &t);
     return (uint64_t)t.tv_sec * 1000 + (uint64_t)t.tv_nsec / 1000000;
+}
+
+/* A machine that is busy with other programs may be late with one of a hundred, never for long. */
+static void must_be_soon(const char *what, uint64_t before) {
+    unsigned took = (unsigned)(now() - before);
+    longest = took > longest ? took : longest;
+    asked++;
+    late += took >= AT_ONCE;
+    if (took >= 2000 || late > 3 + asked / 100)
+        die("%s takes %u ms beside a request that takes long", what, took);
 }
 
 static uint16_t returned(size_t ring) { return atomic_load(index_at(&front, used_at(ring) + 2)); }
@@ -65,11 +73,7 @@ static void ask_beside(size_t ring) {
     send_apart(ring, QUICK_SLOT, FUSE_GETATTR, ROOT, &in, sizeof in, 16 + 104);
     if (!is_returned(ring, count))
         die("GETATTR of ring %zu waits for a request that takes long", ring);
-    unsigned took = (unsigned)(now() - before);
-    longest = took > longest ? took : longest;
-    late += took >= AT_ONCE;
-    if (late > FEW || took >= 1000)
-        die("GETATTR of ring %zu takes %u ms beside a request that takes long", ring, took);
+    must_be_soon(ring == 1 ? "GETATTR of the same ring" : "GETATTR of another ring", before);
 }
 
 static void ask_all_beside(void) {
@@ -88,10 +92,7 @@ static void tell_at_once(const char *what, uint32_t message, const void *body, u
                          const int *fds, size_t fd_count) {
     uint64_t before = now();
     check(what, front_tell(&front, message, body, len, fds, fd_count) == 0);
-    unsigned took = (unsigned)(now() - before);
-    late += took >= AT_ONCE;
-    if (late > FEW || took >= 1000)
-        die("%s takes %u ms beside a request that takes long", what, took);
+    must_be_soon(what, before);
     ask_all_beside();
 }
 
@@ -126,7 +127,7 @@ static void change_memory(void) {
     int fd = memfd_create("more", MFD_CLOEXEC);
     if (fd < 0 || ftruncate(fd, 1 << 20)) die("no memory");
     front_set_memory(&front);
-    if (now() - before >= 1000) die("SET_MEM_TABLE takes long beside a request that does");
+    must_be_soon("SET_MEM_TABLE", before);
     tell_at_once("ADD_MEM_REG", ADD_MEM_REG, region, sizeof region, &fd, 1);
     tell_at_once("REM_MEM_REG", REM_MEM_REG, region, sizeof region, NULL, 0);
     close(fd);

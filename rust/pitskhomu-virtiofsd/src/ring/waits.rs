@@ -12,8 +12,8 @@ use std::time::Duration;
 pub const LAST_CHAINS: Duration = Duration::from_secs(5);
 /// How long a message waits for chains in flight before the log says so.
 const SILENT: Duration = Duration::from_secs(1);
-/// How long none is taken meanwhile. If one is in flight for longer, the ring's other threads go on
-/// until it is returned.
+/// How long none is taken meanwhile, at first. If one is in flight for longer, the ring's other
+/// threads go on until it is returned.
 const HOLD: Duration = Duration::from_millis(20);
 
 impl Ring {
@@ -30,13 +30,15 @@ impl Ring {
     }
 
     /// The ring with no chain in flight, for a message. Its threads are held for a moment only: if
-    /// a chain takes long, they go on until it is returned.
+    /// a chain takes long, they go on until it is returned. Each moment is twice as long as the one
+    /// before, so that chains which take as long one after another don't keep the message waiting.
     pub fn quiet(&self, message: &str) -> MutexGuard<'_, State> {
-        let mut state = self.lock();
+        let (mut state, mut hold) = (self.lock(), HOLD);
         loop {
             state.is_held = true;
             let is_out = |state: &mut State| state.queue.in_flight() > 0;
-            let (held, is_long) = self.wait_a_while(state, HOLD, is_out);
+            let (held, is_long) = self.wait_a_while(state, hold, is_out);
+            hold = hold.saturating_mul(2);
             state = held;
             state.is_held = false;
             self.changed.notify_all();
