@@ -1,4 +1,4 @@
--- What an answer gives, and what is kept of it.
+-- The effect of an answer to a file call: its result, and the state that the handle keeps.
 use Rattle.std.specs.Prelude.{◌≡◌, ◌⊎◌, ℕ, Bool, true, false, List, Some, None}
 use Rattle.fuse_values.specs.declared.answer.FileAnswer.{FileAnswer}
 use Rattle.fuse_values.specs.declared.answer.FileAnswer.TheVariants as value
@@ -30,17 +30,17 @@ abbrev pub data_len : FileAnswer → ℕ
 data_len (value.Bytes len) = len
 data_len _ = 0
 
--- the reply with so many bytes of data behind its front, or none
+-- the reply: its front with `data_len` bytes of data behind it, or none
 abbrev pub reply_of : Sent → (data_len : ℕ) → ChainReply
 reply_of (sent.Reply front) n = record { front = Some front; behind = n }
 reply_of sent.NoRoom n = no_reply
 
--- whether it has room
+-- whether the reply fits in the reply buffer
 abbrev pub fits : Sent → Bool
 fits (sent.Reply front) = true
 fits sent.NoRoom = false
 
--- what is told of an answer
+-- the result that is returned for an answer
 abbrev pub replied_of : Answered → Replied
 replied_of given = record { has_room = fits given.sent; forget = given.forget }
 
@@ -49,7 +49,8 @@ abbrev pub error_of : why.AnswerRefusal → ChainError
 error_of refused.OtherKind = error.OtherKind
 error_of refused.TooLong = error.LongReply
 
--- an answer to what waits is taken: this is given, whatever command it waits for, told, and kept
+-- the answer to a call in flight is accepted. For every command that the call may belong to, `given`
+-- follows from the answer: it is returned as `told`, and the handle keeps it
 abbrev pub IsGiven :
     (s : Setting) → Waiting → FileAnswer → InFlight → (options : ℕ) → Replied → state.ChainState → Type 0
 IsGiven s w answer out options told kept =
@@ -61,13 +62,15 @@ IsGiven s w answer out options told kept =
     TellsBytes bytes answer →
     Gives s command bytes answer given options)
 
--- an answer to what waits can be taken
+-- the answer suits every command that the call in flight may belong to, and isn't too long for the reply
+-- buffer
 abbrev pub CanBeGiven : Waiting → FileAnswer → Type 0
 CanBeGiven w answer =
     (command : FileCommand) (bytes : List ℕ) → WaitsFor w command → TellsBytes bytes answer
     → (suits (first_call command) (answer_of bytes answer) ≡ true) × (is_too_long w.room answer ≡ false)
 
--- an answer to what waits is refused
+-- the answer to a call in flight is refused, for a reason that holds for every command that it may belong
+-- to
 abbrev pub RefusesAnswer : Waiting → FileAnswer → ChainError → Type 0
 RefusesAnswer w answer e =
     (reason : why.AnswerRefusal)
@@ -77,24 +80,25 @@ RefusesAnswer w answer e =
     TellsBytes bytes answer →
     IsRefusedFor reason (first_call command) w.room bytes answer)
 
--- of a call that waits for its answer
+-- P, if a call is in flight
 abbrev pub IfWaits : state.ChainState → (InFlight → Waiting → Type 0) → Type 0
 IfWaits (at.Waits out w) P = P out w
 IfWaits _ P = Unit {0}
 
--- an answer does nothing: no call waits for it, or it is refused
+-- an answer changes nothing: no call is in flight, or the call refuses it
 abbrev pub AnswerFails : state.ChainState → FileAnswer → ChainError → Type 0
 AnswerFails (at.Waits out w) answer e = RefusesAnswer w answer e
 AnswerFails (at.Lists out l) answer e = e ≡ error.OtherKind
 AnswerFails _ answer e = e ≡ error.WrongOrder
 
--- an answer with this number does nothing: no call waits for it, another one does, or it is refused
+-- an answer with this number changes nothing: no call is in flight, another call is, or the call refuses
+-- it
 abbrev pub IsNotTaken : ChainHandle → (serial : ℕ) → FileAnswer → ChainError → Type 0
 IsNotTaken w serial answer e =
     (serial_error w.state w.serial serial ≡ Some e)
     ⊎ ((serial_error w.state w.serial serial ≡ None) × AnswerFails w.state answer e)
 
--- a call waits
+-- a call is in flight
 abbrev pub IsWaiting : state.ChainState → Type 0
 IsWaiting (at.Waits out w) = Unit {0}
 IsWaiting _ = ⊥

@@ -1,4 +1,4 @@
--- What a chain's request is told to ask, and what is kept of it.
+-- The decoding of a chain's request: its result, and the state that the handle keeps.
 use Rattle.std.specs.Prelude.{◌≡◌, ℕ, min, false, nat_lt, List, length, Option, Some, None, if◌then◌else◌}
 use Rattle.fuse_fs.specs.declared.answers.Context.{Context}
 use Rattle.fuse_values.specs.declared.call.FileCall.{FileCall}
@@ -19,7 +19,7 @@ use Rattle.fs_chain.specs.declared.state.ChainState as state
 use Rattle.fs_chain.specs.declared.state.ChainState.TheVariants as at
 use Rattle.fs_chain.specs.Walks.{no_reply}
 
--- the listing that is asked for, the call that it makes first, and that no entry came yet
+-- the request is a listing: the handle keeps it without entries, and returns its first file call
 abbrev pub AsksListing : Setting → Meaning → (bytes : List ℕ) → FileCall → Listing → Type 0
 AsksListing s m bytes made l =
     (command : FileCommand)
@@ -29,29 +29,29 @@ AsksListing s m bytes made l =
     × IsListingFor l s.room command
     × (l.len ≡ 0)
 
--- it waits for no listing, whatever command it waits for
+-- no command that the call may belong to is a listing
 abbrev pub WaitsForNoListing : Waiting → Type 0
 WaitsForNoListing w = (command : FileCommand) → WaitsFor w command → is_listing command ≡ false
 
--- the call that is told is the first one of what is asked for, and this is kept while it waits
+-- the returned call is the command's first one; the handle keeps it, or its listing, until it is answered
 abbrev pub KeepsCall : Setting → Meaning → (bytes : List ℕ) → FileCall → InFlight → state.ChainState → Type 0
 KeepsCall s m bytes made out (at.Waits kept w) =
     (kept ≡ out) × AsksCall s m bytes made w × WaitsForNoListing w
 KeepsCall s m bytes made out (at.Lists kept l) = (kept ≡ out) × AsksListing s m bytes made l
 KeepsCall s m bytes made out _ = ⊥
 
--- what is told of a reply that is kept, or of none
+-- the result for a reply that is kept, or for silence
 abbrev pub asked_of : Option (List ℕ) → DecodedRequest
 asked_of None = asked.Silence
 asked_of (Some front) = asked.Reply front
 
--- no call is made, and the reply is kept, if there is one
+-- no file call is made, and the handle keeps the reply, if there is one
 abbrev pub KeepsReply : Setting → Meaning → (bytes : List ℕ) → InFlight → state.ChainState → Type 0
 KeepsReply s m bytes out (at.HasReply kept reply) =
     (kept ≡ out) × (reply.behind ≡ 0) × IsDecoded s m bytes (asked_of reply.front)
 KeepsReply s m bytes out _ = ⊥
 
--- what is told of a request with this meaning, and kept of its chain
+-- a request with this meaning has this result, and its chain this state afterwards
 abbrev pub TellsMeaning :
     Setting → Meaning → (bytes : List ℕ) → InFlight → told.Decoded → state.ChainState → Type 0
 TellsMeaning s m bytes out (tells.Call made) kept = KeepsCall s m bytes made out kept
@@ -60,26 +60,26 @@ TellsMeaning s m bytes out tells.Nothing kept = KeepsReply s m bytes out kept
 TellsMeaning s m bytes out (tells.Fault e) kept =
     (kept ≡ at.HasReply out no_reply) × IsDecoded s m bytes (asked.Fault e)
 
--- what waits for an answer names this one, but a listing, which names nobody
+-- the call in flight keeps this context; a listing keeps none
 abbrev pub IsKeptFor : Context → state.ChainState → Type 0
 IsKeptFor who (at.Waits out w) = w.context ≡ who
 IsKeptFor who _ = Unit {0}
 
--- how many bytes of a request are wanted after these, if they don't tell what it asks: those before a WRITE's
--- data, and then all
+-- how many bytes of a request the library needs if these don't suffice to decode it: first those before a
+-- WRITE's data, then all of them
 abbrev pub wanted : (len whole : ℕ) → ℕ
 wanted len whole = if nat_lt len 80 then min whole 80 else whole
 
--- how many bytes are wanted, if it is that what is told
+-- how many bytes are needed, if the result asks for more
 abbrev pub wanted_by : told.Decoded → Option ℕ
 wanted_by (tells.More n) = Some n
 wanted_by _ = None
 
--- how many are to be wanted after the first ones
+-- how many bytes are needed after these first ones; none if they suffice
 abbrev pub wanted_after : (front : List ℕ) → (whole : ℕ) → Option ℕ
 wanted_after front whole = if front_tells front whole then None else Some (wanted (length front) whole)
 
--- of a chain that is out and wasn't asked
+-- P, if a chain is in flight and its request wasn't decoded
 abbrev pub IfUndecoded : state.ChainState → (InFlight → Type 0) → Type 0
 IfUndecoded (at.Taken out) P = P out
 IfUndecoded _ P = Unit {0}

@@ -1,5 +1,5 @@
--- By what driver and device say of which chains they want to be told: VIRTIO_F_EVENT_IDX, or the rings' flags
--- (VIRTIO 1.2, 2.7.7 and 2.7.10).
+-- How driver and device say for which chains they want a notification: by VIRTIO_F_EVENT_IDX, or by the
+-- flags of the rings (VIRTIO 1.2, 2.7.7 and 2.7.10).
 use Rattle.std.specs.Prelude.{ℕ, ◌+◌, ◌*◌, Bool, not, ◌==◌, List, Option, Some, None, if◌then◌else◌}
 use Rattle.std.specs.Int.{w16, to_le_bytes, from_le_bytes}
 use Rattle.vm_iotlb.specs.declared.permissions.Permissions.TheVariants.{Read, Write}
@@ -11,23 +11,24 @@ use Rattle.fs_queue.specs.Returning.{Store, tells}
 use Rattle.fs_chain.specs.declared.event_index.NotificationStore.{NotificationStore}
 use Rattle.fs_chain.specs.declared.queue.QueueState.{QueueState}
 
--- the driver's used_event stands behind the available ring, the device's avail_event behind the used ring
+-- the driver's used_event lies behind the available ring, the device's avail_event behind the used ring
 abbrev pub used_event_at : QueueLayout → ℕ
 used_event_at l = l.avail + 4 + 2 * l.size
 
 abbrev pub avail_event_at : QueueLayout → ℕ
 avail_event_at l = l.used + 4 + 8 * l.size
 
--- where the two bytes stand that tell whether the driver wants to be told of a chain that goes back:
--- used_event, or the available flags
+-- the guest address of the two bytes that say whether the driver wants a used buffer notification:
+-- used_event, or the available ring's flags
 abbrev pub seen_at : (event_index : Bool) → QueueLayout → ℕ
 seen_at event_index l = if event_index then used_event_at l else l.avail
 
--- what they tell: with the event index whether it is the chain that goes back at this place
+-- whether the driver wants a notification for the next chain that is pushed. With the event index it does
+-- if used_event is that chain's position in the used ring
 abbrev pub tells_of : QueueState → (seen : List ℕ) → Bool
 tells_of q seen = if q.event_index then from_le_bytes w16 seen == q.next_used else tells seen
 
--- why a queue with the event index can't be walked: one of both has no place
+-- why no chain can be popped from a queue with the event index: used_event or avail_event isn't mapped
 abbrev pub event_fault : Memory → QueueState → Option QueueError
 event_fault m q =
     if not q.event_index then None
@@ -35,14 +36,15 @@ event_fault m q =
     else if not (reach m Write (avail_event_at q.layout) 2) then Some UsedUnreachable
     else None
 
--- what is stored to be told of the next chain, or of none: with the event index its position, and nothing to
--- be told of none; else the used flags, bit 0 of which says that none is wanted
+-- the store that enables or disables the driver's notifications of new chains. With the event index it
+-- stores the next chain's position, and nothing to disable; without it, the used flags, whose bit 0
+-- disables
 abbrev pub notification_store : QueueState → (wanted : Bool) → Option Store
 notification_store q wanted =
     if q.event_index then (if wanted
     then Some (record { address = avail_event_at q.layout; bytes = to_le_bytes w16 q.next_avail }) else None)
     else Some (record { address = q.layout.used; bytes = to_le_bytes w16 (if wanted then 0 else 1) })
 
--- such a store, as the code says it
+-- the same store, from its form in the code
 abbrev pub store_of : NotificationStore → Store
 store_of s = record { address = s.address; bytes = to_le_bytes w16 s.value }

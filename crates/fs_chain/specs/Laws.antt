@@ -1,4 +1,4 @@
--- What a walk of the handle says of the memories that have its loads.
+-- A pop of the handle returns the offer of each memory that has the bytes it loaded.
 use Rattle.std.specs.Prelude.{◌≡◌, ℕ, List, length, None}
 use Rattle.vm_memory_core.specs.Host.{Host}
 use Rattle.vm_memory.specs.Memory.{Memory}
@@ -19,8 +19,8 @@ use Rattle.fs_chain.specs.declared.popping.PopOutcome.TheVariants as tells
 use Rattle.fs_chain.specs.declared.chain_handle.ChainHandle.{ChainHandle}
 use Rattle.fs_chain.specs.Walks.{RefusalHasEvents, WalksOn, course_of, told_of}
 
--- what a walk tells, of these descriptors, is this offer; a chain without a fault, if so many bytes are its
--- request; a load leaves it open
+-- the result of a pop, with these descriptors, is this offer. For a chain without a fault that holds if
+-- `request` has the length of its request; a load decides nothing yet
 abbrev pub IsOfferOf : List Descriptor → walked.PopOutcome → (request : List ℕ) → Offer → Type 0
 IsOfferOf ds (tells.Load n) request o = Unit {0}
 IsOfferOf ds tells.Idle request o = o ≡ Idle
@@ -30,13 +30,13 @@ IsOfferOf ds (tells.Chain head request_len room_len) request o =
     o ≡ Offers head (IsRequest request (addresses_of (writable ds)))
 IsOfferOf ds (tells.Faulty head fault) request o = o ≡ Offers head (CannotFetch fault)
 
--- what a walk tells is what the course's queue offers in a memory
+-- the result of a pop is the offer of the course's queue in a memory
 abbrev pub TellsOffer : Memory → Course → ChainHandle → walked.PopOutcome → (request : List ℕ) → Type 0
 TellsOffer m course new told request =
     IsOfferOf new.descriptors.items told request (offer m course.limit (queue_of course))
 
--- what a walk that goes on tells is what the queue offers in each memory of the handle's regions that has the
--- walk's loads, which these bytes added to, and the request's bytes
+-- a pop that goes on returns the queue's offer in each memory with these contents: the handle's regions,
+-- the walk's loads with `bytes` added, and the request's bytes
 pub record GoesOnByLoads (loaded : Loaded) (course : Course) (walk : QueueWalk) (bytes : List ℕ)
     (old new : ChainHandle) (told : walked.PopOutcome) : Type 0 where
   pub came : comes.CourseStep
@@ -47,8 +47,8 @@ pub record GoesOnByLoads (loaded : Loaded) (course : Course) (walk : QueueWalk) 
       HasLoaded (memory_over h old.regions) (queue_of course) after request →
       TellsOffer (memory_over h old.regions) course new told request
 
--- what a call of walk tells, of a queue that wasn't stopped, is what the queue offers in each memory of the
--- handle's regions that has all loads of the walk, and the request's bytes
+-- for a queue that wasn't stopped, a call of `pop` returns the queue's offer in each memory with these
+-- contents: the handle's regions, all loads of the walk, and the request's bytes
 pub record WalksAreOffers : Type 0 where
   pub begins : (h : Host) (bytes request : List ℕ) (old new : ChainHandle) (before after : QueueState)
       (told : walked.PopOutcome)

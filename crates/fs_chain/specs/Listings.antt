@@ -1,4 +1,4 @@
--- Listings that are answered entry by entry: what is told of an entry, and what is kept of a reply.
+-- Listings that the caller answers entry by entry: the result for an entry, and the reply that is kept.
 use Rattle.std.specs.Prelude.{◌≡◌, ℕ, ◌++◌, ◌&&◌, not, ◌==◌, [], ◌∷◌, List, true, false, nat_lt, take, Option}
 use Rattle.std.specs.Prelude.{Some, None, Result, Ok, Err, if◌then◌else◌}
 use Rattle.std.specs.Option.{option_or}
@@ -25,7 +25,7 @@ use Rattle.fs_chain.specs.declared.state.ChainState.TheVariants as at
 use Rattle.fs_chain.specs.declared.chain_handle.ChainHandle.{ChainHandle}
 use Rattle.fs_chain.specs.Serials.{serial_error}
 
--- what is told of an entry
+-- the result that is returned for an entry
 abbrev pub told_added : Result (Unit {0}) reason.NotAdded → Result Added ChainError
 told_added (Ok done) = Ok added.In
 told_added (Err not_added.OtherKind) = Err error.OtherKind
@@ -34,8 +34,8 @@ told_added (Err not_added.NoRoom) = Ok added.NoRoom
 told_added (Err not_added.TooLong) = Ok added.TooLong
 told_added (Err not_added.ShortList) = Err error.ShortBuffer
 
--- what an entry changes in a listing and its list, and what follows if it isn't in. If it is in, its bytes
--- are put over those of the list behind the entries before it, and no other byte of the list changes
+-- how an entry changes a listing and its list, and the consequences if it isn't added. If it is added, its
+-- bytes are put into the list behind the entries before it; no other byte changes
 pub record Adds (old new : Listing) (list list' : List ℕ) (e : Brought)
     (outcome : Result (Unit {0}) reason.NotAdded) : Type 0 where
   pub put : outcome ≡ Ok tt →
@@ -55,7 +55,8 @@ pub record Adds (old new : Listing) (list list' : List ℕ) (e : Brought)
       (new ≡ old) × (list' ≡ list)
   pub stays : StaysBut old new
 
--- an entry is brought to the listing that is answered, of which this comes; to no other
+-- the caller adds an entry to the listing that is being answered, with this result; every other state
+-- refuses it
 abbrev pub AddsTo : (old new : state.ChainState) → (list list' : List ℕ) → Brought →
     (outcome : Listing → Result (Unit {0}) reason.NotAdded) → Result Added ChainError → Type 0
 AddsTo (at.Lists out l) new list list' e outcome told =
@@ -65,28 +66,29 @@ AddsTo (at.Waits out w) new list list' e outcome told =
     (told ≡ Err error.OtherKind) × (new ≡ at.Waits out w) × (list' ≡ list)
 AddsTo old new list list' e outcome told = (told ≡ Err error.WrongOrder) × (new ≡ old) × (list' ≡ list)
 
--- how long the list is then into which the last entry was put
+-- the length of the list that has the listing's entries, after a call that added one or none
 abbrev pub list_after : (before len : ℕ) → Result Added ChainError → ℕ
 list_after before len (Ok added.In) = len
 list_after before len _ = before
 
--- why no entry is brought by a list of this length: the entries so far stand in one of another length, which
--- is 0 if there are none
+-- why an entry can't be added to a list of this length: the entries so far are in a list of another
+-- length. `before` is 0 if there are none
 abbrev pub list_error : state.ChainState → (before len : ℕ) → Option ChainError
 list_error (at.Lists out l) before len =
     if not (before == 0) && not (before == len) then Some error.BadArgument else None
 list_error _ before len = None
 
--- why none is brought with this number by it: no call waits, another one does, or the list is another one
+-- why an entry with this number can't be added: no call is in flight, another one is, or the list is
+-- another one
 abbrev pub adding_error : ChainHandle → (serial len : ℕ) → Option ChainError
 adding_error w serial len =
     option_or (serial_error w.state w.serial serial) (list_error w.state w.list_len len)
 
--- a listing's reply is kept: its front, and how many bytes of the list are its data
+-- the handle keeps a listing's reply: its front, and how many bytes of the list are its data
 abbrev pub answered_by : InFlight → ListingReply → state.ChainState
 answered_by out reply = at.HasReply out (record { front = Some reply.front; behind = reply.len })
 
--- the reply to a listing of these entries
+-- the reply to a listing that has these entries
 abbrev pub IsListReply : Listing → ListingReply → Type 0
 IsListReply l reply =
     (s : Setting) (command : FileCommand) (list : List ℕ) (es : List Brought)
@@ -95,8 +97,8 @@ IsListReply l reply =
     → commanded s command (Entries (entries_of es) ∷ all_found l.with_nodes es)
     ≡ served_list (first_call command ∷ look_ups command es) s.options reply list
 
--- how a listing ends that failed by an error: the error alone, or, if READDIRPLUS has brought entries, these,
--- since their nodes are held
+-- how a listing that failed ends. The reply is the error alone; if READDIRPLUS has entries already, it is
+-- these entries, since the client holds their nodes
 pub record IsFailedReply (l : Listing) (errno : ℕ) (reply : ListingReply) : Type 0 where
   pub bytes : (list : List ℕ) (es : List Brought)
       → Holds l list es
@@ -114,7 +116,7 @@ pub record IsFailedReply (l : Listing) (errno : ℕ) (reply : ListingReply) : Ty
       → commanded s command (Entries (entries_of es ++ d ∷ []) ∷ (all_found true es ++ Failed errno ∷ []))
       ≡ served_list (first_call command ∷ (look_ups command es ++ look_up command d)) s.options reply list
 
--- a listing that is answered ends by its reply; no other call does
+-- a listing that is being answered ends with its reply; every other state refuses
 abbrev pub RepliesBy :
     (Listing → ListingReply → Type 0) → (old new : state.ChainState) → Result ℕ ChainError → Type 0
 RepliesBy P (at.Lists out l) new told =
@@ -122,10 +124,10 @@ RepliesBy P (at.Lists out l) new told =
 RepliesBy P (at.Waits out w) new told = (told ≡ Err error.OtherKind) × (new ≡ at.Waits out w)
 RepliesBy P old new told = (told ≡ Err error.WrongOrder) × (new ≡ old)
 
--- by the entries so far
+-- it ends with the entries so far
 abbrev pub EndsByEntries : (old new : state.ChainState) → Result ℕ ChainError → Type 0
 EndsByEntries old new told = RepliesBy IsListReply old new told
 
--- by an error
+-- it ends with an error
 abbrev pub EndsByError : (errno : ℕ) → (old new : state.ChainState) → Result ℕ ChainError → Type 0
 EndsByError errno old new told = RepliesBy (λ l reply. IsFailedReply l errno reply) old new told

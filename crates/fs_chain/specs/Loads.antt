@@ -1,4 +1,4 @@
--- A walk by loads that are made in parts, where one goes over the end of a region.
+-- A pop whose loads the caller makes in parts, where one crosses the end of a region.
 use Rattle.std.specs.Prelude.{◌≡◌, ◌<◌, ◌+◌, ◌-◌, ◌⊎◌, ◌==◌, ℕ, List, [], ◌++◌, length, min, Some, None}
 use Rattle.std.specs.Prelude.{if◌then◌else◌, vec_capacity}
 use Rattle.memory_requests.specs.Refused.{RoomWasRefused}
@@ -17,43 +17,45 @@ use Rattle.fs_chain.specs.declared.chain_handle.ChainHandle.{ChainHandle}
 use Rattle.fs_chain.specs.Orders.{IfWalking, IsWalking, load_len, walk_error}
 use Rattle.fs_chain.specs.Walks.{IsAllBut, IsAllButPart, LacksRoom, WalksOn}
 
--- the window of the bytes that a walk still asks for, after so many of them: as long as its region goes on
+-- the window of the bytes that a pop still needs, after the first `from` bytes of its load: it ends with
+-- their region at the latest
 abbrev pub IsLoadWindow : ChainHandle → (from : ℕ) → Window → Type 0
 IsLoadWindow w from v = IsWalking w.state × IfWalking w.state (λ walk.
     (from < asked_len walk)
     × IsWindowAt (location (places_in w.regions) Read) (asked_by walk + from) (asked_len walk - from) v
     × (v.len ≡ min (asked_len walk - from) (left_in (places_in w.regions) (asked_by walk + from))))
 
--- what a walk still asks for has no place
+-- the bytes that a pop still needs aren't mapped
 abbrev pub HasNoPlace : ChainHandle → (from : ℕ) → Type 0
 HasNoPlace w from =
     IfWalking w.state (λ walk. from < asked_len walk →
     location (places_in w.regions) Read (asked_by walk + from) ≡ None)
 
--- how many bytes of the load came
+-- how many bytes of the load the handle has
 abbrev pub came : ChainHandle → ℕ
 came w = length w.part.items
 
--- so many bytes are a load that is given whole: all that is asked for, and none of them came before
+-- so many bytes are a whole load, given at once: all that was asked for, and the handle has none of them
+-- yet
 abbrev pub AreWhole : ChainHandle → (len : ℕ) → Type 0
 AreWhole w len = (w.part.items ≡ []) × (len ≡ load_len w.state)
 
--- so many bytes are those that a walk still asks for, as long as their region goes on
+-- so many bytes are those that a pop still needs, up to the end of their region
 abbrev pub AreWanted : ChainHandle → (len : ℕ) → Type 0
 AreWanted w len = (v : Window) × IsLoadWindow w (came w) v × (v.len ≡ len)
 
--- they are neither a whole load, nor those that it still asks for
+-- they are neither a whole load nor the bytes that the pop still needs
 abbrev pub AreOthers : ChainHandle → (len : ℕ) → Type 0
 AreOthers w len =
     (AreWhole w len → ⊥)
     × (HasNoPlace w (came w) ⊎ ((v : Window) × IsLoadWindow w (came w) v × (v.len ≡ len → ⊥)))
 
--- the bytes of a load, if one is asked for: those that came before, and these
+-- the bytes of the load, if the pop asked for one: those that the handle has, and these
 abbrev pub whole : ChainHandle → List ℕ → List ℕ
 whole w loaded = if load_len w.state == 0 then loaded else w.part.items ++ loaded
 
--- what these bytes come to: a part of a load, or the walk goes on, if nothing is wrong with it; the session
--- stays
+-- the result of these bytes: a part of the load, or the pop goes on, if nothing is wrong with it. The
+-- session stays as it was
 abbrev pub GoesSo : (before : ChainHandle) → (q : QueueState) → (loaded : List ℕ) → went.LoadOutcome →
     (after : ChainHandle) → (q' : QueueState) → Type 0
 GoesSo w q loaded goes.Part w' q' =
@@ -70,8 +72,7 @@ GoesSo w q loaded (goes.On told) w' q' =
     × (walk_error w.state q (length (whole w loaded)) ≡ None)
     × WalksOn (whole w loaded) w w' q q' told
 
--- nothing was done: regions, limit, place and descriptors are as they were, what came of a load, and the
--- session
+-- nothing changed: regions, limit, state, descriptors, the part of a load, and session are as they were
 abbrev pub IsSame : ChainHandle → ChainHandle → Type 0
 IsSame w w' =
     IsAllBut w w'
@@ -80,27 +81,27 @@ IsSame w w' =
     × (w'.part.items ≡ w.part.items)
     × (w'.session ≡ w.session)
 
--- these bytes begin a walk, or they are the load that is asked for, or those that are wanted of it
+-- these bytes begin a pop, or they are the load that it asked for, or the part that it still needs
 abbrev pub AreDue : ChainHandle → (loaded : List ℕ) → Type 0
 AreDue w loaded =
     (load_len w.state ≡ 0)
     ⊎ ((0 < load_len w.state) × (AreWhole w (length loaded) ⊎ AreWanted w (length loaded)))
 
--- how many bytes the walk takes next
+-- how many bytes the pop takes next
 abbrev pub due_len : ChainHandle → (loaded : List ℕ) → ℕ
 due_len w loaded = if load_len w.state == 0 then length loaded else load_len w.state
 
--- memory may be wanting for so many bytes that are due: they end the load, and the walk lacks room for the
--- descriptors of its entries; or they are a part of the load, those that came lack room for them, and the
--- allocator refused it
+-- a call with this many due bytes can run out of memory in two cases. They end the load, and the
+-- descriptors of its entries lack room; or they are a part that doesn't fit behind the others, and the
+-- allocator refused to enlarge it
 abbrev pub LoadLacksMemory : ChainHandle → (len : ℕ) → Type 0
 LoadLacksMemory w len =
     ((came w + len ≡ load_len w.state) × LacksRoom w)
     ⊎ ((len < load_len w.state) × (vec_capacity w.part < came w + len) × RoomWasRefused len)
 
--- why a walk doesn't go on by these bytes: by where its chain is or by the queue, also if they are only a
--- part of the load; for want of memory, if nothing else is wrong; or since they are neither the whole load
--- nor those that are wanted
+-- why a pop doesn't go on with these bytes, in three cases. The state or the queue forbids it, also if
+-- they are only a part of the load. Or nothing else is wrong, and the allocation failed. Or they are
+-- neither the whole load nor the part that is needed
 abbrev pub RefusesWalk : ChainHandle → QueueState → (loaded : List ℕ) → ChainError → Type 0
 RefusesWalk w q loaded e =
     (AreDue w loaded × (walk_error w.state q (due_len w loaded) ≡ Some e))

@@ -1,9 +1,9 @@
--- The numbers that tell errors apart.
+-- The numbers that distinguish errors.
 use Rattle.std.specs.Prelude.{ℕ}
 use Rattle.fs_chain.specs.declared.error.ChainError.{ChainError}
 use Rattle.fs_chain.specs.declared.error.ChainError.TheVariants as error
 
--- why a call did nothing
+-- the number of each error
 abbrev pub chain_error_number : ChainError → ℕ
 chain_error_number error.OutOfMemory = 9
 chain_error_number error.BadArgument = 66

@@ -1,4 +1,4 @@
--- Which calls go on from where a chain is, and which do nothing.
+-- Which calls go on from a chain's state, and which change nothing.
 use Rattle.std.specs.Prelude.{ℕ, ◌+◌, ◌-◌, ◌^◌, min, [], Bool, true, false, not, ◌==◌, ◌&&◌, ◌||◌, nat_lt}
 use Rattle.std.specs.Prelude.{length, List, Option, Some, None, if◌then◌else◌}
 use Rattle.fs_regions.specs.declared.course.Course.{Course}
@@ -15,38 +15,38 @@ use Rattle.fs_chain.specs.declared.error.ChainError.{ChainError}
 use Rattle.fs_chain.specs.declared.error.ChainError.TheVariants.{BadArgument, ShortBuffer, WrongOrder}
 use Rattle.fs_chain.specs.declared.error.ChainError.TheVariants.{OtherQueue, ChainInFlight, Pushing}
 
--- whether a chain is out, of any queue
+-- whether a chain is in flight, of any queue
 abbrev pub is_out : state.ChainState → Bool
 is_out at.Free = false
 is_out (at.Walking course pop_id walk) = false
 is_out _ = true
 
--- of a walk that asks for a load
+-- P, if a pop asks for a load
 abbrev pub IfWalking : state.ChainState → (QueueWalk → Type 0) → Type 0
 IfWalking (at.Walking course pop_id walk) P = P walk
 IfWalking _ P = Unit {0}
 
--- a walk asks for a load
+-- a pop asks for a load
 abbrev pub IsWalking : state.ChainState → Type 0
 IsWalking (at.Walking course pop_id walk) = Unit {0}
 IsWalking _ = ⊥
 
--- how many entries of a table it asks for, whose descriptors may join the chain
+-- how many table entries the pop asks for; their descriptors may join the chain
 abbrev pub entries_asked : state.ChainState → ℕ
 entries_asked (at.Walking course pop_id walk) = asked_entries walk
 entries_asked _ = 0
 
--- why the next walks can't go over another memory, with this limit
+-- why the handle can't take another memory and limit
 abbrev pub memory_error : state.ChainState → (limit : ℕ) → Option ChainError
 memory_error at.Free limit = if nat_lt limit 0x101000 || nat_lt (2 ^ 31) limit then Some BadArgument else None
 memory_error _ limit = Some ChainInFlight
 
--- why a walk can't begin, by so many bytes
+-- why a pop can't begin with so many bytes
 abbrev pub begin_error : QueueState → (len : ℕ) → Option ChainError
 begin_error q len =
     if not (len == 0) then Some BadArgument else if not (may_take q) then Some ChainInFlight else None
 
--- why a walk can't go on
+-- why a pop can't go on with so many bytes
 abbrev pub give_error : QueueState → Course → PopId → (asked len : ℕ) → Option ChainError
 give_error q course pop_id asked len =
     if not (len == asked) then Some BadArgument
@@ -54,18 +54,18 @@ give_error q course pop_id asked len =
     else if not (may_take q) then Some ChainInFlight
     else None
 
--- why a call of a walk does nothing, but for memory that is wanting
+-- why a call of `pop` changes nothing, other than for lack of memory
 abbrev pub walk_error : state.ChainState → QueueState → (len : ℕ) → Option ChainError
 walk_error at.Free q len = begin_error q len
 walk_error (at.Walking course pop_id walk) q len = give_error q course pop_id (asked_len walk) len
 walk_error _ q len = Some WrongOrder
 
--- why a request can't be asked by so many bytes
+-- why a request can't be decoded from so many bytes
 abbrev pub ask_error : state.ChainState → (len : ℕ) → Option ChainError
 ask_error (at.Taken out) len = if nat_lt out.request_len len then Some BadArgument else None
 ask_error _ len = Some WrongOrder
 
--- the front of a reply; none has no bytes
+-- the bytes of a reply's front: none, if there is no front
 abbrev pub front_in : Option (List ℕ) → List ℕ
 front_in None = []
 front_in (Some front) = front
@@ -76,11 +76,12 @@ front_of r = front_in r.front
 abbrev pub front_len : ChainReply → ℕ
 front_len r = length (front_of r)
 
--- how many bytes a reply has in the room of its chain, its data among them, as le32
+-- how many bytes a reply has in its chain's reply buffer, data included: the `len` of the used element
+-- (le32)
 abbrev pub reply_len : InFlight → ChainReply → ℕ
 reply_len out r = min (min (front_len r + r.behind) out.room_len) (2 ^ 32 - 1)
 
--- why a chain can't go back, by a buffer of so many bytes
+-- why a chain can't be pushed with a buffer of so many bytes for its front
 abbrev pub return_error : state.ChainState → QueueState → (len : ℕ) → Option ChainError
 return_error (at.HasReply out reply) q len =
     if not (is_out_of q out) then Some OtherQueue
@@ -89,12 +90,13 @@ return_error (at.HasReply out reply) q len =
     else None
 return_error _ q len = Some WrongOrder
 
--- why no return can be ended
+-- why a push can't be ended
 abbrev pub end_error : state.ChainState → QueueState → Option ChainError
 end_error (at.Pushing out) q = if is_out_of q out && q.pushing then None else Some OtherQueue
 end_error _ q = Some WrongOrder
 
--- why a chain can't be given up: once its request was asked, a reply ends it, or silence
+-- why a chain can't be given up: once its request was decoded, only a push ends it, with a reply or
+-- without
 abbrev pub give_up_error : state.ChainState → QueueState → Option ChainError
 give_up_error at.Free q = None
 give_up_error (at.Walking course pop_id walk) q = None
@@ -102,7 +104,7 @@ give_up_error (at.Taken out) q =
     if not (is_out_of q out) then Some OtherQueue else if not (is_last q out) then Some WrongOrder else None
 give_up_error _ q = Some WrongOrder
 
--- whether no chain is walked, and none is out
+-- whether no chain is being popped, and none is in flight
 abbrev pub is_free : state.ChainState → Bool
 is_free at.Free = true
 is_free _ = false
@@ -112,12 +114,12 @@ abbrev pub is_listing : state.ChainState → Bool
 is_listing (at.Lists out listing) = true
 is_listing _ = false
 
--- how many bytes of a load a walk asks for: 0 if there is none
+-- how many bytes of a load the pop asks for; 0 if there is none
 abbrev pub load_len : state.ChainState → ℕ
 load_len (at.Walking course pop_id walk) = asked_len walk
 load_len _ = 0
 
--- how many bytes of reply a chain has room for: 0 if none is out
+-- the length of the chain's reply buffer; 0 if no chain is in flight
 abbrev pub room_len : state.ChainState → ℕ
 room_len (at.Taken out) = out.room_len
 room_len (at.Waits out waiting) = out.room_len

@@ -1,4 +1,5 @@
--- How a chain goes back: its reply's front, and what is stored and loaded then (VIRTIO 1.2, 2.7.8 and 2.7.7).
+-- How a chain is pushed: its reply's front, and the caller's stores and load (VIRTIO 1.2, 2.7.8 and
+-- 2.7.7).
 use Rattle.std.specs.Prelude.{◌≡◌, ℕ, ◌++◌, List, [], drop}
 use Rattle.fs_queue.specs.Returning.{stores_after_reply}
 use Rattle.fs_queue.specs.ReturningView.{stores_of}
@@ -15,11 +16,12 @@ use Rattle.fs_chain.specs.Queues.{at_return}
 use Rattle.fs_chain.specs.Serials.{freed}
 use Rattle.fs_chain.specs.Walks.{IsAllButPart}
 
--- a reply's front over the first bytes of a buffer
+-- a buffer with a reply's front over its first bytes
 abbrev pub put_front : ChainReply → (buffer : List ℕ) → List ℕ
 put_front reply buffer = front_of reply ++ drop (front_len reply) buffer
 
--- what is told of a chain's return with this reply, at the position where its queue's next one goes back
+-- the stores that the library returns for the push of a chain with this reply, at the queue's next
+-- position in the used ring
 abbrev pub PushesBy : QueueState → InFlight → ChainReply → PushStores → Type 0
 PushesBy q out reply s =
     (s.front_len ≡ front_len reply)
@@ -27,11 +29,11 @@ PushesBy q out reply s =
     × (s.seen_at ≡ seen_at q.event_index out.course.layout)
     × (s.used.flags ≡ out.course.layout.avail)
 
--- of a chain whose reply is known
+-- P, if the chain's reply is known
 abbrev pub IfHasReply : state.ChainState → (InFlight → ChainReply → Type 0) → Type 0
 IfHasReply (at.HasReply out reply) P = P out reply
 IfHasReply _ P = Unit {0}
 
--- the handle is free, and nothing came of a load
+-- the handle is free, and keeps no part of a load
 abbrev pub IsFreed : (old new : ChainHandle) → Type 0
 IsFreed old new = IsAllButPart (freed old) new × (new.part.items ≡ [])

@@ -1,4 +1,4 @@
--- Which chains are out of a queue, and where the next one goes back (VIRTIO 1.2, 2.7.6 and 2.7.8).
+-- Which chains of a queue are in flight, and where the next one is pushed (VIRTIO 1.2, 2.7.6 and 2.7.8).
 use Rattle.std.specs.Prelude.{ℕ, ◌+◌, ◌-◌, ◌%◌, ◌^◌, Bool, false, not, ◌==◌, ◌&&◌, nat_lt, None}
 use Rattle.fs_queue.specs.declared.layout.QueueLayout.{QueueLayout}
 use Rattle.fs_queue.specs.Queue.{Queue}
@@ -8,37 +8,37 @@ use Rattle.fs_chain.specs.declared.queue.QueueState.{QueueState}
 use Rattle.fs_chain.specs.declared.state.InFlight.{InFlight}
 use Rattle.fs_chain.specs.declared.state.PopId.{PopId}
 
--- how many chains are out
+-- how many chains are in flight
 abbrev pub in_flight : QueueState → ℕ
 in_flight q = (q.next_avail + (2 ^ 16 - q.next_used)) % 2 ^ 16
 
--- whether one more may be
+-- whether one more chain may be popped
 abbrev pub may_take : QueueState → Bool
 may_take q = nat_lt (in_flight q) q.max_in_flight
 
--- what a walk through what waits in a queue is known by, and then its chain
+-- the identity of a pop, and then of its chain: the queue's counts as the pop begins
 abbrev pub pop_id_of : QueueState → PopId
 pop_id_of q = record { reset_count = q.reset_count; pop_count = q.pop_count }
 
--- a chain is taken: the next one is taken at the next position
+-- a chain was popped: the next one is popped at the next position
 abbrev pub took : QueueState → QueueState
 took q = record q { next_avail = (q.next_avail + 1) % 2 ^ 16; pop_count = (q.pop_count + 1) % 2 ^ 32 }
 
--- the chain that was taken last is given up: it is taken again
+-- the chain that was popped last is given up: the queue's next pop finds it again
 abbrev pub untook : QueueState → QueueState
 untook q =
     record q { next_avail = (q.next_avail + (2 ^ 16 - 1)) % 2 ^ 16; pop_count = (q.pop_count + 1) % 2 ^ 32 }
 
--- a chain went back: the next one goes back at the next position
+-- a chain was pushed: the next one is pushed at the next position
 abbrev pub gave : QueueState → QueueState
 gave q = record q { next_used = (q.next_used + 1) % 2 ^ 16; pushing = false }
 
--- the queue of a chain that is out, as the chain's return has it: at the position where the next one goes
--- back, whatever was taken first
+-- the queue for a chain's push, at its next position in the used ring; chains may be pushed in another
+-- order than they were popped
 abbrev pub at_return : QueueState → InFlight → Queue
 at_return q out = at_position out.course.layout q.next_used
 
--- a queue that begins, without the event index: no chain is out of it
+-- a new queue, without the event index and with no chain in flight
 abbrev pub new_queue : QueueLayout → (position max_in_flight : ℕ) → QueueState
 new_queue layout position max_in_flight = record {
   layout = layout;
@@ -52,7 +52,7 @@ new_queue layout position max_in_flight = record {
   stopped = None;
 }
 
--- one that begins anew: no chain is out of it any more
+-- a queue that was reset: none of its chains is in flight any more
 abbrev pub reset_to : QueueState → QueueLayout → (position : ℕ) → QueueState
 reset_to q layout position =
     record q {
@@ -64,25 +64,25 @@ reset_to q layout position =
       stopped = None;
     }
 
--- whether two queues have the same parts
+-- whether two queues have the same size and areas
 abbrev pub is_laid_out : QueueLayout → QueueLayout → Bool
 is_laid_out a b = a.size == b.size && a.desc == b.desc && a.avail == b.avail && a.used == b.used
 
--- whether a walk on this course with this pop_id goes through what waits in a queue: none was taken or given
--- up since it began, nor was the queue begun anew
+-- whether a pop in progress still fits the queue: since it began, no chain was popped or given up, and the
+-- queue wasn't reset
 abbrev pub is_at : QueueState → Course → PopId → Bool
 is_at q c t =
     q.reset_count == t.reset_count && q.pop_count == t.pop_count && q.next_avail == c.position
     && is_laid_out q.layout c.layout
 
--- whether a chain is out of a queue: it wasn't begun anew since the chain was taken
+-- whether a chain is in flight in this queue: the queue wasn't reset since the chain was popped
 abbrev pub is_out_of : QueueState → InFlight → Bool
 is_out_of q out =
     not (in_flight q == 0) && q.reset_count == out.pop_id.reset_count
     && is_laid_out q.layout out.course.layout
 
--- whether a chain is the last of those that were taken: each one that was taken after it was given up, by
--- fewer than 2^16 takes and give-ups
+-- whether a chain is the last one that was popped: each chain that was popped after it was given up again,
+-- within fewer than 2^16 pops and give-ups
 abbrev pub is_last : QueueState → InFlight → Bool
 is_last q out =
     q.next_avail == (out.course.position + 1) % 2 ^ 16

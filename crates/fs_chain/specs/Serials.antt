@@ -1,5 +1,5 @@
--- By which number an answer names its call: no other chain of the handle has it, of 2^32 that follow one
--- another.
+-- Which number an answer uses to name its call. Of 2^32 successive chains of the handle, no two have the
+-- same number.
 use Rattle.std.specs.Prelude.{◌≡◌, ◌⊎◌, ℕ, ◌+◌, ◌%◌, ◌^◌, not, ◌==◌, Option, Some, None, Result, Err}
 use Rattle.std.specs.Prelude.{if◌then◌else◌}
 use Rattle.fs_chain.specs.declared.error.ChainError.{ChainError}
@@ -9,7 +9,7 @@ use Rattle.fs_chain.specs.declared.state.ChainState.TheVariants as at
 use Rattle.fs_chain.specs.declared.chain_handle.ChainHandle.{ChainHandle}
 use Rattle.fs_chain.specs.Orders.{is_out}
 
--- the number of the next chain: another one, if a chain is out
+-- the number of the next chain: it grows if a chain is in flight
 abbrev pub next_serial : ChainHandle → ℕ
 next_serial w = if is_out w.state then (w.serial + 1) % 2 ^ 32 else w.serial
 
@@ -17,17 +17,18 @@ next_serial w = if is_out w.state then (w.serial + 1) % 2 ^ 32 else w.serial
 abbrev pub freed : ChainHandle → ChainHandle
 freed w = record w { state = at.Free; serial = next_serial w; list_len = 0 }
 
--- an answer's number isn't that of the chain
+-- why an answer's number is refused: it isn't the chain's number
 abbrev pub number_error : (mine serial : ℕ) → Option ChainError
 number_error mine serial = if not (mine == serial) then Some OtherCall else None
 
--- why an answer with this number isn't looked at: no call waits, or another one does
+-- why an answer with this number is refused before it is looked at: no call is in flight, or another one
+-- is
 abbrev pub serial_error : state.ChainState → (mine serial : ℕ) → Option ChainError
 serial_error (at.Waits out waiting) mine serial = number_error mine serial
 serial_error (at.Lists out listing) mine serial = number_error mine serial
 serial_error _ mine serial = Some WrongOrder
 
--- a call that is refused for this reason does nothing; without one it does this
+-- a call that is refused for this reason changes nothing; without a reason it does `Does`
 abbrev pub UnlessRefused :
     {A : Type 0} → (why : Option ChainError) → Result A ChainError → (Same Does : Type 0) → Type 0
 UnlessRefused why told Same Does =

@@ -1,4 +1,4 @@
--- What a walk comes to, and what is kept of it.
+-- The result of a pop, and the state of handle and queue after it.
 use Rattle.std.specs.Prelude.{◌≡◌, ℕ, ◌-◌, ◌^◌, ◌<◌, min, [], List, Bool, true, false, Option, Some, None}
 use Rattle.smallvec.specs.SmallVec.{HasRoomFor}
 use Rattle.memory_requests.specs.Refused.{RoomWasRefused}
@@ -25,15 +25,15 @@ use Rattle.fs_chain.specs.Events.{event_fault}
 use Rattle.fs_chain.specs.Orders.{entries_asked}
 use Rattle.fs_chain.specs.Queues.{pop_id_of, took}
 
--- how many bytes some descriptors have in one direction, counted in 64 bits
+-- how many bytes some descriptors have in one direction, at most 2^64 - 1
 abbrev pub count : (write_only : Bool) → List Descriptor → ℕ
 count write_only ds = min (total_len (of_direction write_only ds)) (2 ^ 64 - 1)
 
--- the course through what waits at a queue's position
+-- the course of a pop at the queue's next available position
 abbrev pub course_of : QueueState → (limit : ℕ) → Course
 course_of q limit = record { layout = q.layout; position = q.next_avail; limit = limit }
 
--- a chain without a fault, out of its queue, with these descriptors
+-- a chain without a fault, in flight, with these descriptors
 abbrev pub out_of : Course → PopId → (head : ℕ) → List Descriptor → InFlight
 out_of course pop_id head ds =
     record {
@@ -44,7 +44,7 @@ out_of course pop_id head ds =
       room_len = count true ds;
     }
 
--- a faulty chain, out of its queue: nothing is read or written of it
+-- a faulty chain, in flight: the library reads and writes none of its bytes
 abbrev pub faulty_out : Course → PopId → (head : ℕ) → InFlight
 faulty_out course pop_id head =
     record { course = course; pop_id = pop_id; head = head; request_len = 0; room_len = 0 }
@@ -53,7 +53,7 @@ faulty_out course pop_id head =
 abbrev pub no_reply : ChainReply
 no_reply = record { front = None; behind = 0 }
 
--- what is told of a walk that came to this, with these descriptors
+-- the result that `pop` returns for this step, with these descriptors
 abbrev pub told_of : List Descriptor → comes.CourseStep → walked.PopOutcome
 told_of ds (step.Load walk) = tells.Load (asked_len walk)
 told_of ds step.Idle = tells.Idle
@@ -61,7 +61,7 @@ told_of ds (step.Refused e) = tells.Refused e
 told_of ds (step.Chain head None) = tells.Chain head (count false ds) (count true ds)
 told_of ds (step.Chain head (Some fault)) = tells.Faulty head fault
 
--- where the chain is then
+-- the chain's state after this step
 abbrev pub state_after : Course → PopId → List Descriptor → comes.CourseStep → state.ChainState
 state_after course pop_id ds (step.Load walk) = at.Walking course pop_id walk
 state_after course pop_id ds step.Idle = at.Free
@@ -70,24 +70,23 @@ state_after course pop_id ds (step.Chain head None) = at.Taken (out_of course po
 state_after course pop_id ds (step.Chain head (Some fault)) =
     at.HasReply (faulty_out course pop_id head) no_reply
 
--- the queue then
+-- the queue after this step
 abbrev pub queue_after : QueueState → comes.CourseStep → QueueState
 queue_after q (step.Refused e) = record q { stopped = Some e }
 queue_after q (step.Chain head fault) = took q
 queue_after q _ = q
 
--- the descriptors that are kept of those that were gathered: a faulty chain has no windows
+-- which of the gathered descriptors the handle keeps: none of a faulty chain, which has no windows
 abbrev pub left_of : comes.CourseStep → List Descriptor → List Descriptor
 left_of (step.Chain head (Some fault)) ds = []
 left_of _ ds = ds
 
--- a faulty chain leaves none
+-- a faulty chain leaves no descriptors
 abbrev pub LeavesNone : comes.CourseStep → List Descriptor → Type 0
 LeavesNone (step.Chain head (Some fault)) ds = ds ≡ []
 LeavesNone _ ds = Unit {0}
 
--- the handle goes over the same regions, by the same limit, and the number of its chain stays, and how long
--- the list of a listing is
+-- regions, limit, the chain's number and the length of a listing's list stay as they were
 abbrev pub IsAllBut : (old new : ChainHandle) → Type 0
 IsAllBut old new =
     (new.regions ≡ old.regions)
@@ -95,7 +94,7 @@ IsAllBut old new =
     × (new.serial ≡ old.serial)
     × (new.list_len ≡ old.list_len)
 
--- all but where its chain is stays, and how long the list of a listing is
+-- all stays but the chain's state and the length of a listing's list
 abbrev pub IsAllButPlace : (old new : ChainHandle) → Type 0
 IsAllButPlace old new =
     ((new.regions ≡ old.regions) × (new.limit ≡ old.limit) × (new.serial ≡ old.serial))
@@ -103,7 +102,7 @@ IsAllButPlace old new =
     × (new.session ≡ old.session)
     × (new.part ≡ old.part)
 
--- all stays but what came of a load
+-- all stays but the part of a load
 abbrev pub IsAllButPart : (old new : ChainHandle) → Type 0
 IsAllButPart old new =
     IsAllBut old new
@@ -112,7 +111,7 @@ IsAllButPart old new =
     × (new.state ≡ old.state)
     × (new.session ≡ old.session)
 
--- handle and queue keep what a walk on this course came to, and this is told of it; of a faulty chain no
+-- handle and queue keep the result of a step on this course, and `told` is returned; of a faulty chain no
 -- descriptor is kept
 abbrev pub KeepsStep : Course → PopId → comes.CourseStep → (old new : ChainHandle) →
     (before after : QueueState) → walked.PopOutcome → Type 0
@@ -123,14 +122,15 @@ KeepsStep course pop_id came old new before after told =
     × LeavesNone came new.descriptors.items
     × IsAllBut old new
 
--- a walk begins: by no load it comes to what is kept and told
+-- a pop begins: without any load it reaches a step, which is kept and returned
 abbrev pub BeginsOn :
     Course → PopId → (old new : ChainHandle) → (before after : QueueState) → walked.PopOutcome → Type 0
 BeginsOn course pop_id old new before after told =
     (came : comes.CourseStep) × KeepsStep course pop_id came old new before after told
     × IsCourseStep (places_in old.regions) course.limit (queue_of course) nothing new.descriptors.items came
 
--- a walk goes on by the bytes of a load: whatever was loaded before, it comes to what is kept and told
+-- a pop goes on with the bytes of a load. For all loads that may have led to its walk, it reaches this
+-- step, which is kept and returned
 abbrev pub GoesOn : Course → PopId → QueueWalk → (bytes : List ℕ) → (old new : ChainHandle) →
     (before after : QueueState) → walked.PopOutcome → Type 0
 GoesOn course pop_id walk bytes old new before after told =
@@ -141,17 +141,18 @@ GoesOn course pop_id walk bytes old new before after told =
     → ComesBy (places_in old.regions) course.limit (queue_of course) loaded walk bytes
     new.descriptors.items came)
 
--- the event index has its places, if the queue has it
+-- used_event and avail_event are mapped, if the queue has the event index
 abbrev pub HasEvents : ChainHandle → QueueState → Type 0
 HasEvents w q = event_fault (places_in w.regions) q ≡ None
 
--- what is told is no refusal, or the event index has its places: without them a walk that begins is refused
+-- the result isn't a refusal, or used_event and avail_event are mapped: a pop that begins while they
+-- aren't mapped is refused
 abbrev pub RefusalHasEvents : walked.PopOutcome → ChainHandle → QueueState → Type 0
 RefusalHasEvents (tells.Refused e) w q = HasEvents w q
 RefusalHasEvents _ w q = Unit {0}
 
--- a walk begins, unless the queue's event index has no place: then it is refused by that, which stops the
--- queue
+-- a pop begins, unless used_event or avail_event of the queue isn't mapped: that refuses the pop and stops
+-- the queue
 abbrev pub BeginsWhere : (fault : Option QueueError) → (old new : ChainHandle) → (before after : QueueState) →
     walked.PopOutcome → Type 0
 BeginsWhere (Some e) old new before after told =
@@ -159,7 +160,7 @@ BeginsWhere (Some e) old new before after told =
 BeginsWhere None old new before after told =
     BeginsOn (course_of before old.limit) (pop_id_of before) old new before after told
 
--- a stopped queue refuses each walk
+-- a stopped queue refuses every pop
 abbrev pub BeginsUnless : (stopped : Option QueueError) → (old new : ChainHandle) →
     (before after : QueueState) → walked.PopOutcome → Type 0
 BeginsUnless (Some why) old new before after told =
@@ -170,8 +171,8 @@ BeginsUnless None old new before after told =
 abbrev pub BeginsPop : (old new : ChainHandle) → (before after : QueueState) → walked.PopOutcome → Type 0
 BeginsPop old new before after told = BeginsUnless before.stopped old new before after told
 
--- a walk goes on, unless its queue was stopped meanwhile: then it is refused as each walk of a stopped queue,
--- and the handle has no chain
+-- a pop goes on, unless its queue was stopped meanwhile: then it is refused like every pop of a stopped
+-- queue, and the handle is free
 abbrev pub GoesOnUnless : (stopped : Option QueueError) → Course → PopId → QueueWalk → (bytes : List ℕ) →
     (old new : ChainHandle) → (before after : QueueState) → walked.PopOutcome → Type 0
 GoesOnUnless (Some why) course pop_id walk bytes old new before after told =
@@ -179,7 +180,7 @@ GoesOnUnless (Some why) course pop_id walk bytes old new before after told =
 GoesOnUnless None course pop_id walk bytes old new before after told =
     GoesOn course pop_id walk bytes old new before after told
 
--- a walk goes on from where its chain is, by the bytes of the load that it asked for, and by none at its
+-- a pop goes on from the chain's state: with the bytes of the load that it asked for, or with none at its
 -- beginning
 abbrev pub WalksFrom : state.ChainState → (bytes : List ℕ) → (old new : ChainHandle) →
     (before after : QueueState) → walked.PopOutcome → Type 0
@@ -192,8 +193,8 @@ abbrev pub WalksOn :
     (bytes : List ℕ) → (old new : ChainHandle) → (before after : QueueState) → walked.PopOutcome → Type 0
 WalksOn bytes old new before after told = WalksFrom old.state bytes old new before after told
 
--- a walk asks for entries of a table, as many descriptors have no room beside those that joined, and the
--- allocator refused that: only then the walk lacks memory
+-- the pop asks for table entries, their descriptors don't fit beside those that joined, and the allocator
+-- refused more room. A pop runs out of memory only then
 abbrev pub LacksRoom : ChainHandle → Type 0
 LacksRoom w =
     (0 < entries_asked w.state)

@@ -1,7 +1,8 @@
--- A whole chain by the calls of a handle, from its walk to its return, for a guest that writes meanwhile
--- (VIRTIO 1.2, 2.7.5 to 2.7.8). The plain machine has no event index: its step takes the two bytes that are
--- seen after the stores for its flags. What the driver of a queue with the event index is told by them is
--- said beside it.
+-- A whole chain, by the calls of a handle from its pop to its push, while the guest may write (VIRTIO 1.2,
+-- 2.7.5 to 2.7.8).
+-- The plain machine has no event index: its step takes the two bytes that are loaded after the stores as
+-- the available ring's flags. For a queue with the event index, separate definitions say whether the
+-- driver is notified.
 use Rattle.std.specs.Prelude.{false, All, ◌≡◌, ◌≤◌, ◌^◌, ℕ, Bool, List, [], ◌∷◌, ◌++◌, length, map, drop}
 use Rattle.std.specs.Prelude.{Option, Some, None, slice_get}
 use Rattle.vm_memory_core.specs.Host.{Host, changed_at}
@@ -58,20 +59,20 @@ use Rattle.plain_machine.specs.StepBy as act
 use Rattle.plain_machine.specs.StepBy.{AnswersBy, ReturnsFaultyBy, StepLoads, StepBy, Act, Effects}
 use Rattle.plain_machine.specs.StepBy.{reply_stores, after_stores, stores_among, FindFlags, MayStoreLast}
 
--- ---- the walk
+-- ---- the pop
 
--- a call of walk wants bytes
+-- a call of `pop` asks for bytes
 abbrev pub WantsBytes : went.LoadOutcome → Type 0
 WantsBytes wents.Part = Unit {0}
 WantsBytes (wents.On (says.Load n)) = Unit {0}
 WantsBytes (wents.On _) = ⊥
 
--- the first call of a walk, without bytes
+-- the first call of a pop, without bytes
 abbrev pub BeginsPopBy : (old new : ChainHandle) → (before after : QueueState) → went.LoadOutcome → Type 0
 BeginsPopBy old new before after told = (old.state ≡ at.Free) × GoesSo old before [] told new after
 
--- a walk by calls of the handle that weren't refused, the last one first: without bytes at first, then each
--- by bytes of which the call before wanted some
+-- a pop by calls of the handle that weren't refused, the last one first. The first call has no bytes; each
+-- later one has bytes for which the call before asked
 abbrev pub WalksBy : (given : List (List ℕ)) → (old new : ChainHandle) → (before after : QueueState) →
     went.LoadOutcome → Type 0
 WalksBy [] old new before after told = BeginsPopBy old new before after told
@@ -81,8 +82,8 @@ WalksBy (bs ∷ given) old new before after told =
     × WantsBytes earlier
     × GoesSo w q bs told new after
 
--- what a call of walk, which left these descriptors, adds to what was loaded: a part of a load nothing yet, a
--- whole one what was asked for
+-- how a call of `pop`, which left these descriptors, extends the loads: a part of a load adds nothing yet,
+-- a whole load adds the bytes that were asked for
 abbrev pub AddsSo : state.ChainState → went.LoadOutcome → List Descriptor → (before : Loaded) →
     (bytes : List ℕ) → (after : Loaded) → Type 0
 AddsSo at wents.Part ds before bs after = after ≡ before
@@ -90,7 +91,7 @@ AddsSo (at.Walking course pop_id walk) (wents.On told) ds before bs after =
     (came : comes.CourseStep) × (told ≡ told_of ds came) × AddsBytes walk bs came before after
 AddsSo _ (wents.On told) ds before bs after = ⊥
 
--- these loads came of the bytes of a walk's calls
+-- these loads result from the bytes of a pop's calls
 abbrev pub LoadsOf : (given : List (List ℕ)) (old new : ChainHandle) (before after : QueueState)
     (told : went.LoadOutcome) → WalksBy given old new before after told → Loaded → Type 0
 LoadsOf [] old new before after told walks loaded = loaded ≡ nothing
@@ -99,11 +100,11 @@ LoadsOf (bs ∷ given) old new before after told walks loaded =
     × LoadsOf given old walks.0 before walks.1 walks.2 walks.3 l
     × AddsSo walks.0.state told new.descriptors.items l (whole walks.0 bs) loaded
 
--- some bytes by which a walk told this
+-- the pop has this result, for some bytes
 abbrev pub IsWalked : (old new : ChainHandle) → (before after : QueueState) → went.LoadOutcome → Type 0
 IsWalked old new before after told = (given : List (List ℕ)) × WalksBy given old new before after told
 
--- what a walk by calls of the handle wants has a place, so that no call is refused for it
+-- the bytes for which a pop asks are mapped, so no call is refused because they aren't
 abbrev pub WantedHasAPlace : Type 0
 WantedHasAPlace =
     (given : List (List ℕ)) (old new : ChainHandle) (before after : QueueState) (told : went.LoadOutcome) →
@@ -115,13 +116,13 @@ WantedHasAPlace =
 
 -- ---- the call and its answer
 
--- of a chain that is out and wasn't asked
+-- P, and a chain is in flight whose request wasn't decoded
 abbrev pub FromTaken : state.ChainState → (InFlight → Type 0) → Type 0
 FromTaken (at.Taken out) P = P out
 FromTaken _ P = ⊥
 
--- a handle is asked in a session by the first bytes of a request that was loaded; an ask that told More
--- before it changed the session alone
+-- the handle decodes, in a session, the first bytes of a request that was loaded. Earlier calls that
+-- returned More changed the session alone
 abbrev pub IsDecodedBy :
     ChainHandle → Session → (request front : List ℕ) → told.Decoded → ChainHandle → Type 0
 IsDecodedBy w s request front made w' =
@@ -132,8 +133,8 @@ IsDecodedBy w s request front made w' =
     × (w'.descriptors ≡ w.descriptors)
     × (w'.session ≡ s))
 
--- a call is answered in the session in which it was asked, with these bytes of data in the room behind the
--- front
+-- a call is answered in the session in which it was decoded, with these bytes of data in the reply buffer
+-- behind the front
 abbrev pub IsAnsweredBy : ChainHandle → FileAnswer → (bytes : List ℕ) → Replied → ChainHandle → Type 0
 IsAnsweredBy w a bytes told w' =
     IsWaiting w.state
@@ -142,15 +143,15 @@ IsAnsweredBy w a bytes told w' =
     × IfWaits w.state (λ out waiting. IsGiven (setting w.session.page_size w.session.options.0 waiting.room)
     waiting a out w'.session.options.0 told w'.state)
 
--- how a chain's call is answered: there is none; by one answer, with the bytes of its data and what is told
--- of it; or, if it lists a directory, by its entries, with the bytes of the list that are its data
+-- how a chain's call is answered: not at all, since there is none; by one answer, with its data and the
+-- result; or by a directory's entries, with the bytes of the list that are its data
 pub data ChainAnswer : Type 0 where
   NoAnswer : ChainAnswer
   OneAnswer : FileAnswer → (bytes : List ℕ) → Replied → ChainAnswer
   ByEntries : (with_nodes : Bool) → List Brought → Ending → (bytes : List ℕ) → ChainAnswer
 
--- the file calls of a chain: none; the one that was told, with its answer, and the one that gives an entry
--- back; or a listing and its look-ups
+-- the file calls of a chain: none; the decoded call with its answer, and the FORGET of an entry that
+-- doesn't fit; or a listing and its look-ups
 abbrev pub file_calls : (behind : List ℕ) → told.Decoded → ChainAnswer → Calls
 file_calls behind (asks.Call made) (OneAnswer answer bytes replied) =
     (call_of behind made, answer_of bytes answer) ∷ map (λ c. (c, file.Done)) (forget_call replied.forget)
@@ -158,7 +159,7 @@ file_calls behind (asks.Call made) (ByEntries with_nodes es ending bytes) =
     listing_calls (call_of behind made) with_nodes es ending
 file_calls behind made given = []
 
--- a chain whose request was asked has its reply: by no call, or by one that is answered
+-- a chain whose request was decoded has its reply: without a call, or after its call was answered
 abbrev pub HasReply : told.Decoded → ChainHandle → ChainAnswer → ChainHandle → Type 0
 HasReply (asks.Call made) w (OneAnswer answer bytes replied) w' = IsAnsweredBy w answer bytes replied w'
 HasReply (asks.Call made) w (ByEntries with_nodes es ending bytes) w' =
@@ -173,15 +174,15 @@ data_behind NoAnswer = []
 data_behind (OneAnswer answer bytes replied) = bytes
 data_behind (ByEntries with_nodes es ending bytes) = bytes
 
--- ---- the return
+-- ---- the push
 
--- of a chain whose reply is known, and which goes back to its queue, as it is then, by these stores
+-- P, and the chain's reply is known, and it is pushed with these stores to its queue, as that is then
 abbrev pub FromReplied :
     (back : QueueState) → state.ChainState → (ChainReply → PushStores → Type 0) → PushStores → Type 0
 FromReplied back (at.HasReply out reply) P s = PushesBy back out reply s × P reply s
 FromReplied back _ P s = ⊥
 
--- a front and the data behind it, if there is a front
+-- a front with the data behind it, if there is a front
 abbrev pub front_if : Option (List ℕ) → (behind : List ℕ) → List ℕ
 front_if None behind = []
 front_if (Some front) behind = front ++ behind
@@ -190,16 +191,18 @@ front_if (Some front) behind = front ++ behind
 abbrev pub reply_bytes : ChainReply → (behind : List ℕ) → List ℕ
 reply_bytes reply behind = front_if reply.front behind
 
--- what the caller stores and loads for a return: the data over the room, the front over its begin, the
--- element's two halves and the index, and then the two bytes that are seen: flags, or used_event (2.7.8 and
--- 2.7.7); a chain without a reply stores none in its room
+-- the caller's stores and load for a push, in this order: the data into the reply buffer, the front over
+-- its start, the used element's two halves, and the used index. Then the caller loads the two bytes that
+-- decide on the notification: flags, or used_event (2.7.8 and 2.7.7). Without a reply nothing is stored in
+-- the reply buffer
 abbrev pub acts_of :
     (room : List ℕ) → ChainReply → (behind : List ℕ) → PushStores → (flags : List ℕ) → List Act
 acts_of room reply behind s flags =
     map act.Stores (reply_stores room (reply_bytes reply behind) (front_len reply) ++ stores_of s.used)
     ++ act.LoadsFlags flags ∷ []
 
--- a chain goes back by what its caller stores and loads, and this is told of the two bytes that were loaded
+-- a chain is pushed by its caller's stores and loads, and `notice` is the result for the two bytes that
+-- were loaded
 pub record GoesBackBy (back : QueueState) (room : List ℕ) (behind : List ℕ) (from : state.ChainState)
     (acts : List Act) (last : ℕ) (notice : Bool) : Type 0 where
   pub stores : PushStores
@@ -211,10 +214,10 @@ pub record GoesBackBy (back : QueueState) (room : List ℕ) (behind : List ℕ) 
 
 -- ---- the whole
 
--- a chain from its walk to its return, without a refusal between: the calls of the walk, the request as it
--- was loaded, the call and its answer, the stores and the two bytes that are seen; limit, regions and
--- position are those of its beginning, and `back` is the queue as the return finds it: other chains may have
--- been taken and have gone back meanwhile
+-- a chain from its pop to its push, without a refusal between. It has the calls of the pop, the request as
+-- it was loaded, and the file call with its answer. The stores and the two bytes that are loaded last
+-- follow. Limit, regions and position are those at its beginning. `back` is the queue as the push finds
+-- it: other chains may have been popped and pushed meanwhile
 pub record ChainBy (given_bytes : List (List ℕ)) (request : List ℕ) (calls : Calls) (acts : List Act)
     (last : ℕ) (head : ℕ) (notice : Bool)
     (old new : ChainHandle) (before : QueueState) (s : Session) : Type 0 where
@@ -233,7 +236,7 @@ pub record ChainBy (given_bytes : List (List ℕ)) (request : List ℕ) (calls :
   pub returns : GoesBackBy back (addresses_of (writable popped_handle.descriptors.items)) (data_behind given)
       new.state acts last notice
 
--- a faulty chain from its walk to its return: nothing is loaded of it or stored in it
+-- a faulty chain from its pop to its push: the caller loads none of its bytes and stores none in it
 pub record FaultyChainBy (given_bytes : List (List ℕ)) (fault : ChainFault) (acts : List Act) (last : ℕ)
     (head : ℕ) (notice : Bool)
     (old : ChainHandle) (before : QueueState) : Type 0 where
@@ -243,20 +246,21 @@ pub record FaultyChainBy (given_bytes : List (List ℕ)) (fault : ChainFault) (a
   pub back : QueueState
   pub returns : GoesBackBy back [] [] popped_handle.state acts last notice
 
--- the queue of a chain that goes back, at the position where its return finds it
+-- the queue of a chain that is pushed, at the position where its push finds it
 abbrev pub queue_back : (before back : QueueState) → Queue
 queue_back before back = at_position before.layout back.next_used
 
--- a chain goes back at the position where it was taken: one is out at a time, or they go back in their order
+-- a chain is pushed at the position where it was popped: one is in flight at a time, or all are pushed in
+-- their order
 abbrev pub IsInOrder : (before back : QueueState) → Type 0
 IsInOrder before back = back.next_used ≡ before.next_avail
 
--- the driver is told by the available flags, as that of the plain machine
+-- the driver's available flags decide on a notification, as for the plain machine
 abbrev pub IsByFlags : QueueState → Type 0
 IsByFlags q = q.event_index ≡ false
 
--- the state of the plain machine before: its memory's places are the regions', its queue is the kept one,
--- which isn't stopped, and the limit is one
+-- the plain machine's state before the chain. Its memory maps addresses as the regions do, its queue is
+-- the handle's, which isn't stopped, and its limit is the handle's, at most 2^31
 pub record IsMachineBefore {F : Type 0} (old : ChainHandle) (before : QueueState) (i : ℕ) (m : State F) :
     Type 0 where
   pub goes : before.stopped ≡ None
@@ -265,22 +269,22 @@ pub record IsMachineBefore {F : Type 0} (old : ChainHandle) (before : QueueState
   pub bound : old.limit ≤ 2 ^ 31
   pub queue : slice_get m.queues i ≡ Some (queue_of (course_of before old.limit))
 
--- and its session is the one in which a request is asked
+-- the machine's session is the one in which the request is decoded
 abbrev pub IsSession : {F : Type 0} → Session → State F → Type 0
 IsSession s m = (m.page_size ≡ s.page_size) × (m.options ≡ s.options.0)
 
--- and after: options, files and the queue's position alone went on
+-- the machine's state after the chain: only options, files and the queue's position changed
 abbrev pub after_chain : {F : Type 0} → State F → (i : ℕ) → Queue → (options : ℕ) → F → State F
 after_chain m i q options files =
     record m { queues = changed_at m.queues i (λ _. advanced q); options = options; files = files }
 
--- the loads of a step, with those of entries that have no place
+-- the loads of a step, with those of entries that aren't mapped
 abbrev pub step_loads : Loaded → (lost : List Load) → (request : List ℕ) → StepLoads
 step_loads l lost request =
     record { index = l.index; entry = l.entry; entries = l.entries ++ lost; request = request }
 
--- besides the loads that came of bytes a step knows only that these have no place: an index or a ring's
--- entry, and an entry of a table that was asked for last
+-- besides the loads that resulted from bytes, a step knows only which addresses aren't mapped. They are
+-- those of an index or a ring's entry, or of a table entry that was asked for last
 abbrev pub LackPlaces : ChainHandle → QueueState → Loaded → (lost : List Load) → Type 0
 LackPlaces old before loaded lost =
     RingIsAsked (places_in old.regions) (queue_of (course_of before old.limit)) loaded
@@ -290,7 +294,7 @@ LackPlaces old before loaded lost =
 abbrev pub no_effects : Effects
 no_effects = record { acts = []; last = 0 }
 
--- a walk that finds nothing is the plain machine's idle step by what was loaded
+-- a pop that finds nothing is the plain machine's idle step, by the bytes that were loaded
 abbrev pub IdleIsStepBy : {F : Type 0} → May F → Type 0
 IdleIsStepBy {F} may =
     (given : List (List ℕ)) (i : ℕ) (old new : ChainHandle) (before after : QueueState) (m : State F) →
@@ -302,8 +306,8 @@ IdleIsStepBy {F} may =
     × LackPlaces old before loaded lost
     × StepBy may m i (step_loads loaded lost []) [] Idle no_effects m
 
--- a walk that is refused is the plain machine's refused step, which stops the queue, if the event index has
--- its places
+-- a pop that is refused is the plain machine's refused step, which stops the queue, if used_event and
+-- avail_event are mapped
 abbrev pub RefusalIsStepBy : {F : Type 0} → May F → Type 0
 RefusalIsStepBy {F} may =
     (given : List (List ℕ)) (e : QueueError) (i : ℕ) (old new : ChainHandle) (before after : QueueState)
@@ -319,8 +323,8 @@ RefusalIsStepBy {F} may =
     × StepBy may m i (step_loads loaded lost []) [] (Refused (device.Queue e)) no_effects
     (with_queue m i (after_refusal q e))
 
--- without them a walk is refused by its first call, whatever waits: no byte is loaded of it and none stored,
--- the handle stays as it was, and the queue is stopped
+-- if they aren't mapped, the first call of the pop is refused, even if a chain is available. Nothing is
+-- loaded or stored, the handle stays as it was, and the queue is stopped
 abbrev pub EventFaultRefuses : Type 0
 EventFaultRefuses =
     (given : List (List ℕ)) (e : QueueError) (old new : ChainHandle) (before after : QueueState)
@@ -335,7 +339,7 @@ EventFaultRefuses =
     × (new.part.items ≡ [])
     × (after ≡ record before { stopped = Some e })
 
--- a faulty chain is the plain machine's step that gives it back with nothing
+-- a faulty chain is the plain machine's step that returns it without a reply
 abbrev pub FaultyIsStepBy : {F : Type 0} → May F → Type 0
 FaultyIsStepBy {F} may =
     (given : List (List ℕ)) (fault : ChainFault) (acts : List Act) (last head i : ℕ) (notice : Bool)
@@ -354,7 +358,8 @@ FaultyIsStepBy {F} may =
     (record { acts = acts; last = last })
     (after_chain m i (queue_of (course_of before old.limit)) m.options m.files)
 
--- whichever chains of its queue go back before it, a faulty chain goes back with nothing where it does
+-- a faulty chain is pushed without a reply at the position where its push finds the queue. It may be
+-- pushed in any order with the other chains of its queue
 abbrev pub FaultyIsAnsweredBy : {F : Type 0} → May F → Type 0
 FaultyIsAnsweredBy {F} may =
     (given : List (List ℕ)) (fault : ChainFault) (acts : List Act) (last head i : ℕ) (notice : Bool)
@@ -371,7 +376,7 @@ FaultyIsAnsweredBy {F} may =
     × ReturnsFaultyBy m i q head fault [] x (tells run.returns.flags) (record { acts = acts; last = last })
     (after_chain m i q m.options m.files)
 
--- these loads came of the calls of a chain's walk
+-- these loads result from the calls of a chain's pop
 abbrev pub LoadsOfChain : (given : List (List ℕ)) (request : List ℕ) (calls : Calls) (acts : List Act)
     (last head : ℕ) (notice : Bool) (old new : ChainHandle) (before : QueueState) (s : Session)
     → ChainBy given request calls acts last head notice old new before s → Loaded → Type 0
@@ -379,9 +384,9 @@ LoadsOfChain given request calls acts last head notice old new before s run load
     LoadsOf given old run.popped_handle before run.taken (wents.On (says.Chain head run.lens.0 run.lens.1))
     run.walks loaded
 
--- whatever the guest writes meanwhile, and whichever chains of its queue are taken and go back meanwhile,
--- what its loads offer is answered as a plain machine, whatever its memory, answers it on a queue that stands
--- where the chain goes back: by these calls, this reply and these stores
+-- the guest may write meanwhile, and other chains of the queue may be popped and pushed. The loads' offer
+-- is answered as a plain machine with any memory answers it, with its queue at the position where the
+-- chain is pushed. The calls, the reply and the stores are these
 abbrev pub ChainIsAnsweredBy : {F : Type 0} → May F → Type 0
 ChainIsAnsweredBy {F} may =
     (given : List (List ℕ)) (request : List ℕ) (calls : Calls) (acts : List Act) (last head i : ℕ)
@@ -404,8 +409,8 @@ ChainIsAnsweredBy {F} may =
     × AnswersBy may m i q head request room calls x (tells run.returns.flags)
     (record { acts = acts; last = last }) (after_chain m i q new.session.options.0 files)
 
--- if it goes back in order, the calls told, the reply and the stores of a chain are those of the plain
--- machine's step by what was loaded
+-- if chains are pushed in order, a chain is the plain machine's step by the bytes that were loaded: the
+-- file calls, the reply and the stores are the same
 abbrev pub ChainIsStepBy : {F : Type 0} → May F → Type 0
 ChainIsStepBy {F} may =
     (given : List (List ℕ)) (request : List ℕ) (calls : Calls) (acts : List Act) (last head i : ℕ)
@@ -427,16 +432,16 @@ ChainIsStepBy {F} may =
     (record { acts = acts; last = last })
     (after_chain m i (queue_of (course_of before old.limit)) new.session.options.0 files)
 
--- the two bytes that were loaded for a return stand at used_event, and tell whether they name the position
--- where it goes back; without the event index they are the available flags, and tell what the plain machine
--- tells by them
+-- with the event index, the two bytes that were loaded for a push are used_event: the driver is notified
+-- if they are the push's position. Without it they are the available flags, which decide as in the plain
+-- machine
 pub record IsToldBySeen (layout : QueueLayout) (back : QueueState) (s : PushStores) (seen : List ℕ)
     (notice : Bool) : Type 0 where
   pub place : s.seen_at ≡ seen_at back.event_index layout
   pub told : notice ≡ tells_of back seen
   pub by_flags : IsByFlags back → notice ≡ tells seen
 
--- so it is of each chain, whichever chains of its queue go back before it
+-- that holds for every chain, in any order with the other chains of its queue
 pub record ReturnsAreToldBySeen : Type 0 where
   pub of_chain : (given : List (List ℕ)) (request : List ℕ) (calls : Calls) (acts : List Act) (last head : ℕ)
       (notice : Bool) (old new : ChainHandle) (before : QueueState) (s : Session)
@@ -449,16 +454,18 @@ pub record ReturnsAreToldBySeen : Type 0 where
       → (run : FaultyChainBy given fault acts last head notice old before)
       → IsToldBySeen before.layout run.back run.returns.stores run.returns.flags notice
 
--- if the load of the two bytes finds what memory has at this place by then, the driver is told by what it has
--- there after the stores; without the event index so is that of the plain machine, by the flags
+-- if the load of the two bytes finds the memory's bytes of that moment, the bytes there after the stores
+-- decide on the notification. Without the event index they are the flags, and decide for the plain machine
+-- too
 pub record IsToldByMemory (m left : Memory) (q : Queue) (back : QueueState) (place : ℕ) (acts : List Act)
     (notice : Bool) : Type 0 where
   pub told : FindFlags m (record q { avail = place }) acts → notice ≡ tells_of back (bytes left place 2)
   pub by_flags : IsByFlags back → FindFlags m q acts → notice ≡ wants_notice left q
 
--- and over some memory: if one has all that was loaded before (then no byte was loaded as two), and the
--- front's bytes apart, it is the plain machine's step over that memory, which is left with the stores in it;
--- the machine tells by its flags, and the handle by the two bytes that it sees
+-- the same over a memory that has all that was loaded before, so no byte was loaded with two values. The
+-- front's bytes lie apart from the rest of the reply buffer. Then the chain is the plain machine's step
+-- over that memory, which has the stores afterwards. The machine notifies by its flags, and the handle by
+-- the two bytes that it loads
 abbrev pub ChainIsStep : {F : Type 0} → May F → Type 0
 ChainIsStep {F} may =
     (given : List (List ℕ)) (request : List ℕ) (calls : Calls) (acts : List Act) (last head i : ℕ)

@@ -1,5 +1,5 @@
--- A READDIR or READDIRPLUS of a whole chain: its entries one by one, how it ends, and the file calls that it
--- makes (linux/fuse.h).
+-- A READDIR or READDIRPLUS of a whole chain: its entries one by one, its end, and its file calls
+-- (linux/fuse.h).
 use Rattle.std.specs.Prelude.{◌≡◌, ◌⊎◌, ℕ, Bool, true, false, List, [], ◌∷◌, ◌++◌, length, take, Option, Some}
 use Rattle.std.specs.Prelude.{None, Result, Ok, if◌then◌else◌}
 use Rattle.fuse_fs.specs.Calls.{FileCall, FileAnswer, Listed, Lookup, Forget, Readdir, HasEntry, Entries}
@@ -20,8 +20,8 @@ use Rattle.plain_machine.specs.Step.{Calls}
 
 -- ---- by the calls of a handle
 
--- an entry is brought to the listing that is answered, without its node or with it, in a list of the
--- caller's, and this is told
+-- the caller adds an entry, with or without its node, to the listing that is being answered, in a list of
+-- the caller's; the result is `told`
 abbrev pub BringsEntry : ChainHandle → (list : List ℕ) → Brought → Result Added ChainError → ChainHandle →
     (list' : List ℕ) → Type 0
 BringsEntry w list e told w' list' =
@@ -29,7 +29,7 @@ BringsEntry w list e told w' list' =
     ⊎ AddsTo w.state w'.state list list' e (λ l. added_found l (length list) (length e.0.name)) told)
     × IsAllButPlace w w'
 
--- entries are brought one by one, each to the list that the one before left, and each is in
+-- the caller adds entries one by one, each to the list that the one before left, and each is added
 abbrev pub Gathers :
     (es : List Brought) → ChainHandle → (list : List ℕ) → ChainHandle → (list' : List ℕ) → Type 0
 Gathers [] w list w' list' = (w' ≡ w) × (list' ≡ list)
@@ -38,23 +38,23 @@ Gathers (e ∷ es) w list w' list' =
     × BringsEntry w list e (Ok added.In) v between
     × Gathers es v between w' list'
 
--- the listing is replied: so many bytes of its list are the data
+-- the listing ends: the first `len` bytes of its list are the data
 abbrev pub IsEnded : ChainHandle → (len : ℕ) → ChainHandle → Type 0
 IsEnded w len w' = EndsByEntries w.state w'.state (Ok len) × IsAllButPlace w w'
 
--- it is replied that it failed
+-- the listing ends with an error
 abbrev pub IsFailed : (errno : ℕ) → ChainHandle → (len : ℕ) → ChainHandle → Type 0
 IsFailed errno w len w' = EndsByError errno w.state w'.state (Ok len) × IsAllButPlace w w'
 
--- by which error an entry fails the listing, if it does
+-- the errno with which an entry fails the listing, if it does
 abbrev pub failed_by : Added → Option ℕ
 failed_by added.NoRoom = Some EIO
 failed_by added.TooLong = Some EOVERFLOW
 failed_by _ = None
 
--- how a listing ends behind the entries that are in: with the directory; at an entry that has no place in the
--- size that was asked for; at one by which it fails; at one that isn't found; or since the directory can't be
--- read on. Behind such an entry there may be others
+-- how a listing ends after the entries that were added, one case a constructor: the directory ends; an
+-- entry doesn't fit in the size that the request asked for; an entry fails the listing; an entry isn't
+-- found; the directory can't be read on. Other entries may follow such an entry
 pub data Ending : Type 0 where
   EndsThere : Ending
   FullAt : Brought → (behind : List Listed) → Ending
@@ -62,13 +62,13 @@ pub data Ending : Type 0 where
   NotFound : Listed → (behind : List Listed) → (errno : ℕ) → Ending
   Unreadable : (errno : ℕ) → Ending
 
--- of a listing that gathers entries
+-- P, and a listing gathers entries
 abbrev pub FromLists : state.ChainState → (Listing → Type 0) → Type 0
 FromLists (at.Lists out l) P = P l
 FromLists _ P = ⊥
 
--- it ends so, with so many bytes of its list as data; only with nodes an entry is looked up, and . and ..
--- aren't
+-- the listing ends like this, with `len` bytes of its list as data. Only a listing with nodes looks an
+-- entry up, and it never looks up . and ..
 abbrev pub EndsBy : Ending → ChainHandle → (list : List ℕ) → (len : ℕ) → ChainHandle → Type 0
 EndsBy EndsThere w list len w' = IsEnded w len w'
 EndsBy (FullAt e behind) w list len w' =
@@ -82,8 +82,8 @@ EndsBy (NotFound d behind errno) w list len w' =
     FromLists w.state (λ l. l.with_nodes ≡ true) × (is_dot d.name ≡ false) × IsFailed errno w len w'
 EndsBy (Unreadable errno) w list len w' = IsFailed errno w len w'
 
--- a listing, with nodes or without, is answered by these entries and ends so, with these bytes of its list as
--- data
+-- a listing, with nodes or without, is answered by these entries and ends like this, with these bytes of
+-- its list as data
 pub record IsListedBy (w : ChainHandle) (with_nodes : Bool) (es : List Brought) (ending : Ending)
     (bytes : List ℕ) (w' : ChainHandle) : Type 0 where
   pub kind : FromLists w.state (λ l. l.with_nodes ≡ with_nodes)
@@ -97,26 +97,26 @@ pub record IsListedBy (w : ChainHandle) (with_nodes : Bool) (es : List Brought) 
 
 -- ---- the file calls
 
--- the look-up of an entry of the directory that a call reads, with its answer
+-- the look-up of an entry of the directory that the call reads, with its answer
 abbrev pub looked_up : FileCall → (with_nodes : Bool) → Listed → FileAnswer → Calls
 looked_up (Readdir who node handle size offset) with_nodes d answer =
     if is_looked_up with_nodes d then (Lookup who node d.name, answer) ∷ [] else []
 looked_up call with_nodes d answer = []
 
--- the look-ups of entries that were found, in their order
+-- the look-ups of the entries that were found, in their order
 abbrev pub all_looked_up : FileCall → (with_nodes : Bool) → List Brought → Calls
 all_looked_up call with_nodes [] = []
 all_looked_up call with_nodes (e ∷ es) =
     looked_up call with_nodes e.0 (HasEntry e.1) ++ all_looked_up call with_nodes es
 
--- the call that gives back the node of an entry that isn't in
+-- the FORGET of an entry that was looked up but not added
 abbrev pub node_back : FileCall → (with_nodes : Bool) → Brought → Calls
 node_back (Readdir who node handle size offset) with_nodes e =
     if with_nodes then (Forget who (node_of e).inode 1, Done) ∷ [] else []
 node_back call with_nodes e = []
 
--- a directory that can't be read on has failed, unless entries with nodes are in, which are held: then it has
--- ended
+-- a directory that can't be read on has failed, unless entries with nodes were added, which the client
+-- holds: then it has ended
 abbrev pub unreadable_calls : FileCall → (with_nodes : Bool) → List Brought → (errno : ℕ) → Calls
 unreadable_calls call true (e ∷ es) errno =
     (call, Entries (entries_of (e ∷ es))) ∷ all_looked_up call true (e ∷ es)

@@ -1,4 +1,4 @@
-//! The answer to a chain's call.
+//! The answer to a chain's file call.
 
 ghost use Rattle.std.specs.Prelude.{◌≡◌, IfOk, IfErr, OnOk, OnErr};
 ghost use Rattle.virtiofsd_fuse.specs.Serving.{setting};
@@ -16,16 +16,16 @@ use fuse_values::FileAnswer;
 use server_phases::{AnswerRefusal, Answered, Sent, Waiting};
 use std::mem;
 
-/// What comes of an answer.
+/// The result of an answer.
 #[derive(Clone, Copy, Debug)]
 pub struct Replied {
-    /// Whether the room holds such a reply. If not, the chain goes back with none.
+    /// Whether the reply fits in the reply buffer. If not, the chain is pushed without a reply.
     pub has_room: bool,
-    /// Who is to hold which node less by one: the guest isn't told of the entry that was answered.
+    /// The context and node of an entry that the reply doesn't hand to the guest: the caller forgets one
+    /// look-up of it.
     pub forget: Option<(Context, u64)>,
 }
 
-// How many bytes of data an answer has.
 fn data_len(answer: &FileAnswer) -> usize
     ensures { result ≡ data_len answer.now }
 {
@@ -35,7 +35,6 @@ fn data_len(answer: &FileAnswer) -> usize
     }
 }
 
-// Why an answer is refused, as a call's error.
 fn error_of(why: AnswerRefusal) -> ChainError
     ensures { result ≡ error_of why }
 {
@@ -45,7 +44,7 @@ fn error_of(why: AnswerRefusal) -> ChainError
     }
 }
 
-// The reply with so many bytes of data behind its front, or none; and whether it has room.
+// The reply: its front with `behind` bytes of data behind it, or none; and whether it fits.
 fn reply_of(sent: Sent, behind: usize) -> (ChainReply, bool)
     ensures { result ≡ (reply_of sent behind, fits sent) }
 {
@@ -62,7 +61,6 @@ fn reply_of(sent: Sent, behind: usize) -> (ChainReply, bool)
 }
 
 impl ChainHandle {
-    // Keeps the reply of an answer.
     fn keep_answered(&mut self, out: InFlight, answered: Answered, behind: usize) -> Replied
         ensures told { result ≡ replied_of answered }
         ensures kept { self.new
@@ -76,7 +74,7 @@ impl ChainHandle {
         }
     }
 
-    // Answers a call that waits.
+    // Answers a call in flight. After a refusal it stays in flight.
     fn answer_waiting(
         &mut self,
         out: InFlight,
@@ -105,7 +103,7 @@ impl ChainHandle {
         }
     }
 
-    // Answers the call that waits, whichever it is.
+    // Answers the call in flight, if there is one. A listing isn't answered this way.
     fn answer_asked(&mut self, answer: FileAnswer) -> Result<Replied, ChainError>
         ensures given { IfOk result (λ told. IfWaits self.old.state (λ out w.
             IsGiven (setting self.old.session.page_size self.old.session.options.0 w.room) w answer out
@@ -132,9 +130,13 @@ impl ChainHandle {
         }
     }
 
-    /// Answers a chain's call, in the session in which it was asked, by the number of the chain (`serial`).
-    /// `WrongOrder` if no call waits, `OtherCall` if another one does. A listing is answered entry by entry,
-    /// or by `fail`: else `OtherKind`.
+    /// Answers a chain's file call, in the session in which it was decoded, with the chain's number
+    /// (`serial`). After an error nothing changed:
+    /// - `WrongOrder`: no call is in flight.
+    /// - `OtherCall`: another call is.
+    /// - `OtherKind`: the call needs an answer of another kind. A listing is answered entry by entry, or
+    ///   by `fail`.
+    /// - `LongReply`: the data is too long for the reply.
     pub fn answer(&mut self, serial: u32, answer: FileAnswer) -> Result<Replied, ChainError>
         ensures given { IfOk result (λ told. IfWaits self.old.state (λ out w.
             IsGiven (setting self.old.session.page_size self.old.session.options.0 w.room) w answer out

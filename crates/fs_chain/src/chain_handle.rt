@@ -1,4 +1,4 @@
-//! The handle: a handle for one chain at a time.
+//! The handle, which keeps the state of one chain at a time.
 
 ghost use Rattle.std.specs.Prelude.{◌≡◌, ◌≤◌, [], Some, None, IfErr, IfSome, OnOk, OnErr, OnSome, true};
 ghost use Rattle.std.specs.Prelude.{false};
@@ -20,9 +20,9 @@ use virtiofsd_fuse::MAX_REQUEST_LEN;
 use vm_bitmaps::PAGE_SIZE;
 use vm_memory_core::VolatileSlice;
 
-/// A handle for one chain at a time: from the walk that finds it to the stores that give it back. It keeps
-/// the first bytes of the load that its walk asks for, if the load is made in parts, the session in which its
-/// chain was asked, and by which number an answer names that chain.
+/// A handle for one chain at a time, from the pop that finds it to the push that returns it. It keeps the
+/// session in which its chain was decoded, and the number with which an answer names that chain. If the
+/// caller makes a load in parts, it also keeps the first bytes of that load.
 #[derive(Drop)]
 pub struct ChainHandle {
     pub(crate) alloc: Global,
@@ -34,7 +34,7 @@ pub struct ChainHandle {
     pub(crate) session: Session,
     /// The number of its chain.
     pub(crate) serial: u32,
-    /// How long the list is that has the entries of a listing; 0 if it has none.
+    /// The length of the list that has the entries of a listing; 0 if it has none.
     pub(crate) list_len: usize,
 }
 
@@ -63,8 +63,9 @@ impl ChainHandle {
         }
     }
 
-    /// Over which memory the next walks go, and how many bytes a request or a room has at most: from 0x101000
-    /// to 2^31, else `BadArgument`. `ChainInFlight` unless the handle is free.
+    /// Sets the memory of the next pops, and the greatest length of a request and of a reply buffer, in
+    /// bytes. `ChainInFlight` unless the handle is free; `BadArgument` for a limit below 0x101000 or above
+    /// 2^31.
     pub fn set_memory(&mut self, regions: GuestMap, limit: u32) -> Result<(), ChainError>
         ensures error { IfErr result (λ e. memory_error self.old.state limit ≡ Some e) }
         ensures ok { OnOk result (memory_error self.old.state limit ≡ None) }
@@ -83,7 +84,7 @@ impl ChainHandle {
         }
     }
 
-    // Keeps memory and limit, if the limit is one.
+    // Sets both in a free handle.
     fn take_memory(&mut self, regions: GuestMap, limit: u32) -> Result<(), ChainError>
         ensures error { IfErr result (λ e. memory_error at.Free limit ≡ Some e) }
         ensures ok { OnOk result (memory_error at.Free limit ≡ None) }
@@ -104,16 +105,16 @@ impl ChainHandle {
         Ok(())
     }
 
-    /// Whether a chain is out of its queue.
+    /// Whether a chain is in flight.
     pub fn is_out(&self) -> bool
         ensures { result ≡ is_out self.now.state }
     {
         !matches!(self.state, ChainState::Free | ChainState::Walking(_, _, _))
     }
 
-    /// The longest window of one direction of a chain from a byte on, behind the descriptors that were
-    /// passed; those before that byte are passed then. None past the end of the direction's bytes, or if no
-    /// chain is out. So all windows of a chain take time for its descriptors once.
+    /// The longest window of one direction of a chain, from byte `from` on. The cursor passes the
+    /// descriptors before that byte, so the windows of a whole chain take time for its descriptors once.
+    /// None past the end of the direction's bytes, or if no chain is in flight.
     pub fn next_window(
         &self,
         write_only: bool,
@@ -139,7 +140,7 @@ impl ChainHandle {
         window_from(&self.regions, left, write_only, from - passed.bytes)
     }
 
-    // The longest window of one direction of the chain that is out, from a byte on.
+    // The longest window of one direction of the chain in flight, from byte `from` on.
     fn window(&self, write_only: bool, from: u64) -> Option<VolatileSlice>
         ensures some { IfSome result
             (IsWindowFrom self.now.regions write_only self.now.descriptors.items from) }
@@ -156,7 +157,8 @@ impl ChainHandle {
         window_from(&self.regions, &self.descriptors, write_only, from)
     }
 
-    /// The longest window of a chain's request from a byte on; none past its end, or if no chain is out.
+    /// The longest window of a chain's request from byte `from` on; none past its end, or if no chain is
+    /// in flight.
     pub fn request_window(&self, from: u64) -> Option<VolatileSlice>
         ensures some { IfSome result (IsWindowFrom self.now.regions false self.now.descriptors.items from) }
         ensures out { OnSome result (is_out self.now.state ≡ true) }
@@ -169,7 +171,8 @@ impl ChainHandle {
         self.window(false, from)
     }
 
-    /// The longest window of a chain's room from a byte on; none past its end, or if no chain is out.
+    /// The longest window of a chain's reply buffer from byte `from` on; none past its end, or if no chain
+    /// is in flight.
     pub fn room_window(&self, from: u64) -> Option<VolatileSlice>
         ensures some { IfSome result (IsWindowFrom self.now.regions true self.now.descriptors.items from) }
         ensures out { OnSome result (is_out self.now.state ≡ true) }

@@ -1,4 +1,4 @@
-//! What a chain's request asks.
+//! The call or reply that results from a chain's request.
 
 ghost use Rattle.std.specs.Prelude.{◌≡◌, ℕ, List, Ok, Some, None, IfErr, IfOk, OnOk, OnErr, drop, length};
 ghost use Rattle.std.specs.Prelude.{if◌then◌else◌};
@@ -26,20 +26,20 @@ use server_phases::{AskedFront, DecodedRequest, Front, Listing, Session, Waiting
 use server_segments::Error;
 use virtiofsd_fuse::REQUEST_FRONT;
 
-/// What a request asks.
+/// The result of decoding a request.
 #[derive(Drop)]
 pub enum Decoded<'a> {
-    /// This call, whose answer is waited for. Its names and values stand in the request.
+    /// This file call, which the caller answers. Its names and values lie in the request.
     Call(FileCall<'a>),
-    /// So many bytes of the request are wanted, from its start.
+    /// The library needs this many bytes of the request, from its start.
     More(usize),
-    /// No call: the reply is known, or there is none.
+    /// No call: the reply is known, or the request has none.
     Nothing,
-    /// No call, and there is no reply: the fault.
+    /// No call and no reply: the fault of the request.
     Fault(Error),
 }
 
-// Where a chain is whose call waits: a listing gathers entries.
+// The state of a chain whose call is in flight: a listing gathers entries.
 fn waiting_state(out: InFlight, waiting: Waiting) -> ChainState
     ensures keeps { (s : Setting) (m : Meaning) (bytes : List ℕ) (made : value.FileCall)
         → AsksCall s m bytes made waiting
@@ -52,14 +52,14 @@ fn waiting_state(out: InFlight, waiting: Waiting) -> ChainState
     }
 }
 
-// Where a chain is that goes back with this reply, or with none.
+// The state of a chain that is to be pushed with this reply, or without one.
 fn answered_state(out: InFlight, front: Option<Front>) -> ChainState
     ensures { result ≡ at.HasReply out (record { front = front; behind = 0 }) }
 {
     ChainState::HasReply(out, ChainReply { front, behind: 0 })
 }
 
-// How many bytes of a request are wanted after so many of them.
+// How many bytes of a request the library needs if `len` bytes don't suffice.
 fn wanted(len: usize, whole: usize) -> usize
     ensures { result ≡ wanted len whole }
 {
@@ -71,7 +71,7 @@ fn wanted(len: usize, whole: usize) -> usize
 }
 
 impl ChainHandle {
-    // Keeps what a request asks, and tells it.
+    // Keeps a decoded request, and returns it.
     fn keep_asked<'a>(&mut self, out: InFlight, asked: DecodedRequest<'a>) -> Decoded<'a>
         ensures tells { (s : Setting) (m : Meaning) (bytes : List ℕ)
             → IsDecoded s m bytes asked.entry
@@ -101,7 +101,7 @@ impl ChainHandle {
         }
     }
 
-    // Keeps what the first bytes of a request tell.
+    // Keeps the request that its first bytes decode to, if they suffice.
     fn keep_front<'a>(&mut self, out: InFlight, len: usize, asked: AskedFront<'a>) -> Decoded<'a>
         ensures tells { (s : Setting) (m : Meaning) (bytes : List ℕ)
             → IsToldByFront s m bytes asked.entry
@@ -125,7 +125,7 @@ impl ChainHandle {
         }
     }
 
-    // Asks by some first bytes of a request.
+    // Decodes the first bytes of the request of the chain in flight.
     fn ask_out<'a>(
         &mut self,
         session: Session,
@@ -163,8 +163,11 @@ impl ChainHandle {
         Ok(self.keep_front(out, request.len(), asked))
     }
 
-    /// Tells what a chain's request asks, by its first bytes, in this session, which is kept. A call that is
-    /// told waits for its answer. No error of it is for want of memory.
+    /// Decodes a chain's request from its first bytes, in this session, which the handle keeps. A call
+    /// that is returned is in flight until it is answered. No error is `OutOfMemory`. After an error
+    /// nothing changed:
+    /// - `WrongOrder`: no chain is in flight, or its request was decoded already.
+    /// - `BadArgument`: the request is shorter.
     pub fn decode<'a>(
         &mut self,
         session: Session,

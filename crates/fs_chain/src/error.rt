@@ -1,37 +1,37 @@
-//! Why a call did nothing.
+//! Why a call changed nothing.
 
 ghost use Rattle.std.specs.Prelude.{◌≡◌};
 ghost use Rattle.fs_chain.specs.Numbers.{chain_error_number};
 
-/// Why a call did nothing: what was there before is there still.
+/// Why a call changed nothing.
 #[derive(Clone, Copy, Debug, PartialEq, Eq)]
 pub enum ChainError {
     /// An allocation failed; the call may be made again.
     OutOfMemory,
-    /// A number that can't be, or bytes of another length than was asked for.
+    /// A number out of range, or bytes of another length than was asked for.
     BadArgument,
     /// The buffer is too short.
     ShortBuffer,
-    /// More data than a reply can tell; or a reply of the caller's own that is longer than the room, or than
-    /// can be told.
+    /// More data than a reply can hold; or a reply of the caller's own that exceeds the reply buffer or
+    /// the used element's 32 bits.
     LongReply,
-    /// The chain isn't where this call goes on from.
+    /// The chain isn't in a state from which this call goes on.
     WrongOrder,
-    /// The queue is another one than that of the chain or of its walk, or was begun anew since; or a chain
-    /// was taken or given up since the walk began.
+    /// The queue isn't that of the chain or of its pop, or was reset since; or a chain was popped or given
+    /// up since the pop began.
     OtherQueue,
-    /// The answer is another call's than that which waits: its pop_id is another one.
+    /// The answer is for another call than the one in flight: its number is another chain's.
     OtherCall,
-    /// The call wants an answer of another kind.
+    /// The call needs an answer of another kind.
     OtherKind,
-    /// The queue has as many chains out as it may, or the handle has one.
+    /// The queue has as many chains in flight as it may, or the handle has one.
     ChainInFlight,
-    /// The return of another chain of the queue was told, and isn't ended.
+    /// Another chain of the queue is being pushed, and `pushed` hasn't ended that yet.
     Pushing,
 }
 
 impl ChainError {
-    /// The number that tells the error apart.
+    /// The number that distinguishes the error.
     pub fn number(&self) -> u8
         ensures { result ≡ chain_error_number self.now }
     {

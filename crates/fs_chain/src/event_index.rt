@@ -1,5 +1,5 @@
-//! By what driver and device say of which chains they want to be told: VIRTIO_F_EVENT_IDX, or the rings'
-//! flags (VIRTIO 1.2, 2.7.7 and 2.7.10).
+//! How driver and device say for which chains they want a notification: by VIRTIO_F_EVENT_IDX, or by the
+//! flags of the rings (VIRTIO 1.2, 2.7.7 and 2.7.10).
 
 ghost use Rattle.std.specs.Prelude.{◌≡◌, option_map};
 ghost use Rattle.fs_regions.specs.Places.{places_in};
@@ -11,33 +11,33 @@ use fs_queue::{QueueError, QueueLayout, Return};
 use fs_regions::GuestMap;
 use vm_memory_core::Permissions;
 
-// The used flag by which the device wants no notification (VIRTIO 1.2, 2.7.10).
+// The used ring's flag that disables the driver's notifications (VIRTIO 1.2, 2.7.10).
 const NO_NOTIFY: u16 = 1;
 
-/// A store by which the device wants to be told of new chains, or of none: a number as le16.
+/// A store that enables the driver's notifications of new chains, or disables them.
 #[derive(Clone, Copy, Debug, PartialEq, Eq)]
 pub struct NotificationStore {
     /// The guest address of its two bytes.
     pub address: u64,
-    /// What is stored.
+    /// The number that is stored, as le16.
     pub value: u16,
 }
 
-// Where the driver's used_event stands.
+// The guest address of the driver's used_event: behind the available ring.
 fn used_event_at(layout: &QueueLayout) -> u64
     ensures { result ≡ used_event_at layout.now }
 {
     layout.avail() + 4 + 2 * u64::from(layout.size())
 }
 
-// Where the device's avail_event stands.
+// The guest address of the device's avail_event: behind the used ring.
 fn avail_event_at(layout: &QueueLayout) -> u64
     ensures { result ≡ avail_event_at layout.now }
 {
     layout.used() + 4 + 8 * u64::from(layout.size())
 }
 
-/// Where the two bytes stand that tell whether the driver wants to be told of a chain that goes back.
+/// The guest address of the two bytes that say whether the driver wants a used buffer notification.
 pub(crate) fn seen_at(event_index: bool, layout: &QueueLayout) -> u64
     ensures { result ≡ seen_at event_index layout.now }
 {
@@ -49,7 +49,7 @@ pub(crate) fn seen_at(event_index: bool, layout: &QueueLayout) -> u64
 }
 
 impl QueueState {
-    // Whether the driver wants to be told of the next chain that goes back, by those two bytes.
+    // Whether the driver wants a notification for the next chain that is pushed, by those two bytes.
     pub(crate) fn tells(&self, seen: [u8; 2]) -> bool
         ensures { result ≡ tells_of self.now seen }
     {
@@ -60,7 +60,7 @@ impl QueueState {
         }
     }
 
-    // Why it can't be walked: it has the event index, and no place for it.
+    // Why no chain can be popped: the queue has the event index, and one of its fields isn't mapped.
     pub(crate) fn event_fault(&self, regions: &GuestMap) -> Option<QueueError>
         ensures { result ≡ event_fault (places_in regions.now) self.now }
     {
@@ -76,11 +76,12 @@ impl QueueState {
         None
     }
 
-    /// What the device stores to enable the driver's notifications of new chains, or to disable them. With
-    /// the event index the driver notifies for the next chain alone, and nothing is stored to disable. A
-    /// thread enables them before it sleeps, and when it takes a chain while another thread of the queue
-    /// sleeps: behind a full barrier it then looks once more, by a new load of the available index. All of
-    /// that is under the queue's lock.
+    /// The store that enables the driver's notifications of new chains, or disables them. With the event
+    /// index the driver notifies for the next chain alone, and nothing is stored to disable.
+    ///
+    /// A thread enables them before it sleeps, and when it pops a chain while another thread of the queue
+    /// sleeps. Behind a full barrier it then looks once more, with a new load of the available index. It
+    /// does all of that under the queue's lock.
     pub fn notification_store(&self, wanted: bool) -> Option<NotificationStore>
         ensures { option_map store_of result ≡ notification_store self.now wanted }
     {

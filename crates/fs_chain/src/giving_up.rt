@@ -1,4 +1,4 @@
-//! How a chain is given up before its request was asked.
+//! How a chain is given up before its request is decoded.
 
 ghost use Rattle.std.specs.Prelude.{◌≡◌, Some, None, IfErr, OnOk, OnErr, if◌then◌else◌};
 ghost use Rattle.fs_chain.specs.Orders.{give_up_error, is_out};
@@ -13,8 +13,8 @@ use crate::queue::QueueState;
 use crate::state::{ChainState, InFlight};
 
 impl ChainHandle {
-    // A chain that wasn't asked is out of its queue no more; or it stays, of another queue, or since others
-    // were taken after it.
+    // Gives up a chain in flight whose request wasn't decoded. It stays in flight if the queue is another
+    // one, or if other chains were popped after it.
     fn give_back(&mut self, queue: &mut QueueState, out: InFlight) -> Result<(), ChainError>
         requires { self.old.state ≡ at.Taken out }
         ensures error { IfErr result (λ e. give_up_error (at.Taken out) queue.old ≡ Some e) }
@@ -33,10 +33,11 @@ impl ChainHandle {
         Ok(())
     }
 
-    /// Gives up a walk, or a chain whose request wasn't asked: the handle is free, and the queue hands the
-    /// same chain out at its next walk, read anew. `WrongOrder` if its request was asked, since then a reply
-    /// ends it, or silence (`reply`), or if it isn't the last of those that were taken; `OtherQueue` if it
-    /// isn't out of this queue.
+    /// Gives up a pop, or a chain whose request wasn't decoded. The handle is then free, and the queue's
+    /// next pop finds the same chain and reads it again. After an error nothing changed:
+    /// - `OtherQueue`: the chain isn't in flight in this queue.
+    /// - `WrongOrder`: its request was decoded, so only a push ends it, with a reply or without (`reply`).
+    ///   Or it isn't the last chain that was popped.
     pub fn give_up(&mut self, queue: &mut QueueState) -> Result<(), ChainError>
         ensures error { IfErr result (λ e. give_up_error self.old.state queue.old ≡ Some e) }
         ensures ok { OnOk result (give_up_error self.old.state queue.old ≡ None) }
@@ -58,8 +59,8 @@ impl ChainHandle {
         }
     }
 
-    /// Frees a handle whose queue was begun anew while its chain was out, or while it was walked: the queue
-    /// isn't told. Nothing is kept of a load.
+    /// Frees a handle whose queue was reset while its chain was in flight, or during its pop. The queue
+    /// doesn't change, and the handle keeps no part of a load.
     pub fn abandon(&mut self)
         ensures { IsFreed self.old self.new }
     {

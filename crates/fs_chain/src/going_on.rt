@@ -1,4 +1,4 @@
-//! A walk is given the bytes that it asked for; where these bytes stand.
+//! A pop goes on with the bytes that it asked for; and where these bytes lie.
 
 ghost use Rattle.std.specs.Prelude.{◌≡◌, ◌⊎◌, ◌<◌, ◌+◌, ◌-◌, Some, None, IfErr, IfOk, OnOk, OnErr, IfSome};
 ghost use Rattle.std.specs.Prelude.{OnSome, length, min};
@@ -24,7 +24,7 @@ use memory_requests::reserve_small;
 use std::mem;
 use vm_memory_core::{Permissions, VolatileSlice};
 
-// The longest window of the bytes that a walk asks for, from one of them on.
+// The longest window of the bytes for which a pop asks, from byte `from` of them on.
 #[inline(always)]
 fn window_of(regions: &GuestMap, walk: &QueueWalk, from: usize) -> Option<VolatileSlice>
     ensures some { IfSome result (λ w. (from < asked_len walk.now)
@@ -43,7 +43,7 @@ fn window_of(regions: &GuestMap, walk: &QueueWalk, from: usize) -> Option<Volati
     regions.window_at(walk.address() + from as u64, len - from, Permissions::Read)
 }
 
-// Takes a walk out of its place, where the beginning of one stays.
+// Moves a walk out of its variable, which keeps the beginning of one.
 fn take(walk: &mut QueueWalk, course: &Course) -> QueueWalk
     ensures { result ≡ walk.old }
 {
@@ -53,7 +53,7 @@ fn take(walk: &mut QueueWalk, course: &Course) -> QueueWalk
     }
 }
 
-// Why a walk doesn't begin by so many bytes, of a queue as it stands.
+// Why a pop can't begin with so many bytes, on the queue as it is.
 fn begin_refusal(queue: &QueueState, len: usize) -> Option<ChainError>
     ensures { result ≡ begin_error queue.now len }
 {
@@ -66,7 +66,7 @@ fn begin_refusal(queue: &QueueState, len: usize) -> Option<ChainError>
     None
 }
 
-// Why a walk doesn't go on by so many bytes, of a queue as it stands.
+// Why a pop can't go on with so many bytes, on the queue as it is.
 #[inline(always)]
 fn give_refusal(
     queue: &QueueState,
@@ -120,7 +120,7 @@ impl ChainHandle {
         }
     }
 
-    // Makes room for the descriptors that may join by the next bytes.
+    // Makes room for the descriptors that may join with the next bytes.
     #[inline(always)]
     fn make_room(&mut self) -> Result<(), ChainError>
         requires { IsWalking self.old.state }
@@ -144,7 +144,7 @@ impl ChainHandle {
         }
     }
 
-    // Goes on with a walk by these bytes, if it asked for so many and its queue is this one. A queue that was
+    // Goes on with a pop, if it asked for this many bytes and its queue is this one. A queue that was
     // stopped meanwhile refuses it.
     #[inline(always)]
     fn go_on(&mut self, queue: &mut QueueState, loaded: &[u8]) -> Result<PopOutcome, ChainError>
@@ -180,8 +180,8 @@ impl ChainHandle {
         }
     }
 
-    /// Takes the next chain of a queue by whole loads: at first without bytes, then with those of each load
-    /// that was asked for.
+    /// Pops the next chain of a queue with whole loads: first without bytes, then with the bytes of each
+    /// load that it asked for.
     #[inline(always)]
     pub(crate) fn walk_load(
         &mut self,
@@ -208,8 +208,8 @@ impl ChainHandle {
         }
     }
 
-    /// Why a walk doesn't go on by a whole load of so many bytes, of a queue as it stands, or begin by none;
-    /// None if only memory may be wanting.
+    /// Why a pop can't go on with a whole load of `len` bytes, on the queue as it is, or begin with none.
+    /// If this returns None, the pop can only run out of memory.
     pub fn walk_refusal(&self, queue: &QueueState, len: usize) -> Option<ChainError>
         ensures { result ≡ walk_error self.now.state queue.now len }
     {
@@ -222,8 +222,8 @@ impl ChainHandle {
         }
     }
 
-    /// The longest window of the bytes that a walk asks for, from one of them on; none past their end, or if
-    /// nothing is asked for.
+    /// The longest window of the bytes for which a pop asks, from byte `from` of them on. None past their
+    /// end, or if the pop asks for nothing.
     #[inline(always)]
     pub fn load_window(&self, from: usize) -> Option<VolatileSlice>
         ensures some { IfSome result (λ w. IfWalking self.now.state (λ walk. (from < asked_len walk)

@@ -1,4 +1,4 @@
-//! Laws of the definitions: contracts of functions that do nothing.
+//! Theorems about the definitions, as contracts of functions that do nothing.
 
 ghost use Rattle.fs_chain.specs.Laws.{WalksAreOffers};
 ghost use Rattle.fs_chain.specs.Whole.{ChainIsAnsweredBy, ChainIsStep, ChainIsStepBy, EventFaultRefuses};
@@ -8,26 +8,28 @@ ghost use Rattle.fs_chain.specs.Whole.{ReturnsAreToldBySeen, WantedHasAPlace};
 use fs_regions::laws::law_offers;
 use fuse_fs::FileSystem;
 
-/// Whatever a walk tells of a queue that wasn't stopped, a memory of the handle's regions that has all its
-/// loads offers just that: nothing, a refusal, or the chain, with its fault or with its request and the
-/// addresses of its room. But that the event index has no place is a refusal of the walk's own.
+/// The result of `pop` for a queue that wasn't stopped is the offer of each memory that has all its loads
+/// in the handle's regions. That is: nothing, a refusal, or the chain, with its fault or with its request
+/// and the addresses of its reply buffer. Only the refusal because used_event or avail_event isn't mapped
+/// is the pop's own.
 pub fn law_walks()
     ensures { WalksAreOffers }
 {
     law_offers();
 }
 
-/// Whatever the guest writes meanwhile, what the calls of a handle come to from a walk's beginning to a
-/// chain's return is the plain machine's step by what was loaded: the file calls, the stores, and the answer
-/// to whether the driver wants to be told. Over a memory that has what was loaded it is the machine's step.
-/// So it is of a chain that goes back at the position where it was taken; of any other its answer is that of
-/// a machine whose queue stands where it goes back. A listing is answered entry by entry. What a walk wants
-/// has a place.
+/// A handle's calls from a pop's beginning to a chain's push are the plain machine's step by the bytes
+/// that were loaded. That covers the file calls, the stores, and whether the driver wants a notification.
+/// The guest may write meanwhile. Over a memory that has these bytes, they are the machine's step.
 ///
-/// The machine has no event index, and takes the two bytes that are seen after the stores for its flags. They
-/// are these, and tell the driver so, without the event index; with it they are used_event, and tell whether
-/// they name the position where the chain goes back. If used_event or avail_event has no place, a walk is
-/// refused as it begins, which stops the queue.
+/// That holds for a chain that is pushed at the position where it was popped. Any other chain is answered
+/// as by a machine whose queue is at the position where the chain is pushed. A listing is answered entry
+/// by entry. The bytes for which a pop asks are mapped.
+///
+/// The machine has no event index, and takes the two bytes that are loaded after the stores as its flags.
+/// Without the event index they are the flags, and decide on the driver's notification. With it they are
+/// used_event: the driver is notified if they are the position where the chain is pushed. If used_event or
+/// avail_event isn't mapped, a pop is refused as it begins, which stops the queue.
 pub fn law_chains<F: FileSystem>()
     ensures places { WantedHasAPlace }
     ensures idle { IdleIsStepBy F.may }

@@ -1,4 +1,4 @@
-//! A chain of a queue from its walk to its return, by a handle that touches no memory, no file and no clock.
+//! A chain of a queue from its pop to its push, by a handle that touches no memory, no file and no clock.
 #![tactic(auto)]
 
 mod answering;

@@ -1,4 +1,4 @@
-//! A listing that is answered entry by entry.
+//! A listing that the caller answers entry by entry.
 
 ghost use Rattle.std.specs.Prelude.{◌≡◌, OnOk, OnErr, length};
 ghost use Rattle.fuse_fs.specs.Answers.{listed};
@@ -18,20 +18,20 @@ use fuse_wire::Errno;
 use server_phases::{Listing, ListingReply, NotAdded};
 use std::mem;
 
-/// What comes of an entry.
+/// The result of an entry.
 #[derive(Clone, Copy, Debug, PartialEq, Eq)]
 pub enum Added {
     /// It is in the list.
     In,
-    /// It has no place in the size that was asked for: the entries so far are the answer (`end`).
+    /// It doesn't fit in the size that the request asked for: the entries so far are the answer (`end`).
     Full,
-    /// It has none in the room: the listing fails by EIO (`fail`).
+    /// It doesn't fit in the reply buffer: the listing fails by EIO (`fail`).
     NoRoom,
     /// Its name has 2^32 bytes or more: the listing fails by EOVERFLOW.
     TooLong,
 }
 
-// What is told of an entry.
+// The result that is returned for an entry.
 fn told_added(outcome: Result<(), NotAdded>) -> Result<Added, ChainError>
     ensures { result ≡ told_added outcome }
 {
@@ -45,7 +45,7 @@ fn told_added(outcome: Result<(), NotAdded>) -> Result<Added, ChainError>
     }
 }
 
-// How long the list of a listing is after an entry was brought by one of this length.
+// The length of the list that has the listing's entries, after an entry was added to one of length `len`.
 fn list_after(before: usize, len: usize, told: Result<Added, ChainError>) -> usize
     ensures { result ≡ list_after before len told }
 {
@@ -56,7 +56,7 @@ fn list_after(before: usize, len: usize, told: Result<Added, ChainError>) -> usi
 }
 
 impl ChainHandle {
-    // Why no entry is brought with this number by a list of this length.
+    // Why an entry with this number can't be added to a list of this length.
     fn adding_error(&self, serial: u32, len: usize) -> Option<ChainError>
         ensures { result ≡ adding_error self.now serial len }
     {
@@ -66,7 +66,7 @@ impl ChainHandle {
         }
     }
 
-    // Why none is brought by a list of this length.
+    // Why an entry can't be added to a list of this length.
     fn list_error(&self, len: usize) -> Option<ChainError>
         ensures { result ≡ list_error self.now.state self.now.list_len len }
     {
@@ -81,7 +81,7 @@ impl ChainHandle {
         }
     }
 
-    // Brings an entry of READDIR to a listing.
+    // Adds an entry of READDIR to a listing.
     fn add_to(
         &mut self,
         out: InFlight,
@@ -103,7 +103,7 @@ impl ChainHandle {
         told
     }
 
-    // Brings an entry of READDIRPLUS to a listing.
+    // Adds an entry of READDIRPLUS to a listing.
     fn add_node_to(
         &mut self,
         out: InFlight,
@@ -125,7 +125,7 @@ impl ChainHandle {
         told
     }
 
-    // Puts an entry of READDIR behind those of the listing, if one waits.
+    // Puts an entry of READDIR behind those of the listing that is in flight, if one is.
     fn add_asked(&mut self, list: &mut [u8], entry: &DirEntry<'_>) -> Result<Added, ChainError>
         ensures adds { AddsTo self.old.state self.new.state list.old list.new
             (listed entry.now, no_node (listed entry.now))
@@ -146,10 +146,13 @@ impl ChainHandle {
         }
     }
 
-    /// Puts an entry of READDIR behind the others, unless it has no place. The list is the same at each call:
-    /// once it has entries, one of another length is refused (`BadArgument`). `WrongOrder` if no call waits,
-    /// `OtherCall` if another one does than that of this number, `OtherKind` if it is no READDIR,
-    /// `ShortBuffer` if the list ends before the entry.
+    /// Puts an entry of READDIR behind the others, unless it doesn't fit (`Added`). The caller passes the
+    /// same list at each call. After an error nothing changed:
+    /// - `WrongOrder`: no call is in flight.
+    /// - `OtherCall`: another call than that of this number is.
+    /// - `BadArgument`: the listing has entries, in a list of another length.
+    /// - `OtherKind`: the call is no READDIR.
+    /// - `ShortBuffer`: the list ends before the entry.
     pub fn add(
         &mut self,
         serial: u32,
@@ -174,7 +177,8 @@ impl ChainHandle {
         }
     }
 
-    // Puts an entry of READDIRPLUS, with its node, behind those of the listing, if one waits.
+    // Puts an entry of READDIRPLUS, with its node, behind those of the listing that is in flight, if one
+    // is.
     fn add_node_asked(
         &mut self,
         list: &mut [u8],
@@ -199,8 +203,9 @@ impl ChainHandle {
         }
     }
 
-    /// Puts an entry of READDIRPLUS behind the others, with its node, unless it has no place; who looked it
-    /// up undoes that then. It is refused as that of READDIR is.
+    /// Puts an entry of READDIRPLUS, with its node, behind the others, unless it doesn't fit (`Added`).
+    /// The caller then forgets the look-up that it made for the entry. Errors are those of `add`, for
+    /// READDIRPLUS.
     pub fn add_with_node(
         &mut self,
         serial: u32,
@@ -225,7 +230,6 @@ impl ChainHandle {
         }
     }
 
-    // Keeps the reply of a listing.
     fn keep_listed(&mut self, out: InFlight, reply: ListingReply) -> usize
         ensures len { result ≡ reply.len }
         ensures kept { self.new ≡ record self.old { state = answered_by out reply } }
@@ -236,7 +240,7 @@ impl ChainHandle {
         behind
     }
 
-    // Replies the entries of the listing, if one waits.
+    // Replies with the entries of the listing that is in flight, if one is.
     fn end_asked(&mut self) -> Result<usize, ChainError>
         ensures ended { EndsByEntries self.old.state self.new.state result }
         ensures same { OnErr result (self.new ≡ self.old) }
@@ -255,8 +259,11 @@ impl ChainHandle {
         }
     }
 
-    /// Replies the entries so far: how many bytes of the list are the data. `WrongOrder` if no call waits,
-    /// `OtherCall` if another one does than that of this number, `OtherKind` if it is no listing.
+    /// Replies with the entries so far. Returns how many bytes of the list are the data. After an error
+    /// nothing changed:
+    /// - `WrongOrder`: no call is in flight.
+    /// - `OtherCall`: another call than that of this number is.
+    /// - `OtherKind`: the call is no listing.
     pub fn end(&mut self, serial: u32) -> Result<usize, ChainError>
         ensures told { UnlessRefused (serial_error self.old.state self.old.serial serial) result
             (self.new ≡ self.old) (EndsByEntries self.old.state self.new.state result) }
@@ -270,7 +277,7 @@ impl ChainHandle {
         }
     }
 
-    // Replies that the listing failed, if one waits.
+    // Replies that the listing that is in flight failed, if one is.
     fn fail_asked(&mut self, error: Errno) -> Result<usize, ChainError>
         ensures failed { EndsByError error self.old.state self.new.state result }
         ensures same { OnErr result (self.new ≡ self.old) }
@@ -289,7 +296,8 @@ impl ChainHandle {
         }
     }
 
-    /// Replies that the listing failed: how many bytes of the list are the data. It is refused as `end` is.
+    /// Replies that the listing failed. Returns how many bytes of the list are the data. Errors are those
+    /// of `end`.
     pub fn fail(&mut self, serial: u32, error: Errno) -> Result<usize, ChainError>
         ensures told { UnlessRefused (serial_error self.old.state self.old.serial serial) result
             (self.new ≡ self.old) (EndsByError error self.old.state self.new.state result) }

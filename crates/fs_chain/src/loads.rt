@@ -1,5 +1,4 @@
-//! A walk through what waits in a queue, by loads that its caller makes: in parts, if one goes over the end
-//! of a region.
+//! A pop whose loads the caller makes: in parts, if one crosses the end of a region.
 
 ghost use Rattle.std.specs.Prelude.{◌≡◌, ◌⊎◌, ◌<◌, ◌+◌, ◌++◌, [], Some, None, true, false, length, take};
 ghost use Rattle.std.specs.Prelude.{IfOk, IfErr, IfSome, OnOk, OnErr, vec_capacity};
@@ -17,18 +16,18 @@ use memory_requests::reserve;
 use std::mem;
 use vm_memory_core::VolatileSlice;
 
-/// What some bytes came to.
+/// The result of a call of `pop`.
 #[derive(Clone, Copy, Debug, PartialEq, Eq)]
 pub enum LoadOutcome {
-    /// They are a part of the load, of which more is wanted.
+    /// The bytes are a part of the load, and the pop needs more of it.
     Part,
-    /// The walk went on.
+    /// The pop went on.
     On(PopOutcome),
 }
 
 impl ChainHandle {
-    /// The window of the bytes that a walk still asks for: of its load what didn't come yet, as long as its
-    /// region goes on. None if it asks for none, or if they have no place.
+    /// The window of the bytes that a pop still needs: the rest of its load, up to the end of their
+    /// region. None if it needs none, or if they aren't mapped.
     #[inline(always)]
     pub fn still_wanted(&self) -> Option<VolatileSlice>
         ensures some { IfSome result (IsLoadWindow self.now (came self.now)) }
@@ -37,7 +36,7 @@ impl ChainHandle {
         self.load_window(self.part.len())
     }
 
-    // Whether so many bytes, which aren't a whole load, are those that a walk still asks for.
+    // Whether so many bytes, which aren't a whole load, are those that a pop still needs.
     fn are_wanted(&self, len: usize) -> bool
         requires { AreWhole self.now len → ⊥ }
         ensures wanted { result ≡ true → AreWanted self.now len }
@@ -66,7 +65,7 @@ impl ChainHandle {
         Ok(())
     }
 
-    // Takes the first bytes of the load out.
+    // Moves the first bytes of the load out of the handle.
     fn take_part(&mut self) -> Vec<u8>
         ensures taken { result ≡ self.old.part }
         ensures apart { self.new ≡ record self.old { part = self.new.part } }
@@ -84,7 +83,7 @@ impl ChainHandle {
         self.part = part;
     }
 
-    // Lets the first bytes of the load go.
+    // Drops the first bytes of the load.
     fn clear_part(&mut self)
         ensures cleared { self.new.part.items ≡ [] }
         ensures apart { self.new ≡ record self.old { part = self.new.part } }
@@ -93,7 +92,7 @@ impl ChainHandle {
         self.part.clear();
     }
 
-    // Gives the walk its load, all of which came: on a refusal only so many of its first bytes stay.
+    // Gives the pop its load, which is complete. After a refusal only the first `before` bytes stay.
     #[inline(never)]
     fn walk_joined(
         &mut self,
@@ -129,7 +128,7 @@ impl ChainHandle {
         }
     }
 
-    // Gives the walk its whole load, or begins it: no part came before.
+    // Gives the pop its whole load, or begins it: the handle has no part of a load.
     #[inline(always)]
     fn walk_whole(
         &mut self,
@@ -152,7 +151,7 @@ impl ChainHandle {
         }
     }
 
-    // Takes some bytes of the load that is asked for.
+    // Takes some bytes of the load for which the pop asks.
     #[tactic(auto, using(crate::proofs::LoadLemmas::fits))]
     fn give_part(
         &mut self,
@@ -187,14 +186,17 @@ impl ChainHandle {
         }
     }
 
-    /// Takes the next chain of a queue: at first without bytes, then with those of each load that is asked
-    /// for. A load is given whole, also if it goes over the end of a region, or in parts: each time those of
-    /// the window that is still wanted (`still_wanted`), until the walk goes on.
+    /// Pops the next chain of a queue: first without bytes, then with the bytes of each load that it asks
+    /// for. The caller gives a load whole, even if it crosses the end of a region, or in parts. A part is
+    /// the window that is still needed (`still_wanted`), until the pop goes on.
     ///
-    /// `BadArgument` for other bytes than those, or if a walk begins by some. `WrongOrder` if a chain is out.
-    /// `OtherQueue` if the walk is another queue's, or if a chain was taken or given up since it began;
-    /// `ChainInFlight` if the queue has as many chains out as it may; `OutOfMemory` if the descriptors of the
-    /// entries that are asked for, or a part of a load, have no room. Then nothing is done.
+    /// After an error nothing changed:
+    /// - `WrongOrder`: a chain is in flight.
+    /// - `BadArgument`: the bytes have another length than these, or a pop begins with some.
+    /// - `OtherQueue`: the pop is another queue's, or a chain was popped or given up since it began.
+    /// - `ChainInFlight`: the queue has as many chains in flight as it may.
+    /// - `OutOfMemory`: no room for the descriptors of the entries that are asked for, or for a part of a
+    ///   load.
     pub fn pop(&mut self, queue: &mut QueueState, loaded: &[u8]) -> Result<LoadOutcome, ChainError>
         ensures goes { IfOk result (λ went. GoesSo self.old queue.old loaded.now went self.new queue.new) }
         ensures error { IfErr result (RefusesWalk self.old queue.old loaded.now) }

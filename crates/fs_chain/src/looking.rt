@@ -1,4 +1,4 @@
-//! What may be asked of a handle at any time, and changes nothing.
+//! Queries of a handle: allowed at any time, and they change nothing.
 
 ghost use Rattle.std.specs.Prelude.{◌≡◌, ◌<◌, ◌≤◌, IfSome, OnSome, None, true, min};
 ghost use Rattle.vm_memory.specs.Memory.{location};
@@ -16,8 +16,8 @@ use server_phases::Session;
 use vm_memory_core::{Permissions, VolatileSlice};
 
 impl ChainHandle {
-    /// The longest window of at most `most` bytes from a guest address on, for an access. None if the address
-    /// has no place.
+    /// The longest window of at most `most` bytes from a guest address on, for an access. None if the
+    /// address isn't mapped.
     pub fn window_at(&self, addr: u64, most: usize, access: Permissions) -> Option<VolatileSlice>
         requires { 0 < most }
         ensures none { result ≡ None → location (places_in self.now.regions) access addr ≡ None }
@@ -27,28 +27,28 @@ impl ChainHandle {
         self.regions.window_at(addr, most, access)
     }
 
-    /// Whether no chain is walked, and none is out.
+    /// Whether no chain is being popped, and none is in flight.
     pub fn is_free(&self) -> bool
         ensures { result ≡ is_free self.now.state }
     {
         matches!(self.state, ChainState::Free)
     }
 
-    /// The session in which the chain was asked.
+    /// The session in which the chain was decoded.
     pub fn session(&self) -> &Session
         ensures { result.now ≡ self.now.session }
     {
         &self.session
     }
 
-    /// Whether the chain's call is a listing that is answered entry by entry.
+    /// Whether the chain's call is a listing that the caller answers entry by entry.
     pub fn is_listing(&self) -> bool
         ensures { result ≡ is_listing self.now.state }
     {
         matches!(self.state, ChainState::Lists(_, _))
     }
 
-    /// How many bytes of a load a walk asks for; 0 if no walk asks.
+    /// How many bytes of a load the pop asks for; 0 if it asks for none.
     pub fn load_len(&self) -> usize
         ensures { result ≡ load_len self.now.state }
     {
@@ -58,7 +58,7 @@ impl ChainHandle {
         }
     }
 
-    /// How many bytes of reply the chain has room for; 0 if none is out.
+    /// The length of the chain's reply buffer in bytes; 0 if no chain is in flight.
     pub fn room_len(&self) -> usize
         ensures { result ≡ room_len self.now.state }
     {
@@ -72,8 +72,9 @@ impl ChainHandle {
         }
     }
 
-    /// The guest's addresses of the room's bytes from one on, as far as their descriptor goes: the first one,
-    /// modulo 2^64, and how many. None past their end, or if no chain is out.
+    /// The guest addresses of the reply buffer's bytes from byte `from` on, up to the end of their
+    /// descriptor: the first address, modulo 2^64, and their number. None past their end, or if no chain
+    /// is in flight.
     pub fn room_range(&self, from: u64) -> Option<(u64, u64)>
         ensures some { IfSome result (λ r. IsRangeFrom true self.now.descriptors.items from r.0 r.1) }
         ensures out { OnSome result (is_out self.now.state ≡ true) }

@@ -1,4 +1,4 @@
-//! A reply of its maker's own bytes, to a request that the server doesn't serve.
+//! A reply of the caller's own bytes, to a request that the server doesn't serve.
 
 ghost use Rattle.std.specs.Prelude.{◌≡◌, None, Some, IfErr, OnOk, OnErr};
 ghost use Rattle.fs_chain.specs.OwnReplies.{IfUnanswered, own_error, own_len_error, own_reply};
@@ -10,7 +10,7 @@ use crate::error::ChainError;
 use crate::state::{ChainReply, ChainState, InFlight};
 
 impl ChainHandle {
-    // Keeps a reply of so many bytes of a chain that has none yet.
+    // Keeps a reply of `len` bytes for a chain that has none yet.
     fn keep_own(&mut self, out: InFlight, len: usize) -> Result<(), ChainError>
         ensures error { IfErr result (λ e. own_len_error out.room_len len ≡ Some e) }
         ensures ok { OnOk result (own_len_error out.room_len len ≡ None) }
@@ -26,13 +26,18 @@ impl ChainHandle {
         Ok(())
     }
 
-    /// Replies `len` bytes of the caller's own, header and all (struct fuse_out_header of linux/fuse.h): he
-    /// puts them over the room's first places, before the used index is stored. 0 is silence. In place of
-    /// `ask`, for a request that the server doesn't serve, or of the answer that a call waits for, of which
-    /// nothing is kept then. `push` tells no front, and `len` in the used element (VIRTIO 1.2, 2.7.8).
+    /// Replies with `len` bytes of the caller's own, header included (struct fuse_out_header of
+    /// linux/fuse.h). The caller puts them at the start of the reply buffer, before it stores the used
+    /// index. With 0 bytes the chain is pushed without a reply.
     ///
-    /// `WrongOrder` if no chain is out, or its reply is known, as that of a faulty one is: none. `OtherCall`
-    /// if its number is another one (`serial`). `LongReply` if the room is shorter, or from 2^32 bytes on.
+    /// This replaces `decode`, for a request that the server doesn't serve; or it replaces the answer to a
+    /// call in flight, of which nothing is kept. `push` then returns no front, and the used element has
+    /// `len` (VIRTIO 1.2, 2.7.8).
+    ///
+    /// After an error nothing changed:
+    /// - `WrongOrder`: no chain is in flight, or its reply is known. A faulty chain's is: it has none.
+    /// - `OtherCall`: the number is another one (`serial`).
+    /// - `LongReply`: the reply buffer is shorter, or `len` is 2^32 or more.
     pub fn reply(&mut self, serial: u32, len: usize) -> Result<(), ChainError>
         ensures error { IfErr result (λ e. own_error self.old.state self.old.serial serial len ≡ Some e) }
         ensures ok { OnOk result (own_error self.old.state self.old.serial serial len ≡ None) }

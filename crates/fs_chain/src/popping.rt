@@ -1,4 +1,4 @@
-//! The walk through what waits in a queue.
+//! The pop of the next available chain.
 
 ghost use Rattle.std.specs.Prelude.{◌≡◌, [], true, Some, None, IfErr, IfOk, OnOk, OnErr, length};
 ghost use Rattle.fs_chain.specs.Orders.{begin_error};
@@ -15,35 +15,35 @@ use fs_queue::{ChainFault, QueueError, count_bytes};
 use fs_regions::{Course, CourseStep, QueueWalk};
 use std::mem;
 
-/// What a walk comes to.
+/// The result of a pop.
 #[derive(Clone, Copy, Debug, PartialEq, Eq)]
 pub enum PopOutcome {
-    /// A load of so many bytes is asked for.
+    /// The pop asks for a load of so many bytes.
     Load(usize),
-    /// Nothing waits.
+    /// No chain is available.
     Idle,
-    /// The queue refuses what waits, and is stopped by it.
+    /// The pop is refused with this error, and the queue is stopped.
     Refused(QueueError),
-    /// A chain is out of the queue.
+    /// A chain was popped.
     Chain {
         /// The index of its first descriptor in the queue's table.
         head: u16,
-        /// How many bytes its request has.
+        /// The length of its request in bytes.
         request_len: usize,
-        /// How many bytes of reply there is room for.
+        /// The length of its reply buffer in bytes.
         room_len: usize,
     },
-    /// A faulty chain is out of the queue: it goes back with no reply.
+    /// A faulty chain was popped: it is pushed without a reply.
     Faulty {
         /// The index of its first descriptor in the queue's table.
         head: u16,
-        /// What is wrong with it.
+        /// The fault that it has.
         fault: ChainFault,
     },
 }
 
 impl ChainHandle {
-    // A chain without a fault is out of its queue.
+    // Keeps a chain without a fault, which is in flight then.
     #[inline(always)]
     fn take(
         &mut self,
@@ -75,7 +75,7 @@ impl ChainHandle {
         }
     }
 
-    // A faulty chain is out of its queue: it has no windows, and no reply.
+    // Keeps a faulty chain, which is in flight then: it has no windows, and no reply.
     fn take_faulty(
         &mut self,
         queue: &mut QueueState,
@@ -109,7 +109,7 @@ impl ChainHandle {
         PopOutcome::Faulty { head, fault }
     }
 
-    /// No chain is walked any more.
+    /// Ends the walk: the handle is free.
     #[inline(never)]
     pub(crate) fn end_walk(&mut self)
         ensures { self.new ≡ record self.old { state = at.Free } }
@@ -117,7 +117,7 @@ impl ChainHandle {
         self.state = ChainState::Free;
     }
 
-    /// Keeps what a walk comes to, and tells it.
+    /// Keeps the result of a pop, and returns it.
     #[inline(always)]
     pub(crate) fn settle(
         &mut self,
@@ -155,7 +155,7 @@ impl ChainHandle {
         }
     }
 
-    // Begins a walk through what waits at the queue's position, if its event index has a place.
+    // Begins a pop at the queue's position, unless its used_event or avail_event isn't mapped.
     #[inline(always)]
     fn begin_course(&mut self, queue: &mut QueueState) -> PopOutcome
         requires free { self.old.state ≡ at.Free }
@@ -172,7 +172,7 @@ impl ChainHandle {
         }
     }
 
-    // Begins a walk through what waits at the queue's position.
+    // Begins a pop at the queue's position.
     #[inline(always)]
     fn begin_there(&mut self, queue: &mut QueueState) -> PopOutcome
         requires { self.old.state ≡ at.Free }
@@ -190,7 +190,7 @@ impl ChainHandle {
         self.settle(queue, course, pop_id, step)
     }
 
-    /// Begins a walk, by no bytes.
+    /// Begins a pop, without bytes. A stopped queue refuses it.
     #[inline(always)]
     pub(crate) fn begin_walk(
         &mut self,

@@ -1,4 +1,4 @@
-//! How a chain goes back to its queue.
+//! How a chain is pushed to its queue.
 
 ghost use Rattle.std.specs.Prelude.{◌≡◌, ◌<◌, true, nat_lt, IfSome, None, Some, false, Err, IfErr, IfOk};
 ghost use Rattle.std.specs.Prelude.{OnOk, OnErr, length};
@@ -16,19 +16,20 @@ use crate::queue::QueueState;
 use crate::state::{ChainReply, ChainState, InFlight};
 use fs_queue::Return;
 
-/// What is stored for a return, and loaded after it.
+/// The caller's stores for a push, and its load after them.
 #[derive(Clone, Copy, Debug)]
 pub struct PushStores {
-    /// How many bytes of the front go over the room's first.
+    /// How many bytes of the front the caller stores at the start of the reply buffer.
     pub front_len: usize,
-    /// The used element, the used index, and where the available flags stand.
+    /// The used element, the used index, and the guest address of the available flags.
     pub used: Return,
-    /// The guest address of the two bytes that are loaded then, behind a full barrier: whether the driver
-    /// wants to be told.
+    /// The guest address of the two bytes that the caller loads then, behind a full barrier. They say
+    /// whether the driver wants a notification.
     pub seen_at: u64,
 }
 
-// Copies a reply's front over the first bytes of a buffer; its length, or none if the buffer is shorter.
+// Copies a reply's front over the first bytes of a buffer. Returns its length, or none if the buffer is
+// shorter.
 fn copy_front(reply: &ChainReply, front: &mut [u8]) -> Option<usize>
     ensures short { result ≡ None
         → (nat_lt (length front.old) (front_len reply.now) ≡ true)
@@ -51,7 +52,8 @@ fn copy_front(reply: &ChainReply, front: &mut [u8]) -> Option<usize>
     }
 }
 
-// Tells how a chain goes back by its reply, whose front is copied over the first bytes of a buffer.
+// Copies the front of a chain's reply over the first bytes of a buffer, and returns the stores of its
+// push.
 fn stores_of(
     queue: &QueueState,
     out: &InFlight,
@@ -92,9 +94,13 @@ fn stores_of(
 }
 
 impl ChainHandle {
-    /// Says how a chain goes back: its reply's front is copied over the first bytes of a buffer, for which
-    /// 160 always do (else `ShortBuffer`), and the stores are those of the position where the queue's next
-    /// chain goes back. Until it is ended no other chain of the queue goes back (`Pushing`).
+    /// Begins a chain's push: copies its reply's front over the first bytes of `front`, and returns the
+    /// stores. They are those of the queue's next position in the used ring. No other chain of the queue
+    /// is pushed until `pushed` ends this one. After an error handle and queue are as they were:
+    /// - `WrongOrder`: no chain is in flight whose reply is known.
+    /// - `OtherQueue`: the chain isn't in flight in this queue.
+    /// - `Pushing`: another chain of the queue is being pushed.
+    /// - `ShortBuffer`: the buffer is shorter than the front, for which 160 bytes always suffice.
     pub fn push(
         &mut self,
         queue: &mut QueueState,
@@ -131,9 +137,9 @@ impl ChainHandle {
         }
     }
 
-    /// The stores are made: the queue's next chain goes back at the next position, and the handle is free.
-    /// Whether the driver wants to be told, by the two bytes that were loaded. `WrongOrder` if no stores were
-    /// told, `OtherQueue` if they were another queue's.
+    /// Ends a push after its stores were made: the queue's next chain is pushed at the next position, and
+    /// the handle is free. Returns whether the driver wants a notification, by the two bytes that the
+    /// caller loaded. `WrongOrder` if no push was begun, `OtherQueue` if it was another queue's.
     pub fn pushed(&mut self, queue: &mut QueueState, seen: [u8; 2]) -> Result<bool, ChainError>
         ensures error { IfErr result (λ e. end_error self.old.state queue.old ≡ Some e) }
         ensures ok { OnOk result (end_error self.old.state queue.old ≡ None) }

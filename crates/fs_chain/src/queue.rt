@@ -1,4 +1,4 @@
-//! A queue as values that its keeper has.
+//! A queue's state, which the caller keeps.
 
 ghost use Rattle.std.specs.Prelude.{◌≡◌};
 ghost use Rattle.fs_chain.specs.Queues.{reset_to, new_queue, gave, is_at, is_laid_out, is_last, is_out_of};
@@ -8,33 +8,33 @@ use crate::state::{InFlight, PopId};
 use fs_queue::{QueueError, QueueLayout};
 use fs_regions::Course;
 
-/// A queue: values that its keeper has and lends for a call. Its chains are taken one after another, and go
-/// back in any order.
+/// A queue's state: values that the caller keeps and lends for a call. Chains are popped one after
+/// another, and may be pushed in any order.
 #[derive(Clone, Copy, Debug)]
 pub struct QueueState {
-    /// Where its parts are.
+    /// Its size, and the guest addresses of its areas.
     pub layout: QueueLayout,
-    /// Where in the available ring the next chain is taken, modulo 2^16.
+    /// The position in the available ring of the next chain to pop, modulo 2^16.
     pub next_avail: u16,
-    /// Where in the used ring the next chain goes back, modulo 2^16: as far behind `position` as chains are
-    /// out.
+    /// The position in the used ring of the next chain to push, modulo 2^16. It is as far behind
+    /// `next_avail` as chains are in flight.
     pub next_used: u16,
-    /// How many chains may be out.
+    /// How many chains may be in flight.
     pub max_in_flight: u16,
-    /// Whether the stores of a chain's return were told, and not made yet.
+    /// Whether a push has returned its stores and `pushed` hasn't ended it.
     pub pushing: bool,
-    /// How often it was begun anew, modulo 2^32.
+    /// How often the queue was reset, modulo 2^32.
     pub reset_count: u32,
-    /// How often a chain was taken or given up, modulo 2^32.
+    /// How often a chain was popped or given up, modulo 2^32.
     pub pop_count: u32,
-    /// Whether VIRTIO_F_EVENT_IDX was agreed on. Then a walk is refused where used_event
-    /// (`AvailFlagsUnreachable`) or avail_event (`UsedUnreachable`) has no place.
+    /// Whether VIRTIO_F_EVENT_IDX was negotiated. Then a pop is refused if used_event
+    /// (`AvailFlagsUnreachable`) or avail_event (`UsedUnreachable`) isn't mapped.
     pub event_index: bool,
     /// The refusal that stopped it.
     pub stopped: Option<QueueError>,
 }
 
-// Whether two queues have the same parts.
+// Whether two queues have the same size and areas.
 fn is_laid_out(mine: &QueueLayout, other: &QueueLayout) -> bool
     ensures { result ≡ is_laid_out mine.now other.now }
 {
@@ -45,9 +45,9 @@ fn is_laid_out(mine: &QueueLayout, other: &QueueLayout) -> bool
 }
 
 impl QueueState {
-    /// A queue that begins at a position for the first time, without the event index: no chain is out, and at
-    /// most so many may be. One that is there is begun anew by `reset`: chains of before are known by how
-    /// often.
+    /// A new queue at a position, without the event index and with no chain in flight. At most
+    /// `max_in_flight` chains may be in flight. Use `reset` for a queue that exists already: its count of
+    /// resets distinguishes earlier chains.
     pub fn new(layout: QueueLayout, position: u16, max_in_flight: u16) -> QueueState
         ensures { result ≡ new_queue layout position max_in_flight }
     {
@@ -64,9 +64,9 @@ impl QueueState {
         }
     }
 
-    /// Begins the queue anew with its parts there, at a position: no chain is out. Each call that takes the
-    /// queue refuses its walks and chains from then on (`OtherQueue`; `give_up` ends a walk), unless it is
-    /// begun anew 2^32 times. How many may be out stays, and the event index.
+    /// Resets the queue to a layout and a position, with no chain in flight. From then on each call that
+    /// takes the queue refuses its earlier pops and chains with `OtherQueue`; `give_up` ends a pop. They
+    /// would be valid again after 2^32 resets. `max_in_flight` and the event index stay.
     pub fn reset(&mut self, layout: QueueLayout, position: u16)
         ensures { self.new ≡ reset_to self.old layout position }
     {
@@ -78,21 +78,21 @@ impl QueueState {
         self.stopped = None;
     }
 
-    /// How many chains are out.
+    /// How many chains are in flight.
     pub fn in_flight(&self) -> u16
         ensures { result ≡ in_flight self.now }
     {
         self.next_avail.wrapping_sub(self.next_used)
     }
 
-    // Whether one more may be.
+    // Whether one more chain may be in flight.
     pub(crate) fn may_take(&self) -> bool
         ensures { result ≡ may_take self.now }
     {
         self.in_flight() < self.max_in_flight
     }
 
-    // What a walk is known by that begins.
+    // The identity of a pop that begins now.
     pub(crate) fn pop_id(&self) -> PopId
         ensures { result ≡ pop_id_of self.now }
     {
@@ -102,7 +102,7 @@ impl QueueState {
         }
     }
 
-    // A chain is taken.
+    // Counts a chain that is popped.
     pub(crate) fn take(&mut self)
         ensures { self.new ≡ took self.old }
     {
@@ -110,7 +110,7 @@ impl QueueState {
         self.pop_count = self.pop_count.wrapping_add(1);
     }
 
-    // The chain that was taken last is given up.
+    // Gives up the chain that was popped last: the next pop finds it again.
     pub(crate) fn untake(&mut self)
         ensures { self.new ≡ untook self.old }
     {
@@ -118,7 +118,7 @@ impl QueueState {
         self.pop_count = self.pop_count.wrapping_add(1);
     }
 
-    // A chain went back.
+    // Ends the push of a chain.
     pub(crate) fn pushed(&mut self)
         ensures { self.new ≡ gave self.old }
     {
@@ -126,7 +126,7 @@ impl QueueState {
         self.pushing = false;
     }
 
-    // Whether a walk with this pop_id goes through what waits in it.
+    // Whether a pop with this course and `pop_id` still fits the queue.
     pub(crate) fn has(&self, course: &Course, pop_id: PopId) -> bool
         ensures { result ≡ is_at self.now course.now pop_id }
     {
@@ -136,7 +136,7 @@ impl QueueState {
             && is_laid_out(&self.layout, &course.layout)
     }
 
-    // Whether a chain is out of it.
+    // Whether a chain is in flight in this queue.
     pub(crate) fn has_out(&self, out: &InFlight) -> bool
         ensures { result ≡ is_out_of self.now out.now }
     {
@@ -145,7 +145,7 @@ impl QueueState {
             && is_laid_out(&self.layout, &out.course.layout)
     }
 
-    // Whether a chain is the last of those that were taken.
+    // Whether a chain is the last one that was popped.
     pub(crate) fn took_last(&self, out: &InFlight) -> bool
         ensures { result ≡ is_last self.now out.now }
     {

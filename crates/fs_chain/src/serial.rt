@@ -1,4 +1,4 @@
-//! By which number an answer names its call.
+//! The number with which an answer names its call.
 
 ghost use Rattle.std.specs.Prelude.{◌≡◌, true, false, IfErr, OnErr, OnOk};
 ghost use Rattle.fs_chain.specs.Orders.{is_free};
@@ -8,7 +8,7 @@ use crate::chain_handle::ChainHandle;
 use crate::error::ChainError;
 use crate::state::ChainState;
 
-// Whether an answer's number is that of the chain; why not.
+// Why an answer's number is refused, if it is.
 pub(crate) fn number_error(mine: u32, serial: u32) -> Option<ChainError>
     ensures { result ≡ number_error mine serial }
 {
@@ -19,18 +19,18 @@ pub(crate) fn number_error(mine: u32, serial: u32) -> Option<ChainError>
 }
 
 impl ChainHandle {
-    /// The number of the chain that is out, which each answer to its call brings: so an answer that comes
-    /// late, to a chain that was given up, isn't taken for the one of the next chain. From chain to chain of
-    /// a handle it grows by 1, modulo 2^32.
+    /// The number of the chain in flight. The caller passes it with each answer to the chain's call. So a
+    /// late answer, to a chain that was given up, isn't taken for the next chain's. It grows by 1 from
+    /// chain to chain of a handle, modulo 2^32.
     pub fn serial(&self) -> u32
         ensures { result ≡ self.now.serial }
     {
         self.serial
     }
 
-    /// Chooses the number of the handle's next chain; it grows by 1 from there. Handles that begin far apart
-    /// have no number in common for as many chains, so an answer that is given to the wrong handle is refused
-    /// (`OtherCall`). `ChainInFlight` if a chain is walked or in flight.
+    /// Chooses the number of the handle's next chain; it grows by 1 from there. Handles whose numbers
+    /// begin n apart share none in their first n chains. So an answer that is passed to the wrong handle
+    /// is refused (`OtherCall`). `ChainInFlight` if a chain is being popped or in flight.
     pub fn number_from(&mut self, first: u32) -> Result<(), ChainError>
         ensures error { IfErr result (λ e. (e ≡ ChainError.ChainInFlight)
             × (is_free self.old.state ≡ false)) }
@@ -45,7 +45,7 @@ impl ChainHandle {
         Ok(())
     }
 
-    // No chain is out any more, and none is walked.
+    // Frees the handle; the next chain has another number if one was in flight.
     pub(crate) fn free(&mut self)
         ensures { self.new ≡ freed self.old }
     {
@@ -56,7 +56,7 @@ impl ChainHandle {
         self.list_len = 0;
     }
 
-    // Why an answer with this number isn't looked at.
+    // Why an answer with this number is refused before it is looked at.
     pub(crate) fn serial_error(&self, serial: u32) -> Option<ChainError>
         ensures { result ≡ serial_error self.now.state self.now.serial serial }
     {

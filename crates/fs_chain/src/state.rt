@@ -1,17 +1,17 @@
-//! Where a chain is between its walk and its return.
+//! The state of a chain between its pop and its push.
 
 use fs_regions::{Course, QueueWalk};
 use server_phases::{Front, Listing, Waiting};
 
-/// What a walk is known by, and then its chain: how often its queue was begun anew before, and how often a
-/// chain was taken or given up.
+/// The identity of a pop, and then of its chain: how often its queue was reset before, and how often a
+/// chain was popped or given up.
 #[derive(Clone, Copy, Debug)]
 pub struct PopId {
     pub(crate) reset_count: u32,
     pub(crate) pop_count: u32,
 }
 
-/// A chain that is out of its queue.
+/// A chain in flight.
 #[derive(Clone, Copy, Debug)]
 pub struct InFlight {
     pub(crate) course: Course,
@@ -21,28 +21,28 @@ pub struct InFlight {
     pub(crate) room_len: usize,
 }
 
-/// A reply: its front, or that there is none, and how many bytes of data stand behind it.
+/// A reply: its front, or that there is none, and how many bytes of data lie behind it.
 #[derive(Drop)]
 pub struct ChainReply {
     pub(crate) front: Option<Front>,
     pub(crate) behind: usize,
 }
 
-/// Where a chain is.
+/// The state of a chain.
 #[derive(Drop)]
 pub enum ChainState {
-    /// No chain: the handle is free for a walk.
+    /// No chain: the handle is free for a pop.
     Free,
-    /// It is walked.
+    /// It is being popped.
     Walking(Course, PopId, QueueWalk),
-    /// It is out of its queue, and its request wasn't asked.
+    /// It is in flight, and its request wasn't decoded.
     Taken(InFlight),
-    /// Its call waits for an answer.
+    /// Its file call is in flight.
     Waits(InFlight, Waiting),
     /// Its listing gathers entries.
     Lists(InFlight, Listing),
     /// Its reply is known.
     HasReply(InFlight, ChainReply),
-    /// The stores of its return were told.
+    /// A push returned its stores, and `pushed` hasn't ended it.
     Pushing(InFlight),
 }

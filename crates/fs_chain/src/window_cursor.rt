@@ -1,23 +1,22 @@
-//! How far the bytes of one direction of a chain were gone through.
+//! A cursor through the bytes of one direction of a chain.
 
 ghost use Rattle.std.specs.Prelude.{◌≡◌, ◌≤◌, ◌<◌, IfSome, drop, length};
 ghost use Rattle.fs_chain.specs.Passing.{HasPassed};
 
 use fs_queue::Descriptor;
 
-/// How far the bytes of one direction of a chain were gone through: the descriptors before one have so many
-/// of them. So the windows of a chain are found one after another without going through its descriptors anew
-/// for each.
+/// A cursor through the bytes of one direction of a chain: the first `index` descriptors have `bytes` of
+/// them. With it the windows of a chain are found one after another, and no descriptor is passed twice.
 #[derive(Clone, Copy, Debug)]
 pub struct WindowCursor {
-    /// How many descriptors were passed.
+    /// How many descriptors it has passed.
     pub index: usize,
     /// How many bytes of the direction they have.
     pub bytes: u64,
 }
 
 impl WindowCursor {
-    /// No descriptor was passed.
+    /// A cursor that has passed no descriptor.
     pub fn none() -> WindowCursor
         ensures index { result.index ≡ 0 }
         ensures bytes { result.bytes ≡ 0 }
@@ -25,7 +24,7 @@ impl WindowCursor {
         WindowCursor { index: 0, bytes: 0 }
     }
 
-    // The next descriptor is passed too, unless a byte stands in it.
+    // Passes the next descriptor, unless byte `from` lies in it.
     fn pass_next(
         self,
         descriptors: &[Descriptor],
@@ -52,7 +51,7 @@ impl WindowCursor {
         Some(WindowCursor { index, bytes })
     }
 
-    // Goes on over the descriptors whose bytes end at or before one.
+    // Passes the descriptors that end at or before byte `from`.
     fn pass(self, descriptors: &[Descriptor], write_only: bool, from: u64) -> WindowCursor
         requires passed { HasPassed write_only descriptors.now self }
         requires below { self.bytes ≤ from }
@@ -72,7 +71,7 @@ impl WindowCursor {
         passed
     }
 
-    /// The descriptors that weren't passed.
+    /// The descriptors that it hasn't passed.
     pub(crate) fn left<'a>(&self, descriptors: &'a [Descriptor]) -> &'a [Descriptor]
         requires { self.now.index ≤ length descriptors.now }
         ensures { result.now ≡ drop self.now.index descriptors.now }
@@ -80,8 +79,8 @@ impl WindowCursor {
         &descriptors[self.index..]
     }
 
-    /// Goes to the descriptor in which a byte stands, or to their end: anew from the first one, if it was
-    /// passed.
+    /// Moves to the descriptor in which byte `from` lies, or to the end. It starts again from the first
+    /// descriptor if that byte was passed already.
     pub(crate) fn pass_to(&mut self, descriptors: &[Descriptor], write_only: bool, from: u64)
         requires passed { HasPassed write_only descriptors.now self.old }
         ensures passed { HasPassed write_only descriptors.now self.new }
