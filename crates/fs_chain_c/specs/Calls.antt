@@ -1,4 +1,4 @@
--- What a request asks, as C is told.
+-- The fields of a request's file call, as C gets them.
 use Rattle.std.specs.Prelude.{◌==◌, ◌+◌, ◌-◌, ◌*◌, ◌/◌, ◌^◌, ℕ, Bool, true, false, List, length, take, drop}
 use Rattle.std.specs.Prelude.{min, nat_lt, bit_and, is_some, unwrap_or, if◌then◌else◌}
 use Rattle.std.specs.Int.{w32, w64, cast_unsigned, from_le_bytes}
@@ -15,11 +15,10 @@ use Rattle.fs_chain_c.specs.declared.call.FsCall.{FsCall}
 use Rattle.fs_chain_c.specs.declared.call.FsSpan.{FsSpan}
 use Rattle.fs_chain_c.specs.Numbers.{answer_number, call_number, listing, sized}
 
--- no place in a request
+-- an empty span, for a name or value that a call doesn't have
 abbrev pub nowhere : FsSpan
 nowhere = record { at = 0; len = 0 }
 
--- no attributes
 abbrev pub no_attr : FsAttr
 no_attr = record {
   ino = 0;
@@ -40,7 +39,7 @@ no_attr = record {
   flags = 0;
 }
 
--- no call
+-- all fields 0: no file call is made
 abbrev pub no_call : FsCall
 no_call = record {
   kind = 0;
@@ -86,33 +85,33 @@ no_call = record {
   ticket = 0;
 }
 
--- a number in 32 bits: the greatest, if it has none
+-- a number as a 32-bit field: the greatest, if it doesn't fit
 abbrev pub low : ℕ → ℕ
 low n = min n (2 ^ 32 - 1)
 
--- whether, as a number
+-- a yes or no as a number: 1 or 0
 abbrev pub flag : Bool → ℕ
 flag false = 0
 flag true = 1
 
--- a call that waits for this kind of answer, and that no one process makes
+-- a call with this kind of answer, of no process
 abbrev pub made : Opcode → AnswerKind → FsCall
 made o a = record no_call { kind = call_number o; answer = answer_number a }
 
--- the same of a call that somebody makes of a node
+-- the same of a call that a process makes on a node
 abbrev pub made_by : Opcode → AnswerKind → Context → (node : ℕ) → FsCall
 made_by o a who node =
     record (made o a) { uid = who.uid.0; gid = who.gid.0; pid = cast_unsigned w32 who.pid; node = node }
 
--- a place in a request
+-- a span of the request's bytes
 abbrev pub span : (at len : ℕ) → FsSpan
 span at len = record { at = low at; len = low len }
 
--- where stands what comes behind a name and its zero byte
+-- the offset behind a name and its zero byte
 abbrev pub behind : (at len : ℕ) → ℕ
 behind at len = min (at + (len + 1)) (2 ^ 64 - 1)
 
--- how many bytes of data have room, of those that are asked for
+-- how many bytes of data fit the reply buffer, of those that are requested
 abbrev pub data_len : (size room : ℕ) → ℕ
 data_len size room = min size (room - 16)
 
@@ -131,12 +130,12 @@ attr_told a = record no_attr {
   gid = a.gid.0;
 }
 
--- where the first name of RENAME or RENAME2 stands, by its record (struct fuse_rename_in, struct
--- fuse_rename2_in)
+-- the offset of the first name of RENAME or RENAME2: it follows struct fuse_rename_in or struct
+-- fuse_rename2_in
 abbrev pub at_rename : (opcode : ℕ) → ℕ
 at_rename opcode = if opcode == call_number op.Rename2 then 56 else 48
 
--- where the name of SETXATTR stands: its record is longer, if FUSE_SETXATTR_EXT was agreed
+-- the offset of the name of SETXATTR: its record is longer, if FUSE_SETXATTR_EXT was agreed
 abbrev pub at_setxattr : (options : ℕ) → ℕ
 at_setxattr options = if bit_and options (2 ^ 29) == 0 then 48 else 56
 
@@ -156,7 +155,7 @@ has_name (value.Create context node name mode kill flags umask extra) = true
 has_name (value.Link context old_node node name) = true
 has_name _ = false
 
--- whether a call is of an open file or directory, which it names by its handle
+-- whether a call is on an open file or directory, which the request names by its handle
 abbrev pub is_of_open_file : FileCall → Bool
 is_of_open_file (value.Read context node handle most size offset owner flags) = true
 is_of_open_file (value.Write context node handle len size offset owner delayed kill flags) = true
@@ -172,9 +171,10 @@ is_of_open_file (value.CopyFileRange context node handle offset node_out handle_
     true
 is_of_open_file _ = false
 
--- what is told of a call: by the opcode of its request, the options that were agreed, and the room. A first
--- name stands behind the request's header of 40 bytes and the record of its kind (linux/fuse.h), data in the
--- room behind the reply's header of 16. What a call doesn't have is 0
+-- the fields of a call, by its request's opcode, the agreed options and the length of the reply buffer
+-- (room). A first name lies behind the request's header of 40 bytes and the record of its kind
+-- (linux/fuse.h). A reply's data lies in the reply buffer behind the reply's header of 16 bytes. A field that
+-- the call doesn't have is 0
 abbrev pub told_call : (opcode options room : ℕ) → FileCall → FsCall
 told_call opcode options room (value.Init capable) = record (made op.Init awaits.Init) { options = capable.0 }
 told_call opcode options room value.Destroy = made op.Destroy awaits.Done
@@ -358,17 +358,18 @@ told_call opcode options room value.Poll = no_call
 told_call opcode options room value.NotifyReply = no_call
 told_call opcode options room value.TmpFile = no_call
 
--- the number of a request's kind, and its own (struct fuse_in_header)
+-- the opcode of a request, and its unique number (struct fuse_in_header); 0 if the request is shorter than 16
+-- bytes
 abbrev pub opcode_in : List ℕ → ℕ
 opcode_in request = if nat_lt (length request) 16 then 0 else from_le_bytes w32 (take 4 (drop 4 request))
 
 abbrev pub unique_in : List ℕ → ℕ
 unique_in request = if nat_lt (length request) 16 then 0 else from_le_bytes w64 (take 8 (drop 8 request))
 
--- what is told with the numbers of its request
+-- a call's fields with the opcode and the unique number of its request
 abbrev pub numbered : List ℕ → FsCall → FsCall
 numbered request call = record call { opcode = opcode_in request; unique = unique_in request }
 
--- the fields of a call, by its request, the options that were agreed, and the room
+-- the fields of a call, by its request, the agreed options and the length of the reply buffer
 abbrev pub call_fields : (request : List ℕ) → (options room : ℕ) → FileCall → FsCall
 call_fields request options room call = numbered request (told_call (opcode_in request) options room call)

@@ -1,4 +1,4 @@
--- What C is told of a request, and what comes of an answer.
+-- What C gets of a decoded request, and the outcome of an answer.
 use Rattle.std.specs.Prelude.{◌≡◌, ◌⊎◌, ℕ, List, length, drop, bit_and, Option, Some, None, Result, Ok, Err}
 use Rattle.std.specs.Prelude.{IfOk, IfErr, OnOk, OnErr, if◌then◌else◌}
 use Rattle.fuse_values.specs.declared.answer.FileAnswer.{FileAnswer}
@@ -28,8 +28,8 @@ use Rattle.fs_chain_c.specs.Memory.{IsDevice}
 
 -- ---- an answer
 
--- what comes of an answer with a ticket in the session in which a `ChainHandle`'s chain was asked: what is
--- given of it, or why it is refused, and then nothing changes
+-- the outcome of an answer with a ticket, in the session in which the `ChainHandle`'s request was decoded:
+-- the reply, or an error. On an error nothing changes
 pub record AnswersTicket (w : ChainHandle) (ticket : ℕ) (a : FileAnswer) (told : Result Replied ChainError)
     (w' : ChainHandle) : Type 0 where
   pub given : IfOk told (λ r. IfWaits w.state (λ out waiting.
@@ -42,19 +42,19 @@ pub record AnswersTicket (w : ChainHandle) (ticket : ℕ) (a : FileAnswer) (told
   pub page_size : w'.session.page_size ≡ w.session.page_size
   pub stays : IsAllBut w w' × (w'.descriptors ≡ w.descriptors) × (w'.part ≡ w.part)
 
--- what is told of what comes of it: done, that the room holds no such reply (35), or why it is refused
+-- the status of an answer: 0, 35 if the reply buffer is too small for the reply, or the error's number
 abbrev pub replied_status : Result Replied ChainError → ℕ
 replied_status (Ok r) = if r.has_room then 0 else 35
 replied_status (Err e) = chain_error_number e
 
--- a `ChainHandle`'s call is answered, and a status tells what comes of it
+-- a `ChainHandle`'s call is answered, with this status
 abbrev pub AnswersHandle : ChainHandle → (ticket : ℕ) → FileAnswer → (status : ℕ) → ChainHandle → Type 0
 AnswersHandle b ticket a status b' =
     (told : Result Replied ChainError) × AnswersTicket b ticket a told b' × (status ≡ replied_status told)
 
 -- ---- a request
 
--- the answer to a call that nobody waits for, or that no file system of C's has: ENOSYS, as by its default
+-- the answer to a call without a reply, or that no file system in C has: ENOSYS, its default
 abbrev pub answer_unasked : FileCall → Option FileAnswer
 answer_unasked (value.Forget context node count) = Some answer.Done
 answer_unasked (value.BatchForget context counts) = Some answer.Done
@@ -68,13 +68,13 @@ answer_unasked value.NotifyReply = Some (answer.Failed 38)
 answer_unasked value.TmpFile = Some (answer.Failed 38)
 answer_unasked _ = None
 
--- such a call is answered at once; others wait
+-- such a call is answered at once; another call waits for C's answer
 abbrev pub AnswersAtOnce : ChainHandle → Option FileAnswer → ChainHandle → Type 0
 AnswersAtOnce b None b' = b' ≡ b
 AnswersAtOnce b (Some a) b' = (status : ℕ) × AnswersHandle b b.serial a status b'
 
--- a `ChainHandle` is asked in a session, which it keeps, by the first bytes of a request, and tells this: all
--- requests that begin so, and are as long as its chain's, mean it
+-- a `ChainHandle` decodes the first bytes of a request in a session, which it keeps. The result is the
+-- meaning of each request that begins with these bytes and is as long as the chain's
 pub record Decodes (w : ChainHandle) (s : Session) (request : List ℕ) (made : told.Decoded)
     (w' : ChainHandle) : Type 0 where
   pub can : ask_error w.state (length request) ≡ None
@@ -88,16 +88,17 @@ pub record Decodes (w : ChainHandle) (s : Session) (request : List ℕ) (made : 
   pub session : w'.session ≡ s
   pub stays : IsAllBut w w' × (w'.descriptors ≡ w.descriptors) × (w'.part ≡ w.part)
 
--- it can't be asked: it isn't where a request is asked, or more bytes came than the request has
+-- the request can't be decoded: the call is out of order, or there are more bytes than the request has
 pub record CannotAsk (w : ChainHandle) (request : List ℕ) (e : ChainError) (w' : ChainHandle) : Type 0 where
   pub why : ask_error w.state (length request) ≡ Some e
   pub stays : IsAllButPlace w w' × (w'.state ≡ w.state)
 
--- the session that goes on with a device's numbers; bits of no option are dropped
+-- the session with a device's page size and options; bits that are no option's are dropped
 abbrev pub IsDeviceSession : FsDevice → Session → Type 0
 IsDeviceSession d s = (s.page_size ≡ d.page_size) × (s.options.0 ≡ bit_and d.options known_options)
 
--- what C is told of what a request asks: the call, how many bytes are wanted (34), nothing, or the fault
+-- the result of decoding, as C gets it: the call; how many bytes decoding needs (34); nothing, if there is no
+-- call; or the fault
 abbrev pub TellsAsked :
     ChainHandle → (request : List ℕ) → told.Decoded → FsCall → (status : ℕ) → ChainHandle → Type 0
 TellsAsked b request (tells.Call made) call status b' =
@@ -111,7 +112,7 @@ TellsAsked b request tells.Nothing call status b' =
 TellsAsked b request (tells.Fault e) call status b' =
     (status ≡ 0) × (call ≡ numbered request (record no_call { fault = error_number e })) × (b' ≡ b)
 
--- a `ChainHandle` that was asked in the session of the device: the call, with the ticket of its chain
+-- a request is decoded in the device's session, and the call has the ticket of the chain
 abbrev pub DecodesSo :
     ChainHandle → FsDevice → (request : List ℕ) → FsCall → (status : ℕ) → ChainHandle → Type 0
 DecodesSo b d request call status b' =
@@ -123,7 +124,7 @@ DecodesSo b d request call status b' =
     × TellsAsked asked request made fields status b'
     × (call ≡ record fields { ticket = b.serial })
 
--- a `ChainHandle` is asked by the first bytes of a request; a bad argument, if the device's numbers are none
+-- a `ChainHandle` decodes the first bytes of a request; `BadArgument`, if the numbers aren't a device's
 abbrev pub DecodesHandle :
     ChainHandle → FsDevice → (request : List ℕ) → FsCall → (status : ℕ) → ChainHandle → Type 0
 DecodesHandle b d request call status b' =

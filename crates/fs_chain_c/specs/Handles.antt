@@ -24,8 +24,8 @@ use Rattle.fs_chain_c.specs.Pushing.{DropsHandleChain, EndsHandlePush, PushesHan
 use Rattle.fs_chain_c.specs.Popping.{PopsHandle, no_step}
 use Rattle.fs_chain_c.specs.Windows.{FillsWindows}
 
--- a call does this with a handle's `ChainHandle`, or nothing if it has none; a handle neither gets a
--- `ChainHandle` so, nor loses it
+-- a call does this with a handle's `ChainHandle`, or nothing if the handle has none. The handle neither gains
+-- nor loses its `ChainHandle` by the call
 abbrev pub OnHandle : (Does : ChainHandle → ChainHandle → Type 0) → (Nothing : Type 0) → Option ChainHandle →
     Option ChainHandle → Type 0
 OnHandle Does Nothing None None = Nothing
@@ -33,13 +33,13 @@ OnHandle Does Nothing None (Some b') = ⊥
 OnHandle Does Nothing (Some b) None = ⊥
 OnHandle Does Nothing (Some b) (Some b') = Does b b'
 
--- a handle without a `ChainHandle`, all of whose numbers are zero
+-- a handle without a `ChainHandle`: all its numbers are zero
 abbrev pub IsZeros : FsChain → Type 0
 IsZeros c = (c.value ≡ None) × (c.at ≡ null) × (c.full ≡ 0)
 
--- ---- memory is told
+-- ---- setting the memory
 
--- a `ChainHandle` that no chain was on, over no memory
+-- a new `ChainHandle`: it never had a chain, and has no memory
 abbrev pub IsNewHandle : ChainHandle → Type 0
 IsNewHandle b =
     (b.regions ≡ untranslated [])
@@ -52,7 +52,7 @@ IsNewHandle b =
     × (b.serial ≡ 1)
     × (b.list_len ≡ 0)
 
--- the next walks go over these regions, by the device's limit, and no table translates their addresses
+-- the next pops go over these regions, with the device's limit. No table translates their addresses
 abbrev pub GoesOver : ChainHandle → FsDevice → List FsRegion → ChainHandle → Type 0
 GoesOver b d regions b' =
     (memory_error b.state d.limit ≡ None)
@@ -66,8 +66,8 @@ GoesOver b d regions b' =
     × (b'.serial ≡ b.serial)
     × (b'.list_len ≡ b.list_len)
 
--- why they don't, in this order: the device's numbers are none, the regions are no memory, or a chain is
--- walked or out
+-- why the memory isn't set, in this order: the numbers aren't a device's; the regions aren't a memory; a pop
+-- is under way or a chain in flight
 abbrev pub RefusesMemory : ChainHandle → FsDevice → List FsRegion → ChainError → Type 0
 RefusesMemory b d regions e =
     ((e ≡ BadArgument) × (IsDevice d → ⊥))
@@ -76,27 +76,27 @@ RefusesMemory b d regions e =
     × ((memory : List Region) × IsMemory regions memory)
     × (memory_error b.state d.limit ≡ Some e))
 
--- a `ChainHandle` is told its memory, or nothing is done
+-- a `ChainHandle`'s memory is set, or an error is returned and nothing changes
 abbrev pub SetsHandle : ChainHandle → FsDevice → List FsRegion → (status : ℕ) → ChainHandle → Type 0
 SetsHandle b d regions status b' =
     ((status ≡ 0) × GoesOver b d regions b')
     ⊎ ((e : ChainError) × (status ≡ chain_error_number e) × RefusesMemory b d regions e × (b' ≡ b))
 
--- why no `ChainHandle` is made: the device's numbers are none, the regions are no memory, or they are one,
--- and the allocator refused the `ChainHandle` its place
+-- why no `ChainHandle` is made: the numbers aren't a device's; the regions aren't a memory; or they are, and
+-- the allocation of the `ChainHandle` failed
 abbrev pub RefusesNew : FsDevice → List FsRegion → ChainError → Type 0
 RefusesNew d regions e =
     ((e ≡ BadArgument) × (IsDevice d → ⊥)) ⊎ (IsDevice d × IsNoMemory regions e)
     ⊎ ((e ≡ OutOfMemory) × IsDevice d × ((memory : List Region) × IsMemory regions memory) × RoomWasRefused 1)
 
--- a new `ChainHandle` is told its memory, or none is made
+-- a new `ChainHandle` with its memory, or none is made
 abbrev pub MakesHandle : FsDevice → List FsRegion → (status : ℕ) → Option ChainHandle → Type 0
 MakesHandle d regions status None =
     (e : ChainError) × (status ≡ chain_error_number e) × RefusesNew d regions e
 MakesHandle d regions status (Some b') =
     (b : ChainHandle) × IsNewHandle b × (status ≡ 0) × GoesOver b d regions b'
 
--- a handle's `ChainHandle` is told its memory; without one it gets a new one
+-- a handle's memory is set: a handle without a `ChainHandle` gets a new one
 abbrev pub SetsMemory :
     Option ChainHandle → FsDevice → List FsRegion → (status : ℕ) → Option ChainHandle → Type 0
 SetsMemory None d regions status after = MakesHandle d regions status after
@@ -105,7 +105,8 @@ SetsMemory (Some b) d regions status (Some b') = SetsHandle b d regions status b
 
 -- ---- the other calls
 
--- the next chain of a `ChainHandle` gets this number; or a chain is walked or in flight, and nothing is done
+-- the next chain of a `ChainHandle` gets this ticket. Or a pop is under way or a chain in flight, and nothing
+-- changes
 abbrev pub NumbersHandle : ChainHandle → (first status : ℕ) → ChainHandle → Type 0
 NumbersHandle b first status b' =
     ((is_free b.state ≡ true) × (status ≡ 0) × (b' ≡ record b { serial = first }))
@@ -115,7 +116,7 @@ abbrev pub Numbers : Option ChainHandle → (first status : ℕ) → Option Chai
 Numbers before first status after =
     OnHandle (λ b b'. NumbersHandle b first status b') (status ≡ chain_error_number WrongOrder) before after
 
--- a handle's chain is walked
+-- the handle pops a chain, by the bytes of the last load
 abbrev pub Pops : Option ChainHandle → FsQueue → (loaded : List ℕ) → (status : ℕ) → FsPop →
     Option ChainHandle → FsQueue → Type 0
 Pops before q loaded status step after q' =
@@ -123,16 +124,16 @@ Pops before q loaded status step after q' =
     × (step ≡ no_step)
     × (q' ≡ q)) before after
 
--- it is given up
+-- the handle drops its chain
 abbrev pub DropsChain : Option ChainHandle → FsQueue → (status : ℕ) → Option ChainHandle → FsQueue → Type 0
 DropsChain before q status after q' =
     OnHandle (λ b b'. DropsHandleChain b q status b' q') ((status ≡ 0) × (q' ≡ q)) before after
 
--- it is freed, and no queue is told
+-- the handle's chain is abandoned, and no queue changes
 abbrev pub AbandonsChain : Option ChainHandle → Option ChainHandle → Type 0
 AbandonsChain before after = OnHandle IsFreed (Unit {0}) before after
 
--- the stretches of its bytes are told, and it stays as it was
+-- C gets the host windows of the chain's bytes in one direction; the handle doesn't change
 abbrev pub TellsStretches : Option ChainHandle → (write_only : Bool) → (from most : ℕ) →
     (windows : List FsWindow) → (count : ℕ) → Option ChainHandle → (windows' : List FsWindow) → Type 0
 TellsStretches before d from most windows count after windows' =
@@ -140,7 +141,7 @@ TellsStretches before d from most windows count after windows' =
     × (b' ≡ b)) ((count ≡ 0)
     × (windows' ≡ windows)) before after
 
--- it goes back
+-- the handle pushes its chain: C gets the stores
 abbrev pub Pushes : Option ChainHandle → FsQueue → (front : List ℕ) → (status : ℕ) → FsStores →
     Option ChainHandle → FsQueue → (front' : List ℕ) → Type 0
 Pushes before q front status told after q' front' =
@@ -150,7 +151,7 @@ Pushes before q front status told after q' front' =
     × (q' ≡ q)
     × (front' ≡ front)) before after
 
--- its stores are made
+-- C has made the stores of the push
 abbrev pub EndsPush :
     Option ChainHandle → FsQueue → (seen status notify : ℕ) → Option ChainHandle → FsQueue → Type 0
 EndsPush before q seen status notify after q' =

@@ -25,8 +25,8 @@ use Rattle.fs_chain_c.specs.Handles.{OnHandle}
 
 -- ---- entries
 
--- what is told of an entry: it is in the list, it is full (36), or the listing fails (37); or why it isn't
--- taken
+-- the status of an added entry: 0 if it is in the list, 36 if the list is full, 37 if the listing fails, or
+-- the error's number
 abbrev pub added_status : Result Added ChainError → ℕ
 added_status (Ok added.In) = 0
 added_status (Ok added.Full) = 36
@@ -34,8 +34,8 @@ added_status (Ok added.NoRoom) = 37
 added_status (Ok added.TooLong) = 37
 added_status (Err e) = chain_error_number e
 
--- an entry is brought to a `ChainHandle`'s listing, by the ticket of its chain, in the list that has those
--- before it; or it is refused, and nothing is done
+-- an entry is added to a `ChainHandle`'s listing, by the chain's ticket, behind the entries already in the
+-- list. On an error nothing changes
 abbrev pub AddsToHandle : ChainHandle → (ticket : ℕ) → Brought → (outcome : Listing → Result (Unit {0})
     reason.NotAdded) → (list : List ℕ) → (status : ℕ) → ChainHandle → (list' : List ℕ) → Type 0
 AddsToHandle b ticket e outcome list status b' list' =
@@ -58,11 +58,10 @@ is_type t = t == 0 || t == 1 || t == 2 || t == 4 || t == 6 || t == 8 || t == 10 
 abbrev pub is_entry : (name : List ℕ) → (type : ℕ) → Bool
 is_entry name type = is_name name && is_type type
 
--- an entry, as it is listed
 abbrev pub listed_as : (name : List ℕ) → (ino offset type : ℕ) → Listed
 listed_as name ino offset type = record { ino = ino; offset = offset; kind = type; name = name }
 
--- an entry of READDIR is brought; a bad argument, if it has no name or no type
+-- an entry of READDIR is added; `BadArgument`, if the name or the type isn't an entry's
 abbrev pub AddsEntry : (is : Bool) → Listed → (ticket : ℕ) → Option ChainHandle → (list : List ℕ) →
     (status : ℕ) → Option ChainHandle → (list' : List ℕ) → Type 0
 AddsEntry false d ticket before list status after list' =
@@ -76,7 +75,8 @@ AddsEntry true d ticket before list status after list' =
 abbrev pub type_of : FsEntry → ℕ
 type_of e = e.attr.mode / 4096 % 16
 
--- an entry of READDIRPLUS is brought; a bad argument, if it has no name or no type, or a time isn't one
+-- an entry of READDIRPLUS is added; `BadArgument`, if the name or the type isn't an entry's, or a time isn't
+-- valid
 abbrev pub AddsNode : (is : Bool) → Listed → Option (Entry ℕ) → (ticket : ℕ) → Option ChainHandle →
     (list : List ℕ) → (status : ℕ) → Option ChainHandle → (list' : List ℕ) → Type 0
 AddsNode true d (Some entry) ticket before list status after list' =
@@ -90,8 +90,8 @@ AddsNode false d entry ticket before list status after list' =
 
 -- ---- the reply
 
--- what is told of how a listing ends: done, or that it is answered by the entries that it has (38) though it
--- failed, or why it doesn't end
+-- the status of a listing's end: 0, or the error's number. A listing that fails with entries in the list is
+-- answered by them (38)
 abbrev pub ended_status : Result ℕ ChainError → ℕ
 ended_status (Ok n) = 0
 ended_status (Err e) = chain_error_number e
@@ -105,7 +105,7 @@ abbrev pub ended_len : Result ℕ ChainError → ℕ
 ended_len (Ok n) = n
 ended_len (Err e) = 0
 
--- a `ChainHandle`'s listing ends by the entries so far
+-- a `ChainHandle`'s listing is answered by the entries so far
 abbrev pub EndsListing : ChainHandle → (ticket status len : ℕ) → ChainHandle → Type 0
 EndsListing b ticket status len b' =
     (told : Result ℕ ChainError)
@@ -116,13 +116,13 @@ EndsListing b ticket status len b' =
     (status ≡ ended_status told)
     × (len ≡ ended_len told)
 
--- a handle's listing ends so
+-- the same of a handle; `WrongOrder` if it has no `ChainHandle`
 abbrev pub EndsHandleList : (ticket : ℕ) → Option ChainHandle → (status len : ℕ) → Option ChainHandle → Type 0
 EndsHandleList ticket before status len after =
     OnHandle (λ b b'. EndsListing b ticket status len b') ((status ≡ chain_error_number WrongOrder)
     × (len ≡ 0)) before after
 
--- a `ChainHandle`'s listing fails by an errno
+-- a `ChainHandle`'s listing fails by an errno: its entries so far are the reply, if it has any
 abbrev pub FailsListing : (errno ticket : ℕ) → ChainHandle → (status : ℕ) → ChainHandle → Type 0
 FailsListing errno ticket b status b' =
     (told : Result ℕ ChainError)
@@ -132,7 +132,8 @@ FailsListing errno ticket b status b' =
     × IsAllButPlace b b'
     × (status ≡ failed_status told)
 
--- a `ChainHandle`'s call fails by an errno: a listing by what it has, another call by its answer
+-- a `ChainHandle`'s call fails by an errno. A listing may end by its entries; another call is answered by the
+-- errno
 abbrev pub FailsHandle :
     (listing : Bool) → (errno ticket : ℕ) → ChainHandle → (status : ℕ) → ChainHandle → Type 0
 FailsHandle true errno ticket b status b' = FailsListing errno ticket b status b'
@@ -142,7 +143,7 @@ FailsHandle false errno ticket b status b' = AnswersHandle b ticket (answer.Fail
 abbrev pub errno_of : ℕ → Option ℕ
 errno_of n = if nat_le 1 n && nat_le n 4095 then Some n else None
 
--- a handle's call fails by an errno, or is done (0), or the number is a bad argument
+-- a handle's call fails by an errno, or is done (0); `BadArgument` if the number is neither
 abbrev pub RepliesErr : (errno : Option ℕ) → (done : Bool) → (ticket : ℕ) → Option ChainHandle →
     (status : ℕ) → Option ChainHandle → Type 0
 RepliesErr (Some errno) done ticket before status after =

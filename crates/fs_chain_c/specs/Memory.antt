@@ -1,4 +1,4 @@
--- The memory that C tells: regions in any order.
+-- The memory that C passes: regions in any order.
 use Rattle.std.specs.Prelude.{◌≡◌, ◌≤◌, ◌<◌, ◌+◌, ◌%◌, ◌^◌, ◌⊎◌, IsTrue, List, [], ◌∷◌, All, map, length}
 use Rattle.std.specs.Prelude.{Some, None, IsPermutation}
 use Rattle.std.specs.List.Sorted.{IsNonDecreasingBy}
@@ -12,19 +12,19 @@ use Rattle.fs_chain.specs.declared.error.ChainError.TheVariants.{OutOfMemory, Ba
 use Rattle.fs_chain_c.specs.declared.device.FsDevice.{FsDevice}
 use Rattle.fs_chain_c.specs.declared.memory.FsRegion.{FsRegion}
 
--- these are a device's numbers
+-- a device's page size and limit are valid
 abbrev pub IsDevice : FsDevice → Type 0
 IsDevice d = IsTrue (is_page_size d.page_size) × (0x101000 ≤ d.limit) × (d.limit ≤ 2 ^ 31)
 
--- the region of the core's with these numbers, whose block is where it stands here
+-- the core's region with these numbers: its block is the host address
 abbrev pub region_of : FsRegion → Region
 region_of r = record { start = r.guest; size = r.len; block = r.host }
 
--- a region of whole pages, which stands at a page's begin here, and ends here too
+-- a region of whole pages: it begins and ends at a page of host memory too
 abbrev pub IsRegion : FsRegion → Type 0
 IsRegion r = HasWholePages (region_of r) × (r.host % 4096 ≡ 0) × (r.host + r.len ≤ 2 ^ 64)
 
--- none, or they ascend and have no address in common
+-- there are no regions, or they ascend and have no address in common
 abbrev pub StandApart : List Region → Type 0
 StandApart [] = Unit {0}
 StandApart (r ∷ rs) = fault_of (r ∷ rs) ≡ None
@@ -39,7 +39,7 @@ IsMemory regions memory =
     × (memory ≡ map region_of sorted)
     × StandApart memory
 
--- two regions have an address in common: there are some, and by ascending address there is a fault
+-- two regions have an address in common: there is a fault among the regions by ascending address
 abbrev pub DoOverlap : List FsRegion → Type 0
 DoOverlap regions =
     (0 < length regions)
@@ -48,8 +48,8 @@ DoOverlap regions =
     × IsNonDecreasingBy (λ (r : FsRegion). r.guest) sorted
     × (fault_of (map region_of sorted) ≡ Some fault)
 
--- why these regions are no memory: too many, one that is none, or two have an address in common; memory is
--- wanting only for some that are one, and if the allocator refused it
+-- why these regions aren't a memory: there are too many, one isn't a region, or two have an address in
+-- common. `OutOfMemory` only if the regions are a memory and their allocation failed
 abbrev pub IsNoMemory : List FsRegion → ChainError → Type 0
 IsNoMemory regions BadArgument = (64 < length regions) ⊎ (All IsRegion regions → ⊥) ⊎ DoOverlap regions
 IsNoMemory regions OutOfMemory =
@@ -59,14 +59,14 @@ IsNoMemory regions OutOfMemory =
     × IsMemory regions memory
 IsNoMemory regions _ = ⊥
 
--- there are some regions, and among them is a fault, taken in their order
+-- among the regions, in their order, is a fault
 abbrev pub HaveFault : List FsRegion → Type 0
 HaveFault regions =
     (0 < length regions)
     × (fault : GuestRegionCollectionError)
     × (fault_of (map region_of regions) ≡ Some fault)
 
--- why these regions, taken in their order, are no memory: there is a fault, or memory is wanting
+-- why these regions, in their order, aren't a memory: a fault, or their allocation failed
 abbrev pub IsNoSortedMemory : List FsRegion → ChainError → Type 0
 IsNoSortedMemory regions BadArgument = HaveFault regions
 IsNoSortedMemory regions OutOfMemory =

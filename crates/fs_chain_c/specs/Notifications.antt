@@ -1,4 +1,4 @@
--- What C stores to be told of new chains, or of none.
+-- The store by which C enables or disables available buffer notifications.
 use Rattle.std.specs.Prelude.{◌≡◌, ◌⊎◌, ℕ, not, ◌==◌, Option, Some, None}
 use Rattle.std.specs.Int.{w16, to_le_bytes}
 use Rattle.vm_iotlb.specs.declared.permissions.Permissions.TheVariants.{Write}
@@ -19,8 +19,7 @@ use Rattle.fs_chain_c.specs.Pushing.{IsNotHere, StandsHere}
 abbrev pub no_store : FsStore
 no_store = record { at = 0; value = 0; len = 0 }
 
--- a store, told by where it is made here: two bytes; none, by length 0; if it has no place, that is told by
--- 77
+-- a store of two bytes at its host address, or of length 0 if there is none; 77 if its address isn't mapped
 abbrev pub TellsStore : Mapped → Option Store → FsStore → (status : ℕ) → Type 0
 TellsStore regions None told status = (status ≡ 0) × (told ≡ no_store)
 TellsStore regions (Some s) told status =
@@ -30,7 +29,7 @@ TellsStore regions (Some s) told status =
     × (told.len ≡ 2))
     ⊎ ((status ≡ 77) × IsNotHere regions Write s.address 2 × (told ≡ no_store))
 
--- what is stored of a queue of C's; a bad argument, if its numbers are none
+-- the store for a queue of C's; `BadArgument`, if the numbers aren't a queue's
 abbrev pub SetsNotification : ChainHandle → FsQueue → (enabled : ℕ) → FsStore → (status : ℕ) → Type 0
 SetsNotification b q enabled told status =
     ((IsQueue q → ⊥) × (status ≡ chain_error_number BadArgument) × (told ≡ no_store))
@@ -39,7 +38,7 @@ SetsNotification b q enabled told status =
     × IsQueueState q k
     × TellsStore b.regions (notification_store k (not (enabled == 0))) told status)
 
--- over a handle's regions; it stays as it was
+-- the same with a handle, which doesn't change
 abbrev pub AsksKicks :
     Option ChainHandle → FsQueue → (enabled : ℕ) → (status : ℕ) → FsStore → Option ChainHandle → Type 0
 AsksKicks before q enabled status told after =

@@ -1,4 +1,4 @@
--- What C is told of notifications, as the acts of the model (crate notify).
+-- The calls on notifications, as acts of the model (crate notify).
 use Rattle.std.specs.Prelude.{◌≡◌, ℕ, ◌^◌, ◌<◌, ◌==◌, ◌||◌}
 use Rattle.std.specs.Int.{w16, to_le_bytes}
 use Rattle.vm_iotlb.specs.declared.permissions.Permissions.TheVariants.{Write}
@@ -15,8 +15,8 @@ use Rattle.fs_chain_c.specs.Notifications.{SetsNotification}
 use Rattle.fs_chain_c.specs.Queues.{IsQueueState}
 use Rattle.fs_chain_c.specs.Pushing.{EndsHandlePush, StandsHere}
 
--- the store that C is told to make before a thread sleeps is the model's wish for the next chain, where the
--- device has it, once it has reached memory
+-- the store that C makes before a thread sleeps is the model's wish for the next chain: once it has reached
+-- memory, it is where the device has the wish
 abbrev pub StoresAWish : Type 0
 StoresAWish =
     (b : ChainHandle) (q : FsQueue) (told : FsStore) (s : ThreadedQueue)
@@ -32,7 +32,8 @@ StoresAWish =
     × SaysWish k.event_index (to_le_bytes w16 told.value) asked.event asked.muted
     × IsOf k asked)
 
--- of the two bytes that C has loaded behind the barrier, `notify` tells what the model's giver checks
+-- `notify` is the result of the check by the model's giver, of the two bytes that C has loaded behind the
+-- barrier
 abbrev pub NotifyIsACheck : Type 0
 NotifyIsACheck =
     (b b' : ChainHandle) (q q' : FsQueue) (seen notify : ℕ) (u : NotifyState)

@@ -1,11 +1,11 @@
--- The numbers of calls and of the answers that they wait for, as C is told.
+-- The numbers of calls and of their answers' kinds (PK_CALL_, PK_ANSWER_).
 use Rattle.std.specs.Prelude.{◌==◌, ℕ, if◌then◌else◌}
 use Rattle.fuse_wire.specs.declared.opcodes.Opcode.{Opcode}
 use Rattle.fuse_wire.specs.declared.opcodes.Opcode.TheVariants as op
 use Rattle.fs_chain_c.specs.declared.answer_kind.AnswerKind.{AnswerKind}
 use Rattle.fs_chain_c.specs.declared.answer_kind.AnswerKind.TheVariants as awaits
 
--- the number of a call: that of its request (enum fuse_opcode of linux/fuse.h)
+-- the number of a call: its request's opcode (enum fuse_opcode of linux/fuse.h)
 abbrev pub call_number : Opcode → ℕ
 call_number op.Lookup = 1
 call_number op.Forget = 2
@@ -57,7 +57,7 @@ call_number op.RemoveMapping = 49
 call_number op.Syncfs = 50
 call_number op.TmpFile = 51
 
--- the number of what a call waits for
+-- the number of an answer's kind
 abbrev pub answer_number : AnswerKind → ℕ
 answer_number awaits.None = 0
 answer_number awaits.Done = 1
@@ -73,10 +73,10 @@ answer_number awaits.Lseek = 10
 answer_number awaits.Entries = 11
 answer_number awaits.Init = 12
 
--- GETXATTR and LISTXATTR wait for a length, if their size is 0, and else for data
+-- GETXATTR and LISTXATTR have a length as the answer if their size is 0, and else data
 abbrev pub sized : ℕ → AnswerKind
 sized size = if size == 0 then awaits.Xattr else awaits.Data
 
--- READDIR or READDIRPLUS, by the request's number
+-- READDIR or READDIRPLUS, by the request's opcode
 abbrev pub listing : (opcode : ℕ) → Opcode
 listing opcode = if opcode == call_number op.Readdirplus then op.Readdirplus else op.Readdir

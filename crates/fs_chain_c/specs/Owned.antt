@@ -1,4 +1,4 @@
--- What the handle owns: a struct of a pointer and of the heap's allocator, which C may see.
+-- The memory that a handle owns: a box, as a pointer and the heap's allocator, with a type that C may see.
 use base.Fml.{Fml, ftrue}
 use base.Stored.{Coded}
 use denote.RawPtr.{Ptr, null_ptr}
@@ -9,15 +9,13 @@ use Rattle.std.specs.Global.{Global}
 use Rattle.std_heap.specs.contracts.GlobalAllocator.TheImpl.{ghosts}
 use Rattle.fs_chain.specs.contracts.chain_handle.ChainHandle as handle
 
--- the null pointer
 abbrev pub null : Ptr
 null = null_ptr
 
--- the box behind its pointer, if it has one
+-- a handle owns the box behind its pointer, if it has one
 abbrev pub chain_owns : Global → Ptr → Option (handle.the_row).Denot → Fml
 chain_owns alloc p None = ftrue
 chain_owns alloc p (Some w) = box_owns (ghosts.dealloc_token alloc) handle.the_row p w
 
--- how the `ChainHandle` there is coded
 abbrev pub chain_value_coded : Coded (Option (handle.the_row).Denot)
 chain_value_coded = coded_option (handle.the_row).coded

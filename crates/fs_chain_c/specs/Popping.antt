@@ -1,4 +1,4 @@
--- What C is told of a walk, by loads that it makes: in parts, where one goes over the end of a region.
+-- A pop by loads that C makes: in parts, where a load goes over the end of a region.
 use Rattle.std.specs.Prelude.{◌≡◌, ◌+◌, ◌%◌, ◌^◌, ◌⊎◌, ℕ, List}
 use Rattle.vm_memory_core.specs.Window.{Window}
 use Rattle.fs_queue.specs.Numbers.{chain_fault_number, queue_number}
@@ -15,34 +15,34 @@ use Rattle.fs_chain_c.specs.declared.queue.FsQueue.{FsQueue}
 use Rattle.fs_chain_c.specs.declared.popping.FsPop.{FsPop}
 use Rattle.fs_chain_c.specs.Queues.{IsQueueState, IsQueue, put}
 
--- where a window stands here: the number of its region, and its offset there
+-- the host address of a window: the number of its region, and its offset there
 abbrev pub host_at : Window → ℕ
 host_at v = (v.block + v.offset) % 2 ^ 64
 
--- ---- what is told
+-- ---- the result
 
--- nothing is told
+-- neither a load nor a chain
 abbrev pub no_step : FsPop
 no_step =
     record { load_at = 0; load_len = 0; request_len = 0; reply_len = 0; fault = 0; head = 0; ticket = 0 }
 
--- a load: where it is made here
+-- a load, by its host address and length
 abbrev pub load_step : Window → FsPop
 load_step v = record no_step { load_at = host_at v; load_len = v.len }
 
--- the load that is still wanted; if it has no place, that is told by 77
+-- the load that a pop still needs; 77 if its address isn't mapped
 abbrev pub TellsLoad : ChainHandle → FsPop → (status : ℕ) → Type 0
 TellsLoad b step status =
     ((v : Window) × IsLoadWindow b (came b) v × (status ≡ 32) × (step ≡ load_step v))
     ⊎ (HasNoPlace b (came b) × (status ≡ 77) × (step ≡ no_step))
 
--- the load that a walk still wants, where nothing was done; nothing, if it wants none, or it has no place
+-- the load that a pop still needs after a refused call; nothing, if it needs none or the address isn't mapped
 abbrev pub TellsWanted : ChainHandle → FsPop → Type 0
 TellsWanted b step =
     ((v : Window) × IsLoadWindow b (came b) v × (step ≡ load_step v))
     ⊎ (HasNoPlace b (came b) × (step ≡ no_step))
 
--- what is told of what a walk came to
+-- the result of a pop and its status: a load, no chain (33), a refusal, a chain, or a faulty chain
 abbrev pub TellsWent : ChainHandle → went.LoadOutcome → FsPop → (status : ℕ) → Type 0
 TellsWent b goes.Part step status = TellsLoad b step status
 TellsWent b (goes.On (comes.Load n)) step status = TellsLoad b step status
@@ -54,9 +54,9 @@ TellsWent b (goes.On (comes.Chain head request room)) step status =
 TellsWent b (goes.On (comes.Faulty head fault)) step status =
     (status ≡ 0) × (step ≡ record no_step { head = head; fault = chain_fault_number fault })
 
--- ---- a walk
+-- ---- a pop
 
--- a walk over the core's queue
+-- a pop over the core's queue; on an error nothing changes, and the result is the load that is still needed
 abbrev pub WalksKept : ChainHandle → FsQueue → QueueState → (loaded : List ℕ) → FsPop → (status : ℕ) →
     ChainHandle → FsQueue → Type 0
 WalksKept b q k loaded step status b' q' =
@@ -71,7 +71,7 @@ WalksKept b q k loaded step status b' q' =
     × IsSame b b'
     × (q' ≡ q))
 
--- a walk over a queue of C's; a bad argument, if its numbers are none
+-- a pop over a queue of C's; `BadArgument`, if the numbers aren't a queue's
 abbrev pub PopsHandle :
     ChainHandle → FsQueue → (loaded : List ℕ) → FsPop → (status : ℕ) → ChainHandle → FsQueue → Type 0
 PopsHandle b q loaded step status b' q' =

@@ -1,4 +1,4 @@
--- How a chain goes back, as C is told, and how it is given up.
+-- How a chain is pushed, in two calls, and how it is dropped.
 use Rattle.std.specs.Prelude.{◌≡◌, ◌⊎◌, ◌<◌, ℕ, true, false, List, length, min, Some, None, if◌then◌else◌}
 use Rattle.std.specs.Int.{w16, to_le_bytes}
 use Rattle.vm_memory_core.specs.Window.{Window}
@@ -23,7 +23,7 @@ use Rattle.fs_chain_c.specs.declared.pushing.FsStores.{FsStores}
 use Rattle.fs_chain_c.specs.Queues.{IsQueueState, IsQueue, flag, put}
 use Rattle.fs_chain_c.specs.Popping.{host_at}
 
--- ---- a return is told
+-- ---- the stores of a push
 
 -- nothing is to be stored
 abbrev pub no_stores : FsStores
@@ -41,7 +41,8 @@ no_stores =
       index_guest = 0;
     }
 
--- so many bytes from a guest address on stand here from one on, for an access
+-- `len` bytes from a guest address on are mapped for an access, in one piece of host memory from this host
+-- address on
 abbrev pub StandsHere : Mapped → Permissions → (guest len here : ℕ) → Type 0
 StandsHere regions access guest len here =
     (v : Window)
@@ -49,7 +50,7 @@ StandsHere regions access guest len here =
     × (v.len ≡ len)
     × (here ≡ host_at v)
 
--- the stores of a return, told by where they are made here, and by the guest addresses of element and index
+-- the stores of a push, by their host addresses, and the guest addresses of the used element and index
 abbrev pub TellsStores : Mapped → PushStores → FsStores → Type 0
 TellsStores regions s told =
     (told.front_len ≡ s.front_len)
@@ -63,7 +64,8 @@ TellsStores regions s told =
     × (told.element_guest ≡ s.used.head.address)
     × (told.index_guest ≡ s.used.index.address)
 
--- they don't: their first one has no place, or what is mapped as one with it ends before them
+-- `len` bytes from a guest address on aren't mapped in one piece: the first isn't mapped, or the piece ends
+-- before the last
 abbrev pub IsNotHere : Mapped → Permissions → (guest len : ℕ) → Type 0
 IsNotHere regions access guest len =
     (location (places_in regions) access guest ≡ None)
@@ -72,7 +74,7 @@ IsNotHere regions access guest len =
     × (v.len ≡ min len (left_in (places_in regions) guest))
     × (v.len ≡ len → ⊥))
 
--- some of the stores have no place
+-- some of the stores aren't mapped
 abbrev pub HaveNoPlaces : Mapped → PushStores → Type 0
 HaveNoPlaces regions s =
     IsNotHere regions Write s.used.head.address 4
@@ -80,8 +82,8 @@ HaveNoPlaces regions s =
     ⊎ IsNotHere regions Write s.used.index.address 2
     ⊎ IsNotHere regions Read s.seen_at 2
 
--- a chain whose reply is known goes back to its queue by these stores, with the front at the front of the
--- buffer; if they have no places, that is told by 77
+-- a chain with a reply is being pushed by these stores, and the reply's front is at the front of the buffer;
+-- 77 if the stores aren't mapped
 abbrev pub PushesSo : ChainHandle → QueueState → (front : List ℕ) → FsStores → (status : ℕ) → ChainHandle →
     (front' : List ℕ) → Type 0
 PushesSo b k front told status b' front' =
@@ -92,8 +94,8 @@ PushesSo b k front told status b' front' =
     × (((status ≡ 0) × TellsStores b'.regions s told)
     ⊎ ((status ≡ 77) × (told ≡ no_stores) × HaveNoPlaces b'.regions s))
 
--- over the core's queue, of which no other chain goes back then; refused by its error, and nothing is done: a
--- buffer of 160 bytes is never too short
+-- the same over the core's queue, on which no other push begins until this one ends. An error changes
+-- nothing, and a buffer of 160 bytes is never too short
 abbrev pub ReturnsKept : ChainHandle → FsQueue → QueueState → (front : List ℕ) → FsStores → (status : ℕ) →
     ChainHandle → FsQueue → (front' : List ℕ) → Type 0
 ReturnsKept b q k front told status b' q' front' =
@@ -109,7 +111,7 @@ ReturnsKept b q k front told status b' q' front' =
     × (q' ≡ q)
     × (front' ≡ front))
 
--- over a queue of C's; a bad argument, if its numbers are none
+-- the same over a queue of C's; `BadArgument`, if the numbers aren't a queue's
 abbrev pub PushesHandle : ChainHandle → FsQueue → (front : List ℕ) → FsStores → (status : ℕ) → ChainHandle →
     FsQueue → (front' : List ℕ) → Type 0
 PushesHandle b q front told status b' q' front' =
@@ -121,14 +123,14 @@ PushesHandle b q front told status b' q' front' =
     × (front' ≡ front))
     ⊎ (IsQueue q × (k : QueueState) × IsQueueState q k × ReturnsKept b q k front told status b' q' front')
 
--- ---- a return ends
+-- ---- the end of a push
 
--- nothing is done, for this reason
+-- nothing changes, and the status is this error's
 abbrev pub RefusesPush : ChainHandle → FsQueue → ChainError → (status : ℕ) → ChainHandle → FsQueue → Type 0
 RefusesPush b q e status b' q' = (status ≡ chain_error_number e) × (b' ≡ b) × (q' ≡ q)
 
--- the stores are made, of the core's queue: its next chain goes back at the next position; refused by its
--- error
+-- the stores are made: the chain is freed, and the core's queue pushes its next chain at the next position;
+-- on an error nothing changes
 abbrev pub EndsKept :
     ChainHandle → FsQueue → QueueState → (seen notify status : ℕ) → ChainHandle → FsQueue → Type 0
 EndsKept b q k seen notify status b' q' =
@@ -139,26 +141,26 @@ EndsKept b q k seen notify status b' q' =
     × (q' ≡ put q (gave k)))
     ⊎ ((e : ChainError) × (end_error b.state k ≡ Some e) × (notify ≡ 0) × RefusesPush b q e status b' q')
 
--- a return ends over a queue of C's; a bad argument, if its numbers are none
+-- the same over a queue of C's; `BadArgument`, if the numbers aren't a queue's
 abbrev pub EndsHandlePush : ChainHandle → FsQueue → (seen notify status : ℕ) → ChainHandle → FsQueue → Type 0
 EndsHandlePush b q seen notify status b' q' =
     ((IsQueue q → ⊥) × (notify ≡ 0) × RefusesPush b q BadArgument status b' q')
     ⊎ (IsQueue q × (k : QueueState) × IsQueueState q k × EndsKept b q k seen notify status b' q')
 
--- ---- a chain is given up
+-- ---- a dropped chain
 
--- the core's queue then: it hands a chain out again that is given up
+-- the core's queue after a drop: its next pop returns the dropped chain again
 abbrev pub dropped : ChainHandle → QueueState → QueueState
 dropped b k = if is_out b.state then untook k else k
 
--- over the core's queue; refused by its error
+-- a drop over the core's queue; on an error nothing changes
 abbrev pub DropsKept : ChainHandle → FsQueue → QueueState → (status : ℕ) → ChainHandle → FsQueue → Type 0
 DropsKept b q k status b' q' =
     ((give_up_error b.state k ≡ None) × (status ≡ 0) × IsFreed b b' × (q' ≡ put q (dropped b k)))
     ⊎ ((e : ChainError) × (give_up_error b.state k ≡ Some e) × RefusesPush b q e status b' q')
 
--- over a queue of C's; a bad argument, if its numbers are none. If no chain is out, a walk ends, and no queue
--- counts
+-- the same over a queue of C's; `BadArgument`, if the numbers aren't a queue's. If no chain is in flight, a
+-- pop under way ends, and the queue's numbers don't matter
 abbrev pub DropsHandleChain : ChainHandle → FsQueue → (status : ℕ) → ChainHandle → FsQueue → Type 0
 DropsHandleChain b q status b' q' =
     ((is_out b.state ≡ false) × (status ≡ 0) × IsFreed b b' × (q' ≡ q))

@@ -1,4 +1,4 @@
--- Queues as numbers that C keeps, and the core's.
+-- Queues as numbers that C keeps, and as the core has them.
 use Rattle.std.specs.Prelude.{◌≡◌, ◌⊎◌, ◌==◌, ◌≤◌, ◌+◌, ◌-◌, ◌%◌, ◌^◌, max, ℕ, Bool, true, false, Option}
 use Rattle.std.specs.Prelude.{Some, None, IsSome, if◌then◌else◌}
 use Rattle.fs_queue.specs.Lawful.{layout_error}
@@ -10,8 +10,8 @@ use Rattle.fs_chain.specs.declared.queue.QueueState.{QueueState}
 use Rattle.fs_chain.specs.Numbers.{chain_error_number}
 use Rattle.fs_chain_c.specs.declared.queue.FsQueue.{FsQueue}
 
--- the refusal that a number tells of a queue: 2 to 8 stopped it, 1 is one of these that a record doesn't
--- tell, 0 is none, and others tell nothing
+-- the refusal of a number of `stopped`: 2 to 8 stopped the queue; 1 is a refusal that a record doesn't keep;
+-- 0 is none; no other number is valid
 abbrev pub stop_of : ℕ → Option (Option QueueError)
 stop_of n =
     if n == 0 then Some None
@@ -25,21 +25,19 @@ stop_of n =
     else if n == 8 then Some (Some stop.DescriptorUnreachable)
     else None
 
--- the number of what stopped a queue, if anything did
+-- the number of the refusal that stopped a queue; 0 is none
 abbrev pub stop_number : Option QueueError → ℕ
 stop_number None = 0
 stop_number (Some e) = queue_number e
 
--- a yes or no as a number
 abbrev pub flag : Bool → ℕ
 flag false = 0
 flag true = 1
 
--- how many chains are out
 abbrev pub chains_in_flight : FsQueue → ℕ
 chains_in_flight q = (q.next_avail + (2 ^ 16 - q.next_used)) % 2 ^ 16
 
--- these are a queue's numbers: no more chains are out, or may be, than it has descriptors
+-- these are a queue's numbers: no more chains are in flight, or may be, than it has descriptors
 abbrev pub IsQueue : FsQueue → Type 0
 IsQueue q =
     (layout_error q.size q.desc q.avail q.used ≡ None)
@@ -69,8 +67,7 @@ pub record IsQueueState (q : FsQueue) (k : QueueState) : Type 0 where
   pub pop_count : k.pop_count ≡ q.pop_count
   pub stopped : stop_of q.stopped ≡ Some k.stopped
 
--- a queue's numbers with what a call changes: where the next chain is taken and where it goes back, whether a
--- return was told, how often a chain was taken, and what stopped it
+-- a queue's numbers with those that a call changes
 abbrev pub put : FsQueue → QueueState → FsQueue
 put q k =
     record q {
@@ -81,7 +78,8 @@ put q k =
       stopped = stop_number k.stopped;
     }
 
--- a queue that is begun anew at a position: no chain is out of it, and those that were are its own no more
+-- a queue that is reset to a position: no chain of it is in flight, and the chains that were are no longer
+-- its own
 abbrev pub reset_to : FsQueue → (position : ℕ) → FsQueue
 reset_to q position =
     record q {
@@ -92,7 +90,7 @@ reset_to q position =
       stopped = 0;
     }
 
--- it is begun so, if its numbers are a queue's; a bad argument, if they are none, and then nothing is done
+-- the queue is reset, if its numbers are a queue's then; else `BadArgument`, and nothing changes
 abbrev pub BeginsQueue : FsQueue → (position status : ℕ) → FsQueue → Type 0
 BeginsQueue q position status q' =
     (IsQueue (reset_to q position) × (status ≡ 0) × (q' ≡ reset_to q position))

@@ -1,4 +1,4 @@
--- Where a room's bytes stand for the guest, one stretch after another, as C is told.
+-- The guest addresses of a reply buffer, range by range, as C gets them.
 use Rattle.std.specs.Prelude.{◌≡◌, ◌≤◌, ◌<◌, ◌+◌, ◌-◌, ◌^◌, ◌++◌, ℕ, true, List, [], ◌∷◌, length, drop, min}
 use Rattle.std.specs.Prelude.{Option}
 use Rattle.fs_queue.specs.Taking.{total_len, of_direction}
@@ -8,8 +8,8 @@ use Rattle.fs_chain.specs.declared.chain_handle.ChainHandle.{ChainHandle}
 use Rattle.fs_chain_c.specs.declared.ranges.FsRange.{FsRange}
 use Rattle.fs_chain_c.specs.Handles.{OnHandle}
 
--- a stretch of the guest's addresses of the room's bytes from one on, at least one and at most so many: in
--- one descriptor, as long as it goes on
+-- a range of the guest addresses of the reply buffer from byte `from` on, of 1 to `most` bytes: as long as
+-- one descriptor goes on
 abbrev pub IsReplyRange : ChainHandle → (from most : ℕ) → FsRange → Type 0
 IsReplyRange w from most told =
     (is_out w.state ≡ true)
@@ -18,7 +18,7 @@ IsReplyRange w from most told =
     × (told.len ≡ min n most)
     × (0 < told.len)
 
--- stretches, one behind another
+-- ranges, one behind another
 abbrev pub AreReplyRanges : ChainHandle → (from most : ℕ) → List FsRange → Type 0
 AreReplyRanges w from most [] = Unit {0}
 AreReplyRanges w from most (r ∷ rs) =
@@ -29,11 +29,11 @@ abbrev pub range_bytes : List FsRange → ℕ
 range_bytes [] = 0
 range_bytes (r ∷ rs) = r.len + range_bytes rs
 
--- no byte of the room stands at this one or behind it
+-- if a chain is in flight, its reply buffer ends at this byte or before
 abbrev pub RoomEnds : ChainHandle → (from : ℕ) → Type 0
 RoomEnds w from = is_out w.state ≡ true → total_len (of_direction true w.descriptors.items) ≤ from
 
--- stretches over the first ranges of some, as many as there is place for and bytes for
+-- the first of some ranges are filled: as many as there are elements and bytes for
 abbrev pub FillsRanges :
     ChainHandle → (from most : ℕ) → (ranges ranges' : List FsRange) → (count : ℕ) → Type 0
 FillsRanges w from most ranges ranges' count =
@@ -44,7 +44,7 @@ FillsRanges w from most ranges ranges' count =
     × AreReplyRanges w from most rs
     × (count < length ranges → range_bytes rs < most → RoomEnds w (from + range_bytes rs))
 
--- the stretches of a handle's room are told, and its `ChainHandle` stays as it was
+-- C gets the ranges of the reply buffer; the handle doesn't change
 abbrev pub TellsRanges : Option ChainHandle → (from most : ℕ) → (ranges : List FsRange) → (count : ℕ) →
     Option ChainHandle → (ranges' : List FsRange) → Type 0
 TellsRanges before from most ranges count after ranges' =

@@ -16,31 +16,31 @@ use Rattle.fs_chain_c.specs.declared.queue.FsQueue.{FsQueue}
 use Rattle.fs_chain_c.specs.Memory.{IsDevice}
 use Rattle.fs_chain_c.specs.Queues.{IsQueue, chains_in_flight}
 
--- the queue that a record has of these numbers
+-- the queue that a record keeps of these numbers
 abbrev pub queue_of : FsQueue → Queue
 queue_of q = resumed q.size q.desc q.avail q.used q.next_avail (not (q.stopped == 0))
 
--- no chain is out of it
+-- no chain of the queue is in flight
 abbrev pub HasNoneOut : FsQueue → Type 0
 HasNoneOut q = chains_in_flight q ≡ 0
 
--- ---- a record is saved
+-- ---- saving a record
 
--- which device may have a record, and with how many queues: one with known options, and 1 to 64
+-- a device may have a record with `n` queues: its options are known, and there are 1 to 64 queues
 abbrev pub CanSaveSome : FsDevice → (count : ℕ) → Type 0
 CanSaveSome d n = IsDevice d × HasKnownBits d.options × (1 ≤ n) × (n ≤ 64)
 
--- what may have one: these, if their numbers are queues'
+-- a device and queues may have a record: the same, and the queues' numbers are valid
 abbrev pub CanSave : FsDevice → List FsQueue → Type 0
 CanSave d qs = IsDevice d × HasKnownBits d.options × (1 ≤ length qs) × (length qs ≤ 64) × All IsQueue qs
 
--- why a record can't have a queue: its numbers are none; or they are, and a chain is out of it
+-- why a record can't keep a queue: its numbers aren't a queue's, or a chain of it is in flight
 abbrev pub RefusesToSave : FsQueue → ChainError → Type 0
 RefusesToSave q BadArgument = IsQueue q → ⊥
 RefusesToSave q ChainInFlight = IsQueue q × (HasNoneOut q → ⊥)
 RefusesToSave q _ = ⊥
 
--- why it can't have some queues: of the first that it can't have
+-- why a record can't keep some queues: the error of the first that it can't keep
 pub record RefusesQueues (qs : List FsQueue) (e : ChainError) : Type 0 where
   pub before : List FsQueue
   pub queue : FsQueue
@@ -54,8 +54,8 @@ pub record RefusesQueues (qs : List FsQueue) (e : ChainError) : Type 0 where
 abbrev pub bytes_of : FsDevice → List FsQueue → List ℕ
 bytes_of d qs = record_bytes (Second d.page_size d.limit) d.options (map queue_of qs)
 
--- the record stands at the front of a buffer, or why not: device, options and count are looked at first, then
--- each queue in order, and behind them memory and the buffer
+-- the record is written to the front of a buffer, or an error is returned. Device, options and count are
+-- checked first, then each queue in order, then memory, then the buffer's length
 abbrev pub SavesSo :
     FsDevice → List FsQueue → (buffer : List ℕ) → Option ChainError → (len : ℕ) → (buffer' : List ℕ) → Type 0
 SavesSo d qs buffer None len buffer' =
@@ -79,7 +79,7 @@ SavesSo d qs buffer (Some OutOfMemory) len buffer' =
     CanSave d qs × All HasNoneOut qs × RoomWasRefused (length qs) × (len ≡ 0) × (buffer' ≡ buffer)
 SavesSo d qs buffer (Some _) len buffer' = ⊥
 
--- what is told of it
+-- the status of saving a record
 abbrev pub saved_status : Option ChainError → ℕ
 saved_status None = 0
 saved_status (Some e) = chain_error_number e
@@ -89,10 +89,10 @@ abbrev pub Saves :
 Saves d qs buffer status len buffer' =
     (how : Option ChainError) × (status ≡ saved_status how) × SavesSo d qs buffer how len buffer'
 
--- ---- a record is read
+-- ---- restoring a record
 
--- the numbers of a queue of a record, which is begun anew with it: what stopped it isn't told, so it is 1,
--- and how many chains may be out stays
+-- the numbers of a queue that is reset from a record. The record doesn't keep the refusal that stopped the
+-- queue: `stopped` is 1 then. How many chains may be in flight stays
 abbrev pub numbers_over : FsQueue → Queue → FsQueue
 numbers_over old q = record old {
   desc = q.desc;
@@ -106,18 +106,18 @@ numbers_over old q = record old {
   reset_count = (old.reset_count + 1) % 2 ^ 32;
 }
 
--- the numbers of a record's queues over the first of some
+-- the record's queues written over the first of some
 abbrev pub restored_over : List FsQueue → List Queue → List FsQueue
 restored_over olds [] = olds
 restored_over [] (q ∷ qs) = []
 restored_over (old ∷ olds) (q ∷ qs) = numbers_over old q ∷ restored_over olds qs
 
--- a record stands at the front of some bytes, which goes with the device's page size and limit
+-- some bytes begin with a record that matches the device's page size and limit
 abbrev pub HasRecord : FsDevice → (saved : List ℕ) → (options : ℕ) → List Queue → Type 0
 HasRecord d saved options qs =
     (taken rest : List ℕ) × (saved ≡ taken ++ rest) × IsRecordFor taken d.page_size d.limit options qs
 
--- none does
+-- they don't: reading a record fails by this error
 abbrev pub HasNoRecord : FsDevice → (saved : List ℕ) → RestoreError → Type 0
 HasNoRecord d saved e =
     (taken rest : List ℕ)
@@ -125,21 +125,22 @@ HasNoRecord d saved e =
     × RefusesRecord taken d.page_size d.limit e
     × LeavesSource e (Some rest) false false
 
--- how reading it ends
+-- how restoring ends: the record is read; there are too few queues for it; the bytes aren't a record for this
+-- device; or the numbers aren't a device's
 pub data RestoreOutcome : Type 0 where
   Read : (options : ℕ) → List Queue → RestoreOutcome
   NoPlace : (options : ℕ) → List Queue → RestoreOutcome
   NoRecord : RestoreError → RestoreOutcome
   NoDevice : RestoreOutcome
 
--- what is told of it
+-- the status of restoring a record
 abbrev pub read_status : RestoreOutcome → ℕ
 read_status (Read options qs) = 0
 read_status (NoPlace options qs) = chain_error_number ShortBuffer
 read_status (NoRecord e) = 80 + restore_error_number e
 read_status NoDevice = chain_error_number BadArgument
 
--- and done: device and queues go on from the record, or stay as they are
+-- the effect of each: device and queues go on from the record, or don't change
 abbrev pub ReadsSo : FsDevice → List FsQueue → (saved : List ℕ) → RestoreOutcome → (count : ℕ) → FsDevice →
     List FsQueue → Type 0
 ReadsSo d queues saved (Read options qs) count d' queues' =

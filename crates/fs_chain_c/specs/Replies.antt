@@ -1,4 +1,4 @@
--- What the answers of C say, and what comes of them.
+-- The answers that C passes, and their outcomes.
 use Rattle.std.specs.Prelude.{◌≡◌, ◌⊎◌, ◌==◌, ◌&&◌, ◌||◌, ◌^◌, nat_lt, ℕ, Bool, List, Option, Some, None}
 use Rattle.std.specs.Prelude.{if◌then◌else◌}
 use Rattle.fuse_base.specs.declared.records.Attr.{Attr}
@@ -20,7 +20,6 @@ use Rattle.fs_chain_c.specs.Calls.{no_call}
 use Rattle.fs_chain_c.specs.declared.call.FsCall.{FsCall}
 use Rattle.fs_chain_c.specs.declared.device.FsDevice.{FsDevice}
 
--- attributes as the core has them
 abbrev pub attr_of : FsAttr → Attr
 attr_of a = record {
   ino = a.ino;
@@ -45,7 +44,7 @@ attr_of a = record {
 abbrev pub are_nanos : ℕ → Bool
 are_nanos n = nat_lt n (10 ^ 9)
 
--- what a name stands for, unless a time isn't one
+-- the entry of a name; none if a time isn't valid
 abbrev pub entry_of : FsEntry → Option (Entry ℕ)
 entry_of e =
     if are_nanos e.attr_nanos && are_nanos e.entry_nanos then Some (record {
@@ -56,7 +55,7 @@ entry_of e =
       entry_timeout = record { seconds = e.entry_secs; nanos = e.entry_nanos };
     }) else None
 
--- the answers: an entry, a file that was made, attributes, a file that was opened
+-- the answers: an entry, a file that was created, attributes, a file that was opened
 abbrev pub entry_said : Option (Entry ℕ) → Option FileAnswer
 entry_said None = None
 entry_said (Some e) = Some (answer.HasEntry e)
@@ -86,11 +85,11 @@ statfs_said s = answer.Stats (record {
   f_frsize = s.frsize;
 })
 
--- the options that are wished for
+-- the answer of INIT: the options that the file system wants
 abbrev pub wish_said : ℕ → FileAnswer
 wish_said wanted = answer.Wants (record { 0 = wanted; 1 = record {} })
 
--- a handle's call is answered by this, with a ticket; a bad argument, if C's numbers are no answer
+-- a handle's call is answered by this, with a ticket; `BadArgument`, if C's numbers aren't an answer
 abbrev pub MayReply :
     Option FileAnswer → (ticket : ℕ) → Option ChainHandle → (status : ℕ) → Option ChainHandle → Type 0
 MayReply None ticket before status after = (status ≡ chain_error_number BadArgument) × (after ≡ before)
@@ -98,14 +97,14 @@ MayReply (Some a) ticket before status after =
     OnHandle (λ b b'. AnswersHandle b ticket a status b') (status ≡ chain_error_number WrongOrder)
     before after
 
--- the same by an answer that is always one
+-- the same where C's numbers are always an answer
 abbrev pub RepliesWith :
     FileAnswer → (ticket : ℕ) → Option ChainHandle → (status : ℕ) → Option ChainHandle → Type 0
 RepliesWith a ticket before status after =
     OnHandle (λ b b'. AnswersHandle b ticket a status b') (status ≡ chain_error_number WrongOrder)
     before after
 
--- an INIT is answered, and the device has the options that were agreed
+-- INIT is answered, and the device has the agreed options then
 abbrev pub RepliesInit : (wanted ticket : ℕ) → Option ChainHandle → FsDevice → (status : ℕ) →
     Option ChainHandle → FsDevice → Type 0
 RepliesInit wanted ticket before d status after d' =
@@ -114,19 +113,19 @@ RepliesInit wanted ticket before d status after d' =
     × (d' ≡ (if status == 0 || status == 35 then record d { options = b'.session.options.0 } else d)))
     ((status ≡ chain_error_number WrongOrder) × (d' ≡ d)) before after
 
--- a handle's chain is asked
+-- a handle decodes its chain's request
 abbrev pub AsksChain :
     Option ChainHandle → FsDevice → (request : List ℕ) → (status : ℕ) → FsCall → Option ChainHandle → Type 0
 AsksChain before d request status call after =
     OnHandle (λ b b'. DecodesHandle b d request call status b') ((status ≡ chain_error_number WrongOrder)
     × (call ≡ no_call)) before after
 
--- a `ChainHandle` keeps a reply of so many bytes of C's own, and all else as it is
+-- a `ChainHandle` has a reply of `len` bytes that C wrote; nothing else changes
 abbrev pub KeepsOwn : (len : ℕ) → ChainHandle → ChainHandle → Type 0
 KeepsOwn len b b' =
     IfUnanswered b.state (λ out. b' ≡ record b { state = at.HasReply out (own_reply len) })
 
--- it replies them, by the ticket of its chain, or says why not, and nothing is done
+-- C's own bytes are the reply, by the chain's ticket; on an error nothing changes
 abbrev pub RepliesOwn : (ticket len : ℕ) → ChainHandle → (status : ℕ) → ChainHandle → Type 0
 RepliesOwn ticket len b status b' =
     ((own_error b.state b.serial ticket len ≡ None) × (status ≡ 0) × KeepsOwn len b b')
@@ -135,7 +134,7 @@ RepliesOwn ticket len b status b' =
     × (status ≡ chain_error_number e)
     × (b' ≡ b))
 
--- a handle's chain is replied so
+-- the same of a handle
 abbrev pub RepliesBytes : (ticket len : ℕ) → Option ChainHandle → (status : ℕ) → Option ChainHandle → Type 0
 RepliesBytes ticket len before status after =
     OnHandle (λ b b'. RepliesOwn ticket len b status b') (status ≡ chain_error_number WrongOrder) before after

@@ -1,4 +1,4 @@
--- What stands at the places that C is told.
+-- The bytes of a request at the spans that C gets.
 use Rattle.std.specs.Prelude.{◌≡◌, ◌+◌, ◌<◌, ◌^◌, ℕ, All, List, Some, length, take, drop, slice_get}
 use Rattle.fuse_values.specs.declared.call.FileCall.{FileCall}
 use Rattle.fuse_values.specs.declared.call.FileCall.TheVariants as value
@@ -14,7 +14,7 @@ use Rattle.fs_chain_c.specs.declared.device.FsDevice.{FsDevice}
 use Rattle.fs_chain_c.specs.Decoding.{DecodesSo}
 use Rattle.fs_chain_c.specs.Calls.{opcode_in, told_call}
 
--- the bytes of a place in a request
+-- the bytes of a span of a request
 abbrev pub bytes_at : List ℕ → FsSpan → List ℕ
 bytes_at request place = take place.len (drop place.at request)
 
@@ -22,12 +22,12 @@ bytes_at request place = take place.len (drop place.at request)
 abbrev pub IsNotZero : ℕ → Type 0
 IsNotZero b = b ≡ 0 → ⊥
 
--- a name stands at a place: it has no zero byte, and one stands behind it
+-- a name is at a span: it has no zero byte, and a zero byte follows it
 abbrev pub IsNameAt : (request : List ℕ) → FsSpan → (name : List ℕ) → Type 0
 IsNameAt request place name =
     (bytes_at request place ≡ name) × All IsNotZero name × (slice_get request (place.at + place.len) ≡ Some 0)
 
--- these places hold the names of a call, and its value or its pairs
+-- these spans hold the names of a call, and its value or its pairs
 abbrev pub AreNames : (request : List ℕ) → FileCall → (name name2 other : FsSpan) → Type 0
 AreNames request (value.Lookup context node name) at at2 other = IsNameAt request at name.now
 AreNames request (value.BatchForget context counts) at at2 other =
@@ -50,12 +50,12 @@ AreNames request (value.Create context node name mode kill flags umask extra) at
     IsNameAt request at name.now
 AreNames request _ at at2 other = Unit {0}
 
--- those that are told of it do
+-- the spans in a call's fields do
 abbrev pub HasNames : (request : List ℕ) → FileCall → FsCall → Type 0
 HasNames request made told = AreNames request made told.name told.name2 told.value
 
--- of each request of less than 2^32 bytes, whatever was agreed, the places that are told of the call that it
--- means hold its names
+-- for each request of less than 2^32 bytes, with any agreed options: the spans in its call's fields hold the
+-- call's names
 abbrev pub SpansHoldNames : Type 0
 SpansHoldNames =
     (request bytes : List ℕ) (options room : ℕ) (command : FileCommand) (made : FileCall)
@@ -64,13 +64,13 @@ SpansHoldNames =
     → call_of bytes made ≡ first_call command
     → HasNames request made (told_call (opcode_in request) options room made)
 
--- of a call, if one is told
+-- a property of the call, if decoding returned one
 abbrev pub IfCall : told.Decoded → (FileCall → Type 0) → Type 0
 IfCall (tells.Call made) P = P made
 IfCall _ P = Unit {0}
 
--- what pk_decode tells of a request, by all of its bytes or by a WRITE's first ones, has its names in the
--- bytes that it was handed
+-- the spans that pk_decode returns, from all of a request's bytes or a WRITE's first ones, hold the names
+-- within the bytes that C passed
 abbrev pub AskedSpansHoldNames : Type 0
 AskedSpansHoldNames =
     (b : ChainHandle) (d : FsDevice) (request : List ℕ) (call : FsCall) (status : ℕ) (b' : ChainHandle)

@@ -1,4 +1,4 @@
--- Where a chain's bytes stand, one stretch after another, as C is told.
+-- The host addresses of a chain's bytes, window by window, as C gets them.
 use Rattle.std.specs.Prelude.{◌≡◌, ◌≤◌, ◌<◌, ◌+◌, ◌-◌, ◌++◌, ℕ, Bool, true, List, [], ◌∷◌, length, drop, min}
 use Rattle.vm_memory_core.specs.Window.{Window}
 use Rattle.fs_queue.specs.Taking.{all_reach, total_len, access_of, of_direction}
@@ -9,8 +9,8 @@ use Rattle.fs_chain.specs.declared.chain_handle.ChainHandle.{ChainHandle}
 use Rattle.fs_chain_c.specs.declared.windows.FsWindow.{FsWindow}
 use Rattle.fs_chain_c.specs.Popping.{host_at}
 
--- a stretch of the bytes of one direction from one on, at least one and at most so many: in one descriptor
--- and one region, as long as these go on
+-- a window of the bytes of one direction from byte `from` on, of 1 to `most` bytes: as long as one descriptor
+-- and one region go on
 abbrev pub IsStretch : ChainHandle → (write_only : Bool) → (from most : ℕ) → FsWindow → Type 0
 IsStretch w d from most told =
     (is_out w.state ≡ true)
@@ -20,7 +20,7 @@ IsStretch w d from most told =
     × (told.len ≡ min v.len most)
     × (0 < told.len)
 
--- stretches, one behind another
+-- windows, one behind another
 abbrev pub AreStretches : ChainHandle → (write_only : Bool) → (from most : ℕ) → List FsWindow → Type 0
 AreStretches w d from most [] = Unit {0}
 AreStretches w d from most (s ∷ ss) =
@@ -31,15 +31,15 @@ abbrev pub covered : List FsWindow → ℕ
 covered [] = 0
 covered (s ∷ ss) = s.len + covered ss
 
--- no byte of one direction stands at this one or behind it: no chain is out, or its bytes end before, or they
--- have no place
+-- why the windows end at a byte: no chain is in flight, the bytes of this direction end before, or some of
+-- them aren't mapped
 abbrev pub HasNoMore : ChainHandle → (write_only : Bool) → (from : ℕ) → Type 0
 HasNoMore w d from =
     is_out w.state ≡ true
     → all_reach (places_in w.regions) (access_of d) (of_direction d w.descriptors.items) ≡ true
     → total_len (of_direction d w.descriptors.items) ≤ from
 
--- stretches over the first windows of some, as many as there is place for and bytes for
+-- the first of some windows are filled: as many as there are elements and bytes for
 abbrev pub FillsWindows : ChainHandle → (write_only : Bool) → (from most : ℕ) →
     (windows windows' : List FsWindow) → (count : ℕ) → Type 0
 FillsWindows w d from most windows windows' count =

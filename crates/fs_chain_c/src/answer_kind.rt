@@ -1,16 +1,16 @@
-//! The kinds of answer that calls wait for, by C's numbers.
+//! The kinds of answers to calls, by C's numbers.
 
 ghost use Rattle.std.specs.Prelude.{◌≡◌};
 ghost use Rattle.fs_chain_c.specs.Numbers.{answer_number, call_number, listing, sized};
 
 use fuse_wire::Opcode;
 
-/// The kind of answer that a call has (PK_ANSWER_).
+/// The kind of answer to a call (PK_ANSWER_).
 #[derive(Clone, Copy, Debug, PartialEq, Eq)]
 pub enum AnswerKind {
-    /// None: it is answered, or no call is made.
+    /// None: the library answered, or there is no call.
     None = 0,
-    /// That it is done.
+    /// Done: only the status.
     Done = 1,
     /// An entry: the node of a name.
     Entry = 2,
@@ -24,15 +24,15 @@ pub enum AnswerKind {
     Data = 6,
     /// How many bytes an extended attribute has, or the names of all.
     Xattr = 7,
-    /// The file system's numbers.
+    /// Sizes and free space of the file system.
     Statfs = 8,
     /// How many bytes were written.
     Write = 9,
-    /// A place in a file.
+    /// An offset in a file.
     Lseek = 10,
     /// Entries of a directory.
     Entries = 11,
-    /// Options.
+    /// The options of INIT.
     Init = 12,
 }
 
@@ -52,7 +52,7 @@ pub(crate) fn call_number(opcode: Opcode) -> u32
     opcode as u32
 }
 
-/// What GETXATTR and LISTXATTR wait for.
+/// The answer's kind for GETXATTR and LISTXATTR: a length if the size is 0, else data.
 pub(crate) fn sized(size: u32) -> AnswerKind
     ensures { result ≡ sized size }
 {
@@ -63,7 +63,7 @@ pub(crate) fn sized(size: u32) -> AnswerKind
     }
 }
 
-/// READDIR or READDIRPLUS.
+/// READDIR or READDIRPLUS, by the request's opcode.
 pub(crate) fn listing(opcode: u32) -> Opcode
     ensures { result ≡ listing opcode }
 {

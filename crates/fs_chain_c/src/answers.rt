@@ -16,11 +16,11 @@ use fuse_values::FileAnswer;
 pub struct FsEntry {
     /// The number of the node.
     pub node: u64,
-    /// Which node of this number it is.
+    /// The generation: distinguishes the nodes that had this number.
     pub generation: u64,
-    /// How long the name stays good, in seconds.
+    /// How long the guest may cache the name, in seconds.
     pub entry_secs: u64,
-    /// How long the attributes stay good, in seconds.
+    /// How long the guest may cache the attributes, in seconds.
     pub attr_secs: u64,
     /// Nanoseconds of `entry_secs`.
     pub entry_nanos: u32,
@@ -34,25 +34,24 @@ pub struct FsEntry {
 #[repr(C)]
 #[derive(Clone, Copy)]
 pub struct FsStatfs {
-    /// How many blocks there are.
+    /// The number of blocks, of `frsize` bytes each.
     pub blocks: u64,
-    /// How many are free.
+    /// The number of free blocks.
     pub bfree: u64,
-    /// How many are free for all.
+    /// The number of free blocks for unprivileged users.
     pub bavail: u64,
-    /// How many nodes there are.
+    /// The number of nodes.
     pub files: u64,
-    /// How many more there may be.
+    /// The number of free nodes.
     pub ffree: u64,
-    /// How many bytes are best moved at a time.
+    /// The preferred length of a read or write, in bytes.
     pub bsize: u32,
-    /// The longest name.
+    /// The longest name, in bytes.
     pub namelen: u32,
-    /// How many bytes a block has.
+    /// The bytes of a block.
     pub frsize: u32,
 }
 
-// Attributes as the core has them.
 fn attr_of(attr: &FsAttr) -> Attr
     ensures { result ≡ attr_of attr.now }
 {
@@ -76,7 +75,7 @@ fn attr_of(attr: &FsAttr) -> Attr
     }
 }
 
-/// An entry; None if a time isn't one.
+/// An entry; None if a time isn't valid.
 pub fn entry_of(entry: &FsEntry) -> Option<Entry<u64>>
     ensures { result ≡ entry_of entry.now }
 {
@@ -95,7 +94,7 @@ pub fn entry_of(entry: &FsEntry) -> Option<Entry<u64>>
     })
 }
 
-/// The answer of an entry; None if a time isn't one.
+/// The answer of an entry; None if a time isn't valid.
 pub fn entry_said(entry: Option<Entry<u64>>) -> Option<FileAnswer>
     ensures { result ≡ entry_said entry }
 {
@@ -105,7 +104,7 @@ pub fn entry_said(entry: Option<Entry<u64>>) -> Option<FileAnswer>
     }
 }
 
-/// The answer of a file that was made and opened; None if a time isn't one.
+/// The answer of a file that was created and opened; None if a time isn't valid.
 pub fn create_said(entry: Option<Entry<u64>>, handle: u64, flags: u32) -> Option<FileAnswer>
     ensures { result ≡ create_said entry handle flags }
 {
@@ -119,7 +118,7 @@ pub fn create_said(entry: Option<Entry<u64>>, handle: u64, flags: u32) -> Option
     }
 }
 
-/// The answer of attributes; None if the time isn't one.
+/// The answer of attributes; None if the time isn't valid.
 pub fn attr_said(attr: &FsAttr, secs: u64, nanos: u32) -> Option<FileAnswer>
     ensures { result ≡ attr_said attr.now secs nanos }
 {
@@ -155,7 +154,7 @@ pub fn statfs_said(statfs: &FsStatfs) -> FileAnswer
     })
 }
 
-/// The answer of the options that are wished for.
+/// The answer of INIT: the options that the file system wants.
 pub fn wish_said(wanted: u64) -> FileAnswer
     ensures { result ≡ wish_said wanted }
 {

@@ -8,21 +8,21 @@ use fuse_fs::Context;
 use fuse_in::SetattrIn;
 use fuse_wire::Opcode;
 
-/// A place in the request's bytes.
+/// A span of the request's bytes.
 #[repr(C)]
 #[derive(Clone, Copy)]
 pub struct FsSpan {
-    /// Where it begins.
+    /// The offset of its first byte.
     pub at: u32,
     /// How many bytes it has.
     pub len: u32,
 }
 
-/// A node's attributes; in a call, those that are to be set.
+/// A node's attributes; in a call, those to be set.
 #[repr(C)]
 #[derive(Clone, Copy)]
 pub struct FsAttr {
-    /// The number that `stat` returns.
+    /// The inode number.
     pub ino: u64,
     /// How many bytes it has.
     pub size: u64,
@@ -32,7 +32,7 @@ pub struct FsAttr {
     pub atime: u64,
     /// When it was written last, in seconds.
     pub mtime: u64,
-    /// When it changed last, in seconds.
+    /// When its attributes changed last, in seconds.
     pub ctime: u64,
     /// Nanoseconds of `atime`.
     pub atime_nanos: u32,
@@ -50,13 +50,13 @@ pub struct FsAttr {
     pub gid: u32,
     /// Its device, if it is one.
     pub rdev: u32,
-    /// How many bytes are best read at a time.
+    /// The preferred length of a read or write, in bytes.
     pub block_size: u32,
     /// FUSE_ATTR_ bits.
     pub flags: u32,
 }
 
-/// What the file system is asked. The fields that a kind doesn't have are 0.
+/// A file call of a request. The fields that a kind of call doesn't have are 0.
 #[repr(C)]
 #[derive(Clone, Copy)]
 pub struct FsCall {
@@ -64,47 +64,47 @@ pub struct FsCall {
     pub kind: u32,
     /// The kind of its answer (PK_ANSWER_).
     pub answer: u32,
-    /// The number of the request, as the guest wrote it.
+    /// The opcode, as the guest wrote it.
     pub opcode: u32,
     /// 0.
     pub error: u32,
     /// Why there is no reply, if no call is made (PK_REQUEST_), or 0.
     pub fault: u32,
-    /// The guest's number of the request.
+    /// The guest's unique number of the request.
     pub unique: u64,
-    /// Who asks: the user.
+    /// The caller's user.
     pub uid: u32,
-    /// The group.
+    /// The caller's group.
     pub gid: u32,
-    /// The process.
+    /// The caller's process.
     pub pid: u32,
-    /// How many bytes of the request are wanted, if more are.
+    /// How many bytes of the request decoding needs, if it needs more.
     pub needed: u32,
-    /// Of which node.
+    /// The node.
     pub node: u64,
-    /// Of which open file.
+    /// The handle of the open file.
     pub handle: u64,
-    /// From where on.
+    /// The offset in the file or directory.
     pub offset: u64,
-    /// How many bytes.
+    /// The call's size in bytes.
     pub size: u64,
-    /// Whose locks.
+    /// The owner of locks.
     pub owner: u64,
-    /// What the guest can.
+    /// The options that the guest offers in INIT.
     pub options: u64,
-    /// How many times, or how many pairs.
+    /// How many lookups FORGET undoes, or how many pairs BATCH_FORGET has.
     pub count: u64,
     /// The other node.
     pub node2: u64,
-    /// The other open file.
+    /// The handle of the other open file.
     pub handle2: u64,
-    /// From where on in the other.
+    /// The offset in the other file.
     pub offset2: u64,
     /// The name.
     pub name: FsSpan,
     /// The other name.
     pub name2: FsSpan,
-    /// The value, what a link leads to, or the pairs.
+    /// The value of an attribute, the target of a link, or the pairs.
     pub value: FsSpan,
     /// The offset of data, in the reply buffer or the request.
     pub data_at: u64,
@@ -114,40 +114,39 @@ pub struct FsCall {
     pub flags: u32,
     /// Kind and permissions.
     pub mode: u32,
-    /// The permissions that are taken away.
+    /// The mask of permissions that are cleared.
     pub umask: u32,
     /// The device.
     pub rdev: u32,
     /// Which attributes are set (FATTR_).
     pub valid: u32,
-    /// Whether there is an open file.
+    /// Whether GETATTR or SETATTR has a handle.
     pub has_handle: u8,
-    /// Whether there is an owner of locks.
+    /// Whether READ, WRITE or RELEASE has an owner of locks.
     pub has_owner: u8,
-    /// Whether it comes from a cache.
+    /// Whether the write is from the guest's cache.
     pub delayed: u8,
-    /// Whether set-user and set-group bits go.
+    /// Whether to clear the set-user and set-group bits.
     pub kill_priv: u8,
-    /// Whether data is to be flushed.
+    /// Whether to flush data.
     pub flush: u8,
-    /// Whether locks go.
+    /// Whether to release locks.
     pub unlock: u8,
-    /// Whether the data alone.
+    /// Whether to sync the data alone.
     pub data_only: u8,
     /// Whether `group` is set: one of the caller's groups besides its own.
     pub has_group: u8,
     /// The attributes to be set.
     pub attr: FsAttr,
-    /// That group.
+    /// The caller's other group.
     pub group: u32,
-    /// By which number an answer names the call.
+    /// The ticket by which an answer names the call.
     pub ticket: u32,
 }
 
-// No place.
+// An empty span.
 const NOWHERE: FsSpan = FsSpan { at: 0, len: 0 };
 
-// No attributes.
 const NO_ATTR: FsAttr = FsAttr {
     ino: 0,
     size: 0,
@@ -230,7 +229,7 @@ impl FsCall {
         told
     }
 
-    // The same of a call that somebody makes of a node.
+    // The same of a call that a process makes on a node.
     pub(crate) fn made_by(opcode: Opcode, answer: AnswerKind, who: &Context, node: u64) -> FsCall
         ensures { result ≡ made_by opcode answer who.now node }
     {
@@ -243,17 +242,17 @@ impl FsCall {
     }
 }
 
-/// The bytes of a reply's header: data lies behind it.
+/// The bytes of a reply's header: data follows it.
 pub(crate) const HEADER: u64 = 16;
 
-// A number in 32 bits: the greatest, if it has none.
+// A number as a 32-bit field: the greatest, if it doesn't fit.
 fn low(n: usize) -> u32
     ensures { result ≡ low n }
 {
     n.min(u32::MAX as usize) as u32
 }
 
-// A place in a request.
+// A span of a request's bytes.
 pub(crate) fn span(at: usize, len: usize) -> FsSpan
     ensures { result ≡ span at len }
 {
@@ -277,7 +276,7 @@ pub(crate) fn behind_header(room: usize) -> u64
     (room as u64).saturating_sub(HEADER)
 }
 
-// How many bytes of data fit, of those that are asked for.
+// How many bytes of data fit the reply buffer, of those that are requested.
 pub(crate) fn data_len(size: u32, room: usize) -> u64
     ensures { result ≡ data_len size room }
 {

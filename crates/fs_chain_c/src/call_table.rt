@@ -44,9 +44,9 @@ fn at_setxattr(options: u64) -> usize
     }
 }
 
-// A match over all calls. A row of a call that somebody makes of a node: its fields besides, what it waits
-// for, what is told besides; and one of another: its fields, what is told, what is told besides.
-// Behind the rows other arms.
+// A match over all calls. A row of `of_a_node` is a call that a process makes on a node: the fields to match,
+// the answer's kind, and the fields to set. A row of `others` has the fields to match, the call to start
+// with, and the fields to set. Other arms follow the rows.
 macro_rules! told {
     ($call:expr,
         of_a_node { $($name:ident { $($part:tt)* } $kind:ident $(, $field:ident: $value:expr)*;)* }
@@ -106,7 +106,7 @@ fn named_call(opcode: u32, options: u64, room: usize, call: &FileCall<'_>) -> Fs
     } _ => unreachable!())
 }
 
-// A call of an open file or directory, which it names by its handle, as C gets it.
+// A call on an open file or directory, which it names by its handle, as C gets it.
 fn open_file_call(opcode: u32, options: u64, room: usize, call: &FileCall<'_>) -> FsCall
     requires opened { is_of_open_file call.now ≡ true }
     ensures { result ≡ told_call opcode options room call.now }

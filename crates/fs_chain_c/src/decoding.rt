@@ -1,4 +1,4 @@
-//! What a chain's request asks.
+//! Decoding a chain's request.
 
 ghost use Rattle.std.specs.Prelude.{◌≡◌};
 ghost use Rattle.fs_chain_c.specs.Decoding.{AnswersHandle, DecodesHandle, AnswersAtOnce, TellsAsked};
@@ -13,7 +13,7 @@ use fuse_base::{Errno, FsOptions};
 use fuse_values::{FileAnswer, FileCall};
 use server_phases::Session;
 
-/// More of the request is wanted.
+/// Decoding needs more of the request.
 const MORE: u32 = 34;
 
 /// The answer is taken, but the reply buffer is too small.
@@ -29,7 +29,7 @@ pub fn answer_handle(handle: &mut ChainHandle, ticket: u32, answer: FileAnswer) 
     }
 }
 
-// The answer to a call without a reply, or that no file system in C has: ENOSYS, as by its default.
+// The answer to a call without a reply, or that no file system in C has: ENOSYS, its default.
 fn answer_unasked(call: &FileCall<'_>) -> Option<FileAnswer>
     ensures { result ≡ answer_unasked call.now }
 {
@@ -60,7 +60,7 @@ fn settle(handle: &mut ChainHandle, answer: Option<FileAnswer>)
     }
 }
 
-// Tells what a request asks.
+// The call of a decoded request, and a status.
 fn tell(handle: &mut ChainHandle, request: &[u8], told: Decoded<'_>, call: &mut FsCall) -> u32
     ensures { TellsAsked handle.old request.now told.entry call.new result handle.new }
 {
@@ -91,7 +91,7 @@ fn tell(handle: &mut ChainHandle, request: &[u8], told: Decoded<'_>, call: &mut 
     }
 }
 
-/// Tells what a request asks, by its first bytes, and says a status.
+/// Decodes a request from its first bytes, and returns a status.
 pub fn decode_handle(
     handle: &mut ChainHandle,
     device: &FsDevice,

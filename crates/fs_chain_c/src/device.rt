@@ -1,4 +1,4 @@
-//! What all queues share, as numbers that C keeps.
+//! The settings that a device's queues share, as numbers that C keeps.
 
 ghost use Rattle.std.specs.Prelude.{◌≡◌, ◌↔◌, IsTrue};
 ghost use Rattle.server_replies.specs.PageSizes.{is_page_size};
@@ -10,7 +10,7 @@ use virtiofsd_fuse::MAX_REQUEST_LEN;
 /// The sizes that a guest's pages may have.
 const PAGE_SIZES: [u32; 5] = [4 << 10, 8 << 10, 16 << 10, 32 << 10, 64 << 10];
 
-/// What all queues share.
+/// The settings that a device's queues share.
 #[repr(C)]
 #[derive(Clone, Copy)]
 pub struct FsDevice {
@@ -22,7 +22,7 @@ pub struct FsDevice {
     pub options: u64,
 }
 
-// Whether pages may have so many bytes.
+// Whether a guest's pages may have so many bytes.
 fn is_page_size(bytes: u32) -> bool
     ensures { result ≡ is_page_size bytes }
 {
@@ -30,7 +30,7 @@ fn is_page_size(bytes: u32) -> bool
 }
 
 impl FsDevice {
-    /// Whether page size and limit are such.
+    /// Whether page size and limit are valid.
     pub fn is_lawful(&self) -> bool
         ensures { IsTrue result ↔ IsDevice self.now }
     {

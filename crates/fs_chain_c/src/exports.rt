@@ -16,7 +16,7 @@ use crate::windows::{FsWindow, fill};
 use fs_chain::{ChainError, ChainHandle};
 use std::alloc::Global;
 
-/// The header's number.
+/// The version of the header (PK_VERSION).
 const VERSION: u32 = 8;
 
 /// The status of a handle whose memory was never set: WrongOrder.
@@ -26,7 +26,7 @@ pub(crate) fn wrong_order() -> u32
     u32::from(ChainError::WrongOrder.number())
 }
 
-/// The number of the header that the archive goes with.
+/// The version of the header that the archive was built with.
 #[unsafe(no_mangle)]
 pub extern "C" fn pk_version() -> u32
     ensures { result ≡ 8 }
@@ -63,7 +63,8 @@ pub extern "C" fn pk_chain_set_memory(
     }
 }
 
-/// Frees a handle's memory, and makes it zeros. The queue of a chain in flight isn't changed.
+/// Frees the memory that a handle owns, and makes the handle zeros. The queue of a chain in flight isn't
+/// changed.
 #[unsafe(no_mangle)]
 pub extern "C" fn pk_chain_free(alloc: Global, chain: &mut FsChain)
     ensures { IsZeros chain.new }
@@ -81,7 +82,7 @@ fn number_handle(handle: &mut ChainHandle, first: u32) -> u32
     }
 }
 
-/// Chooses the number of a handle's next chain: its ticket.
+/// Sets the ticket of a handle's next chain.
 #[unsafe(no_mangle)]
 pub extern "C" fn pk_chain_set_ticket(alloc: Global, chain: &mut FsChain, first: u32) -> u32
     ensures { Numbers chain.old.value first result chain.new.value }
@@ -115,8 +116,8 @@ pub extern "C" fn pk_pop(
     status
 }
 
-/// Begins a queue anew at a position, by the parts that it has: its walks and its chains are refused from
-/// then on.
+/// Resets a queue to a position, with the addresses and size that it has. Pops and chains from before are
+/// refused from then on.
 #[unsafe(no_mangle)]
 pub extern "C" fn pk_queue_begin(queue: &mut FsQueue, next_avail: u16) -> u32
     ensures { BeginsQueue queue.old next_avail result queue.new }
@@ -191,8 +192,8 @@ pub extern "C" fn pk_reply_windows(
     count
 }
 
-/// Returns the stores of a push, and writes the reply's front to a buffer. Until they are made no other
-/// chain of the queue is pushed.
+/// Returns the stores of a push, and writes the reply's front to a buffer. Until C reports them made, no
+/// other chain of the queue is pushed.
 #[unsafe(no_mangle)]
 pub extern "C" fn pk_push(
     alloc: Global,
@@ -214,8 +215,8 @@ pub extern "C" fn pk_push(
     status
 }
 
-/// The stores are made, and these are the two bytes at `seen_at`: the queue's next chain goes back at the
-/// next position, and whether the driver wants to be told.
+/// Ends a push whose stores are made, by the two bytes loaded at `seen_at`. The queue's next chain is pushed
+/// at the next position. Returns whether to notify the driver.
 #[unsafe(no_mangle)]
 pub extern "C" fn pk_pushed(
     alloc: Global,

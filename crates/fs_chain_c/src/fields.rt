@@ -28,21 +28,21 @@ fn long(request: &[u8]) -> u64
     u64::from_le_bytes(bytes)
 }
 
-// The number of a request's kind; 0 if it ends before.
+// The opcode of a request; 0 if it ends before.
 fn opcode_in(request: &[u8]) -> u32
     ensures { result ≡ opcode_in request.now }
 {
     if request.len() < 16 { 0 } else { word(request) }
 }
 
-// A request's own number; 0 if it ends before.
+// The unique number of a request; 0 if it ends before.
 fn unique_in(request: &[u8]) -> u64
     ensures { result ≡ unique_in request.now }
 {
     if request.len() < 16 { 0 } else { long(request) }
 }
 
-/// Tells the numbers of a call's request.
+/// A call's fields with the opcode and the unique number of its request.
 pub fn number(request: &[u8], call: &mut FsCall)
     ensures { call.new ≡ numbered request.now call.old }
 {

@@ -1,4 +1,4 @@
-//! What C holds: a chain's `ChainHandle` in a box behind a pointer whose type C may see, or none.
+//! The handle that C holds: a `ChainHandle` in a box behind a pointer whose type C may see, or none.
 
 ghost use Rattle.std.specs.Prelude.{◌≡◌, Option, Some, None, is_some, option_map, if◌then◌else◌};
 ghost use Rattle.fs_chain.specs.declared.chain_handle.ChainHandle.{ChainHandle};

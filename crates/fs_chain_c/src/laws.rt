@@ -3,16 +3,15 @@
 ghost use Rattle.fs_chain_c.specs.Notifying.{NotifyIsACheck, StoresAWish};
 ghost use Rattle.fs_chain_c.specs.Spans.{AskedSpansHoldNames, SpansHoldNames};
 
-/// Each place in a request's bytes that a call names holds just its name, its value or its pairs: of
-/// each request of less than 2^32 bytes, in any session. `pk_decode` passes C these places in the bytes that
-/// C handed it.
+/// Each span of a call holds just its name, its value or its pairs. This holds for each request of less than
+/// 2^32 bytes, in any session. `pk_decode` returns spans within the bytes that C passed.
 pub fn law_spans()
     ensures meant { SpansHoldNames }
     ensures asked { AskedSpansHoldNames }
 {}
 
-/// What `pk_set_notification` and `pk_pushed` return is the device's part of the model in which no
-/// notification is lost: the wish for the next chain, and the check of a chain that was returned.
+/// The results of `pk_set_notification` and `pk_pushed` are the device's part of the model in which no
+/// notification is lost: the wish for the next chain, and the check after a push.
 pub fn law_notifications()
     ensures wish { StoresAWish }
     ensures check { NotifyIsACheck }

@@ -1,4 +1,4 @@
-//! Listings that C answers entry by entry, and errors.
+//! Listings that C answers entry by entry, and errors of calls.
 
 ghost use Rattle.std.specs.Prelude.{◌≡◌, true, length};
 ghost use Rattle.fuse_fs.specs.Answers.{listed};
@@ -23,16 +23,16 @@ use fuse_fs::{DirEntry, Entry};
 use fuse_values::FileAnswer;
 use std::alloc::Global;
 
-/// The entry isn't in the list: the entries so far are the answer.
+/// The list is full: the entry isn't in it, and the entries so far are the answer.
 const FULL: u32 = 36;
 
-/// It isn't in the list, and the listing fails.
+/// The entry isn't in the list, and the listing fails.
 const LIST_FAILS: u32 = 37;
 
-/// The listing that failed is answered by the entries so far.
+/// A listing that failed is answered by the entries so far.
 const ENTRIES: u32 = 38;
 
-/// The longest name.
+/// The longest name, in bytes.
 const NAME_MAX: usize = 255;
 
 // The status of an added entry.
@@ -75,7 +75,7 @@ fn is_entry(name: &[u8], type_: u32) -> bool
     is_name(name) && is_type(type_)
 }
 
-// Brings an entry of READDIR.
+// Adds an entry of READDIR to a handle's listing.
 fn add_to_handle(
     handle: &mut ChainHandle,
     ticket: u32,
@@ -88,7 +88,7 @@ fn add_to_handle(
     added_status(handle.add(ticket, list, entry))
 }
 
-// Brings an entry of READDIRPLUS.
+// Adds an entry of READDIRPLUS to a handle's listing.
 fn add_node_to_handle(
     handle: &mut ChainHandle,
     ticket: u32,
@@ -102,7 +102,7 @@ fn add_node_to_handle(
     added_status(handle.add_with_node(ticket, list, entry, node))
 }
 
-/// Puts an entry of READDIR behind those before it.
+/// Adds an entry of READDIR behind those before it.
 #[unsafe(no_mangle)]
 pub extern "C" fn pk_add_direntry(
     alloc: Global,
@@ -134,7 +134,7 @@ pub extern "C" fn pk_add_direntry(
     status
 }
 
-// Puts an entry of READDIRPLUS with its node behind those before it.
+// Adds an entry of READDIRPLUS with its node behind those before it.
 fn add_node(
     alloc: Global,
     chain: &mut FsChain,
@@ -157,7 +157,7 @@ fn add_node(
     status
 }
 
-/// Puts an entry of READDIRPLUS, with its node, behind those before it.
+/// Adds an entry of READDIRPLUS, with its node, behind those before it.
 #[unsafe(no_mangle)]
 pub extern "C" fn pk_add_direntry_plus(
     alloc: Global,
@@ -185,7 +185,7 @@ pub extern "C" fn pk_add_direntry_plus(
     add_node(alloc, chain, ticket, list, &listed, entry_of(entry))
 }
 
-// Replies the entries so far: a status, and how many bytes of the list are the data.
+// Answers with the entries so far: a status, and how many bytes of the list are the data.
 fn end_listing(handle: &mut ChainHandle, ticket: u32) -> (u32, u64)
     ensures { EndsListing handle.old ticket result.0 result.1 handle.new }
 {
@@ -195,7 +195,7 @@ fn end_listing(handle: &mut ChainHandle, ticket: u32) -> (u32, u64)
     }
 }
 
-/// Replies the entries so far: how many bytes of the list are the data.
+/// Answers with the entries so far: how many bytes of the list are the data.
 #[unsafe(no_mangle)]
 pub extern "C" fn pk_reply_entries(
     alloc: Global,
@@ -236,7 +236,7 @@ fn fail_handle(handle: &mut ChainHandle, ticket: u32, error: Errno) -> u32
     }
 }
 
-// The errno of a number.
+// The errno of a number, from 1 to 4095.
 fn errno_of(number: u32) -> Option<Errno>
     ensures { result ≡ errno_of number }
 {

@@ -28,11 +28,11 @@ pub struct FsRegion {
     pub guest: u64,
     /// How many bytes it has.
     pub len: u64,
-    /// The number of its first byte here.
+    /// The host address of its first byte.
     pub host: usize,
 }
 
-// The region of these numbers; None if they are no region's.
+// The region of these numbers; None if they aren't a region's.
 fn region_of(region: &FsRegion) -> Option<MemoryRegion>
     ensures region { IfSome result (λ r. r ≡ region_of region.now) }
     ensures is { OnSome result (IsRegion region.now) }
@@ -96,8 +96,8 @@ fn stand_apart(regions: &[FsRegion]) -> bool
     true
 }
 
-// The memory of regions that ascend: `BadArgument` if two have an address in common, which is looked for
-// before memory is taken.
+// The memory of regions that ascend: `BadArgument` if two have an address in common. That is checked before
+// any allocation.
 fn memory_of_sorted(alloc: Global, regions: &[FsRegion]) -> Result<GuestRegions, ChainError>
     requires are { All IsRegion regions.now }
     ensures ok { IfOk result (λ memory. memory ≡ map region_of regions.now) }
@@ -135,7 +135,7 @@ fn sorted(regions: &[FsRegion]) -> Option<ArrayVec<FsRegion, MOST_REGIONS>>
     Some(found)
 }
 
-/// The memory of some regions; `BadArgument` if they are none, or `OutOfMemory`.
+/// The memory of some regions; `BadArgument` if they aren't a memory, or `OutOfMemory`.
 pub fn memory_of(alloc: Global, regions: &[FsRegion]) -> Result<GuestRegions, ChainError>
     ensures ok { IfOk result (IsMemory regions.now) }
     ensures err { IfErr result (IsNoMemory regions.now) }

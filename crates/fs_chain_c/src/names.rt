@@ -1,4 +1,4 @@
-//! Which names a file system may look up as they are.
+//! The names that a file system may look up as they are.
 
 ghost use Rattle.std.specs.Prelude.{◌≡◌};
 ghost use Rattle.fs_chain_c.specs.Calls.{flag};

@@ -18,9 +18,9 @@ use vm_memory_core::Permissions;
 pub struct FsStore {
     /// The host address of its bytes.
     pub at: usize,
-    /// What is stored.
+    /// The value to store.
     pub value: u16,
-    /// How many bytes it has: 2, or 0 if nothing is to be stored.
+    /// Its bytes: 2, or 0 if nothing is to be stored.
     pub len: u8,
 }
 
@@ -37,7 +37,7 @@ impl FsStore {
     }
 }
 
-// Tells what is stored of a queue of C's.
+// The store for a queue of C's, and a status.
 fn set_notification(handle: &ChainHandle, queue: &FsQueue, enabled: u32) -> (FsStore, u32)
     ensures { SetsNotification handle.now queue.now enabled result.0 result.1 }
 {

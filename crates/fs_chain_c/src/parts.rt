@@ -1,4 +1,4 @@
-//! A `Box` with its fields in sight of the modules beside it.
+//! A `Box` whose fields the other modules see.
 
 ghost use Rattle.std.specs.Prelude.{◌≡◌};
 ghost use Rattle.std.specs.Box.Ownership.{box_owns};
@@ -10,7 +10,7 @@ use std::marker::Model;
 pub struct BoxParts<T, A: Allocator> {
     /// The address of the value.
     pub ptr: *mut T,
-    /// What its memory came from.
+    /// The allocator of its memory.
     pub alloc: A,
     /// The value.
     pub ghost value: { T },

@@ -1,5 +1,4 @@
-//! A walk through what waits in a queue, by loads that C makes: in parts, if one goes over the end of a
-//! region.
+//! A pop by loads that C makes: in parts, if a load goes over the end of a region.
 
 ghost use Rattle.std.specs.Prelude.{◌≡◌};
 ghost use Rattle.fs_chain_c.specs.Popping.{TellsLoad, TellsWanted, TellsWent, PopsHandle, host_at, no_step};
@@ -14,16 +13,16 @@ const LOAD: u32 = 32;
 /// No chain is available.
 const IDLE: u32 = 33;
 
-/// What is asked for has no place.
+/// The address of a load or store isn't mapped.
 pub const NOT_MAPPED: u32 = 77;
 
-/// A pop's result: a load, or a chain. Else all is 0.
+/// A pop's result: a load, or a chain. All other fields are 0.
 #[repr(C)]
 #[derive(Clone, Copy)]
 pub struct FsPop {
-    /// Where the load is made.
+    /// The host address of the load.
     pub load_at: usize,
-    /// How many bytes it has.
+    /// How many bytes to load.
     pub load_len: usize,
     /// How many bytes the chain's request has.
     pub request_len: u64,
@@ -33,7 +32,7 @@ pub struct FsPop {
     pub fault: u32,
     /// The number of its first descriptor.
     pub head: u16,
-    /// By which number an answer names the chain; a faulty chain has 0.
+    /// The ticket by which an answer names the chain; 0 for a faulty chain.
     pub ticket: u32,
 }
 
@@ -76,7 +75,7 @@ fn still_wanted(handle: &ChainHandle) -> FsPop
     }
 }
 
-// Tells the load that is still wanted.
+// The load that the pop still needs, and a status; nothing if its address isn't mapped.
 fn told_load(handle: &ChainHandle) -> (FsPop, u32)
     ensures { TellsLoad handle.now result.0 result.1 }
 {

@@ -10,7 +10,7 @@ use crate::queue::FsQueue;
 use fs_chain::{ChainError, ChainHandle, PushStores, QueueState};
 use vm_memory_core::Permissions;
 
-/// What is stored for a return, and loaded after it, in this order.
+/// The stores of a push, and a load after them, in this order.
 #[repr(C)]
 #[derive(Clone, Copy)]
 pub struct FsStores {
@@ -20,13 +20,13 @@ pub struct FsStores {
     pub id_at: usize,
     /// The host address of its second half, 4 bytes.
     pub len_at: usize,
-    /// What is stored there: the chain's number.
+    /// The value to store there: the chain's head.
     pub id: u32,
     /// How many bytes the reply has.
     pub len: u32,
     /// The host address of the used index, 2 bytes.
     pub index_at: usize,
-    /// What is stored there, by a store that releases.
+    /// The value to store there, by a store that releases.
     pub index: u16,
     /// The host address of 2 bytes to load after a full barrier: the available flags, or used_event.
     pub seen_at: usize,
@@ -56,7 +56,7 @@ impl FsStores {
     }
 }
 
-// Where so many bytes from a guest address on stand here, for an access; None if they don't stand in one
+// The host address of so many bytes from a guest address on, for an access; None if they aren't mapped in one
 // piece.
 pub(crate) fn here(
     handle: &ChainHandle,
@@ -151,7 +151,7 @@ pub fn push_handle(
     }
 }
 
-// Ends the return of a chain of the core's queue.
+// Ends the push of a chain of the core's queue.
 fn end_kept(
     handle: &mut ChainHandle,
     queue: &mut FsQueue,
@@ -194,8 +194,8 @@ fn drop_kept(handle: &mut ChainHandle, queue: &mut FsQueue, mut kept: QueueState
     }
 }
 
-/// Gives a chain up that wasn't asked; the queue hands it out again at its next walk. A walk ends, whatever
-/// the queue is.
+/// Drops a chain that wasn't decoded: the queue's next pop returns it again. A pop under way ends, with any
+/// queue.
 pub fn drop_handle_chain(handle: &mut ChainHandle, queue: &mut FsQueue) -> u32
     ensures { DropsHandleChain handle.old queue.old result handle.new queue.new }
 {

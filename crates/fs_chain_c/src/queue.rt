@@ -105,7 +105,7 @@ impl FsQueue {
         })
     }
 
-    /// Puts back what a call changed of a queue.
+    /// Writes the numbers that a call changed to C's queue.
     pub fn put(&mut self, kept: &QueueState)
         ensures { self.new ≡ put self.old kept.now }
     {

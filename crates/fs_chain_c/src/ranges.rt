@@ -7,7 +7,7 @@ use crate::handle::FsChain;
 use fs_chain::ChainHandle;
 use std::alloc::Global;
 
-/// A stretch of the guest's addresses.
+/// A range of guest addresses.
 #[repr(C)]
 #[derive(Clone, Copy)]
 pub struct FsRange {
@@ -33,8 +33,8 @@ fn range(handle: &ChainHandle, from: u64, most: u64) -> Option<FsRange>
     }
 }
 
-// Puts the stretches of the room's bytes from one on, at most so many and none past 2^64 - 1, over the first
-// ranges of some: how many there are.
+// Fills the first of some ranges with those of the reply buffer's bytes from one on. They cover at most
+// `most` bytes, and none past 2^64 - 1. Returns how many ranges it filled.
 fn fill_ranges(handle: &ChainHandle, from: u64, most: u64, ranges: &mut [FsRange]) -> usize
     ensures { FillsRanges handle.now from (min most (2 ^ 64 - 1 - from)) ranges.old ranges.new result }
 {
@@ -53,7 +53,7 @@ fn fill_ranges(handle: &ChainHandle, from: u64, most: u64, ranges: &mut [FsRange
     ranges.len()
 }
 
-/// The guest ranges of a reply buffer's bytes from one on, at most so many: how many ranges are
+/// The guest ranges of a reply buffer's bytes from one on, at most so many: returns how many ranges are
 /// filled.
 #[unsafe(no_mangle)]
 pub extern "C" fn pk_reply_ranges(

@@ -21,14 +21,14 @@ use fuse_base::FsOptions;
 use memory_requests::list_with_room;
 use std::alloc::Global;
 
-/// A record has no more queues.
+/// The most queues of a record.
 const MOST_QUEUES: usize = 64;
 
-/// So much more than its number is a record's refusal.
+/// The status of a refused record is this much more than the refusal's number.
 const OF_RECORD: u32 = 80;
 
-// The queue that a record has of some numbers: `BadArgument` if they are none, `ChainInFlight` if a chain is
-// out.
+// The queue that a record keeps of some numbers: `BadArgument` if they aren't a queue's, `ChainInFlight` if a
+// chain is in flight.
 fn queue_of(queue: &FsQueue) -> Result<Queue, ChainError>
     ensures ok { IfOk result (λ q. q ≡ queue_of queue.now) }
     ensures is { OnOk result (IsQueue queue.now × HasNoneOut queue.now) }
@@ -46,7 +46,7 @@ fn queue_of(queue: &FsQueue) -> Result<Queue, ChainError>
     Ok(Queue::resume(kept.layout, queue.next_avail, queue.stopped != 0))
 }
 
-// Whether a record can have these queues: `BadArgument` or `ChainInFlight` of the first that it can't.
+// Whether a record can keep these queues: `BadArgument` or `ChainInFlight` of the first that it can't.
 fn check_queues(queues: &[FsQueue]) -> Result<(), ChainError>
     ensures are { OnOk result (All IsQueue queues.now) }
     ensures none_out { OnOk result (All HasNoneOut queues.now) }
@@ -61,7 +61,7 @@ fn check_queues(queues: &[FsQueue]) -> Result<(), ChainError>
     Ok(())
 }
 
-// The queues that a record has, in the same order.
+// The queues that a record keeps, in the same order.
 fn queues_of(alloc: Global, queues: &[FsQueue]) -> Result<Vec<Queue>, ChainError>
     ensures ok { IfOk result (λ made. made.items ≡ map queue_of queues.now) }
     ensures are { OnOk result (All IsQueue queues.now) }
@@ -97,7 +97,7 @@ fn options_of(bits: u64) -> Option<FsOptions>
     }
 }
 
-// Puts the record at the front of a buffer: how long it is.
+// Writes the record to the front of a buffer, and returns its length.
 fn save(
     alloc: Global,
     device: &FsDevice,
@@ -139,7 +139,7 @@ fn saved_status(refused: Option<ChainError>) -> u32
     }
 }
 
-/// Puts the record of a device and its queues at the front of a buffer: how long it is.
+/// Writes the record of a device and its queues to the front of a buffer, and returns its length in bytes.
 #[unsafe(no_mangle)]
 pub extern "C" fn pk_save(
     alloc: Global,
@@ -155,7 +155,7 @@ pub extern "C" fn pk_save(
     saved_status(refused)
 }
 
-// The numbers of a queue of a record, over those that stood there.
+// The numbers of a queue that is reset from a record, over its earlier ones.
 fn numbers_over(old: &FsQueue, queue: &Queue) -> FsQueue
     ensures { result ≡ numbers_over old.now queue.now }
 {
@@ -176,7 +176,7 @@ fn numbers_over(old: &FsQueue, queue: &Queue) -> FsQueue
     }
 }
 
-// Puts the numbers of a record's queues over the first of some.
+// Writes the numbers of a record's queues over the first of some.
 fn put_queues(queues: &mut [FsQueue], restored: &[Queue])
     requires { length restored.now ≤ length queues.old }
     ensures { queues.new ≡ restored_over queues.old restored.now }
@@ -186,7 +186,7 @@ fn put_queues(queues: &mut [FsQueue], restored: &[Queue])
     }
 }
 
-/// Reads a record into the device's options and the queues: how many queues it has.
+/// Reads a record into the device's options and the queues, and returns how many queues it has.
 #[unsafe(no_mangle)]
 pub extern "C" fn pk_restore(
     alloc: Global,

@@ -1,4 +1,4 @@
-//! The place of a record while it is saved: it takes no memory.
+//! The buffer of a record while it is saved: it allocates nothing.
 
 ghost use Rattle.std.specs.Prelude.{◌≡◌, ◌≤◌, [], Some, false, true, length};
 ghost use Rattle.fs_record.specs.Record.{HasKnownBits, Second, record_bytes};
@@ -12,7 +12,7 @@ use std::io;
 /// The longest record: 32 bytes, and 32 for each of 64 queues.
 pub const MOST_RECORD_LEN: usize = 2080;
 
-/// The bytes of a record so far. It is full only with as many as the longest record has.
+/// The bytes of a record so far. It is full only at the length of the longest record.
 #[derive(Drop)]
 pub struct RecordPlace {
     /// The bytes.

@@ -1,4 +1,4 @@
-//! The functions by which C asks and answers. Each answers 0, or a number that says why not.
+//! The functions by which C decodes and answers. Each returns 0, or the number of a status.
 
 ghost use Rattle.std.specs.Prelude.{◌≡◌};
 ghost use Rattle.fuse_values.specs.declared.answer.FileAnswer.TheVariants as answer;
@@ -42,7 +42,7 @@ fn may_reply(alloc: Global, chain: &mut FsChain, ticket: u32, said: Option<FileA
     }
 }
 
-/// Tells what a chain's request asks, by its first bytes.
+/// Decodes a chain's request from its first bytes.
 #[unsafe(no_mangle)]
 pub extern "C" fn pk_decode(
     alloc: Global,
@@ -176,8 +176,8 @@ pub extern "C" fn pk_reply_lseek(
     reply(alloc, chain, ticket, FileAnswer::Offset(offset))
 }
 
-/// Answers INIT: of the options that the guest can, these are wished for besides what is agreed on anyway.
-/// The device has then what was agreed.
+/// Answers INIT with the options that the file system wants, besides those that are agreed anyway. The device
+/// has the agreed options then.
 #[unsafe(no_mangle)]
 pub extern "C" fn pk_reply_init(
     alloc: Global,
@@ -199,7 +199,7 @@ pub extern "C" fn pk_reply_init(
     status
 }
 
-// Replies so many bytes of C's own, and says a status.
+// Answers with so many bytes that C wrote, and returns a status.
 fn reply_own(handle: &mut ChainHandle, ticket: u32, len: usize) -> u32
     ensures { RepliesOwn ticket len handle.old result handle.new }
 {
@@ -209,8 +209,8 @@ fn reply_own(handle: &mut ChainHandle, ticket: u32, len: usize) -> u32
     }
 }
 
-/// Replies so many bytes of C's own, which lie in the reply buffer from its first byte on: in place of
-/// `pk_decode`, or of an answer.
+/// Answers with so many bytes that C wrote, which lie in the reply buffer from its first byte on. C calls it
+/// in place of `pk_decode`, or of an answer.
 #[unsafe(no_mangle)]
 pub extern "C" fn pk_reply_bytes(alloc: Global, chain: &mut FsChain, ticket: u32, len: u64) -> u32
     ensures { RepliesBytes ticket len chain.old.value result chain.new.value }

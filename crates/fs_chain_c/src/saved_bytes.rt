@@ -1,4 +1,4 @@
-//! The bytes of a record that C hands in, as a source.
+//! The bytes of a record that C passes, as a source.
 
 ghost use Rattle.std.specs.Prelude.{Some, false};
 

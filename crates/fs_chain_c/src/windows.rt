@@ -7,7 +7,7 @@ ghost use Rattle.fs_chain_c.specs.Windows.{FillsWindows, HasNoMore, IsStretch};
 use crate::popping::host_at;
 use fs_chain::{ChainHandle, WindowCursor};
 
-/// A stretch of memory here, laid out as `struct iovec` is.
+/// A piece of host memory, laid out as `struct iovec`.
 #[repr(C)]
 #[derive(Clone, Copy)]
 pub struct FsWindow {
@@ -17,8 +17,7 @@ pub struct FsWindow {
     pub len: usize,
 }
 
-// The stretch of the bytes of one direction from one on, at most so many, behind the descriptors that were
-// passed.
+// The window of the bytes of one direction from one on, at most so many, of these descriptors.
 fn stretch(
     handle: &ChainHandle,
     write_only: bool,
@@ -43,8 +42,8 @@ fn stretch(
     }
 }
 
-/// Puts the stretches of the bytes of one direction from one on, at most so many and none past 2^64 - 1, over
-/// the first windows of some: how many there are.
+/// Fills the first of some windows with those of the bytes of one direction from one on. They cover at most
+/// `most` bytes, and none past 2^64 - 1. Returns how many windows it filled.
 pub fn fill(
     handle: &ChainHandle,
     write_only: bool,

@@ -1,4 +1,4 @@
--- Which regions are a guest's memory.
+-- The regions that are a guest's memory.
 use Rattle.std.specs.Prelude.{◌≡◌, List, length, Some, None, Result, Ok, Err}
 use Rattle.vm_memory.specs.Layout.{Region}
 use Rattle.vm_memory.specs.Collecting.{RegionsWereRefused, fault_of}
@@ -7,8 +7,8 @@ use Rattle.fs_regions.specs.declared.regions.RegionsError.{RegionsError}
 use Rattle.fs_regions.specs.declared.regions.RegionsError.TheVariants.{NoRegion, Unsorted, Overlap}
 use Rattle.fs_regions.specs.declared.regions.RegionsError.TheVariants.{OutOfMemory}
 
--- some regions are a memory, or the first thing that is wrong with them; if nothing is, the allocator may
--- refuse
+-- some regions are a memory, or the first fault among them is the error; if there is none, the allocation may
+-- fail
 abbrev pub Makes : List Region → Result (List Region) RegionsError → Type 0
 Makes regions (Ok memory) = (fault_of regions ≡ None) × (memory ≡ regions)
 Makes regions (Err NoRegion) = fault_of regions ≡ Some collection.NoMemoryRegion

@@ -1,5 +1,5 @@
--- A guest's memory by its regions, and by the IOMMU's table that translates its addresses, if there is one:
--- which addresses are mapped, and no byte (VIRTIO 1.2, 2.7).
+-- A guest's memory by its regions, and by the IOMMU's table, if there is one. It has the mapped addresses but
+-- no byte (VIRTIO 1.2, 2.7).
 use Rattle.std.specs.Prelude.{◌≡◌, ℕ, ◌+◌, ◌%◌, ◌^◌, ◌==◌, ◌||◌, not, nat_lt, [], ◌∷◌, List, Option, Some}
 use Rattle.std.specs.Prelude.{None, if◌then◌else◌, is_some, unwrap_or}
 use Rattle.vm_iotlb.specs.declared.range.IotlbRange.{IotlbRange}
@@ -12,13 +12,13 @@ use Rattle.vm_memory.specs.Translated.{left_behind}
 abbrev pub HasWholePages : Region → Type 0
 HasWholePages r = IsLawful r × (r.start % 4096 ≡ 0) × (r.size % 4096 ≡ 0)
 
--- whether a region can't have these numbers
+-- no region, if the numbers aren't a region's; else this one
 abbrev pub is_no_region : (start size : ℕ) → Option Region → Option Region
 is_no_region start size r =
     if size == 0 || not (start % 4096 == 0) || not (size % 4096 == 0)
     || nat_lt (2 ^ 64) (start + size) then None else r
 
--- the region with these numbers
+-- the region with these numbers, if they are a region's
 abbrev pub region_if : (start size number : ℕ) → Option Region
 region_if start size number =
     is_no_region start size (Some (record { start = start; size = size; block = number }))
@@ -32,16 +32,16 @@ pub record Mapped : Type 0 where
 abbrev pub untranslated : List Region → Mapped
 untranslated regions = record { layout = regions; table = None }
 
--- the memory that a host's blocks are by regions and their table; the tables that the host has don't matter
+-- the memory that a host's blocks are by these regions and their table; the host's own tables don't matter
 abbrev pub memory_over : Host → Mapped → Memory
 memory_over h g =
     memory_behind (record h { tables = unwrap_or g.table [] ∷ [] }) g.layout 0 0 (is_some g.table)
 
--- a memory that is mapped so, without a byte in it
+-- the same memory without a byte in it: only its mapping
 abbrev pub places_in : Mapped → Memory
 places_in g = memory_over (record { blocks = []; tables = []; io_marks = [] }) g
 
--- how many addresses from one on a window has at most: it ends with its region, and with what is mapped as
--- one
+-- the most addresses from one on that a window has: it ends with its region, and with the piece that is
+-- mapped as one
 abbrev pub left_in : Memory → ℕ → ℕ
 left_in m a = left_behind m.translates m.host m.layout m.table a

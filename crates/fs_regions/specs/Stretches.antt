@@ -1,4 +1,4 @@
--- What a walk does with the bytes of a stretch of a table (VIRTIO 1.2, 2.7.5 and 2.7.5.3).
+-- How a walk reads the bytes of a stretch of a table (VIRTIO 1.2, 2.7.5 and 2.7.5.3).
 use Rattle.std.specs.Prelude.{◌≡◌, ◌⊎◌, ℕ, ◌*◌, false, List, ◌++◌, length}
 use Rattle.fs_queue.specs.declared.chain_walk.ChainWalk.{ChainWalk}
 use Rattle.fs_queue.specs.declared.chain_walk.Progress as code
@@ -10,8 +10,8 @@ use Rattle.fs_regions.specs.declared.step.CourseStep as comes
 use Rattle.fs_regions.specs.declared.step.CourseStep.TheVariants as step
 use Rattle.fs_regions.specs.Walks.{asked_by, is_in, Brings, ReadOutOf}
 
--- a walk goes through a stretch: some entries are read out of it, with these descriptors then, and it wants
--- another only if that doesn't stand there or as many were read out
+-- a walk goes through a stretch: it reads some entries out of it, and has these descriptors then. It needs
+-- another entry only if that isn't in the stretch, or as many were read as the stretch has
 pub record ReadsStretch (walk : ChainWalk) (bs : List ℕ) (old new : List Descriptor) (after : code.Progress) :
     Type 0 where
   pub reads : List Load
@@ -24,7 +24,7 @@ pub record ReadsStretch (walk : ChainWalk) (bs : List ℕ) (old new : List Descr
       (λ w. (is_in (entry_address (visit_of walk)) (length bs) (entry_address (visit_of w)) ≡ false)
       ⊎ (16 * length reads ≡ length bs))
 
--- a load is asked for only of a walk that wants an entry, and from that entry on
+-- a walk asks for a load only if it needs an entry, and from that entry on
 abbrev pub AsksFor : code.Progress → comes.CourseStep → Type 0
 AsksFor (says.Wants w) (step.Load next) = asked_by next ≡ entry_address (visit_of w)
 AsksFor (says.Ends walked) (step.Load next) = ⊥

@@ -1,23 +1,23 @@
--- Which addresses of a table some descriptors use.
+-- The addresses of an IOMMU's table that descriptors use.
 use Rattle.std.specs.Prelude.{◌≡◌, ℕ, ◌+◌, ◌<◌, ◌≤◌, All, List}
 use Rattle.vm_iotlb.specs.declared.permissions.Permissions.{Permissions}
 use Rattle.vm_iotlb.specs.Table.{Table, mapped, unmapped}
 use Rattle.fs_queue.specs.Chain.{Descriptor}
 
--- one of n addresses is a descriptor's
+-- a descriptor's buffer has one of n addresses from `iova` on
 abbrev pub Touches : (iova n : ℕ) → Descriptor → Type 0
 Touches iova n d = (k : ℕ) × (k < d.len) × (iova ≤ d.addr + k) × (d.addr + k < iova + n)
 
--- none is
+-- it has none of them
 abbrev pub IsUntouched : (iova n : ℕ) → Descriptor → Type 0
 IsUntouched iova n d = Touches iova n d → ⊥
 
--- a table does to a descriptor's addresses what another one does
+-- two tables map a descriptor's addresses alike
 abbrev pub StaysFor : (old new : Table) → Descriptor → Type 0
 StaysFor old new d = (k : ℕ) → k < d.len → new (d.addr + k) ≡ old (d.addr + k)
 
--- removing or changing the mappings of some addresses leaves those of descriptors apart from them as they
--- were
+-- removing or changing the mappings of some addresses doesn't change those of descriptors that have none of
+-- them
 abbrev pub OthersStay : Type 0
 OthersStay =
     (iova n target : ℕ) (perm : Permissions) (table : Table) (ds : List Descriptor) →

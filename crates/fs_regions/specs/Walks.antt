@@ -1,5 +1,5 @@
--- What a walk over regions comes to by the loads so far (VIRTIO 1.2, 2.7.5, 2.7.6 and 2.7.13 from the
--- device's side).
+-- The steps of a pop over regions, by the loads so far (VIRTIO 1.2, 2.7.5, 2.7.6 and 2.7.13 from the device's
+-- side).
 use Rattle.std.specs.Prelude.{◌≡◌, ◌⊎◌, if◌then◌else◌, ℕ, ◌+◌, ◌*◌, ◌<◌, ◌≤◌, ◌&&◌, Bool, true, false, nat_le}
 use Rattle.std.specs.Prelude.{List, [], ◌∷◌, ◌++◌, All, length, take, drop, Option, Some, None, option_map}
 use Rattle.vm_iotlb.specs.declared.permissions.Permissions.TheVariants.{Read}
@@ -27,31 +27,31 @@ use Rattle.fs_regions.specs.declared.course.Course.{Course}
 use Rattle.fs_regions.specs.declared.step.CourseStep as comes
 use Rattle.fs_regions.specs.declared.step.CourseStep.TheVariants as step
 
--- the loads of a walk so far: the available index, the available ring's entry, and the tables' entries; None
--- where an address has no place, or nothing was loaded yet
+-- the loads of a pop so far: the available index, the available ring's entry, and the tables' entries; None
+-- where an address isn't mapped, or nothing was loaded yet
 pub record Loaded : Type 0 where
   pub index : Option (List ℕ)
   pub entry : Option (List ℕ)
   pub entries : List Load
 
--- nothing yet
+-- no load yet
 abbrev pub nothing : Loaded
 nothing = record { index = None; entry = None; entries = [] }
 
--- descriptors that stand before those of a chain
+-- descriptors before those of a chain
 abbrev pub standing_before : List Descriptor → Found → Found
 standing_before [] f = f
 standing_before (d ∷ ds) f = with_front d (standing_before ds f)
 
--- some loads bring a walk from one place to another, and these descriptors join the chain by them: whatever
--- is loaded then
+-- by some loads a walk goes from one entry to another, and these descriptors join the chain; this holds for
+-- all loads that follow
 abbrev pub Brings : (size : ℕ) → List Load → (from : Ahead) → List Descriptor → (to : Ahead) → Type 0
 Brings size ls from ds to =
     (more : List Load) →
     found_exactly size (ls ++ more) from ≡ option_map (standing_before ds) (found_exactly size more to)
 
--- what is loaded of the ring: the index, unless it has no place, and the entry where the index asks for it,
--- unless that has none
+-- the loads of the ring: the index, unless it isn't mapped, and the entry, if the index calls for it and it
+-- is mapped
 abbrev pub RingIsAsked : Memory → Queue → Loaded → Type 0
 RingIsAsked m q loaded =
     (loaded.index ≡ None → reach m Read (avail_index_at q) 2 ≡ false)
@@ -64,12 +64,12 @@ abbrev pub BeginsAtHead : Queue → (head : ℕ) → Progress → Type 0
 BeginsAtHead q head progress =
     (ahead_of progress ≡ ahead_at q.size (first_visit q head)) × IfWants progress (λ w. w.size ≡ q.size)
 
--- so it does where a chain waits
+-- the same of a walk where a chain is available
 abbrev pub BeginsIfChain : Queue → code.Walk → Type 0
 BeginsIfChain q (waits.Chain head progress) = BeginsAtHead q head progress
 BeginsIfChain q _ = Unit {0}
 
--- the ring's loads tell this
+-- the ring's loads determine the walk: a chain, none, or a refusal
 pub record TellsBy (m : Memory) (q : Queue) (loaded : Loaded) (walk : code.Walk) : Type 0 where
   pub next : NextAvail
   pub tells : stage_of walk ≡ Told next
@@ -78,7 +78,7 @@ pub record TellsBy (m : Memory) (q : Queue) (loaded : Loaded) (walk : code.Walk)
   pub asked : RingIsAsked m q loaded
   pub begins : BeginsIfChain q walk
 
--- the index was loaded, or has no place, and a walk came of it
+-- the index was loaded, or isn't mapped, and this walk follows
 pub record StandsAfterIndex (m : Memory) (q : Queue) (index : Option (List ℕ)) (walk : code.Walk) :
     Type 0 where
   pub stage : stage_of walk ≡ stage_at (by_index q index)
@@ -87,7 +87,7 @@ pub record StandsAfterIndex (m : Memory) (q : Queue) (index : Option (List ℕ))
   pub asked : index ≡ None → reach m Read (avail_index_at q) 2 ≡ false
   pub begins : BeginsIfChain q walk
 
--- the chain of this head waits, and its walk begins
+-- the chain of this head is available, and its walk begins
 pub record HeadWaits (m : Memory) (q : Queue) (loaded : Loaded) (head : ℕ) (progress : Progress) :
     Type 0 where
   pub by_loads : waits_by q loaded.index loaded.entry ≡ Some (Head head)
@@ -95,7 +95,7 @@ pub record HeadWaits (m : Memory) (q : Queue) (loaded : Loaded) (head : ℕ) (pr
   pub asked : RingIsAsked m q loaded
   pub begins : BeginsAtHead q head progress
 
--- it waits, and its return has places
+-- it is available, and the stores of its push are mapped
 pub record Waits (m : Memory) (q : Queue) (loaded : Loaded) (head : ℕ) : Type 0 where
   pub by_loads : waits_by q loaded.index loaded.entry ≡ Some (Head head)
   pub asked : RingIsAsked m q loaded
@@ -105,11 +105,11 @@ pub record Waits (m : Memory) (q : Queue) (loaded : Loaded) (head : ℕ) : Type 
 abbrev pub queue_of : Course → Queue
 queue_of c = at_position c.layout c.position
 
--- a course goes through what waits at a queue's position
+-- a course is a pop at a queue's position, with this limit
 abbrev pub IsCourseOf : Queue → (limit : ℕ) → Course → Type 0
 IsCourseOf q limit c = (queue_of c ≡ record q { stopped = false }) × (c.limit ≡ limit)
 
--- what a walk asks for: the address, how many entries of a table, and how many bytes
+-- the load that a walk asks for: its address, its entries of a table, and its bytes
 abbrev pub asked_by : QueueWalk → ℕ
 asked_by (at.Index w) = avail_index_at (at_position w.layout w.position)
 asked_by (at.RingEntry w) = ring_entry_at (at_position w.layout w.position)
@@ -123,7 +123,7 @@ abbrev pub asked_len : QueueWalk → ℕ
 asked_len (at.Entries w) = 16 * w.entries
 asked_len _ = 2
 
--- a walk stands where these loads bring it, with these descriptors
+-- a walk is where these loads bring it, with these descriptors
 abbrev pub IsWalkAt : Memory → Queue → Loaded → List Descriptor → QueueWalk → Type 0
 IsWalkAt m q loaded ds (at.Index w) = (at_position w.layout w.position ≡ q) × (loaded ≡ nothing) × (ds ≡ [])
 IsWalkAt m q loaded ds (at.RingEntry w) =
@@ -138,36 +138,35 @@ IsWalkAt m q loaded ds (at.Entries w) =
     × (w.walk.size ≡ q.size)
     × Brings q.size loaded.entries (ahead_at q.size (first_visit q w.head)) ds (Reads (visit_of w.walk))
 
--- what is asked for has a place
+-- the load that a walk asks for is mapped
 abbrev pub IsThere : Memory → QueueWalk → Type 0
 IsThere m w = reach m Read (asked_by w) (asked_len w) ≡ true
 
--- how many entries a load of a table has at most: 4096 bytes of one that a descriptor names; of the queue's
--- own 64 bytes, since a driver lays a chain there mostly one descriptor behind another
+-- the most entries that a load of a table has: 4096 bytes of an indirect table; 64 bytes of the queue's own,
+-- since drivers mostly lay a chain's descriptors there one behind another
 abbrev pub most_of : DescriptorTable → ℕ
 most_of t = if t.indirect then 256 else 4
 
--- so many entries from one on may be asked for at once: none past their table's end, and no more than a load
--- has; and more than one only in one region and one mapping, and no more than descriptors may still join the
--- chain
+-- a load may have `n` entries from one on: none past their table's end, and no more than a load has. More
+-- than one are in one region, mapped in one piece, and no more than may still join the chain
 abbrev pub MayBeAsked : Memory → Queue → List Descriptor → Visit → (n : ℕ) → Type 0
 MayBeAsked m q ds v n =
     (n ≤ most_of v.table)
     × (v.index + n ≤ v.table.entries)
     × (1 < n → (16 * n ≤ left_in m (entry_address v)) × (length ds + n ≤ q.size))
 
--- a stretch has the most that may be
+-- a walk asks for as many entries as it may
 abbrev pub IsLongestStretch : Memory → Queue → List Descriptor → QueueWalk → Type 0
 IsLongestStretch m q ds (at.Entries w) =
     MayBeAsked m q ds (visit_of w.walk) w.entries
     × ((n : ℕ) → MayBeAsked m q ds (visit_of w.walk) n → n ≤ w.entries)
 IsLongestStretch m q ds _ = Unit {0}
 
--- whether an entry at an address stands whole in n bytes from another on
+-- whether an entry at an address is whole in n bytes from another on
 abbrev pub is_in : (from n address : ℕ) → Bool
 is_in from n address = nat_le from address && nat_le (address + 16) (from + n)
 
--- a load of an entry that was read out of a stretch: it stands there, and came with just its bytes
+-- a load of an entry that was read out of a stretch: it lies there whole, and has the stretch's bytes
 abbrev pub IsReadOut : (from : ℕ) → List ℕ → Load → Type 0
 IsReadOut from bs l =
     (offset : ℕ)
@@ -175,43 +174,44 @@ IsReadOut from bs l =
     × (offset + 16 ≤ length bs)
     × (l.came ≡ Some (take 16 (drop offset bs)))
 
--- so was each of some: the first one at its beginning, and in all no more than it has entries
+-- each of these loads was read out of the stretch: the first at its beginning, and in all no more than the
+-- stretch has entries
 pub record ReadOutOf (from : ℕ) (bs : List ℕ) (ls : List Load) : Type 0 where
   pub first : (l : Load) × (rest : List Load) × (ls ≡ l ∷ rest) × (l.address ≡ from)
   pub each : All (IsReadOut from bs) ls
   pub few : 16 * length ls ≤ length bs
 
--- an entry is asked for again only if it doesn't stand in the stretch, or once as many were read out as the
+-- a walk asks for another load only if its entry isn't in the stretch, or as many were read out as the
 -- stretch has
 abbrev pub UsesUp : (from : ℕ) → List ℕ → List Load → comes.CourseStep → Type 0
 UsesUp from bs ls (step.Load w) = (is_in from (length bs) (asked_by w) ≡ false) ⊎ (16 * length ls ≡ length bs)
 UsesUp from bs ls _ = Unit {0}
 
--- the loads with what bytes of a stretch add to them, where the walk comes to this
+-- a step follows after entries were read out of a stretch, and the loads have these entries then
 pub record AddsEntries (from : ℕ) (bs : List ℕ) (came : comes.CourseStep) (old new : Loaded) : Type 0 where
   pub reads : List Load
   pub read_out : ReadOutOf from bs reads
   pub uses_up : UsesUp from bs reads came
   pub added : new ≡ record old { entries = old.entries ++ reads }
 
--- the same of each load: these bytes came of what was asked for
+-- the same of each load: the walk asked for it, and these are its bytes
 abbrev pub AddsBytes : QueueWalk → List ℕ → comes.CourseStep → (old new : Loaded) → Type 0
 AddsBytes (at.Index w) bs came old new = new ≡ record old { index = Some bs }
 AddsBytes (at.RingEntry w) bs came old new = new ≡ record old { entry = Some bs }
 AddsBytes (at.Entries w) bs came old new = AddsEntries (entry_address (visit_of w.walk)) bs came old new
 
--- an entry without a place
+-- an entry that isn't mapped
 abbrev pub IsLost : Memory → Load → Type 0
 IsLost m l = (l.came ≡ None) × (reach m Read l.address 16 ≡ false)
 
--- the walk from a head finds this by the entries so far, and, where the last one that was asked for has no
--- place, by its loss
+-- the walk from a head finds this by the entries so far. If the last entry that it needed isn't mapped, it
+-- finds this by that failed load too
 abbrev pub FindsBy : Memory → Queue → Loaded → (head : ℕ) → Found → Type 0
 FindsBy m q loaded head found =
     (lost : List Load) × All (IsLost m) lost × (chain_exactly (loaded.entries ++ lost) q head ≡ Some found)
 
--- this is offered by the loads so far, and, where the last entry that was asked for has no place, by its
--- loss; with this request
+-- the queue offers this by the loads so far, with this request. If the last entry that the walk needed isn't
+-- mapped, it offers this by that failed load too
 abbrev pub OffersBy : Memory → (limit : ℕ) → Queue → Loaded → (request : List ℕ) → Offer → Type 0
 OffersBy m limit q loaded request o =
     RingIsAsked m q loaded
@@ -219,8 +219,8 @@ OffersBy m limit q loaded request o =
     × All (IsLost m) lost
     × (offer_by m limit q loaded.index loaded.entry (loaded.entries ++ lost) request ≡ Some o)
 
--- what is fetched of a chain with these descriptors: if it has no fault, the walk finds just them, and
--- whatever comes of their readable bytes is the request
+-- the result for a chain with these descriptors. Without a fault, the walk finds just them, and the request
+-- is the bytes of the readable ones, with any values
 abbrev pub FetchesBy :
     Memory → (limit : ℕ) → Queue → Loaded → List Descriptor → (head : ℕ) → Option ChainFault → Type 0
 FetchesBy m limit q loaded ds head (Some fault) =
@@ -231,7 +231,7 @@ FetchesBy m limit q loaded ds head None =
     length request ≡ total_len (readable ds) →
     OffersBy m limit q loaded request (Offers head (IsRequest request (addresses_of (writable ds)))))
 
--- what a walk comes to by the loads so far
+-- a step of a pop, by the loads so far
 abbrev pub IsCourseStep : Memory → (limit : ℕ) → Queue → Loaded → List Descriptor → comes.CourseStep → Type 0
 IsCourseStep m limit q loaded ds (step.Load w) =
     IsWalkAt m q loaded ds w × IsThere m w × IsLongestStretch m q ds w
@@ -239,7 +239,7 @@ IsCourseStep m limit q loaded ds step.Idle = OffersBy m limit q loaded [] Idle
 IsCourseStep m limit q loaded ds (step.Refused e) = OffersBy m limit q loaded [] (Refuses e)
 IsCourseStep m limit q loaded ds (step.Chain head fault) = FetchesBy m limit q loaded ds head fault
 
--- what a walk comes to by the bytes that it asked for, after the loads so far
+-- the step that follows the bytes of a load that the walk asked for, after the loads so far
 pub record ComesBy (m : Memory) (limit : ℕ) (q : Queue) (loaded : Loaded) (walk : QueueWalk) (bs : List ℕ)
     (ds : List Descriptor) (came : comes.CourseStep) : Type 0 where
   pub after : Loaded

@@ -1,4 +1,4 @@
-//! Where the bytes of a chain stand.
+//! The host and guest addresses of a chain's bytes.
 
 ghost use Rattle.std.specs.Prelude.{◌≡◌, ◌≤◌, true, IfSome, None};
 ghost use Rattle.fs_queue.specs.Taking.{all_reach, total_len, access_of, of_direction};
@@ -20,8 +20,8 @@ fn access_of(write_only: bool) -> Permissions
     }
 }
 
-/// The longest window that has the bytes of one direction of a chain from one on, in one descriptor, one
-/// region and what is mapped as one. None past their end, or where the first of them has no place.
+/// The longest window of the bytes of one direction of a chain from one on: in one descriptor and one region,
+/// and mapped in one piece. None past their end, or where the first of them isn't mapped.
 pub fn window_from(
     regions: &GuestMap,
     descriptors: &[Descriptor],
@@ -54,8 +54,8 @@ pub fn window_from(
     None
 }
 
-/// The guest's addresses of the bytes of one direction of a chain from one on, as far as their descriptor
-/// goes: the first one, modulo 2^64, and how many. None past their end.
+/// The guest addresses of the bytes of one direction of a chain from one on, as far as their descriptor goes:
+/// the first one, modulo 2^64, and how many. None past their end.
 pub fn range_from(descriptors: &[Descriptor], write_only: bool, from: u64) -> Option<(u64, u64)>
     ensures some { IfSome result (λ r. IsRangeFrom write_only descriptors.now from r.0 r.1) }
     ensures none { result ≡ None → total_len (of_direction write_only descriptors.now) ≤ from }

@@ -1,4 +1,4 @@
-//! How a walk through what waits in a queue goes over the regions of a guest's memory.
+//! How a pop goes over the regions of a guest's memory.
 
 ghost use Rattle.std.specs.Prelude.{◌≡◌, ℕ, ◌*◌, ◌-◌, [], List, Option, Some, length, true};
 ghost use Rattle.smallvec.specs.SmallVec.{HasRoomFor};
@@ -25,19 +25,18 @@ use fs_queue::{
 };
 use vm_memory_core::Permissions;
 
-/// Where a walk goes: through what waits at a position of a queue. A request or a room of more than `limit`
-/// bytes makes a chain faulty.
+/// The queue, position and limit of a pop. A request or a reply buffer of more than `limit` bytes makes a
+/// chain faulty.
 #[derive(Clone, Copy, Debug)]
 pub struct Course {
-    /// Where the queue's parts are.
+    /// The size of the queue, and the addresses of its parts.
     pub layout: QueueLayout,
-    /// How many of its chains were taken before, modulo 2^16.
+    /// The available ring position: how many chains were popped before, modulo 2^16.
     pub position: u16,
-    /// How many bytes a request or a room has at most.
+    /// The most bytes of a request, and of a reply buffer.
     pub limit: u32,
 }
 
-// Two bytes of a load.
 fn pair(bytes: &[u8]) -> [u8; 2]
     requires { length bytes.now ≡ 2 }
     ensures { result ≡ bytes.now }
@@ -47,7 +46,7 @@ fn pair(bytes: &[u8]) -> [u8; 2]
     pair
 }
 
-// Whether the entry that a walk asks for is of a table that a descriptor names.
+// Whether the entry that a walk needs is of an indirect table.
 fn is_indirect(walk: &ChainWalk) -> bool
     ensures { result ≡ walk.now.table.indirect }
 {
@@ -56,7 +55,7 @@ fn is_indirect(walk: &ChainWalk) -> bool
 }
 
 impl Course {
-    /// The course through what waits at a queue's position.
+    /// The course of a pop at a queue's position.
     pub fn of_queue(queue: &Queue, limit: u32) -> Course
         ensures { IsCourseOf queue.now limit result }
     {
@@ -67,7 +66,7 @@ impl Course {
         }
     }
 
-    /// The walk from its beginning: no load was made. The list of descriptors is emptied.
+    /// Begins the pop: no load was made yet. The list of descriptors is emptied.
     #[inline(always)]
     pub fn begin(&self, regions: &GuestMap, descriptors: &mut Descriptors) -> CourseStep
         ensures empty { descriptors.new.items ≡ [] }
@@ -87,9 +86,9 @@ impl Course {
         }
     }
 
-    /// Takes the bytes of the load that a walk asked for, and answers the walk's next state. The descriptors
-    /// that joined the chain so far stand in the list. It has room for as many as entries of a table are
-    /// asked for. The walk goes through those entries that the bytes have, and asks for no other meanwhile.
+    /// Takes the bytes of the load that a walk asked for, and returns the next step. The list has the
+    /// descriptors of the chain so far, and space for as many more as the entries that the walk asked for.
+    /// The walk goes through those entries before it asks for another load.
     #[inline(always)]
     pub fn give(
         &self,
@@ -116,7 +115,7 @@ impl Course {
         }
     }
 
-    // What a walk comes to once the bytes of a stretch of a table came.
+    // The step after the bytes of a stretch of a table.
     #[inline(always)]
     fn give_entries(
         &self,
@@ -138,7 +137,7 @@ impl Course {
         self.at_progress(regions, head, progress, descriptors)
     }
 
-    // What a walk comes to once the available index was loaded, or has no place.
+    // The step after the available index was loaded, or isn't mapped.
     #[inline(always)]
     fn at_index(&self, regions: &GuestMap, walk: Walk, descriptors: &[Descriptor]) -> CourseStep
         ensures { (index : Option (List ℕ))
@@ -159,7 +158,7 @@ impl Course {
         }
     }
 
-    // What a walk comes to where the ring told what waits.
+    // The step after the ring's loads: a chain, none, or a refusal.
     #[inline(always)]
     fn told(&self, regions: &GuestMap, walk: Walk, descriptors: &[Descriptor]) -> CourseStep
         ensures { (loaded : Loaded)
@@ -171,12 +170,12 @@ impl Course {
         match walk {
             Walk::Refused(error) => CourseStep::Refused(error),
             Walk::Chain(head, progress) => self.at_head(regions, head, progress, descriptors),
-            // The ring told what waits: it isn't asked any more.
+            // The ring's loads are done: no other is made.
             Walk::Idle | Walk::Index(_) | Walk::RingEntry(_) => CourseStep::Idle,
         }
     }
 
-    // What a walk comes to once a head waits.
+    // The step after the ring's loads returned a head.
     #[inline(always)]
     fn at_head(
         &self,
@@ -197,7 +196,7 @@ impl Course {
         }
     }
 
-    // What a walk through a chain comes to.
+    // The step of a walk through a chain.
     #[inline(always)]
     fn at_progress(
         &self,
@@ -228,8 +227,7 @@ impl Course {
         usize::from(self.layout.size()).saturating_sub(descriptors.len())
     }
 
-    // A walk that asks for an entry of a table: it asks for a stretch from there on, unless the entry has no
-    // place.
+    // A walk that needs an entry of a table asks for a stretch from it on, unless the entry isn't mapped.
     #[inline(always)]
     fn at_entry(
         &self,
@@ -263,7 +261,7 @@ impl Course {
         self.ended(regions, head, walked, descriptors)
     }
 
-    // What a walk that has ended comes to.
+    // The step of a walk that has ended.
     #[inline(always)]
     fn ended(
         &self,

@@ -6,16 +6,16 @@ ghost use Rattle.fs_queue.specs.SteppingView.{visit_of};
 
 use fs_queue::ChainWalk;
 
-/// How many entries of a table that a descriptor names a load has at most: 4096 bytes.
+/// The most entries that a load of an indirect table has: 4096 bytes.
 pub(crate) const MOST_ENTRIES: u16 = 256;
 
-/// How many entries of the queue's own table a load has at most: 64 bytes.
+/// The most entries that a load of the queue's own table has: 64 bytes.
 pub(crate) const MOST_OWN_ENTRIES: u16 = 4;
 
-/// How many bytes an entry of a table has.
+/// The bytes of a table's entry.
 pub(crate) const ENTRY_LEN: usize = 16;
 
-/// A walk that asks for a stretch of a table: for the entry that it is at, and for some that follow it there.
+/// A walk that asks for a stretch of a table: the entry that it needs next, and some that follow it.
 #[derive(Debug, Drop)]
 pub struct EntriesWalk {
     pub(crate) head: u16,

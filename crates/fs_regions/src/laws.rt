@@ -1,10 +1,9 @@
-//! Laws of the definitions: each is the contract of a function that does nothing.
+//! Theorems on the definitions: each is the contract of a function that does nothing.
 
 ghost use Rattle.fs_regions.specs.Laws.{OffersAreTheMemorys, ReadOutIsTheMemorys};
 ghost use Rattle.fs_regions.specs.Using.{OthersStay};
 
-/// Whatever a walk over regions comes to, it is what the queue offers in each memory of these regions that
-/// has its loads.
+/// The result of a pop over regions is the queue's offer, in each memory of these regions that has its loads.
 pub fn law_offers()
     ensures { OffersAreTheMemorys }
 {}
@@ -14,8 +13,8 @@ pub fn law_read_out()
     ensures { ReadOutIsTheMemorys }
 {}
 
-/// Removing or changing the mappings of addresses that a chain doesn't use (`uses`) leaves the chain's own as
-/// they were.
+/// If a VMM removes or changes mappings of addresses that a chain doesn't use (`uses`), the chain's own
+/// mappings stay as they were.
 pub fn law_others_stay()
     ensures { OthersStay }
 {}

@@ -1,5 +1,4 @@
-//! A guest's memory as regions that stand elsewhere: what a queue offers, by loads that another makes in
-//! them.
+//! A guest's memory as regions of host memory, and pops by loads that the caller makes in them.
 #![tactic(auto)]
 
 mod chain;

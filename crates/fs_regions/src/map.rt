@@ -20,8 +20,8 @@ use std::alloc::Global;
 use std::marker::Model;
 use vm_memory_core::{GuestAddress, Iotlb, IovaRange, Permissions, VolatileSlice};
 
-/// A guest's memory: its regions, and an IOMMU's table, if there is one. The table translates the addresses
-/// that a device uses to addresses of the regions. Without a table a device uses the regions' own.
+/// A guest's memory: its regions, and an IOMMU's table, if there is one. The table translates the device's
+/// addresses to addresses of the regions. Without a table the device uses the regions' own.
 #[derive(Drop)]
 pub struct GuestMap {
     regions: GuestRegions,
@@ -63,7 +63,7 @@ fn reaches_by(
 }
 
 // Whether a table maps each of `len` addresses from one on into a region, for an access, and their end is an
-// address. Apart from `reaches`, so that a memory without a table has no more than a test there.
+// address. It is a function of its own so that a memory without a table pays only a test in `reaches`.
 #[cold]
 #[inline(never)]
 fn reaches_behind(

@@ -1,4 +1,4 @@
-//! A region of a guest's memory that stands somewhere else.
+//! A region of a guest's memory, which lies in host memory.
 
 ghost use Rattle.std.specs.Prelude.{◌≡◌};
 ghost use Rattle.fs_regions.specs.Places.{region_if};
@@ -7,10 +7,11 @@ use std::marker::Model;
 use vm_memory::{GuestMemoryError, GuestMemoryRegion};
 use vm_memory_core::{GuestAddress, GuestUsize, MemoryRegionAddress, VolatileSlice};
 
-/// How many bytes a page has: regions are made of whole pages.
+/// The bytes of a page: regions have whole pages.
 const PAGE_SIZE: u64 = vm_bitmaps::PAGE_SIZE as u64;
 
-/// Whole pages of a guest's memory, from an address on, which whoever keeps them knows by a number.
+/// Whole pages of a guest's memory, from an address on. The caller knows the region by its number, such as
+/// its host address.
 #[derive(Clone, Copy, Debug)]
 pub struct MemoryRegion {
     start: u64,
@@ -33,7 +34,7 @@ impl Model for MemoryRegion {
 
 impl MemoryRegion {
     /// The region of `size` bytes from an address on, with this number. None if it is empty, ends past the
-    /// last address, or one of the two is no multiple of 4096.
+    /// last address, or its address or size isn't a multiple of 4096.
     pub fn new(start: u64, size: u64, number: usize) -> Option<MemoryRegion>
         ensures { result ≡ region_if start size number }
     {

@@ -16,10 +16,10 @@ use vm_memory::{
 };
 use vm_memory_core::{GuestAddress, MemoryRegionAddress, VolatileSlice};
 
-/// Why some regions are no memory of a guest.
+/// Why some regions aren't a guest's memory.
 #[derive(Clone, Copy, Debug, PartialEq, Eq)]
 pub enum RegionsError {
-    /// There is none.
+    /// There are no regions.
     NoRegion,
     /// They don't ascend.
     Unsorted,
@@ -54,8 +54,8 @@ impl GuestRegions {
         }
     }
 
-    /// Memory of some regions, which ascend and have no address in common: else `NoRegion`, `Unsorted` or
-    /// `Overlap`, or `OutOfMemory`.
+    /// The memory of some regions, which must ascend and have no address in common. Errors: `NoRegion`,
+    /// `Unsorted`, `Overlap`, `OutOfMemory`.
     pub fn of_regions(
         alloc: Global,
         regions: Vec<MemoryRegion>,
@@ -71,7 +71,7 @@ impl GuestRegions {
         }
     }
 
-    /// Whether each of `len` addresses from one on has a place, and their end is an address.
+    /// Whether each of `len` addresses from one on is mapped, and their end is an address.
     pub fn reaches(&self, addr: u64, len: usize) -> bool
         ensures { (access : Permissions)
             → result ≡ reach (places_in (untranslated self.now)) access addr len }
@@ -79,8 +79,8 @@ impl GuestRegions {
         len as u64 <= u64::MAX - addr && self.regions.has_range(GuestAddress(addr), len)
     }
 
-    /// The longest window of at most `most` bytes from an address on: the number of its region as its block,
-    /// and where it stands there. None if the address has no place.
+    /// The longest window of at most `most` bytes from an address on: its block is the region's number, and
+    /// its offset is from the region's first byte. None if the address isn't mapped.
     #[inline(always)]
     pub fn window_at(&self, addr: u64, most: usize) -> Option<VolatileSlice>
         requires { 0 < most }

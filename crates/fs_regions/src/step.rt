@@ -1,17 +1,17 @@
-//! What a walk over regions comes to.
+//! The steps of a pop over regions.
 
 use crate::walk::QueueWalk;
 use fs_queue::{ChainFault, QueueError};
 
-/// What a walk comes to.
+/// A step of a pop.
 #[derive(Debug, Drop)]
 pub enum CourseStep {
-    /// It asks for a load.
+    /// The pop asks for this load.
     Load(QueueWalk),
-    /// Nothing waits.
+    /// No chain is available.
     Idle,
-    /// The queue refuses what waits.
+    /// The queue refuses the pop.
     Refused(QueueError),
-    /// The chain of this head, or what is wrong with it. Its descriptors are those that were gathered.
+    /// The chain of this head, or its fault. The list has the descriptors that the walk gathered.
     Chain(u16, Option<ChainFault>),
 }

@@ -1,4 +1,4 @@
-//! A stretch of a table: how long a load of it is, and how a walk goes through its bytes.
+//! Stretches of a table: the length of a load, and the walk through its bytes.
 
 ghost use Rattle.std.specs.Prelude.{◌≡◌, ◌⊎◌, ℕ, ◌+◌, ◌*◌, ◌<◌, ◌≤◌, [], ◌∷◌, ◌++◌, List, Some, None, true};
 ghost use Rattle.std.specs.Prelude.{false, length, take, drop, IfSome};
@@ -17,7 +17,7 @@ use crate::map::GuestMap;
 use fs_queue::{ChainWalk, DescriptorTable, Descriptors, Progress};
 use vm_memory_core::Permissions;
 
-// How many entries a load of a table has at most.
+// The most entries that a load of a table has.
 fn most_of(table: DescriptorTable) -> u16
     ensures most { result ≡ most_of table }
     ensures some { 0 < result }
@@ -30,8 +30,8 @@ fn most_of(table: DescriptorTable) -> u16
     }
 }
 
-// How many entries a walk asks for at most: those up to the end of its table, no more than a load of it has,
-// and no more than the chain may still take descriptors; but the one that it is at in any case.
+// The most entries that a walk asks for: up to the end of its table, no more than a load of it has, and no
+// more than descriptors may still join the chain. It is at least 1.
 fn most_entries(walk: &ChainWalk, may_join: usize) -> u16
     ensures some { 0 < result }
     ensures few { result ≤ most_of walk.now.table }
@@ -50,8 +50,8 @@ fn most_entries(walk: &ChainWalk, may_join: usize) -> u16
     most.max(1) as u16
 }
 
-// How many of some entries that follow one another in a table stand in the region of the first one and are
-// mapped as one with it; 1 if this one goes over its end.
+// How many of some consecutive entries of a table are in the region of the first one and mapped in one piece
+// with it; 1 if the first goes over its end.
 fn entries_in_region(regions: &GuestMap, walk: &ChainWalk, most: u16) -> u16
     requires some { 0 < most }
     requires inside { walk.now.index + most ≤ walk.now.table.entries }
@@ -81,9 +81,9 @@ fn entries_in_region(regions: &GuestMap, walk: &ChainWalk, most: u16) -> u16
     }
 }
 
-/// How many entries a walk asks for at once: at least the one that it is at. More stand in one region, mapped
-/// as one, and are no more than a load of their table has, than the table has from there on, and than
-/// descriptors may still join the chain: as many as these bounds let it have.
+/// How many entries a walk asks for at once: at least the next one. More than one are in one region, mapped
+/// in one piece. It is the greatest number within these bounds: the table's end, the entries of a load, and
+/// the descriptors that may still join the chain.
 pub(crate) fn stretch_len(regions: &GuestMap, walk: &ChainWalk, may_join: usize) -> u16
     ensures some { 0 < result }
     ensures few { result ≤ most_of walk.now.table }
@@ -116,8 +116,8 @@ fn entry_of(bytes: &[u8], offset: usize) -> [u8; 16]
     entry
 }
 
-// Where the entry that a walk asks for stands in a stretch of so many bytes, if it is to be read out there:
-// `left` more are.
+// The offset in a stretch of the entry that a walk needs; None if the entry isn't whole in the stretch, or no
+// entry is left to read (`left`).
 fn offset_in(walk: &ChainWalk, from: u64, len: usize, left: u16) -> Option<usize>
     ensures some { IfSome result (λ offset. (entry_address (visit_of walk.now) ≡ from + offset)
         × (offset + 16 ≤ len)
@@ -131,8 +131,8 @@ fn offset_in(walk: &ChainWalk, from: u64, len: usize, left: u16) -> Option<usize
     Some((address - from) as usize)
 }
 
-// Reads the entry that a walk asks for out of a stretch: a descriptor that joins the chain by it comes into
-// the list.
+// Reads the entry that a walk needs out of a stretch. If a descriptor joins the chain by it, the list has it
+// then.
 #[inline(always)]
 fn read_entry(
     walk: ChainWalk,
@@ -157,8 +157,8 @@ fn read_entry(
     given.then
 }
 
-/// Takes a walk through the bytes of a stretch, entry by entry, as long as the next one stands there, and no
-/// more than the stretch has.
+/// Takes a walk through the bytes of a stretch, entry by entry, as long as the next entry is in the stretch.
+/// It reads no more entries than the stretch has.
 #[inline(always)]
 pub(crate) fn read_stretch(
     walk: ChainWalk,

@@ -1,4 +1,4 @@
-//! Which addresses of a table a chain uses.
+//! The addresses of an IOMMU's table that a chain uses.
 
 ghost use Rattle.std.specs.Prelude.{◌≡◌, true, false, All};
 ghost use Rattle.fs_regions.specs.Using.{IsUntouched, Touches};
@@ -17,8 +17,8 @@ fn touches(descriptor: &Descriptor, iova: u64, len: u64) -> bool
     }
 }
 
-/// Whether a chain with these descriptors uses one of `len` addresses from one on. If it uses none, a VMM may
-/// change or remove their mappings while the chain is in flight: the chain's own addresses stay as they were
+/// Whether a chain with these descriptors uses one of `len` addresses from one on. If not, a VMM may change
+/// or remove their mappings while the chain is in flight: the chain's own mappings stay as they were
 /// (`law_others_stay`).
 pub fn uses(descriptors: &[Descriptor], iova: u64, len: u64) -> bool
     ensures used { result ≡ true → All (IsUntouched iova len) descriptors.now → ⊥ }

@@ -6,7 +6,7 @@ ghost use Rattle.fs_regions.specs.Walks.{asked_entries, asked_len, asked_by};
 use crate::entries::EntriesWalk;
 use fs_queue::{IndexWalk, RingEntryWalk};
 
-/// A walk that asks for a load. It is used up by the bytes that it is given: each load is made once.
+/// A walk that asks for a load. The bytes of the load use it up: each load is made once.
 #[derive(Debug, Drop)]
 pub enum QueueWalk {
     /// It asks for the available index.
@@ -30,8 +30,8 @@ impl QueueWalk {
         }
     }
 
-    /// How many entries of a table it asks for, whose descriptors may join the chain; 0 if it asks for a part
-    /// of the ring.
+    /// How many entries of a table it asks for, whose descriptors may join the chain; 0 if it asks for part
+    /// of the available ring.
     pub fn entries(&self) -> usize
         ensures entries { result ≡ asked_entries self.now }
         ensures few { result ≤ 256 }
