@@ -1,4 +1,4 @@
--- Walks of handles between whose calls others go on with the queue, or of which some calls were refused.
+-- Pops between whose calls others go on with the queue, or of which some calls were refused.
 use Rattle.std.specs.Prelude.{◌≡◌, ◌≤◌, ◌+◌, ℕ, List, [], ◌∷◌, Some, None, slice_get}
 use Rattle.fs_queue.specs.declared.fault.QueueError.{QueueError}
 use Rattle.fs_queue.specs.declared.fault.QueueError.TheVariants.{Stopped}
@@ -20,10 +20,10 @@ use Rattle.fs_chain.specs.declared.chain_handle.ChainHandle.{ChainHandle}
 use Rattle.fs_live.specs.Live.{Declines, Happens, LiveState, Walks, after_walk}
 use Rattle.fs_live.specs.Handles.{IsPopDone, IsHeld, counted, live_of}
 
--- a walk by calls of the handle, the last one first, which finds the queue as `now`. Before each of them but
--- the first others may have gone on with the queue, and calls of its own may have been refused, which left
--- the handle as it was; that no other chain was taken, and that the queue wasn't begun anew, the call tells
--- itself
+-- a pop by calls of the handle, the last one first, which finds the queue as `now`. Before each call but the
+-- first, others may have gone on with the queue. Calls of the pop itself may have been refused, which left
+-- the handle as it was. The call itself checks that no other chain was popped, and that the queue wasn't
+-- reset
 abbrev pub WalksAmong : (given : List (List ℕ)) → (old new : ChainHandle) → (before now after : QueueState) →
     went.LoadOutcome → Type 0
 WalksAmong [] old new before now after told = (now ≡ before) × BeginsPopBy old new before after told
@@ -35,7 +35,7 @@ WalksAmong (bs ∷ given) old new before now after told =
     × IsSame w v
     × GoesSo v now bs told new after
 
--- these loads came of the bytes of its calls
+-- the loads that result from the bytes of its calls
 abbrev pub LoadsAmong : (given : List (List ℕ)) → (old new : ChainHandle) → (before now after : QueueState) →
     (told : went.LoadOutcome) → WalksAmong given old new before now after told → Loaded → Type 0
 LoadsAmong [] old new before now after told walks loaded = loaded ≡ nothing
@@ -44,8 +44,8 @@ LoadsAmong (bs ∷ given) old new before now after told walks loaded =
     × LoadsAmong given old walks.0 before walks.2 walks.3 walks.4 walks.5 l
     × AddsSo walks.1.state told new.descriptors.items l (whole walks.1 bs) loaded
 
--- such a walk, of a queue that isn't stopped before the first call nor at the last one, is the event of a
--- walk by all its loads, at the moment of its last call
+-- such a pop is the event of a pop by all its loads, at the moment of its last call. Its queue must not be
+-- stopped before the first call or at the last one
 abbrev pub HandleWalksAmong : {F : Type 0} → May F → Type 0
 HandleWalksAmong {F} may =
     (s : LiveState F) (i : ℕ) (given : List (List ℕ)) (old new : ChainHandle) (before now after : QueueState)
@@ -69,7 +69,7 @@ HandleWalksAmong {F} may =
     ≡ Some (live_of after))
     × IsHeld s i (live_of now) loaded came new
 
--- what such a walk wants has a place, so that no call is refused for it
+-- each load that such a pop wants is mapped, so no call is refused for it
 abbrev pub WantedAmongHasAPlace : Type 0
 WantedAmongHasAPlace =
     (given : List (List ℕ)) (old new : ChainHandle) (before now after : QueueState)
@@ -80,14 +80,14 @@ WantedAmongHasAPlace =
     HasNoPlace new (came new) →
     ⊥
 
--- how many loads the calls of such a walk were given
+-- how many loads the calls of such a pop were given
 abbrev pub load_count_among : (given : List (List ℕ)) → (old new : ChainHandle) → (before now
     after : QueueState) → (told : went.LoadOutcome) → WalksAmong given old new before now after told → ℕ
 load_count_among [] old new before now after told walks = 0
 load_count_among (bs ∷ given) old new before now after told walks =
     counted told (load_count_among given old walks.0 before walks.2 walks.3 walks.4 walks.5)
 
--- they are as few as those of a walk alone, of one too that finds its queue stopped meanwhile
+-- they are as few as those of a pop alone, also if the pop finds its queue stopped meanwhile
 abbrev pub HandleLoadsAmong : Type 0
 HandleLoadsAmong =
     (given : List (List ℕ)) (old new : ChainHandle) (before now after : QueueState)
@@ -96,8 +96,8 @@ HandleLoadsAmong =
     (walks : WalksAmong given old new before now after told) →
     load_count_among given old new before now after told walks ≤ before.layout.size + 4
 
--- a walk that goes on and finds that its queue was stopped meanwhile is refused as each walk of a stopped
--- queue, whatever it has loaded: the handle is free, and the queue stays
+-- a pop that goes on and finds its queue stopped meanwhile is refused as each pop of a stopped queue, after
+-- any loads. The handle is free then, and the queue stays as it is
 abbrev pub HandleFindsStopped : {F : Type 0} → May F → Type 0
 HandleFindsStopped {F} may =
     (s : LiveState F) (i : ℕ) (bs : List ℕ) (w new : ChainHandle) (now after : QueueState)

@@ -1,4 +1,4 @@
--- What calls of handles, each with its chain, give a run, whatever other chains are out.
+-- Calls of handles, each with its chain, as events of a run, while any other chains are in flight.
 use Rattle.std.specs.Prelude.{◌≡◌, ◌≤◌, ◌<◌, ◌+◌, ◌^◌, ℕ, suc, Bool, true, false, IsTrue, List, [], ◌∷◌, ◌++◌}
 use Rattle.std.specs.Prelude.{length, drop, is_some, Option, Some, None, slice_get, option_map}
 use Rattle.std.specs.List.{AllByRecursion}
@@ -50,7 +50,7 @@ use Rattle.fs_live.specs.Live.{Happens, HasPlace, NoneWaits, acts_of, after_answ
 use Rattle.fs_live.specs.Live.{after_beginning, after_giving, after_walk, asked_chain, new_chain, room_of}
 use Rattle.fs_live.specs.Live.{serving, why_declined}
 
--- a kept queue, as a run has it
+-- a `QueueState` as a queue of a run
 abbrev pub live_of : QueueState → LiveQueue
 live_of q = record {
   queue = record (at_position q.layout q.next_avail) { stopped = is_some q.stopped };
@@ -59,14 +59,14 @@ live_of q = record {
   event_index = q.event_index;
 }
 
--- ---- walks
+-- ---- pops
 
--- a walk asks for no load more
+-- the pop wants no further load
 abbrev pub IsPopDone : walked.PopOutcome → Type 0
 IsPopDone (says.Load n) = ⊥
 IsPopDone _ = Unit {0}
 
--- a chain of a run by this limit, as the handle has it that walked it: its places are the handle's
+-- a chain of a run with this limit, in the handle that popped it: both have the same mappings
 pub record IsOut (limit : ℕ) (c : OutChain) (w : ChainHandle) : Type 0 where
   pub kept : QueueState
   pub pop_id : PopId
@@ -74,7 +74,7 @@ pub record IsOut (limit : ℕ) (c : OutChain) (w : ChainHandle) : Type 0 where
   pub taken : c.taken ≡ queue_of (course_of kept limit)
   pub state : w.state ≡ at.Taken (out_of (course_of kept limit) pop_id c.head c.descriptors)
 
--- a faulty one
+-- a faulty chain in its handle: its reply is known already, and is empty
 pub record IsFaultyOut (limit : ℕ) (c : OutChain) (w : ChainHandle) : Type 0 where
   pub kept : QueueState
   pub pop_id : PopId
@@ -82,7 +82,7 @@ pub record IsFaultyOut (limit : ℕ) (c : OutChain) (w : ChainHandle) : Type 0 w
   pub taken : c.taken ≡ queue_of (course_of kept limit)
   pub state : w.state ≡ at.HasReply (faulty_out (course_of kept limit) pop_id c.head) no_reply
 
--- the handle has the chain to which its walk came
+-- the handle has the chain that its pop returned
 abbrev pub IsHeld :
     {F : Type 0} → LiveState F → (i : ℕ) → LiveQueue → Loaded → comes.CourseStep → ChainHandle → Type 0
 IsHeld s i q loaded (step.Chain head None) w =
@@ -91,7 +91,7 @@ IsHeld s i q loaded (step.Chain head (Some why)) w =
     IsFaultyOut s.limit (new_chain s i q loaded w.descriptors.items head (Some why)) w
 IsHeld s i q loaded _ w = Unit {0}
 
--- a walk by calls of the handle, of a queue that isn't stopped, is the event of a walk by all its loads; the
+-- a pop by calls of the handle, of a queue that isn't stopped, is the event of a pop by all its loads. The
 -- queue is then as the calls left it: a refusal has stopped it
 abbrev pub HandleWalks : {F : Type 0} → May F → Type 0
 HandleWalks {F} may =
@@ -114,20 +114,20 @@ HandleWalks {F} may =
     ≡ Some (live_of after))
     × IsHeld s i (live_of before) loaded came new
 
--- one load more, if a call wasn't given only a part of it
+-- one load more, unless the call was given only a part of it
 abbrev pub counted : went.LoadOutcome → ℕ → ℕ
 counted wents.Part n = n
 counted (wents.On told) n = suc n
 
--- how many loads the calls of a walk were given
+-- how many loads the calls of a pop were given
 abbrev pub load_count : (given : List (List ℕ)) (old new : ChainHandle) (before after : QueueState)
     (told : went.LoadOutcome) → WalksBy given old new before after told → ℕ
 load_count [] old new before after told walks = 0
 load_count (bs ∷ given) old new before after told walks =
     counted told (load_count given old walks.0 before walks.1 walks.2 walks.3)
 
--- whatever the guest writes meanwhile, they are few, of a walk too that hasn't ended: the index, the ring's
--- entry, and at most size + 2 of tables
+-- the loads of a pop are few, also of one that hasn't ended, and while the guest writes: the index, the
+-- ring's entry, and at most size + 2 of tables
 abbrev pub HandleLoads : Type 0
 HandleLoads =
     (given : List (List ℕ)) (old new : ChainHandle) (before after : QueueState) (told : went.LoadOutcome) →
@@ -135,7 +135,7 @@ HandleLoads =
     (walks : WalksBy given old new before after told) →
     load_count given old new before after told walks ≤ before.layout.size + 4
 
--- a walk of a queue that is stopped, or whose event index has no place, is refused by its first call: no load
+-- a pop of a queue that is stopped, or whose event index isn't mapped, is refused by its first call: no load
 -- was made
 abbrev pub HandleDeclines : {F : Type 0} → May F → Type 0
 HandleDeclines {F} may =
@@ -151,29 +151,29 @@ HandleDeclines {F} may =
     × Happens may s (Declines i e) next
     × (slice_get next.queues i ≡ Some (live_of after))
 
--- ---- askings and answers
+-- ---- decoding and answers
 
--- what is told of a request, as the calls of a run: none, or the one that waits
+-- the calls that a decoding returns, as the calls of a run: none, or the one that is pending
 abbrev pub calls_told : (behind : List ℕ) → told.Decoded → List FileCall
 calls_told behind (asks.Call made) = call_of behind made ∷ []
 calls_told behind _ = []
 
--- the first bytes told what is asked; an asking that wants more of them is no event, of which the handle
--- keeps the session alone
+-- the given bytes were enough to decode the request. A decoding that wants more bytes is no event: the handle
+-- keeps only its session
 abbrev pub IsDecodedWhole : told.Decoded → Type 0
 IsDecodedWhole (asks.More n) = ⊥
 IsDecodedWhole _ = Unit {0}
 
--- a state that a run comes to, from one of which no chain is out
+-- a state that a run reaches from a state without chains in flight
 abbrev pub IsReached : {F : Type 0} → May F → LiveState F → Type 0
 IsReached {F} may s =
     (start : LiveState F) × (es : List LiveEvent) × (start.outs ≡ []) × LiveRun may start es s
 
--- a session, as a run has it
+-- a session with the page size and the options of a run
 abbrev pub IsSessionOf : {F : Type 0} → LiveState F → Session → Type 0
 IsSessionOf s session = (session.page_size ≡ s.page_size) × (session.options.0 ≡ s.options)
 
--- what a handle keeps of a chain of a run that was asked
+-- the handle's state after it decoded the request of a chain of a run
 pub record IsKept (page_size options : ℕ) (request : List ℕ) (c : OutChain) (made : told.Decoded)
     (w : ChainHandle) : Type 0 where
   pub out : InFlight
@@ -185,7 +185,7 @@ pub record IsKept (page_size options : ℕ) (request : List ℕ) (c : OutChain) 
       (drop 80 request) out made w.state
   pub session : (w.session.page_size ≡ page_size) × (w.session.options.0 ≡ options)
 
--- a handle that is asked is the event of asking; it keeps what was asked
+-- a decoding by a handle is the event `Asks`; the handle keeps the decoded request
 abbrev pub HandleAsks : {F : Type 0} → May F → Type 0
 HandleAsks {F} may =
     (s : LiveState F) (c : OutChain) (before behind : List OutChain) (w w' : ChainHandle) (session : Session)
@@ -202,8 +202,8 @@ HandleAsks {F} may =
     (after_asking s before behind c request)
     × IsKept s.page_size s.options request (asked_chain c request s.options []) made w'
 
--- a call that a handle answers is the event of answering; the handle's session then has the options that the
--- chain leaves by itself
+-- an answer by a handle is the event `Answers`; the handle's session then has the options that the chain
+-- leaves by itself
 abbrev pub HandleAnswers : {F : Type 0} → May F → Type 0
 HandleAnswers {F} may =
     (s : LiveState F) (c : OutChain) (before behind : List OutChain) (w w' : ChainHandle) (request : List ℕ)
@@ -222,9 +222,11 @@ HandleAnswers {F} may =
     × (w'.session.options.0
     ≡ (serving s.page_size options options request (room_of c) ((call, answer) ∷ [])).options)
 
--- so is each call of a chain, whichever came before it: the reading of a directory and the look-ups of the
--- entries that are brought to the listing, and the FORGET of an entry of which the guest isn't told; with the
--- last one the handle's session has the options that the chain leaves by itself
+-- so is each call of a chain, after any calls before it:
+-- - the reading of a directory
+-- - the look-up of an entry that the caller adds to the listing
+-- - the FORGET of an entry that the reply leaves out
+-- After the last call, the handle's session has the options that the chain leaves by itself
 abbrev pub HandleCalls : {F : Type 0} → May F → Type 0
 HandleCalls {F} may =
     (s : LiveState F) (c : OutChain) (before behind : List OutChain) (w w' : ChainHandle) (request : List ℕ)
@@ -242,25 +244,25 @@ HandleCalls {F} may =
     × (later ≡ [] →
     w'.session.options.0 ≡ (serving s.page_size options options request (room_of c) calls).options)
 
--- DESTROY ends what was agreed
+-- DESTROY ends the negotiated options
 abbrev pub is_destroy : FileCall → Bool
 is_destroy Destroy = true
 is_destroy _ = false
 
--- INIT is agreed on
+-- the answer to INIT with which options are negotiated
 abbrev pub agrees : FileAnswer → Bool
 agrees (Wants wanted) = true
 agrees _ = false
 
--- whether the answers to what is asked change the session's options: that of DESTROY does, and the one by
--- which INIT is agreed on
+-- whether the answers to a request change the session's options: the one to DESTROY does, and the one to INIT
+-- with which options are negotiated
 abbrev pub changes_options : Meaning → List FileAnswer → Bool
 changes_options (grammar.Asks (One unique call)) (a ∷ answers) = is_destroy call
 changes_options (grammar.Asks (Starts unique capable readahead)) (a ∷ answers) = agrees a
 changes_options m answers = false
 
--- the options of the session after an answer: unless it changes them, those of this moment stay, and not
--- those of the asking; else they are the same by both
+-- the options of the session after an answer. An answer that doesn't change them leaves those of this moment,
+-- not those of the decoding. An answer that changes them leaves the same options from both
 abbrev pub OptionsStay : Type 0
 OptionsStay =
     (page_size asked now room : ℕ) (m : Meaning) (answers : List FileAnswer) →
@@ -271,8 +273,8 @@ OptionsStay =
 
 -- ---- returns
 
--- what was stored and loaded for a chain is the event of its return, at the position where its queue's next
--- one goes back; the two bytes that are seen are told to stand where they do
+-- the stores and loads for a chain are the event of its return, at its queue's next used position. `seen_at`
+-- of the stores is the address of the two bytes that are seen
 abbrev pub IsReturn : {F : Type 0} → May F → LiveState F → (before behind : List OutChain) → OutChain →
     QueueState → List Act → (last : ℕ) → (notice : Bool) → PushStores → Type 0
 IsReturn {F} may s before behind c kept acts last notice stores =
@@ -282,8 +284,8 @@ IsReturn {F} may s before behind c kept acts last notice stores =
     × (slice_get (after_giving s before behind c (live_of kept)).queues c.queue ≡ Some (live_of (gave kept)))
     × (stores.seen_at ≡ seen_at (live_of kept))
 
--- a chain whose calls were answered and that a handle returns is the event of its return, whichever chains of
--- its queue were taken and went back meanwhile
+-- the return by a handle of a chain whose calls were answered is the event `Returns`. Any chains of its queue
+-- may have been popped and returned meanwhile
 abbrev pub HandleReturns : {F : Type 0} → May F → Type 0
 HandleReturns {F} may =
     (s : LiveState F) (c : OutChain) (before behind : List OutChain) (w w' : ChainHandle) (kept : QueueState)
@@ -299,7 +301,7 @@ HandleReturns {F} may =
     (back : GoesBackBy kept (room_of c) (data_behind given) w'.state acts last notice) →
     IsReturn may s before behind c kept acts last notice back.stores
 
--- so is the return of a faulty chain, with nothing
+-- so is the return of a faulty chain, with an empty reply
 abbrev pub HandleFaulty : {F : Type 0} → May F → Type 0
 HandleFaulty {F} may =
     (s : LiveState F) (c : OutChain) (before behind : List OutChain) (w : ChainHandle) (kept : QueueState)
@@ -314,9 +316,9 @@ HandleFaulty {F} may =
 
 -- ---- queues
 
--- what is stored to be told of the next chain or of none is the event before a sleep, where it has a place:
--- with the event index it has one, unless the queue is declined; that nothing is stored is the event index's
--- answer where none is wanted
+-- the store that enables or disables notifications is the event before a sleep, if its address is mapped.
+-- With the event index it is mapped, unless the queue is declined. There is no store only with the event
+-- index, when notifications are to be disabled
 abbrev pub IsSleep : {F : Type 0} → May F → LiveState F → (i : ℕ) → QueueState → (wanted : Bool) →
     Option NotificationStore → Type 0
 IsSleep may s i kept wanted (Some store) =
@@ -333,9 +335,9 @@ HandleSleeps {F} may =
     option_map store_of store ≡ notification_store kept wanted →
     IsSleep may s i kept wanted store
 
--- a queue that a call begins anew is the event of its beginning, once no call of its chains waits; how many
--- may be out, from one to as many as it has descriptors, the event index, and whether it is stopped, may be
--- others from then on
+-- the reset of a queue is the event `Begins`, once no call of its chains is pending. From then on three
+-- things may differ: how many chains may be in flight, from one to as many as the queue has descriptors; the
+-- event index; and whether the queue is stopped
 abbrev pub HandleBegins : {F : Type 0} → May F → Type 0
 HandleBegins {F} may =
     (s : LiveState F) (i : ℕ) (kept after : QueueState) (layout : QueueLayout) (position max_in_flight : ℕ)

@@ -1,4 +1,4 @@
--- INIT is answered while the call of a chain that was asked before it still waits.
+-- INIT is answered while the call of a chain that was decoded before it is still pending.
 use Rattle.std.specs.Prelude.{ℕ, true, List, [], ◌∷◌, ◌++◌, ◌^◌, Some, None}
 use Rattle.fs_queue.specs.Chain.{Descriptor}
 use Rattle.fs_queue.specs.Returning.{Store}
@@ -28,7 +28,7 @@ looks = Lookup nobody 1 (97 ∷ [])
 abbrev pub starts : FileCall
 starts = Init 1
 
--- what the first walk loads: an index of 2, head 0, and the table's first two entries
+-- the loads of the first pop: an index of 2, head 0, and the table's first two entries
 abbrev pub first_loads : Loaded
 first_loads =
     record {
@@ -37,7 +37,7 @@ first_loads =
       entries = entry 0 (descriptor_bytes 0x1000 42 1 1) ∷ entry 16 (descriptor_bytes 0x2000 144 2 0) ∷ [];
     }
 
--- what the second one loads: head 2, and the other two
+-- the loads of the second pop: head 2, and the other two entries
 abbrev pub second_loads : Loaded
 second_loads =
     record {
@@ -58,7 +58,7 @@ second_table =
     record { addr = 0x3000; len = 56; flags = 1; next = 3 }
     ∷ record { addr = 0x4000; len = 80; flags = 2; next = 0 } ∷ []
 
--- the first chain, as it is taken
+-- the first chain, as it is popped
 abbrev pub first : OutChain
 first =
     record {
@@ -71,7 +71,7 @@ first =
       phase = Fetched;
     }
 
--- the second one
+-- the second chain, as it is popped
 abbrev pub second : OutChain
 second =
     record {
@@ -84,23 +84,23 @@ second =
       phase = Fetched;
     }
 
--- the first one was asked without options
+-- the first chain was decoded without options
 abbrev pub first_asked : OutChain
 first_asked = record first { phase = Asked lookup 0 [] }
 
--- it was answered
+-- LOOKUP was answered
 abbrev pub first_answered : OutChain
 first_answered = record first { phase = Asked lookup 0 ((looks, Failed 2) ∷ []) }
 
--- the second one was asked without options too
+-- the second chain was decoded without options too
 abbrev pub second_asked : OutChain
 second_asked = record second { phase = Asked init 0 [] }
 
--- it was answered: the file system asks for no option besides
+-- INIT was answered: the file system wants no further option
 abbrev pub second_answered : OutChain
 second_answered = record second { phase = Asked init 0 ((starts, Wants 0) ∷ []) }
 
--- ENOENT
+-- the reply to LOOKUP: ENOENT
 abbrev pub first_exchange : Exchange
 first_exchange =
     record {
@@ -110,7 +110,7 @@ first_exchange =
       fault = None;
     }
 
--- struct fuse_init_out, with option 1
+-- the reply to INIT: struct fuse_init_out, with option 1
 abbrev pub second_exchange : Exchange
 second_exchange = record {
   head = 2;
@@ -120,20 +120,20 @@ second_exchange = record {
   fault = None;
 }
 
--- INIT's chain goes to the used ring's first element
+-- INIT's chain is in the used ring's first element
 abbrev pub second_used : List Store
 second_used =
     record { address = 0x204; bytes = le32 2 } ∷ record { address = 0x208; bytes = le32 80 }
     ∷ record { address = 0x202; bytes = le16 1 } ∷ []
 
--- the other one goes to the second element
+-- LOOKUP's chain is in the second element
 abbrev pub first_used : List Store
 first_used =
     record { address = 0x20c; bytes = le32 0 } ∷ record { address = 0x210; bytes = le32 16 }
     ∷ record { address = 0x202; bytes = le16 2 } ∷ []
 
--- the session has option 1 from INIT's answer on; the chain that was asked before it is answered by the
--- options of its asking, and leaves them
+-- the session has option 1 from INIT's answer on. The chain that was decoded before is answered with the
+-- options of its decoding, and leaves option 1 in the session
 abbrev pub InitBeside : {F : Type 0} → May F → Type 0
 InitBeside {F} may =
     (before between after : F) →

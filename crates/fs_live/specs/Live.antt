@@ -1,5 +1,4 @@
--- A run of chains that are out of several queues at once, in the order in which things happen, for a guest
--- that writes meanwhile (VIRTIO 1.2, 2.7).
+-- A run of chains in flight on several queues, event by event, while the guest writes (VIRTIO 1.2, 2.7).
 use Rattle.std.specs.Prelude.{◌≡◌, ◌≤◌, ◌<◌, ◌+◌, ◌%◌, ◌^◌, ℕ, Bool, true, not, map, ◌==◌, IsTrue, List, []}
 use Rattle.std.specs.Prelude.{◌∷◌, ◌++◌, length, filter, Option, Some, None, slice_get, if◌then◌else◌}
 use Rattle.std.specs.List.{AllByRecursion, Contains}
@@ -28,9 +27,13 @@ use Rattle.fs_live.specs.Several.{untook, used_event_at, wants}
 
 -- ---- states
 
--- how far a chain is that is out: at fault, so it goes back with nothing; not asked yet; asked by a request
--- as it was loaded, in the options of that moment, with the calls that were answered; replied by bytes of its
--- caller's own; or lost, since its handle was freed: nothing more is done with it
+-- the phase of a chain in flight:
+-- - `Faulty`: it is to be returned with an empty reply
+-- - `Fetched`: its request isn't decoded yet
+-- - `Asked`: its request was decoded as it was loaded, with the options of that moment; these calls were
+--   answered
+-- - `Own`: its caller replied with bytes of its own
+-- - `Lost`: its handle was freed, so nothing more is done with it
 pub data Phase : Type 0 where
   Faulty : ChainFault → Phase
   Fetched : Phase
@@ -38,8 +41,8 @@ pub data Phase : Type 0 where
   Own : (request reply : List ℕ) → Phase
   Lost : Option ChainFault → Phase
 
--- a chain that is out: the places as they were when it was taken; of which queue, as it was before the chain
--- was taken; the loads of its walk, its descriptors and its head; and how far it is
+-- a chain in flight: the mappings when it was popped; its queue, as it was before the pop; the loads of the
+-- pop, the descriptors and the head; and its phase
 pub record OutChain : Type 0 where
   pub places : Memory
   pub queue : ℕ
@@ -49,34 +52,34 @@ pub record OutChain : Type 0 where
   pub head : ℕ
   pub phase : Phase
 
--- what is wrong with it
+-- the fault with which the chain was popped
 abbrev pub fault_of : Phase → Option ChainFault
 fault_of (Faulty why) = Some why
 fault_of (Lost fault) = fault
 fault_of _ = None
 
--- the addresses of its room: a faulty chain has none, and a lost one needs none
+-- the addresses of the reply buffer: a faulty chain has none, and a lost one needs none
 abbrev pub room_in : Phase → List Descriptor → List ℕ
 room_in (Faulty why) ds = []
 room_in (Lost fault) ds = []
 room_in _ ds = addresses_of (writable ds)
 
--- a chain that was asked by this request, in these options, with these calls
+-- a chain that was decoded from this request, with these options, and whose calls so far are these
 abbrev pub asked_chain : OutChain → (request : List ℕ) → (options : ℕ) → Calls → OutChain
 asked_chain c request options calls = record c { phase = Asked request options calls }
 
--- of a chain's room
+-- the addresses of the chain's reply buffer, in its phase
 abbrev pub room_of : OutChain → List ℕ
 room_of c = room_in c.phase c.descriptors
 
--- the calls that were answered for it
+-- the calls of a chain that were answered so far
 abbrev pub calls_in : Phase → Calls
 calls_in (Asked request options calls) = calls
 calls_in _ = []
 
--- the device beside a guest that runs: of memory the places alone, which no store changes, as they are now;
--- the queues; the options of the session; the chains that are out, the first one taken first; and the file
--- system
+-- the device beside a guest that runs. Of the memory it has only the mappings as they are now, which no store
+-- changes. It has the queues, the options of the session, the chains in flight (the first one popped first),
+-- and the file system
 pub record LiveState (F : Type 0) : Type 0 where
   pub places : Memory
   pub limit : ℕ
@@ -88,58 +91,58 @@ pub record LiveState (F : Type 0) : Type 0 where
 
 -- ---- events
 
--- what happens
+-- an event of the device
 pub data LiveEvent : Type 0 where
-  -- a walk through what waits in queue i came to this by these loads, with these descriptors
+  -- a pop of queue i ended with this after these loads, with these descriptors
   Walks : (i : ℕ) → Loaded → List Descriptor → comes.CourseStep → LiveEvent
-  -- queue i was refused to a walk by this, before anything was loaded, or since it was stopped meanwhile
+  -- a pop of queue i was refused with this error, before any load, or because the queue was stopped meanwhile
   Declines : (i : ℕ) → QueueError → LiveEvent
-  -- a chain that is out was asked by this request: the call that is told first, or none
+  -- the request of a chain in flight was decoded: its first call, or none
   Asks : OutChain → (request : List ℕ) → (told : List FileCall) → LiveEvent
-  -- its call was answered
+  -- the pending call of the chain was answered
   Answers : OutChain → FileCall → FileAnswer → LiveEvent
-  -- it went back: how many bytes of the reply were stored last, the stores behind the reply, and the two
-  -- bytes that tell whether the driver wants to be told, as they stand at `seen_at`
+  -- it was returned. `last` bytes of the reply were stored last, and the stores `used` after the reply. The
+  -- two bytes at `seen_at` say whether the driver enabled the notification
   Returns :
       OutChain → Exchange → (notice : Bool) → (last : ℕ) → (used : List Store) → (seen : List ℕ) → LiveEvent
-  -- before it sleeps, and where it wakes, the device asks to be told of queue i, or not to be
+  -- before the device sleeps, and when it wakes, it enables or disables the notifications of queue i
   Sleeps : (i : ℕ) → Store → LiveEvent
-  -- queue i is begun anew
+  -- queue i is reset
   Begins : (i : ℕ) → LiveQueue → LiveEvent
-  -- in the room of a chain that is out some bytes are stored before it goes back, which its reply may count
-  -- or not
+  -- before a chain in flight is returned, some bytes are stored in its reply buffer, which its reply may
+  -- count or not
   Fills : OutChain → List Store → LiveEvent
-  -- a chain that was taken last of its queue, and wasn't asked, is given up: it waits again
+  -- the chain popped last from its queue, and not decoded, is given up: it is available again
   Drops : OutChain → LiveEvent
-  -- the handle of a chain is freed, wherever the chain is: it stays out
+  -- the handle of a chain is freed in any phase: the chain stays in flight
   Abandons : OutChain → LiveEvent
-  -- a request is replied by bytes of the caller's own, in place of the asking or of the answer that its call
-  -- waits for; the options of the session are his to set then
+  -- the caller replies to a request with bytes of its own, instead of decoding it or of answering its pending
+  -- call; it may set the options of the session then
   Replies : OutChain → (request reply : List ℕ) → (options : ℕ) → LiveEvent
-  -- addresses have other places from now on: regions, or mappings
+  -- addresses have other mappings from now on: those of other regions, or others in the same regions
   Maps : Memory → LiveEvent
-  -- the device moves: a record of it is made here, and there, over these places, its queues are begun by it
+  -- the device moves: a record of it is made here, and its queues are reset by it there, over these mappings
   Moves : Memory → List LiveQueue → LiveEvent
 
--- what the server does for a chain by its answers so far, in the options at its asking; `now`: those that
--- stand by the answer
+-- the server's work for a chain after its answers so far, with the options of its decoding; `now`: the
+-- options at the moment of the answer
 abbrev pub serving :
     (page_size options now : ℕ) → (request : List ℕ) → (room : List ℕ) → Calls → ServedMessage
 serving page_size options now request room calls =
     served (setting page_size now (length room)) (meaning options request (length room)) (answers_alone calls)
 
--- another queue in the place of queue i
+-- queue i is replaced by another queue
 abbrev pub with_live : {F : Type 0} → LiveState F → ℕ → LiveQueue → LiveState F
 with_live s i w = record s { queues = changed_at s.queues i (λ _. w) }
 
--- ---- what happens
+-- ---- how each event happens
 
--- a chain that is taken isn't asked yet, or it is at fault
+-- a popped chain isn't decoded yet, or it is faulty
 abbrev pub phase_by : Option ChainFault → Phase
 phase_by None = Fetched
 phase_by (Some why) = Faulty why
 
--- a chain as a walk comes to it
+-- a chain as it is popped
 abbrev pub new_chain : {F : Type 0} → LiveState F → ℕ → LiveQueue → Loaded → List Descriptor → (head : ℕ) →
     Option ChainFault → OutChain
 new_chain s i w loaded ds head fault =
@@ -153,11 +156,11 @@ new_chain s i w loaded ds head fault =
       phase = phase_by fault;
     }
 
--- it is out, and the queue's next chain stands at the next position
+-- the chain is in flight, and the queue's next chain is popped from the next position
 abbrev pub after_take : {F : Type 0} → LiveState F → ℕ → LiveQueue → OutChain → LiveState F
 after_take s i w c = record s { queues = changed_at s.queues i (λ _. took w); outs = s.outs ++ c ∷ [] }
 
--- what a walk comes to in a queue
+-- how a pop of a queue ends
 abbrev pub WalksIn : {F : Type 0} → LiveState F → ℕ → LiveQueue → Loaded → List Descriptor →
     comes.CourseStep → LiveState F → Type 0
 WalksIn s i w loaded ds (step.Load walk) after = ⊥
@@ -169,15 +172,14 @@ WalksIn s i w loaded ds (step.Chain head fault) after =
     FetchesBy s.places s.limit w.queue loaded ds head fault
     × (after ≡ after_take s i w (new_chain s i w loaded ds head fault))
 
--- the state after a walk
 abbrev pub after_walk :
     {F : Type 0} → LiveState F → ℕ → LiveQueue → Loaded → List Descriptor → comes.CourseStep → LiveState F
 after_walk s i w loaded ds (step.Refused e) = with_live s i (record w { queue = after_refusal w.queue e })
 after_walk s i w loaded ds (step.Chain head fault) = after_take s i w (new_chain s i w loaded ds head fault)
 after_walk s i w loaded ds _ = s
 
--- why a queue isn't walked, or not on: it is stopped, or it has the event index, and used_event or
--- avail_event has no place
+-- why a pop is refused before a load, or before its next one: the queue is stopped, or it has the event
+-- index, and used_event or avail_event isn't mapped
 abbrev pub why_declined : Memory → LiveQueue → Option QueueError
 why_declined m w =
     if w.queue.stopped then Some Stopped
@@ -186,8 +188,8 @@ why_declined m w =
     else if not (reach m Write (avail_event_at w.queue) 2) then Some UsedUnreachable
     else None
 
--- a queue that there is and that isn't declined is walked, if one more of its chains may be out: it isn't
--- stopped, and with the event index used_event and avail_event have places
+-- a pop of a queue that exists and isn't declined, if one more of its chains may be in flight. The queue
+-- isn't stopped, and with the event index used_event and avail_event are mapped
 pub record WalksSo {F : Type 0} (s : LiveState F) (i : ℕ) (loaded : Loaded) (ds : List Descriptor)
     (came : comes.CourseStep) (after : LiveState F) : Type 0 where
   pub w : LiveQueue
@@ -196,7 +198,7 @@ pub record WalksSo {F : Type 0} (s : LiveState F) (i : ℕ) (loaded : Loaded) (d
   pub goes : why_declined s.places w ≡ None
   pub walks : WalksIn s i w loaded ds came after
 
--- a walk of a queue is refused so, if one more of its chains may be out
+-- a pop of a queue is refused with this error, if one more of its chains may be in flight
 pub record DeclinesSo {F : Type 0} (s : LiveState F) (i : ℕ) (e : QueueError) (after : LiveState F) :
     Type 0 where
   pub w : LiveQueue
@@ -205,13 +207,12 @@ pub record DeclinesSo {F : Type 0} (s : LiveState F) (i : ℕ) (e : QueueError) 
   pub why : why_declined s.places w ≡ Some e
   pub state : after ≡ with_live s i (record w { queue = after_refusal w.queue e })
 
--- the state after an asking
 abbrev pub after_asking :
     {F : Type 0} → LiveState F → (before behind : List OutChain) → OutChain → (request : List ℕ) → LiveState F
 after_asking s before behind c request =
     record s { outs = before ++ asked_chain c request s.options [] ∷ behind }
 
--- a chain that is out is asked, in the options of this moment
+-- a chain in flight is decoded, with the options of this moment
 pub record AsksSo {F : Type 0} (s : LiveState F) (c : OutChain) (request : List ℕ) (told : List FileCall)
     (after : LiveState F) : Type 0 where
   pub before : List OutChain
@@ -231,8 +232,8 @@ after_answer s before behind c request options calls files = record s {
   files = files;
 }
 
--- its call is answered, as the file system may by now: the call is the one that waits behind those that were
--- answered; an answer of INIT or DESTROY changes the session's options
+-- the pending call of a chain is answered, as the file system may answer by now. It is the call after those
+-- that were answered. An answer to INIT or DESTROY changes the session's options
 pub record AnswersSo {F : Type 0} (may : May F) (s : LiveState F) (c : OutChain) (call : FileCall)
     (answer : FileAnswer) (after : LiveState F) : Type 0 where
   pub before : List OutChain
@@ -249,12 +250,12 @@ pub record AnswersSo {F : Type 0} (may : May F) (s : LiveState F) (c : OutChain)
   pub may_so : may s.files call answer files
   pub state : after ≡ after_answer s before behind c request options (calls ++ (call, answer) ∷ []) files
 
--- a request is replied by bytes of the caller's own
+-- the exchange of a request that its caller replied to with bytes of its own
 abbrev pub own_exchange : (head : ℕ) → (request reply : List ℕ) → Exchange
 own_exchange head request reply = record { head = head; request = request; reply = reply; fault = None }
 
--- with what a chain goes back: nothing, if it is at fault; the reply, once no call waits; its caller's own
--- bytes
+-- the exchange with which a chain is returned: an empty reply, if it is faulty; the server's reply, once no
+-- call is pending; or its caller's own bytes
 abbrev pub GoesBackWith : (page_size : ℕ) → OutChain → Phase → Exchange → Type 0
 GoesBackWith page_size c (Faulty why) x = x ≡ faulty c.head why
 GoesBackWith page_size c Fetched x = ⊥
@@ -264,13 +265,12 @@ GoesBackWith page_size c (Asked request options calls) x =
     let given = serving page_size options options request (room_of c) calls in
     (given.calls ≡ calls_alone calls) × (x ≡ served_exchange c.head request given)
 
--- the state after a return
 abbrev pub after_giving :
     {F : Type 0} → LiveState F → (before behind : List OutChain) → OutChain → LiveQueue → LiveState F
 after_giving s before behind c w =
     record s { queues = changed_at s.queues c.queue (λ _. gave w); outs = before ++ behind }
 
--- a chain goes back, at the queue's next used position, whichever was taken first
+-- a chain is returned at its queue's next used position, in any order of the pops
 pub record ReturnsSo {F : Type 0} (s : LiveState F) (c : OutChain) (x : Exchange) (notice : Bool) (last : ℕ)
     (used : List Store) (seen : List ℕ) (after : LiveState F) : Type 0 where
   pub before : List OutChain
@@ -284,11 +284,11 @@ pub record ReturnsSo {F : Type 0} (s : LiveState F) (c : OutChain) (x : Exchange
   pub told : notice ≡ wants w seen
   pub state : after ≡ after_giving s before behind c w
 
--- two bytes have a place there to be written
+-- two writable bytes are mapped at this address
 abbrev pub HasPlace : Memory → (address : ℕ) → Type 0
 HasPlace m address = reach m Write address 2 ≡ true
 
--- the device asks to be told of the next chain, or of none, by a store that has a place
+-- the device enables or disables notifications by a store to a mapped address
 pub record SleepsSo {F : Type 0} (s : LiveState F) (i : ℕ) (store : Store) (after : LiveState F) :
     Type 0 where
   pub w : LiveQueue
@@ -298,27 +298,27 @@ pub record SleepsSo {F : Type 0} (s : LiveState F) (i : ℕ) (store : Store) (af
   pub place : HasPlace s.places store.address
   pub state : after ≡ s
 
--- no call of a queue's chains waits for its answer
+-- no call of the chain is pending, if it is of queue i
 abbrev pub NoneWaits : (page_size i : ℕ) → OutChain → Phase → Type 0
 NoneWaits page_size i c (Asked request options calls) =
     c.queue ≡ i → (serving page_size options options request (room_of c) calls).calls ≡ calls_alone calls
 NoneWaits page_size i c _ = Unit {0}
 
--- the state after a beginning
+-- the state after a reset: no chain of the queue is in flight
 abbrev pub after_beginning : {F : Type 0} → LiveState F → ℕ → LiveQueue → LiveState F
 after_beginning s i w =
     record s { queues = changed_at s.queues i (λ _. w); outs = filter (λ c. not (c.queue == i)) s.outs }
 
--- where the next chain is taken the next one goes back, at a position of 16 bits
+-- the next chain is popped and returned at the same position, of 16 bits
 abbrev pub IsEven : LiveQueue → Type 0
 IsEven w = (w.next_used ≡ w.queue.position) × (w.queue.position < 2 ^ 16)
 
--- from one chain to as many as a queue has descriptors may be out of it
+-- from one chain to as many as a queue has descriptors may be in flight
 abbrev pub MayBeOut : LiveQueue → Type 0
 MayBeOut w = (1 ≤ w.max_in_flight) × (w.max_in_flight ≤ w.queue.size)
 
--- a queue is begun anew once each call of its chains was answered: they are out no more. It may be stopped
--- from then on, as one is that was brought back so
+-- a queue is reset once each call of its chains was answered: they are no longer in flight. It may be stopped
+-- from then on, as a queue that is restored stopped
 pub record BeginsSo {F : Type 0} (s : LiveState F) (i : ℕ) (w : LiveQueue) (after : LiveState F) :
     Type 0 where
   pub old : LiveQueue
@@ -328,11 +328,11 @@ pub record BeginsSo {F : Type 0} (s : LiveState F) (i : ℕ) (w : LiveQueue) (af
   pub none_waits : AllByRecursion (λ c. NoneWaits s.page_size i c c.phase) s.outs
   pub state : after ≡ after_beginning s i w
 
--- each address of a store is one of some
+-- each address of a store is in the reply buffer
 abbrev pub IsStoredIn : List ℕ → Store → Type 0
 IsStoredIn room store = AllByRecursion (λ a. Contains room a) (addresses store.address (length store.bytes))
 
--- stores in a chain's room change nothing of the state
+-- stores in a chain's reply buffer change nothing of the state
 pub record FillsSo {F : Type 0} (s : LiveState F) (c : OutChain) (stores : List Store) (after : LiveState F) :
     Type 0 where
   pub before : List OutChain
@@ -341,15 +341,14 @@ pub record FillsSo {F : Type 0} (s : LiveState F) (c : OutChain) (stores : List 
   pub within : AllByRecursion (IsStoredIn (room_of c)) stores
   pub state : after ≡ s
 
--- ---- chains that don't go back by an answer
+-- ---- chains that end without an answer
 
--- the state after a giving up
 abbrev pub after_drop :
     {F : Type 0} → LiveState F → (before behind : List OutChain) → OutChain → LiveQueue → LiveState F
 after_drop s before behind c w =
     record s { queues = changed_at s.queues c.queue (λ _. untook w); outs = before ++ behind }
 
--- a chain that wasn't asked, and behind which none of its queue was taken, is out no more
+-- a chain that wasn't decoded, and after which none of its queue was popped, is no longer in flight
 pub record DropsSo {F : Type 0} (s : LiveState F) (c : OutChain) (after : LiveState F) : Type 0 where
   pub before : List OutChain
   pub behind : List OutChain
@@ -360,36 +359,36 @@ pub record DropsSo {F : Type 0} (s : LiveState F) (c : OutChain) (after : LiveSt
   pub is_last : w.queue.position ≡ (c.taken.position + 1) % 2 ^ 16
   pub state : after ≡ after_drop s before behind c w
 
--- a chain that is lost
+-- a lost chain keeps its fault
 abbrev pub lost_chain : OutChain → OutChain
 lost_chain c = record c { phase = Lost (fault_of c.phase) }
 
--- the state after the freeing of a handle
+-- the state after a handle is freed
 abbrev pub after_loss : {F : Type 0} → LiveState F → (before behind : List OutChain) → OutChain → LiveState F
 after_loss s before behind c = record s { outs = before ++ lost_chain c ∷ behind }
 
--- a chain is lost to its queue, wherever it was. What the file system did by then for a call that waits is
--- its answer (`Answers`) before
+-- a chain is lost to its queue, in any phase. If the file system did its pending call by then, the answer
+-- (`Answers`) is an event before this one
 pub record AbandonsSo {F : Type 0} (s : LiveState F) (c : OutChain) (after : LiveState F) : Type 0 where
   pub before : List OutChain
   pub behind : List OutChain
   pub out : s.outs ≡ before ++ c ∷ behind
   pub state : after ≡ after_loss s before behind c
 
--- the request of a chain that its caller may reply to: it wasn't asked, or it was by this one, whatever of
--- its calls the file system has answered by then
+-- the request of a chain that its caller may reply to. The chain wasn't decoded, or it was from this request;
+-- the file system may have answered some of its calls by then
 abbrev pub IsUnreplied : OutChain → Phase → (request : List ℕ) → Type 0
 IsUnreplied c Fetched request = length request ≡ total_len (readable c.descriptors)
 IsUnreplied c (Asked asked options calls) request = request ≡ asked
 IsUnreplied c _ request = ⊥
 
--- the state after such a reply
+-- the state after the caller's own reply
 abbrev pub after_own : {F : Type 0} → LiveState F → (before behind : List OutChain) → OutChain →
     (request reply : List ℕ) → (options : ℕ) → LiveState F
 after_own s before behind c request reply options =
     record s { outs = before ++ (record c { phase = Own request reply }) ∷ behind; options = options }
 
--- the caller's bytes have room, and the used element tells how many they are
+-- the caller's bytes fit in the reply buffer, and their number fits in the used element
 pub record RepliesSo {F : Type 0} (s : LiveState F) (c : OutChain) (request reply : List ℕ) (options : ℕ)
     (after : LiveState F) : Type 0 where
   pub before : List OutChain
@@ -400,10 +399,10 @@ pub record RepliesSo {F : Type 0} (s : LiveState F) (c : OutChain) (request repl
   pub counts : length reply < 2 ^ 32
   pub state : after ≡ after_own s before behind c request reply options
 
--- ---- other places, and another host
+-- ---- other mappings, and another host
 
--- what a queue's chains go back by has places by another memory just if it has them by this one: its used
--- ring, at whichever position, its used index, its available flags, and used_event
+-- the addresses that a queue's returns need are mapped by another memory just if they are by this one: its
+-- used ring, at any position, its used index, its available flags, and used_event
 pub record KeepsReturns (m m' : Memory) (w : LiveQueue) : Type 0 where
   pub returns : (p : ℕ) →
       return_fault m' (record (w.queue) { position = p }) ≡ return_fault m (record (w.queue) { position = p })
@@ -413,18 +412,19 @@ abbrev pub IfKeepsReturns : (m m' : Memory) → Option LiveQueue → Type 0
 IfKeepsReturns m m' None = Unit {0}
 IfKeepsReturns m m' (Some w) = KeepsReturns m m' w
 
--- so it is of the queue of a chain that is out
+-- so it is for the queue of a chain in flight
 abbrev pub KeepsQueue : {F : Type 0} → LiveState F → Memory → OutChain → Type 0
 KeepsQueue s m c = IfKeepsReturns s.places m (slice_get s.queues c.queue)
 
--- addresses have other places from now on, or none: but those that the queue of a chain that is out is
--- returned to by. A chain itself goes on over the places of its walk. While none is out they may be any
+-- addresses have other mappings from now on, or none. Those that the returns of chains in flight need stay
+-- mapped or not, as they were. A chain itself keeps the mappings of its pop. While none is in flight, any
+-- mapping may change
 pub record MapsSo {F : Type 0} (s : LiveState F) (m : Memory) (after : LiveState F) : Type 0 where
   pub keeps : AllByRecursion (KeepsQueue s m) s.outs
   pub state : after ≡ record s { places = m }
 
--- a device of which no chain is out moves: each queue stands where it did, stopped or not, in a memory of
--- other places. How many chains may be out, and the event index, no record tells
+-- a device without chains in flight moves: each queue keeps its position, and whether it is stopped, in a
+-- memory with other mappings. The record has neither the event index nor how many chains may be in flight
 pub record MovesSo {F : Type 0} (s : LiveState F) (m : Memory) (queues : List LiveQueue)
     (after : LiveState F) : Type 0 where
   pub none_out : s.outs ≡ []
@@ -454,10 +454,10 @@ abbrev pub LiveRun : {F : Type 0} → May F → LiveState F → List LiveEvent �
 LiveRun may s [] after = after ≡ s
 LiveRun {F} may s (e ∷ es) after = (mid : LiveState F) × Happens may s e mid × LiveRun may mid es after
 
--- ---- what is stored, and what is called
+-- ---- stores and calls
 
--- the acts of an event; the calls' data is stored with the reply, at the return. `LoadsFlags` is the load of
--- the two bytes that are seen: the available flags, with the event index used_event
+-- the acts of an event. The calls' data is stored with the reply, at the return. `LoadsFlags` is the load of
+-- the two bytes that are seen: the available flags, or with the event index used_event
 abbrev pub acts_of : LiveEvent → List Act
 acts_of (Returns c x notice last used seen) = return_acts (reply_stores (room_of c) x.reply last ++ used) seen
 acts_of (Sleeps i store) = Stores store ∷ []

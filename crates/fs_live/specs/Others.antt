@@ -1,5 +1,5 @@
--- What calls of handles that answer nothing give a run: chains that are given up, freed, or replied by bytes
--- of the caller's own; other regions; and moves.
+-- Calls of handles that answer nothing, as events of a run: chains that are given up, freed, or replied to
+-- with bytes of the caller's own; other regions; and moves.
 use Rattle.std.specs.Prelude.{◌≡◌, ◌⊎◌, ◌≤◌, ◌<◌, ◌^◌, ℕ, Bool, List, [], ◌∷◌, ◌++◌, length, map, Some, None}
 use Rattle.std.specs.Prelude.{slice_get}
 use Rattle.std.specs.List.{AllByRecursion}
@@ -33,8 +33,8 @@ use Rattle.fs_live.specs.Handles.{IsKept, IsOut, IsReached, IsReturn, live_of}
 
 -- ---- chains that are given up, and handles that are freed
 
--- a chain that a handle gives up is the event of its giving up; the queue is then as the call left it. Of a
--- walk that is given up a run knows nothing: its queue isn't told
+-- giving up a chain with a handle is the event `Drops`; the queue is then as the call left it. Giving up a
+-- pop that hasn't ended is no event: it changes no queue
 abbrev pub HandleDrops : {F : Type 0} → May F → Type 0
 HandleDrops {F} may =
     (s : LiveState F) (c : OutChain) (before behind : List OutChain) (w : ChainHandle) (kept : QueueState) →
@@ -46,7 +46,7 @@ HandleDrops {F} may =
     Happens may s (Drops c) (after_drop s before behind c (live_of kept))
     × (slice_get (after_drop s before behind c (live_of kept)).queues c.queue ≡ Some (live_of (untook kept)))
 
--- a handle that is freed, wherever its chain is, leaves that out: no queue is told
+-- freeing a handle, in any phase of its chain, leaves the chain in flight, and changes no queue
 abbrev pub HandleAbandons : {F : Type 0} → May F → Type 0
 HandleAbandons {F} may =
     (s : LiveState F) (c : OutChain) (before behind : List OutChain) →
@@ -56,7 +56,7 @@ HandleAbandons {F} may =
 
 -- ---- replies of the caller's own bytes
 
--- a handle has a chain that its caller replies by so many bytes
+-- the state of a handle whose caller replied to the chain with so many bytes
 pub record IsOwn (c : OutChain) (reply : List ℕ) (st : state.ChainState) : Type 0 where
   pub out : InFlight
   pub head : out.head ≡ c.head
@@ -65,15 +65,15 @@ pub record IsOwn (c : OutChain) (reply : List ℕ) (st : state.ChainState) : Typ
   pub counts : length reply < 2 ^ 32
   pub state : st ≡ at.HasReply out (own_reply (length reply))
 
--- it is out in this state
+-- in this state a chain is in flight without a reply
 abbrev pub IfOut : state.ChainState → (InFlight → Type 0) → Type 0
 IfOut (at.Taken out) P = P out
 IfOut (at.Waits out waiting) P = P out
 IfOut (at.Lists out listing) P = P out
 IfOut _ P = ⊥
 
--- a chain that a handle replies so is the event of its reply: one that wasn't asked, whatever its request was
--- as its caller loaded it
+-- such a reply by a handle is the event `Replies`. The chain wasn't decoded; its request may be any, as its
+-- caller loaded it
 abbrev pub HandleReplies : {F : Type 0} → May F → Type 0
 HandleReplies {F} may =
     (s : LiveState F) (c : OutChain) (before behind : List OutChain) (w : ChainHandle) (serial options : ℕ)
@@ -89,8 +89,7 @@ HandleReplies {F} may =
     × IfOut w.state
     (λ out. IsOwn (record c { phase = Own request reply }) reply (at.HasReply out (own_reply (length reply))))
 
--- a handle has this chain, which was asked: the call that waits, or the listing that gathers entries, is of
--- it
+-- a handle has this decoded chain: the pending call, or the listing that gathers entries, is of it
 pub record IsHeldAsked (c : OutChain) (w : ChainHandle) : Type 0 where
   pub out : InFlight
   pub head : out.head ≡ c.head
@@ -98,15 +97,15 @@ pub record IsHeldAsked (c : OutChain) (w : ChainHandle) : Type 0 where
   pub room : length (room_of c) ≡ out.room_len
   pub is : IfOut w.state (λ o. o ≡ out)
 
--- one that was asked, and told a call, does
+-- a handle has its decoded chain, if the decoding returned a call
 abbrev pub AskedIsHeld : Type 0
 AskedIsHeld =
     (page_size options : ℕ) (request : List ℕ) (c : OutChain) (made : made_call.FileCall) (w : ChainHandle) →
     IsKept page_size options request c (asks.Call made) w →
     IsHeldAsked c w
 
--- or one that was asked, in place of the answer that its call waits for, whatever the file system has
--- answered by then
+-- so is such a reply to a decoded chain, instead of the answer to its pending call. The file system may have
+-- answered any of its calls by then
 abbrev pub HandleRepliesInstead : {F : Type 0} → May F → Type 0
 HandleRepliesInstead {F} may =
     (s : LiveState F) (c : OutChain) (before behind : List OutChain) (w : ChainHandle)
@@ -119,8 +118,8 @@ HandleRepliesInstead {F} may =
     × IfOut w.state
     (λ out. IsOwn (record c { phase = Own request reply }) reply (at.HasReply out (own_reply (length reply))))
 
--- a chain goes back by what its caller stores, his bytes over the room's first places in any two parts, and
--- loads
+-- a chain is returned by its caller's stores and loads: the caller's bytes at the start of the reply buffer,
+-- in any two parts
 pub record GoesBackOwn (back : QueueState) (room reply : List ℕ) (from : state.ChainState) (acts : List Act)
     (last : ℕ) (notice : Bool) : Type 0 where
   pub stores : PushStores
@@ -130,7 +129,7 @@ pub record GoesBackOwn (back : QueueState) (room reply : List ℕ) (from : state
       (λ kept s. acts ≡ return_acts (reply_stores room reply last ++ stores_of s.used) flags) stores
   pub notified : notice ≡ tells_of back flags
 
--- that is the event of its return, whichever chains of its queue were taken and went back meanwhile
+-- that is the event of its return. Any chains of its queue may have been popped and returned meanwhile
 abbrev pub HandleReturnsOwn : {F : Type 0} → May F → Type 0
 HandleReturnsOwn {F} may =
     (s : LiveState F) (c : OutChain) (before behind : List OutChain) (st : state.ChainState)
@@ -145,8 +144,8 @@ HandleReturnsOwn {F} may =
 
 -- ---- other regions
 
--- that a handle is told other regions is the event of other places, by which its next walks are events, if
--- the queues of chains that are out are returned to by them as by those of before: so it is while none is out
+-- other regions of a handle are the event `Maps`, and its next pops are events with them. They must map the
+-- returns of the queues of chains in flight as the regions before did: so it is while none is in flight
 abbrev pub HandleMaps : {F : Type 0} → May F → Type 0
 HandleMaps {F} may =
     (s : LiveState F) (w : ChainHandle) →
@@ -155,19 +154,19 @@ HandleMaps {F} may =
 
 -- ---- moves
 
--- a queue as a record has it
+-- a queue as a record has it: its ring, its position, and whether it is stopped
 abbrev pub recorded : QueueState → Queue
 recorded q = (live_of q).queue
 
--- kept queues are begun by those of a record: each at its position, stopped or not
+-- queues are reset from those of a record: each at its position, stopped or not
 pub record AreBegunBy (queues : List Queue) (kept : List QueueState) : Type 0 where
   pub same : map recorded kept ≡ queues
   pub even : AllByRecursion IsEven (map live_of kept)
   pub few : AllByRecursion MayBeOut (map live_of kept)
 
--- a record that is made of a run's options and queues, while no chain is out, and read elsewhere is the event
--- of a move: the options that it tells are the run's, and the queues that are begun by it are the run's from
--- then on
+-- a record is made of a run's options and queues, while no chain is in flight, and read elsewhere: that is
+-- the event `Moves`. The options that are read are the run's, and the queues that are reset from the record
+-- are the run's from then on
 abbrev pub HandleMoves : {F : Type 0} → May F → Type 0
 HandleMoves {F} may =
     (s : LiveState F) (here there : List QueueState) (m : Memory) (bytes : List ℕ) (v v' : Version)

@@ -1,4 +1,4 @@
--- Two chains that are out at once, and go back in the other order.
+-- Two chains in flight at once, which are returned in the other order.
 use Rattle.std.specs.Prelude.{ℕ, true, false, List, [], ◌∷◌, Some, None}
 use Rattle.fs_queue.specs.Chain.{Descriptor}
 use Rattle.fs_queue.specs.Loads.{Load}
@@ -13,11 +13,11 @@ use Rattle.plain_machine.specs.Step.{Exchange}
 use Rattle.fs_live.specs.Several.{LiveQueue}
 use Rattle.fs_live.specs.Live.{Fetched, Asked, OutChain, LiveState, Walks, Asks, Answers, Returns, LiveRun}
 
--- DESTROY, from which a call comes
+-- DESTROY, which makes a call
 abbrev pub destroy : List ℕ
 destroy = in_header_bytes 40 38 9 0
 
--- a request of an opcode that no request has
+-- a request with an opcode that no request has
 abbrev pub unknown : List ℕ
 unknown = in_header_bytes 40 7 2 0
 
@@ -25,7 +25,7 @@ unknown = in_header_bytes 40 7 2 0
 abbrev pub entry : (address : ℕ) → List ℕ → Load
 entry address bytes = record { address = address; came = Some bytes }
 
--- what the first walk loads: an index of 2, head 0, and the table's first two entries
+-- the loads of the first pop: an index of 2, head 0, and the table's first two entries
 abbrev pub first_loads : Loaded
 first_loads =
     record {
@@ -34,7 +34,7 @@ first_loads =
       entries = entry 0 (descriptor_bytes 0x1000 40 1 1) ∷ entry 16 (descriptor_bytes 0x2000 16 2 0) ∷ [];
     }
 
--- what the second one loads: head 2, and the other two
+-- the loads of the second pop: head 2, and the other two entries
 abbrev pub second_loads : Loaded
 second_loads =
     record {
@@ -78,7 +78,7 @@ state files w options outs =
       files = files;
     }
 
--- the first chain, as it is taken
+-- the first chain, as it is popped
 abbrev pub first : OutChain
 first =
     record {
@@ -91,7 +91,7 @@ first =
       phase = Fetched;
     }
 
--- the second one
+-- the second chain, as it is popped
 abbrev pub second : OutChain
 second =
     record {
@@ -104,23 +104,23 @@ second =
       phase = Fetched;
     }
 
--- it was asked in the options 1
+-- the first chain was decoded with the options 1
 abbrev pub first_asked : OutChain
 first_asked = record first { phase = Asked destroy 1 [] }
 
--- the first one, once DESTROY was answered
+-- the first chain, once DESTROY was answered
 abbrev pub first_answered : OutChain
 first_answered = record first { phase = Asked destroy 1 ((Destroy, Done) ∷ []) }
 
--- the second one, which makes no call
+-- the second chain was decoded, and makes no call
 abbrev pub second_asked : OutChain
 second_asked = record second { phase = Asked unknown 1 [] }
 
--- no reply to DESTROY
+-- DESTROY's chain has no reply
 abbrev pub first_exchange : Exchange
 first_exchange = record { head = 0; request = destroy; reply = []; fault = None }
 
--- ENOSYS
+-- the reply to the unknown opcode: ENOSYS
 abbrev pub second_exchange : Exchange
 second_exchange =
     record {
@@ -130,20 +130,20 @@ second_exchange =
       fault = None;
     }
 
--- head, length and index: the second chain goes to the used ring's first element
+-- head, length and index: the second chain is in the used ring's first element
 abbrev pub second_used : List Store
 second_used =
     record { address = 0x204; bytes = le32 2 } ∷ record { address = 0x208; bytes = le32 16 }
     ∷ record { address = 0x202; bytes = le16 1 } ∷ []
 
--- the first one goes to the second element
+-- the first chain is in the second element
 abbrev pub first_used : List Store
 first_used =
     record { address = 0x20c; bytes = le32 0 } ∷ record { address = 0x210; bytes = le32 0 }
     ∷ record { address = 0x202; bytes = le16 2 } ∷ []
 
--- the second chain is taken, asked and returned while the call of the first one waits; DESTROY's answer
--- leaves no options
+-- the second chain is popped, decoded and returned while the call of the first one is pending; DESTROY's
+-- answer leaves no options
 abbrev pub Overlap : {F : Type 0} → May F → Type 0
 Overlap {F} may =
     (before after : F) → may before Destroy Done after → LiveRun may (state before (at_positions 0 0) 1 [])

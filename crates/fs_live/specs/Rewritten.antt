@@ -1,4 +1,4 @@
--- The driver rewrites the available ring's one entry after it was loaded, while its chain is out.
+-- The driver rewrites the available ring's one entry after its load, while its chain is in flight.
 use Rattle.std.specs.Prelude.{ℕ, true, false, List, [], ◌∷◌, ◌++◌, Some, None}
 use Rattle.fs_queue.specs.declared.fault.QueueError.TheVariants.{HeadOutOfTable}
 use Rattle.fs_queue.specs.Chain.{Descriptor}
@@ -15,15 +15,15 @@ use Rattle.fs_live.specs.Several.{LiveQueue}
 use Rattle.fs_live.specs.Live.{Fetched, Asked, OutChain, Walks, Asks, Answers, Returns, LiveRun}
 use Rattle.fs_live.specs.Overlap.{entry, state}
 
--- FORGET of node 5, held three times less: it has no reply
+-- FORGET of node 5, with an nlookup of 3: it has no reply
 abbrev pub forget : List ℕ
 forget = in_header_bytes 48 2 2 5 ++ le64 3
 
--- its call
+-- FORGET's call
 abbrev pub told : FileCall
 told = Forget nobody 5 3
 
--- a queue of one descriptor: each chain stands in the ring's one entry
+-- a queue of one descriptor: each chain is in the ring's one entry
 abbrev pub queue : Queue
 queue = record { size = 1; desc = 0; avail = 0x100; used = 0x200; position = 0; stopped = false }
 
@@ -37,7 +37,7 @@ at_positions taken next_used =
       event_index = false;
     }
 
--- the same once it is stopped
+-- the queue with its two positions, once it is stopped
 abbrev pub stopped_at : (taken next_used : ℕ) → LiveQueue
 stopped_at taken next_used =
     record {
@@ -47,7 +47,7 @@ stopped_at taken next_used =
       event_index = false;
     }
 
--- what the first walk loads: an index of 1, head 0, and the table's one entry
+-- the loads of the first pop: an index of 1, head 0, and the table's one entry
 abbrev pub first_loads : Loaded
 first_loads =
     record {
@@ -56,7 +56,7 @@ first_loads =
       entries = entry 0 (descriptor_bytes 0x1000 48 0 0) ∷ [];
     }
 
--- what the second one loads: an index of 2, and head 1 where head 0 was, which the table hasn't
+-- the loads of the second pop: an index of 2, and in the same entry head 1, which is outside the table
 abbrev pub second_loads : Loaded
 second_loads = record { index = Some (le16 2); entry = Some (le16 1); entries = [] }
 
@@ -64,7 +64,7 @@ second_loads = record { index = Some (le16 2); entry = Some (le16 1); entries = 
 abbrev pub table : List Descriptor
 table = record { addr = 0x1000; len = 48; flags = 0; next = 0 } ∷ []
 
--- the chain, as it is taken
+-- the chain, as it is popped
 abbrev pub first : OutChain
 first =
     record {
@@ -77,15 +77,15 @@ first =
       phase = Fetched;
     }
 
--- it was asked without options
+-- the chain was decoded without options
 abbrev pub first_asked : OutChain
 first_asked = record first { phase = Asked forget 0 [] }
 
--- it was answered
+-- FORGET was answered
 abbrev pub first_answered : OutChain
 first_answered = record first { phase = Asked forget 0 ((told, Done) ∷ []) }
 
--- it goes back without a reply
+-- the chain is returned without a reply
 abbrev pub exchange : Exchange
 exchange = record { head = 0; request = forget; reply = []; fault = None }
 
@@ -95,7 +95,7 @@ used =
     record { address = 0x204; bytes = le32 0 } ∷ record { address = 0x208; bytes = le32 0 }
     ∷ record { address = 0x202; bytes = le16 1 } ∷ []
 
--- the rewritten entry stops the queue; the chain that is out is served as it was loaded, and goes back
+-- the rewritten entry stops the queue; the chain in flight is served as it was loaded, and is returned
 abbrev pub Rewritten : {F : Type 0} → May F → Type 0
 Rewritten {F} may =
     (before after : F) → may before told Done after → LiveRun may (state before (at_positions 0 0) 0 [])

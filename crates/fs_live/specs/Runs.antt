@@ -1,4 +1,4 @@
--- What holds of each run.
+-- Theorems that hold for each run.
 use Rattle.std.specs.Prelude.{◌≡◌, ◌≤◌, ◌/◌, ℕ, Bool, true, false, take, ◌==◌, List, [], ◌∷◌, ◌++◌, length}
 use Rattle.std.specs.Prelude.{map, filter, flat_map, is_some, IsPermutation, Option, Some, None, slice_get}
 use Rattle.std.specs.Prelude.{if◌then◌else◌}
@@ -30,8 +30,8 @@ use Rattle.fs_live.specs.Live.{own_exchange}
 
 -- ---- the calls
 
--- where each answer stands in the file system's relation as it was given, the calls in the order of their
--- answers are a run of it, whichever chains they are of
+-- if the file system's relation allows each answer when it is given, the calls in the order of their answers
+-- are a run of it. They may be of any chains
 abbrev pub CallsAreARun : {F : Type 0} → May F → Type 0
 CallsAreARun {F} may =
     (s after : LiveState F) (es : List LiveEvent) →
@@ -46,7 +46,7 @@ request_in (Asked request options calls) = request
 request_in (Own request reply) = request
 request_in _ = []
 
--- the options are those of its asking
+-- the options are those of the chain's decoding
 abbrev pub IsAskedIn : Phase → (options : ℕ) → Type 0
 IsAskedIn (Asked request asked calls) options = options ≡ asked
 IsAskedIn _ options = Unit {0}
@@ -57,13 +57,13 @@ options_left page_size options c (Asked request asked calls) =
     (serving page_size asked asked request (room_of c) calls).options
 options_left page_size options c _ = options
 
--- a chain that the server answers, or that is faulty: the reply isn't its caller's own
+-- a chain that the server answers, or a faulty one: the reply isn't its caller's own
 abbrev pub IsServedPhase : Phase → Type 0
 IsServedPhase (Own request reply) = ⊥
 IsServedPhase _ = Unit {0}
 
--- the plain machine before a chain: a memory with the places as the chain was taken, whatever bytes are
--- there; the queue as it was taken; the options at its asking
+-- the plain machine before a chain: a memory with the mappings of the chain's pop, and any bytes; the queue
+-- as it was before the pop; the options of the decoding
 pub record IsBefore {F G : Type 0} (s : LiveState F) (c : OutChain) (m : State G) : Type 0 where
   pub places : location m.memory ≡ location c.places
   pub limit : m.limit ≡ s.limit
@@ -80,7 +80,7 @@ after_alone m c files =
       files = files;
     }
 
--- the loads of its step, with those of entries that have no place
+-- the loads of its step, and those of entries that aren't mapped
 abbrev pub chain_loads : OutChain → (lost : List Load) → StepLoads
 chain_loads c lost =
     record {
@@ -90,9 +90,9 @@ chain_loads c lost =
       request = request_in c.phase;
     }
 
--- a chain that goes back is a step by its loads, of a machine that takes what was seen for the flags: its
--- calls with their answers, its exchange; and its acts are the step's, with the used element and index of the
--- queue's next used position
+-- a returned chain is a step by its loads, of a machine that takes the two bytes that were seen for the
+-- flags. Its calls with their answers, and its exchange, are the step's. So are its acts, with the used
+-- element and index of the queue's next used position
 pub record IsAStep {G : Type 0} (other : May G) (m : State G) (files : G) (w : LiveQueue) (c : OutChain)
     (x : Exchange) (last : ℕ) (used : List Store) (seen : List ℕ) (notice : Bool) : Type 0 where
   pub lost : List Load
@@ -104,8 +104,8 @@ pub record IsAStep {G : Type 0} (other : May G) (m : State G) (files : G) (w : L
   pub acts : acts_of (Returns c x notice last used seen)
       ≡ return_acts (return_stores (returning w) c.head (room_of c) x.reply last) seen
 
--- whatever other chains do between its walk and its return, and whatever the guest writes; for each file
--- system of which its own calls are a run
+-- so it is for any acts of other chains between its pop and its return, and for any writes of the guest. The
+-- file system may be any of which the chain's own calls are a run
 abbrev pub ReturnedIsStepBy : {F G : Type 0} → May F → May G → Type 0
 ReturnedIsStepBy {F} {G} may other =
     (s now after : LiveState F) (es : List LiveEvent) (c : OutChain) (x : Exchange) (notice : Bool) (last : ℕ)
@@ -120,8 +120,8 @@ ReturnedIsStepBy {F} {G} may other =
     × (slice_get now.queues c.queue ≡ Some w)
     × IsAStep other m files w c x last used seen notice
 
--- a chain that goes back with its caller's own bytes is offered by its loads, and they and the used element
--- and index are stored as a step stores a reply: of its queue's next used position
+-- a chain with its caller's own bytes: its loads offer it. The bytes, the used element and the index are
+-- stored as a step stores a reply, at the queue's next used position
 pub record IsAReturn {G : Type 0} (m : State G) (limit : ℕ) (w : LiveQueue) (c : OutChain)
     (request reply : List ℕ) (x : Exchange) (last : ℕ) (used : List Store) (seen : List ℕ) : Type 0 where
   pub offered :
@@ -137,7 +137,7 @@ pub record IsAReturn {G : Type 0} (m : State G) (limit : ℕ) (w : LiveQueue) (c
       acts_of (Returns c x notice last used seen)
       ≡ return_acts (return_stores (returning w) c.head (room_of c) x.reply last) seen
 
--- so it is of each such chain of a run: no call is made, and the options stay
+-- so it is for each such chain of a run: no call is made, and the options stay
 abbrev pub OwnIsReturned : {F : Type 0} → (G : Type 0) → May F → Type 0
 OwnIsReturned {F} G may =
     (s now after : LiveState F) (es : List LiveEvent) (c : OutChain) (x : Exchange) (notice : Bool) (last : ℕ)
@@ -153,61 +153,61 @@ OwnIsReturned {F} G may =
 
 -- ---- where stores go
 
--- of a queue of which a chain goes back: the used element of the next used position, and the used index
+-- the addresses that a return writes in its queue: the used element of the next used position, and the used
+-- index
 abbrev pub queue_addresses : Option LiveQueue → List ℕ
 queue_addresses None = []
 queue_addresses (Some w) = addresses (element_at (returning w)) 8 ++ addresses (index_at (returning w)) 2
 
--- of a queue before a sleep: avail_event, or the used ring's flags
+-- the addresses that a queue's store before a sleep may write: avail_event, or the used ring's flags
 abbrev pub sleep_addresses : Option LiveQueue → List ℕ
 sleep_addresses None = []
 sleep_addresses (Some w) =
     if w.event_index then addresses (avail_event_at w.queue) 2 else addresses w.queue.used 2
 
--- where an event may store
+-- the addresses that an event may write
 abbrev pub may_store : {F : Type 0} → LiveState F → LiveEvent → List ℕ
 may_store s (Returns c x notice last used seen) = room_of c ++ queue_addresses (slice_get s.queues c.queue)
 may_store s (Fills c stores) = room_of c
 may_store s (Sleeps i store) = sleep_addresses (slice_get s.queues i)
 may_store s _ = []
 
--- the chain that goes back, or whose room is stored in, is out at that moment
+-- the chain that is returned, or in whose reply buffer bytes are stored, is in flight at that moment
 abbrev pub IsOutThen : {F : Type 0} → LiveState F → LiveEvent → Type 0
 IsOutThen s (Returns c x notice last used seen) = Contains s.outs c
 IsOutThen s (Fills c stores) = Contains s.outs c
 IsOutThen s _ = Unit {0}
 
--- it stores nothing elsewhere
+-- the event stores nothing elsewhere
 abbrev pub StoresThere : {F : Type 0} → LiveState F → LiveEvent → Type 0
 StoresThere s e =
     IsOutThen s e × AllByRecursion (λ (w : ℕ
     × ℕ). Contains (may_store s e) w.0) (flat_map writes_of (stores_among (acts_of e)))
 
--- nor does any event of a run
+-- no event of a run stores anything elsewhere
 abbrev pub EachStoresThere : {F : Type 0} → (may : May F) → (s : LiveState F) → (es : List LiveEvent) →
     (after : LiveState F) → LiveRun may s es after → Type 0
 EachStoresThere may s [] after run = Unit {0}
 EachStoresThere may s (e ∷ es) after run = StoresThere s e × EachStoresThere may run.0 es after run.2
 
--- so it is in each run
 abbrev pub StoresStayThere : {F : Type 0} → May F → Type 0
 StoresStayThere {F} may =
     (s after : LiveState F) (es : List LiveEvent) (run : LiveRun may s es after) →
     EachStoresThere may s es after run
 
--- ---- places
+-- ---- mapped addresses
 
--- with the event index used_event has a place to be read
+-- with the event index used_event is mapped, readable
 abbrev pub HasUsedEvent : Memory → LiveQueue → Type 0
 HasUsedEvent m w = w.event_index ≡ true → reach m Read (used_event_at w.queue) 2 ≡ true
 
--- whether each address of a room has a place to be written
+-- whether each address of a reply buffer is mapped, writable
 abbrev pub has_places : Memory → (room : List ℕ) → Bool
 has_places m room = list_all (λ a. is_some (location m Write a)) room
 
--- what a return stores at the queue's next used position has places to be written: used element, used index
--- and the chain's room; and the two bytes that tell have one to be read: the available flags, with the event
--- index used_event besides
+-- the addresses of a return at the queue's next used position are mapped. Writable are the used element, the
+-- used index and the chain's reply buffer. Readable are the two bytes that decide the notification: the
+-- available flags, and with the event index used_event besides
 pub record ReturnHasPlaces (m : Memory) (w : LiveQueue) (c : OutChain) : Type 0 where
   pub element : reach m Write (element_at (returning w)) 8 ≡ true
   pub index : reach m Write (index_at (returning w)) 2 ≡ true
@@ -216,9 +216,9 @@ pub record ReturnHasPlaces (m : Memory) (w : LiveQueue) (c : OutChain) : Type 0 
   pub seen : reach m Read (seen_at w) 2 ≡ true
   pub room : has_places m (room_of c) ≡ true
 
--- from no chain out on, whichever chains go back first or are given up, whatever the guest writes, and
--- whichever other places it is given, each return has places by those that there were as its chain was
--- walked, over which its handle goes on
+-- in a run that starts without chains in flight, each return is mapped by the mappings of its chain's pop,
+-- which its handle keeps. Chains may be returned in any order or be given up, the guest may write, and
+-- addresses may get other mappings
 abbrev pub ReturnsHavePlaces : {F : Type 0} → May F → Type 0
 ReturnsHavePlaces {F} may =
     (s now after : LiveState F) (es : List LiveEvent) (c : OutChain) (x : Exchange) (notice : Bool) (last : ℕ)
@@ -231,7 +231,7 @@ ReturnsHavePlaces {F} may =
 
 -- ---- one queue of a run
 
--- what happens on queue i: the takes, the givings up and the returns
+-- the events of queue i: pops of a chain, chains that are given up, and returns
 abbrev pub event_on : ℕ → LiveEvent → List QueueEvent
 event_on i (Walks j loaded ds (step.Chain head fault)) = if j == i then several.Takes head ∷ [] else []
 event_on i (Drops c) = if c.queue == i then several.Drops (c.taken.position, c.head) ∷ [] else []
@@ -239,25 +239,25 @@ event_on i (Returns c x notice last used seen) =
     if c.queue == i then several.Returns (c.taken.position, c.head) (length x.reply) used ∷ [] else []
 event_on i _ = []
 
--- what happens on it in a run
+-- the events of queue i in a run
 abbrev pub events_on : ℕ → List LiveEvent → List QueueEvent
 events_on i es = flat_map (event_on i) es
 
--- its chains that are out, by position and head
+-- its chains in flight, by position and head
 abbrev pub tickets_on : ℕ → List OutChain → List InFlightId
 tickets_on i outs = map (λ c. (c.taken.position, c.head)) (filter (λ c. c.queue == i) outs)
 
--- a queue whether it is stopped or not: a refusal moves neither position
+-- a queue, stopped or not, as one that isn't: a refusal moves neither position
 abbrev pub going : LiveQueue → LiveQueue
 going w = record w { queue = record (w.queue) { stopped = false } }
 
--- it isn't begun anew, by a record neither
+-- the event doesn't reset the queue, not from a record either
 abbrev pub NotAnew : ℕ → LiveEvent → Type 0
 NotAnew i (Begins j w) = (j == i) ≡ true → ⊥
 NotAnew i (Moves m queues) = ⊥
 NotAnew i _ = Unit {0}
 
--- queue i of a run is a run of takes and returns, whatever happens on the others
+-- queue i of a run is a run of pops and returns, for any events on the other queues
 abbrev pub RunsOnQueue : {F : Type 0} → May F → Type 0
 RunsOnQueue {F} may =
     (s after : LiveState F) (es : List LiveEvent) (i : ℕ) (w : LiveQueue) →
@@ -268,7 +268,7 @@ RunsOnQueue {F} may =
     × (slice_get after.queues i ≡ Some w')
     × RunsOver (going w) (tickets_on i s.outs) (events_on i es) (going w') (tickets_on i after.outs)
 
--- so each chain that was taken of it went back once, or was given up once, or is out
+-- so each chain that was popped from it was returned once, or was given up once, or is in flight
 abbrev pub OncePerLiveChain : {F : Type 0} → May F → Type 0
 OncePerLiveChain {F} may =
     (s after : LiveState F) (es : List LiveEvent) (i : ℕ) (w : LiveQueue) →
@@ -279,7 +279,7 @@ OncePerLiveChain {F} may =
     IsPermutation (heads_ended (events_on i es) ++ map (λ t. t.1) (tickets_on i after.outs))
     (heads_taken (events_on i es))
 
--- and its returns fill the used ring in order, whatever was taken when
+-- and its returns fill the used ring in order, in any order of the pops
 abbrev pub LiveUsedInOrder : {F : Type 0} → May F → Type 0
 LiveUsedInOrder {F} may =
     (s after : LiveState F) (es : List LiveEvent) (i : ℕ) (w : LiveQueue) →
@@ -298,14 +298,16 @@ page_of a = a / 4096
 abbrev pub written_by : List Act → List ℕ
 written_by acts = map (λ w. w.0) (flat_map writes_of (stores_among acts))
 
--- what a queue's next return tells besides its room: the used element's 8 bytes and the used index's 2
+-- the addresses of a queue's next return besides the reply buffer: the used element's 8 bytes and the used
+-- index's 2
 abbrev pub told_of_queue : Option LiveQueue → List ℕ
 told_of_queue None = []
 told_of_queue (Some w) = addresses (element_at (returning w)) 8 ++ addresses (index_at (returning w)) 2
 
--- the addresses that an event tells its caller to mark: of a return as many of the room, from its first on,
--- as the reply has bytes, the used element and the used index; of a sleep the two bytes of its store; of
--- other stores in a room just those
+-- the addresses that an event reports for its caller to mark:
+-- - of a return, the reply's addresses from the reply buffer's first on, the used element, and the used index
+-- - of a sleep, the two bytes of its store
+-- - of other stores in a reply buffer, just those
 abbrev pub told_by : {F : Type 0} → LiveState F → LiveEvent → List ℕ
 told_by s (Returns c x notice last used seen) =
     take (length x.reply) (room_of c) ++ told_of_queue (slice_get s.queues c.queue)
@@ -313,18 +315,19 @@ told_by s (Sleeps i store) = addresses store.address 2
 told_by s (Fills c stores) = flat_map (λ store. addresses store.address (length store.bytes)) stores
 told_by s _ = []
 
--- over each memory an event's stores mark the pages of the addresses that it tells, of blocks or of I/O
--- pages, and no others: so do those of the plain machine's step, which stores the same
+-- over each memory, an event's stores mark the pages of the addresses that it reports, of blocks or of I/O
+-- pages, and no others. So do those of the plain machine's step, which stores the same
 abbrev pub MarksAsTold : {F : Type 0} → LiveState F → LiveEvent → Type 0
 MarksAsTold s e = (m : Memory) → Marks m (told_by s e) (after_stores m (stores_among (acts_of e))).host
 
--- and a log by the guest's pages has those that the stores write to, if what is told is marked
+-- and if the reported addresses are marked, a log by the guest's pages has just those that the stores write
+-- to
 abbrev pub LogsAsTold : {F : Type 0} → LiveState F → LiveEvent → Type 0
 LogsAsTold s e =
     (page : ℕ) → list_any (λ a. page_of a == page) (written_by (acts_of e))
     ≡ list_any (λ a. page_of a == page) (told_by s e)
 
--- so does each event of a run
+-- so it is for each event of a run
 abbrev pub EachIsTold : {F : Type 0} → (may : May F) → (s : LiveState F) → (es : List LiveEvent) →
     (after : LiveState F) → LiveRun may s es after → Type 0
 EachIsTold may s [] after run = Unit {0}
@@ -335,8 +338,7 @@ PagesAreTold {F} may =
     (s after : LiveState F) (es : List LiveEvent) (run : LiveRun may s es after) →
     EachIsTold may s es after run
 
--- what a return tells are the addresses that the plain machine's step writes, where its queue's next one goes
--- back
+-- a return reports the addresses that the plain machine's step writes at the queue's next used position
 abbrev pub ReturnsTell : {F : Type 0} → May F → Type 0
 ReturnsTell {F} may =
     (s after : LiveState F) (c : OutChain) (x : Exchange) (notice : Bool) (last : ℕ) (used : List Store)
@@ -347,10 +349,10 @@ ReturnsTell {F} may =
     × (told_by s (Returns c x notice last used seen)
     ≡ returned_addresses (returning w) c.head (room_of c) x.reply)
 
--- ---- standing still, and moves
+-- ---- stops, and moves
 
--- from no chain out on, a queue of which none is out stands where the next one goes back: one number tells
--- both (GET_VRING_BASE), and to begin it there anew (SET_VRING_BASE) changes nothing
+-- in a run that starts without chains in flight, a queue without any is at the position of its next return.
+-- One number reports both positions (GET_VRING_BASE), and a reset to it (SET_VRING_BASE) changes nothing
 abbrev pub StandsEven : {F : Type 0} → May F → Type 0
 StandsEven {F} may =
     (s now : LiveState F) (es : List LiveEvent) (i : ℕ) (w : LiveQueue) →
@@ -361,12 +363,13 @@ StandsEven {F} may =
     tickets_on i now.outs ≡ [] →
     IsEven w × ((after : LiveState F) → Happens may now (Begins i w) after → after ≡ now)
 
--- what no record tells of a queue
+-- the parts of a queue that no record has
 abbrev pub untold : LiveQueue → ℕ × Bool
 untold w = (w.max_in_flight, w.event_index)
 
--- a device that moves between two chains, and is told there what no record tells, goes on as one that didn't
--- move and whose guest's memory got these places: over the same places as if nothing had happened
+-- a device moves between two chains, and is given there the parts that no record has. It goes on as one that
+-- didn't move and whose guest's memory got these mappings. Over the same mappings it goes on as if nothing
+-- had happened
 abbrev pub MovedGoesOn : {F : Type 0} → May F → Type 0
 MovedGoesOn {F} may =
     (s now moved : LiveState F) (es : List LiveEvent) (m : Memory) (queues : List LiveQueue) →

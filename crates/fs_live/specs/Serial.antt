@@ -1,4 +1,4 @@
--- One chain at a time: a kick of the plain machine.
+-- One chain at a time: the plain machine's run for one available buffer notification.
 use Rattle.std.specs.Prelude.{◌≡◌, ℕ, Bool, false, List, [], ◌∷◌, ◌++◌, length, map, Option, Some, None}
 use Rattle.std.specs.Prelude.{slice_get}
 use Rattle.std.specs.List.{AllByRecursion}
@@ -18,7 +18,7 @@ use Rattle.fs_live.specs.Live.{OutChain, LiveState, LiveEvent, Walks, Asks, Answ
 use Rattle.fs_live.specs.Live.{acts_of, calls_in, room_of}
 use Rattle.fs_live.specs.Runs.{request_in}
 
--- a chain from its walk to its return, with what happens between
+-- a chain from its pop to its return, with the events between
 pub record Single : Type 0 where
   pub queue : ℕ
   pub loaded : Loaded
@@ -33,16 +33,15 @@ pub record Single : Type 0 where
   pub used : List Store
   pub seen : List ℕ
 
--- its return
 abbrev pub return_in : Single → LiveEvent
 return_in r = Returns r.chain r.exchange r.notice r.last r.used r.seen
 
--- all its events
+-- the chain's events: its pop, those between, and its return
 abbrev pub events_in : Single → List LiveEvent
 events_in r =
     Walks r.queue r.loaded r.descriptors (step.Chain r.head r.fault) ∷ (r.between ++ return_in r ∷ [])
 
--- between them the chain is asked and answered, and nothing else happens
+-- between them the chain is decoded and answered, and nothing else happens
 abbrev pub IsOfChain : LiveEvent → Type 0
 IsOfChain (Asks c request told) = Unit {0}
 IsOfChain (Answers c call answer) = Unit {0}
@@ -60,12 +59,12 @@ plain s m =
       page_size = s.page_size;
     }
 
--- a queue without the event index of which no chain is out: its two positions are one
+-- a queue without the event index and without chains in flight: its two positions are one
 abbrev pub IsAtRest : LiveQueue → Type 0
 IsAtRest w = (w.event_index ≡ false) × (w.next_used ≡ w.queue.position)
 
--- one memory has what was loaded, the flags too, at the moment of each load; its places are the run's; what
--- is stored last of the reply lies apart from the rest
+-- one memory has the loaded bytes, the flags too, at the moment of each load, and has the run's mappings. The
+-- bytes of the reply that are stored last lie apart from the rest
 pub record FoundIn {F : Type 0} (m : Memory) (s : LiveState F) (r : Single) : Type 0 where
   pub places : location m ≡ location s.places
   pub loads : (w : LiveQueue) →
@@ -77,7 +76,7 @@ pub record FoundIn {F : Type 0} (m : Memory) (s : LiveState F) (r : Single) : Ty
       FindFlags m w.queue (acts_of (return_in r))
   pub apart : MayStoreLast m (room_of r.chain) r.last
 
--- such a chain is a step of the plain machine, which leaves the memory with the stores in it
+-- such a chain is a step of the plain machine, which leaves the memory with the chain's stores in it
 abbrev pub SingleIsStep : {F : Type 0} → May F → Type 0
 SingleIsStep {F} may =
     (s after : LiveState F) (r : Single) (m : Memory) (w : LiveQueue) →
@@ -94,7 +93,7 @@ SingleIsStep {F} may =
     × (slice_get after.queues r.queue ≡ Some w')
     × IsAtRest w'
 
--- such chains of queue i, one after the other
+-- such chains of queue i, one after another
 abbrev pub SerialRun :
     {F : Type 0} → May F → ℕ → Memory → LiveState F → List Single → Memory → LiveState F → Type 0
 SerialRun may i m s [] m' after = (m' ≡ m) × (after ≡ s)
@@ -106,11 +105,11 @@ SerialRun {F} may i m s (r ∷ rs) m' after =
     × FoundIn m s r
     × SerialRun may i (after_stores m (stores_among (acts_of (return_in r)))) mid rs m' after
 
--- what the plain machine is told of it
+-- a chain as a turn of the plain machine
 abbrev pub turn_of : Single → Turn
 turn_of r = record { exchange = r.exchange; notice = r.notice; calls = calls_in r.chain.phase }
 
--- a serial run by loads that one memory has is a kick of the plain machine over it
+-- a serial run by loads that one memory has is the plain machine's run over it for one notification
 abbrev pub SerialIsKick : {F : Type 0} → May F → Type 0
 SerialIsKick {F} may =
     (s after : LiveState F) (rs : List Single) (m m' : Memory) (i : ℕ) (w : LiveQueue) →

@@ -1,56 +1,56 @@
--- Several chains out of one queue: the next available position and the next used position apart; returns in
--- any order (VIRTIO 1.2, 2.7.6, 2.7.8).
+-- Several chains of one queue in flight: the next available and the next used position are apart, and chains
+-- are returned in any order (VIRTIO 1.2, 2.7.6, 2.7.8).
 use Rattle.std.specs.Prelude.{◌≡◌, ℕ, ◌+◌, ◌-◌, ◌*◌, ◌%◌, ◌^◌, ◌<◌, ◌==◌, Bool, true, nat_lt, List, [], ◌∷◌}
 use Rattle.std.specs.Prelude.{◌++◌, map, IsTrue, IsPermutation, Option, Some, None, if◌then◌else◌}
 use Rattle.std.specs.Int.{w16, to_le_bytes, from_le_bytes}
 use Rattle.fs_queue.specs.Queue.{Queue}
 use Rattle.fs_queue.specs.Returning.{Store, stores_after_reply, next_position, advanced, tells}
 
--- a queue of which several chains may be out: `position` of its queue is where the next chain is taken,
--- `returned` where the next one goes back, modulo 2^16; how many may be out; and whether VIRTIO_F_EVENT_IDX
--- was agreed on
+-- a queue of which several chains may be in flight. The next chain is popped at its queue's `position`, and
+-- returned at `next_used`, both modulo 2^16. It has a limit of chains in flight, and whether
+-- VIRTIO_F_EVENT_IDX was negotiated
 pub record LiveQueue : Type 0 where
   pub queue : Queue
   pub next_used : ℕ
   pub max_in_flight : ℕ
   pub event_index : Bool
 
--- how many are out
+-- how many chains are in flight
 abbrev pub in_flight : LiveQueue → ℕ
 in_flight w = (w.queue.position + (2 ^ 16 - w.next_used)) % 2 ^ 16
 
--- whether one more may be
+-- whether one more chain may be in flight
 abbrev pub may_take : LiveQueue → Bool
 may_take w = nat_lt (in_flight w) w.max_in_flight
 
--- the queue as a return has it: used element and index go by the next used position
+-- the queue as a return uses it: the used element and index are by the next used position
 abbrev pub returning : LiveQueue → Queue
 returning w = record (w.queue) { position = w.next_used }
 
--- a chain is taken
+-- a chain was popped
 abbrev pub took : LiveQueue → LiveQueue
 took w = record w { queue = advanced w.queue }
 
--- a chain went back
+-- a chain was returned
 abbrev pub gave : LiveQueue → LiveQueue
 gave w = record w { next_used = next_position (returning w) }
 
--- the chain that was taken last is given up: it is taken again
+-- the chain that was popped last was given up: the next pop takes it again
 abbrev pub untook : LiveQueue → LiveQueue
 untook w = record w { queue = record (w.queue) { position = (w.queue.position + (2 ^ 16 - 1)) % 2 ^ 16 } }
 
--- a chain that is out: where it was taken, and its head
+-- a chain in flight: the position of its pop, and its head
 abbrev pub InFlightId : Type 0
 InFlightId = ℕ × ℕ
 
--- what happens on a queue: a chain of this head is taken; a ticket goes back with so long a reply, by these
--- stores; the ticket that was taken last is given up
+-- an event of a queue: a chain with this head is popped; the chain that was popped last is given up; a chain
+-- is returned with so long a reply, by these stores
 pub data QueueEvent : Type 0 where
   Takes : (head : ℕ) → QueueEvent
   Drops : InFlightId → QueueEvent
   Returns : InFlightId → (len : ℕ) → List Store → QueueEvent
 
--- a run: which tickets are out before and after
+-- a run, with the chains in flight before and after it
 abbrev pub RunsOver : LiveQueue → List InFlightId → List QueueEvent → LiveQueue → List InFlightId → Type 0
 RunsOver w outs [] w' outs' = (w' ≡ w) × (outs' ≡ outs)
 RunsOver w outs (Takes head ∷ es) w' outs' =
@@ -66,21 +66,21 @@ RunsOver w outs (Returns t len stores ∷ es) w' outs' =
     × (stores ≡ stores_after_reply (returning w) t.1 len)
     × RunsOver (gave w) (before ++ behind) es w' outs'
 
--- the heads that were taken
+-- the heads that were popped
 abbrev pub heads_taken : List QueueEvent → List ℕ
 heads_taken [] = []
 heads_taken (Takes head ∷ es) = head ∷ heads_taken es
 heads_taken (Drops t ∷ es) = heads_taken es
 heads_taken (Returns t len stores ∷ es) = heads_taken es
 
--- those that went back, or were given up
+-- the heads that were returned, or given up
 abbrev pub heads_ended : List QueueEvent → List ℕ
 heads_ended [] = []
 heads_ended (Takes head ∷ es) = heads_ended es
 heads_ended (Drops t ∷ es) = t.1 ∷ heads_ended es
 heads_ended (Returns t len stores ∷ es) = t.1 ∷ heads_ended es
 
--- each chain that was taken went back once, or was given up once, or is out
+-- each chain that was popped was returned once, or was given up once, or is in flight
 abbrev pub OncePerChain : Type 0
 OncePerChain =
     (w w' : LiveQueue) (outs' : List InFlightId) (es : List QueueEvent) →
@@ -94,32 +94,31 @@ returns_among (Takes head ∷ es) = returns_among es
 returns_among (Drops t ∷ es) = returns_among es
 returns_among (Returns t len stores ∷ es) = (t, len, stores) ∷ returns_among es
 
--- they are one used position after another, whatever was taken when
+-- they fill one used position after another, in any order of the pops
 abbrev pub UsedFrom : LiveQueue → List (InFlightId × ℕ × List Store) → Type 0
 UsedFrom w [] = Unit {0}
 UsedFrom w (r ∷ rs) = (r.2 ≡ stores_after_reply (returning w) r.0.1 r.1) × UsedFrom (gave w) rs
 
--- so it is in each run
 abbrev pub UsedInOrder : Type 0
 UsedInOrder =
     (w w' : LiveQueue) (outs outs' : List InFlightId) (es : List QueueEvent) →
     RunsOver w outs es w' outs' →
     UsedFrom w (returns_among es)
 
--- one chain at a time: each take is followed by its return
+-- one chain at a time: each pop is followed by its return
 abbrev pub IsSerial : List QueueEvent → Type 0
 IsSerial [] = Unit {0}
 IsSerial (Takes head ∷ Returns t len stores ∷ es) = (t.1 ≡ head) × IsSerial es
 IsSerial _ = ⊥
 
--- then a return's stores are those of the queue as the chain was taken
+-- then a return's stores are those of the queue as it was before the pop
 abbrev pub StoresAsTaken : Queue → List QueueEvent → Type 0
 StoresAsTaken q [] = Unit {0}
 StoresAsTaken q (Takes head ∷ Returns t len stores ∷ es) =
     (stores ≡ stores_after_reply q head len) × StoresAsTaken (advanced q) es
 StoresAsTaken q _ = ⊥
 
--- of a queue of which none is out
+-- so it is for a queue without chains in flight
 abbrev pub OneAtATime : Type 0
 OneAtATime =
     (w w' : LiveQueue) (outs' : List InFlightId) (es : List QueueEvent) →
@@ -128,7 +127,7 @@ OneAtATime =
     RunsOver w [] es w' outs' →
     StoresAsTaken w.queue es
 
--- VIRTIO_F_IN_ORDER (2.7.9): only the oldest ticket goes back, and only the youngest is given up
+-- VIRTIO_F_IN_ORDER (2.7.9): only the oldest chain is returned, and only the youngest is given up
 abbrev pub IsOldestFirst : LiveQueue → List InFlightId → List QueueEvent → Type 0
 IsOldestFirst w outs [] = Unit {0}
 IsOldestFirst w outs (Takes head ∷ es) = IsOldestFirst (took w) (outs ++ (w.queue.position, head) ∷ []) es
@@ -137,12 +136,12 @@ IsOldestFirst w outs (Drops t ∷ es) =
 IsOldestFirst w [] (Returns t len stores ∷ es) = ⊥
 IsOldestFirst w (first ∷ outs) (Returns t len stores ∷ es) = (t ≡ first) × IsOldestFirst (gave w) outs es
 
--- each return is at the position where its chain was taken
+-- each return is at the position of its chain's pop
 abbrev pub AtTheirPlaces : LiveQueue → List (InFlightId × ℕ × List Store) → Type 0
 AtTheirPlaces w [] = Unit {0}
 AtTheirPlaces w (r ∷ rs) = (r.0.0 ≡ w.next_used) × AtTheirPlaces (gave w) rs
 
--- of a queue of which none is out
+-- so it is for a queue without chains in flight
 abbrev pub KeepsOrder : Type 0
 KeepsOrder =
     (w : LiveQueue) (es : List QueueEvent) →
@@ -153,14 +152,14 @@ KeepsOrder =
 
 -- ---- VIRTIO_F_EVENT_IDX (2.7.7.2, 2.7.10)
 
--- the driver's used_event stands behind the available ring, the device's avail_event behind the used ring
+-- the driver's used_event is stored behind the available ring, the device's avail_event behind the used ring
 abbrev pub used_event_at : Queue → ℕ
 used_event_at q = q.avail + 4 + 2 * q.size
 
 abbrev pub avail_event_at : Queue → ℕ
 avail_event_at q = q.used + 4 + 8 * q.size
 
--- where the two bytes stand that are seen as a chain goes back
+-- the address of the two bytes that are seen as a chain is returned
 abbrev pub seen_at : LiveQueue → ℕ
 seen_at w = if w.event_index then used_event_at w.queue else w.queue.avail
 
@@ -168,12 +167,12 @@ seen_at w = if w.event_index then used_event_at w.queue else w.queue.avail
 abbrev pub passes : (event old new : ℕ) → Bool
 passes event old new = nat_lt ((new + (2 ^ 16 - 1 - event)) % 2 ^ 16) ((new + (2 ^ 16 - old)) % 2 ^ 16)
 
--- whether the driver wants to be told of the chain that goes back next, by the two bytes that were seen: the
+-- whether the driver enabled the notification of the next return, by the two bytes that were seen: the
 -- available flags, or with the event index used_event
 abbrev pub wants : LiveQueue → (seen : List ℕ) → Bool
 wants w seen = if w.event_index then from_le_bytes w16 seen == w.next_used else tells seen
 
--- by used_event it wants to just if the used index passes it
+-- with used_event the notification is enabled just if the used index passes it
 abbrev pub ByEvent : Type 0
 ByEvent =
     (w : LiveQueue) (seen : List ℕ) →
@@ -182,8 +181,9 @@ ByEvent =
     from_le_bytes w16 seen < 2 ^ 16 →
     wants w seen ≡ passes (from_le_bytes w16 seen) w.next_used (next_position (returning w))
 
--- what is stored to be told of the next chain, or of none: with the event index its position, and nothing to
--- be told of none; else the used flags, bit 0 of which says that none is wanted
+-- the store that enables or disables the notification of the next chain. With the event index it is the next
+-- chain's position, and nothing is stored to disable. Otherwise it is the used flags, bit 0 of which disables
+-- the notification
 abbrev pub sleep_store : LiveQueue → (wanted : Bool) → Option Store
 sleep_store w wanted =
     if w.event_index then (if wanted then Some

@@ -1,5 +1,5 @@
-//! Runs of several chains on several queues, beside a guest that writes meanwhile: laws of the definitions,
-//! contracts of functions that do nothing.
+//! Theorems on runs of several chains on several queues, while the guest writes. Each theorem is the contract
+//! of a function that does nothing.
 #![tactic(auto)]
 
 ghost use Rattle.fs_live.specs.Among.{HandleFindsStopped, HandleLoadsAmong, HandleWalksAmong};
@@ -21,8 +21,10 @@ ghost use Rattle.fs_live.specs.Several.{ByEvent, KeepsOrder, OncePerChain, OneAt
 
 use fuse_fs::FileSystem;
 
-/// What holds of the takes and returns of one queue: each chain once, used positions in order; one at a time,
-/// or the oldest first, each where it was taken; and used_event tells of one return what its position does.
+/// The theorems on the pops and returns of one queue. Each popped chain ends once, and the used ring is
+/// filled in order. If chains are popped one at a time, or returned oldest first, each is returned at the
+/// position of its pop. With the event index, `used_event` enables the notification of a return just if the
+/// used index passes it.
 pub fn law_queues()
     ensures once { OncePerChain }
     ensures used { UsedInOrder }
@@ -31,13 +33,16 @@ pub fn law_queues()
     ensures event { ByEvent }
 {}
 
-/// What holds of a run of several chains, whatever the guest writes meanwhile, whichever chains are given up
-/// or lost, and whichever other places its memory gets: the calls are a run of the file system; each chain
-/// that goes back is by itself the plain machine's step by its loads, or with its caller's own bytes as a
-/// step's reply is stored; stores stay where they may be, those of a return have places, and the pages that
-/// an event tells are those that its stores mark; each queue's chains are taken and go back as on one queue
-/// alone; a queue of which none is out stands at one position; and a device that moves then goes on as one
-/// that didn't.
+/// The theorems on a run of several chains. The guest may write meanwhile, any chain may be given up or lost,
+/// and the memory may get other mappings.
+/// - The calls are a run of the file system.
+/// - Each returned chain is by itself the plain machine's step by its loads. A chain with its caller's own
+///   bytes is stored as a step's reply is.
+/// - Stores stay where they may be, and those of a return are mapped. The pages that an event reports are
+///   those that its stores mark.
+/// - On each queue, chains are popped and returned as on that queue alone.
+/// - A queue without chains in flight has one position.
+/// - A device that moves then goes on as one that didn't.
 pub fn law_runs<F: FileSystem, G: FileSystem>()
     ensures calls { CallsAreARun F.may }
     ensures step { ReturnedIsStepBy F.may G.may }
@@ -54,30 +59,35 @@ pub fn law_runs<F: FileSystem, G: FileSystem>()
     ensures used { LiveUsedInOrder F.may }
 {}
 
-/// One chain after another on one queue, over a memory that has what was loaded: the plain machine's steps,
-/// and its kick.
+/// One chain after another on one queue, over a memory that has the loaded bytes: the plain machine's steps,
+/// and its run for one available buffer notification.
 pub fn law_serial<F: FileSystem>()
     ensures single { SingleIsStep F.may }
     ensures kick { SerialIsKick F.may }
 {}
 
-/// Worked examples: two chains that overlap and go back in the other order; a ring's entry that is rewritten
-/// after its load; INIT beside a chain that waits.
+/// Worked examples: two chains in flight that are returned in the other order; an available ring's entry that
+/// the driver rewrites after its load; INIT beside a chain whose call is pending.
 pub fn law_examples<F: FileSystem>()
     ensures overlap { Overlap F.may }
     ensures rewritten { Rewritten F.may }
     ensures init { InitBeside F.may }
 {}
 
-/// What calls of handles give a run, by their contracts, whatever other chains are out. A walk that finds its
-/// queue as its call before left it is an event, a refused one too, leaves the queue as the contract says,
-/// and makes few loads. So is a walk between whose calls others went on with the queue, or of which calls
-/// were refused: its loads are as few, and what it wants has a place; one that finds its queue stopped
-/// meanwhile is declined. So are an asking, each answer (of the call, of a listing's look-ups, of a FORGET),
-/// a chain's return, a faulty one's too, a store before a sleep where it has a place, and a queue's beginning
-/// anew once no call of its chains waits. So are a chain's giving up, the freeing of its handle, a reply of
-/// its caller's own bytes, and its return with them; and, while no chain is out, other regions, and a record
-/// that is made here and read elsewhere.
+/// The theorems that calls of handles are events of a run, by their contracts, while any other chains are in
+/// flight.
+/// - A pop that finds its queue as its previous call left it is an event, also if it is refused. It leaves
+///   the queue as the contract says, and makes few loads.
+/// - So is a pop between whose calls others went on with the queue, or some calls of which were refused. Its
+///   loads are as few, and each load that it wants is mapped. If it finds its queue stopped meanwhile, it is
+///   declined.
+/// - So are a decoding and each answer: of the call, of a listing's look-ups, of a FORGET.
+/// - So are the return of a chain, also of a faulty one, and a store before a sleep, if its address is
+///   mapped.
+/// - So is the reset of a queue, once no call of its chains is pending.
+/// - So are giving up a chain, freeing its handle, a reply of the caller's own bytes, and the return with
+///   them.
+/// - While no chain is in flight, so are other regions, and a record that is made here and read elsewhere.
 pub fn law_handles<F: FileSystem>()
     ensures walks { HandleWalks F.may }
     ensures among { HandleWalksAmong F.may }

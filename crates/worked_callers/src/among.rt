@@ -1,4 +1,4 @@
-//! What a walk is in a run between whose calls others go on with the queue, or of which a call was refused.
+//! Pops in a run between whose calls others go on with the queue, or of which a call was refused.
 
 ghost use Rattle.std.specs.Prelude.{◌≡◌, ℕ, List, None, Ok, Some, slice_get};
 ghost use Rattle.fs_queue.specs.declared.fault.QueueError.{QueueError};
@@ -16,8 +16,9 @@ use fs_live::law_handles;
 use fs_queue::QueueError;
 use fuse_fs::FileSystem;
 
-/// A walk whose index is given once bytes were refused is idle: that is an event, and the queue stays. If it
-/// wants more, that has a place.
+/// A pop whose index is given after other bytes were refused. If the queue has no available chain, that is an
+/// event, and the queue stays as it is. If the pop wants another load, that load is mapped. Fails with
+/// `BadArgument` if the other bytes weren't refused.
 pub fn look_after_refusal<F: FileSystem>(
     handle: &mut ChainHandle,
     queue: &mut QueueState,
@@ -50,8 +51,8 @@ pub fn look_after_refusal<F: FileSystem>(
     }
 }
 
-/// A walk that finds its queue stopped meanwhile is declined, and leaves the queue of the run as it leaves
-/// the kept one.
+/// A pop that finds its queue stopped meanwhile is declined. It leaves the run's queue as it leaves the
+/// `QueueState`.
 pub fn find_stopped<F: FileSystem>(
     handle: &mut ChainHandle,
     queue: &mut QueueState,

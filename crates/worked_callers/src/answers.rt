@@ -23,7 +23,8 @@ use fuse_fs::{Entry, FileSystem};
 use fuse_values::FileAnswer;
 use server_phases::Session;
 
-/// Answers the pending call by data, which the caller stores in the reply buffer behind the reply's front.
+/// Answers the pending call with data. The caller stores the data in the reply buffer, after the reply's
+/// front.
 pub fn give_data(handle: &mut ChainHandle, bytes: &[u8]) -> Result<(), ChainError>
     ensures { OnOk result ((told : Replied)
         × IsAnsweredBy handle.old (FileAnswer.Bytes (length bytes.now)) bytes.now told handle.new) }
@@ -36,8 +37,8 @@ pub fn give_data(handle: &mut ChainHandle, bytes: &[u8]) -> Result<(), ChainErro
     }
 }
 
-/// A chain whose answer has data, from its walk to its return: the run's call has this data for its answer,
-/// whichever other chains are in flight.
+/// A chain whose answer has data, from its pop to its return, beside any other chains in flight. The run's
+/// call has this data for its answer.
 pub fn read_beside<F: FileSystem>(
     handle: &mut ChainHandle,
     queue: &mut QueueState,
@@ -72,8 +73,8 @@ pub fn read_beside<F: FileSystem>(
     give_back(handle, queue)
 }
 
-/// A chain that lists two entries with their nodes, from its walk to its return: the run's calls are the
-/// listing and its look-ups, whichever other chains are in flight.
+/// A chain that lists two entries with their nodes, from its pop to its return, beside any other chains in
+/// flight. The run's calls are the listing and its look-ups.
 pub fn list_beside<F: FileSystem>(
     handle: &mut ChainHandle,
     queue: &mut QueueState,

@@ -1,4 +1,4 @@
-//! What calls of a handle are in a run, beside whatever other chains are out and a guest that writes.
+//! Calls of a handle as events of a run, beside any other chains in flight and a guest that writes.
 
 ghost use Rattle.std.specs.Prelude.{◌≡◌, ◌≤◌, ◌+◌, ◌^◌, ℕ, [], ◌∷◌, ◌++◌, drop, false, IfOk, IfSome, length};
 ghost use Rattle.std.specs.Prelude.{List, None, Ok, OnOk, Some, slice_get, true};
@@ -32,8 +32,8 @@ use fuse_fs::FileSystem;
 use fuse_values::FileAnswer;
 use server_phases::Session;
 
-/// A chain from its walk to its return, whatever other chains are out: its calls are those of the run and are
-/// one of the file system, its stores stay where they may be, and its queue is as a queue alone.
+/// A chain from its pop to its return, beside any other chains in flight. Its calls are those of the run and
+/// are a run of the file system. Its stores stay where they may be, and its queue is as a queue alone.
 pub fn serve_beside<F: FileSystem>(
     handle: &mut ChainHandle,
     queue: &mut QueueState,
@@ -75,8 +75,8 @@ pub fn serve_beside<F: FileSystem>(
     give_back(handle, queue)
 }
 
-/// A call without data is answered, by the options of its asking: the run's options after it are those of
-/// this moment, but after DESTROY, or an INIT that is agreed on, those that the handle's session has then.
+/// Answers a call without data, with the options of the call's decoding. The run's options stay those of this
+/// moment. After DESTROY, or an INIT that negotiates options, they are those of the handle's session.
 pub fn answer_beside<F: FileSystem>(
     handle: &mut ChainHandle,
     serial: u32,
@@ -103,7 +103,8 @@ pub fn answer_beside<F: FileSystem>(
     }
 }
 
-/// A walk of a queue to its end.
+/// Pops a queue by these bytes, a call for each. Fails with `BadArgument` if the last call got only a part of
+/// its load.
 pub fn walk_to_end(
     handle: &mut ChainHandle,
     queue: &mut QueueState,
@@ -119,7 +120,7 @@ pub fn walk_to_end(
     }
 }
 
-/// A walk to its end was given few loads, whatever they found.
+/// A pop makes few loads, of any bytes.
 pub fn walk_in_few_loads<F: FileSystem>(
     handle: &mut ChainHandle,
     queue: &mut QueueState,
@@ -136,8 +137,7 @@ pub fn walk_in_few_loads<F: FileSystem>(
     walk_to_end(handle, queue, given)
 }
 
-/// A walk that is refused by what it loaded, or by the queue, leaves the queue of the run as it leaves the
-/// kept one.
+/// A pop that is refused by its loads, or by the queue, leaves the run's queue as it leaves the `QueueState`.
 pub fn refuse_beside<F: FileSystem>(
     handle: &mut ChainHandle,
     queue: &mut QueueState,
@@ -168,7 +168,7 @@ pub fn refuse_beside<F: FileSystem>(
     walk_to_end(handle, queue, given)
 }
 
-/// A walk comes to a faulty chain: its head, and what is wrong with it.
+/// Pops a faulty chain: its head and its fault. Fails with `WrongOrder` if the pop ends otherwise.
 pub fn take_faulty(
     handle: &mut ChainHandle,
     queue: &mut QueueState,
@@ -184,7 +184,7 @@ pub fn take_faulty(
     }
 }
 
-/// A faulty chain is walked and goes back, whatever other chains are out: no call is made.
+/// Pops and returns a faulty chain, beside any other chains in flight: no call is made.
 pub fn give_faulty_beside<F: FileSystem>(
     handle: &mut ChainHandle,
     queue: &mut QueueState,
@@ -206,7 +206,7 @@ pub fn give_faulty_beside<F: FileSystem>(
     give_back(handle, queue)
 }
 
-/// What the device stores before it sleeps, where it has a place, is an event, and stays where it may be.
+/// The device's store before it sleeps is an event, if its address is mapped, and stays where it may be.
 pub fn sleep_beside<F: FileSystem>(queue: &QueueState, wanted: bool) -> Option<NotificationStore>
     ensures sleeps { IfSome result (λ store. (s : LiveState F) (i : ℕ)
         → slice_get s.queues i ≡ Some (live_of queue.now)
@@ -219,7 +219,7 @@ pub fn sleep_beside<F: FileSystem>(queue: &QueueState, wanted: bool) -> Option<N
     queue.notification_store(wanted)
 }
 
-/// A queue that is begun anew once no call of its chains waits is an event.
+/// The reset of a queue is an event, once no call of its chains is pending.
 pub fn begin_beside<F: FileSystem>(queue: &mut QueueState, layout: QueueLayout, position: u16)
     ensures begins { (s : LiveState F) (i : ℕ)
         → slice_get s.queues i ≡ Some (live_of queue.old)

@@ -19,18 +19,18 @@ use fs_live::law_handles;
 use fuse_fs::FileSystem;
 use server_phases::Session;
 
-/// The loads of a chain's walk, its request, and the data of its answer.
+/// The loads of a chain's pop, its request, and the data of its answer.
 #[derive(Drop)]
 pub struct Asked<'a> {
-    /// The loads.
+    /// The bytes of each load.
     pub given: &'a [&'a [u8]],
-    /// The request.
+    /// The whole request.
     pub request: &'a [u8],
-    /// The data.
+    /// The answer's data.
     pub bytes: &'a [u8],
 }
 
-/// Two handles take a chain each and decode its request. The second one's chain is answered and returned, and
+/// Two handles pop a chain each and decode its request. The second one's chain is answered and returned, and
 /// then the first one's. That is a run, in which the calls are in the order of their answers.
 pub fn serve_crossed<F: FileSystem>(
     first: &mut ChainHandle,

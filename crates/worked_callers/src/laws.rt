@@ -1,4 +1,4 @@
-//! What the memories of the handle's regions offer, by what a call of walk told.
+//! The outcome of a pop's call is the offer of each memory over the handle's regions that has the loads.
 
 ghost use Rattle.std.specs.Prelude.{◌≡◌, [], None, IfOk, IfSome};
 ghost use Rattle.vm_memory_core.specs.Host.{Host};
@@ -16,7 +16,7 @@ ghost use Rattle.fs_chain.specs.declared.state.PopId.{PopId};
 use fs_chain::laws::law_walks;
 use fs_chain::{ChainError, ChainHandle, LoadOutcome, PopOutcome, QueueState};
 
-/// Begins a walk: what it tells is what each memory offers that has no load of it yet.
+/// Begins a pop. Its outcome is the offer of each memory over the regions: nothing was loaded yet.
 pub fn begin(
     handle: &mut ChainHandle,
     queue: &mut QueueState,
@@ -38,7 +38,8 @@ pub fn begin(
     }
 }
 
-/// Goes on with a walk: what it tells is what each memory offers that has its loads, and the request's bytes.
+/// Goes on with a pop. Its outcome is the offer of each memory that has the pop's loads, and the request's
+/// bytes.
 pub fn go_on(
     handle: &mut ChainHandle,
     queue: &mut QueueState,

@@ -1,5 +1,5 @@
 //! Callers of the handle. Each proves, by the theorems of `fs_chain` and `fs_live`, that its calls are a step
-//! or a run, so real calls meet the hypotheses of these theorems. `chain_tests` runs them.
+//! or a run. So real calls meet the hypotheses of these theorems. `chain_tests` runs them.
 #![tactic(auto)]
 
 pub mod among;

@@ -1,4 +1,4 @@
-//! A directory that is listed entry by entry, from a chain's walk to its return, is a step of the plain
+//! A directory that is listed entry by entry, from a chain's pop to its return, is a step of the plain
 //! machine.
 
 ghost use Rattle.std.specs.Prelude.{◌≡◌, ℕ, List, [], ◌∷◌, length, take, drop, None, Ok, IfOk, OnOk, false};
@@ -31,7 +31,7 @@ pub struct Pair<'a> {
     pub second: DirEntry<'a>,
 }
 
-/// A chain is asked by its whole request, and makes a call.
+/// Decodes a chain's whole request, which makes a call. Fails with `WrongOrder` if it makes none.
 pub fn ask_call(
     handle: &mut ChainHandle,
     session: Session,
@@ -47,7 +47,7 @@ pub fn ask_call(
     }
 }
 
-/// An entry is brought with its node, and is in.
+/// Adds an entry with its node to the listing. Fails with `LongReply` if the entry isn't added.
 pub fn bring(
     handle: &mut ChainHandle,
     list: &mut [u8],
@@ -65,8 +65,7 @@ pub fn bring(
     }
 }
 
-/// Two entries are brought with their nodes, and the directory has ended: how many bytes of the list are the
-/// data.
+/// Adds two entries with their nodes, and ends the listing. Returns how many bytes of the list are the data.
 pub fn list_two(
     handle: &mut ChainHandle,
     list: &mut [u8],
@@ -84,7 +83,7 @@ pub fn list_two(
     handle.end(serial)
 }
 
-/// A chain that is out alone and lists two entries with their nodes is a step by the listing and its
+/// A chain that is in flight alone and lists two entries with their nodes is a step by the listing and its
 /// look-ups.
 pub fn serve_two<F: FileSystem>(
     handle: &mut ChainHandle,

@@ -1,4 +1,4 @@
-//! Runs of takes and returns on one queue, and of chains one after another.
+//! Runs of pops and returns on one queue, and of chains one after another.
 
 ghost use Rattle.std.specs.Prelude.{◌≡◌, ◌<◌, ◌^◌, ℕ, [], ◌∷◌, List, Some, None, slice_get};
 ghost use Rattle.vm_memory.specs.Memory.{Memory};
@@ -14,7 +14,7 @@ ghost use Rattle.worked_callers.specs.InARow.{after_both, one, two, with_both};
 use fs_live::{law_queues, law_serial};
 use fuse_fs::FileSystem;
 
-/// Of two chains that are taken, if the first one goes back first, each goes back where it was taken.
+/// Of two popped chains, if the first one is returned first, each is returned at the position of its pop.
 pub fn oldest_first()
     ensures { (w : LiveQueue) (first second n m : ℕ) (stores more : List Store)
         → w.next_used ≡ w.queue.position
@@ -25,7 +25,8 @@ pub fn oldest_first()
     law_queues();
 }
 
-/// Two chains on one queue, one after the other, are a kick of two.
+/// Two chains on one queue, one after the other, are the plain machine's run of two turns for one
+/// notification.
 pub fn two_in_a_row<F: FileSystem>()
     ensures { (s after : LiveState F) (one two : Single) (m m' : Memory) (i : ℕ) (w : LiveQueue)
         → s.outs ≡ []
@@ -37,8 +38,8 @@ pub fn two_in_a_row<F: FileSystem>()
     law_serial::<F>();
 }
 
-/// Two chains of one queue, one after the other, over a memory that has their bytes: a kick of the plain
-/// machine, of these two turns.
+/// Two chains of one queue, one after the other, over a memory that has their bytes. They are the plain
+/// machine's run of these two turns for one notification.
 pub fn served_in_a_row<F: FileSystem>()
     ensures { (before after : F)
         → F.may before Destroy Done after

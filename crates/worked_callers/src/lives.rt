@@ -1,4 +1,4 @@
-//! Chains that are out at once, by a handle each, are a run beside a guest that writes.
+//! Chains in flight at once, each with its handle, are a run beside a guest that writes.
 
 ghost use Rattle.std.specs.Prelude.{◌≡◌, ℕ, List, [], ◌∷◌, map, IsPermutation, None, Some, IfOk, slice_get};
 ghost use Rattle.fs_regions.specs.Places.{places_in};
@@ -12,7 +12,7 @@ use fs_chain::{ChainError, ChainHandle, QueueState};
 use fs_live::{law_handles, law_runs};
 use fuse_fs::FileSystem;
 
-/// Two chains of one queue are taken by two handles: both are out then, each once.
+/// Two handles pop two chains of one queue: both chains are in flight then, each once.
 pub fn take_two<F: FileSystem>(
     first: &mut ChainHandle,
     second: &mut ChainHandle,

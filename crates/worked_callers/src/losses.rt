@@ -1,4 +1,4 @@
-//! A handle that is freed while the call of its chain waits, and the call's answer, which comes late.
+//! A handle that is freed while the call of its chain is pending, and the call's late answer.
 
 ghost use Rattle.std.specs.Prelude.{◌≡◌, ◌≤◌, ◌^◌, ℕ, [], ◌∷◌, drop, IsTrue, List, None, OnOk, Some};
 ghost use Rattle.std.specs.Prelude.{slice_get};
@@ -18,8 +18,8 @@ use fuse_fs::FileSystem;
 use fuse_values::FileAnswer;
 use server_phases::Session;
 
-/// A chain's request is decoded, its handle is freed, and the late answer is refused by the error that is
-/// returned. In the run the chain is lost: once with the file system's answer before that, and once without.
+/// Decodes a chain's request and frees its handle. The error that is returned is the refusal of the late
+/// answer. In the run the chain is lost: once after the file system's answer, and once without it.
 pub fn lose_asked<F: FileSystem>(
     handle: &mut ChainHandle,
     queue: &mut QueueState,

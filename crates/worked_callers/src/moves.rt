@@ -36,7 +36,7 @@ pub fn save_one<S: RecordSink>(
     }
 }
 
-/// The queue of a list that has one.
+/// The queue of a list of one; None for any other list.
 pub fn only(queues: &[Queue]) -> Option<&Queue>
     ensures { IfSome result (λ q. queues.now ≡ q.now ∷ []) }
 {
@@ -47,7 +47,7 @@ pub fn only(queues: &[Queue]) -> Option<&Queue>
     }
 }
 
-/// The options and the queues of a record that is read from a source.
+/// Reads a record from a source: its options and its queues. Any failure is `BadArgument`.
 pub fn restore_one<T: RecordSource>(
     alloc: Global,
     source: &mut T,
@@ -62,9 +62,9 @@ pub fn restore_one<T: RecordSource>(
     }
 }
 
-/// A chain is returned here, a record is made here and read there, the queue there begins by it, and a chain
-/// is returned there. If the bytes that are read are those that were put, that is a run, in which the queue
-/// goes on where it was.
+/// A chain is returned here, and a record is made here and read there. The queue there is reset from it, and
+/// a chain is returned there. If the bytes that are read are those that were put, that is a run, in which the
+/// queue goes on where it was.
 pub fn move_amid<F: FileSystem, S: RecordSink, T: RecordSource>(
     alloc: Global,
     here: &mut ChainHandle,

@@ -1,5 +1,5 @@
-//! What calls of a handle that answer nothing are in a run: chains that are given up, and replied by bytes of
-//! the caller's own; other regions; and a queue that is begun where it stands.
+//! Calls of a handle that answer nothing, as events of a run: chains that are given up, lost, or replied to
+//! with bytes of the caller's own; other regions; and a queue that is reset to its own position.
 
 ghost use Rattle.std.specs.Prelude.{◌≡◌, ◌≤◌, ◌^◌, ℕ, [], ◌∷◌, IfOk, is_some, List, None, OnOk, Some};
 ghost use Rattle.std.specs.Prelude.{slice_get};
@@ -24,8 +24,8 @@ use fs_queue::{Queue, QueueError};
 use fs_regions::GuestMap;
 use fuse_fs::FileSystem;
 
-/// A chain that is walked and given up: the chains that are out are those of before, and the queue is as the
-/// call left it.
+/// Pops a chain and gives it up. The chains in flight are those of before, and the queue is as the call left
+/// it.
 pub fn drop_beside<F: FileSystem>(
     handle: &mut ChainHandle,
     queue: &mut QueueState,
@@ -47,7 +47,7 @@ pub fn drop_beside<F: FileSystem>(
     handle.give_up(queue)
 }
 
-/// A chain that is walked and whose handle is freed: it is lost to its queue, and the handle walks again.
+/// Pops a chain and frees its handle: the chain is lost to its queue, and the handle may pop again.
 pub fn lose_beside<F: FileSystem>(
     handle: &mut ChainHandle,
     queue: &mut QueueState,
@@ -70,7 +70,8 @@ pub fn lose_beside<F: FileSystem>(
     Ok(())
 }
 
-/// A chain that its caller replied to goes back with his bytes, to a driver that wants to be told.
+/// Returns a chain that its caller replied to, with the caller's bytes, to a driver that enabled the
+/// notification.
 pub fn give_own_back(handle: &mut ChainHandle, queue: &mut QueueState) -> Result<bool, ChainError>
     ensures back { IfOk result (λ notice. (room reply : List ℕ) (last : ℕ) → (acts : List Act)
         × GoesBackOwn queue.old room reply handle.old.state acts last notice) }
@@ -81,8 +82,8 @@ pub fn give_own_back(handle: &mut ChainHandle, queue: &mut QueueState) -> Result
     handle.pushed(queue, [0, 0])
 }
 
-/// A chain is walked, replied by bytes of the caller's own, and goes back with them: no call is made, and the
-/// other chains are out still.
+/// Pops a chain, replies with bytes of the caller's own, and returns it with them. No call is made, and the
+/// other chains stay in flight.
 pub fn reply_beside<F: FileSystem>(
     handle: &mut ChainHandle,
     queue: &mut QueueState,
@@ -117,7 +118,7 @@ pub fn reply_beside<F: FileSystem>(
     give_own_back(handle, queue)
 }
 
-/// Other regions, while no chain is out, are the event of other places.
+/// Other regions, while no chain is in flight, are the event `Maps`.
 pub fn map_beside<F: FileSystem>(
     handle: &mut ChainHandle,
     regions: GuestMap,
@@ -134,7 +135,8 @@ pub fn map_beside<F: FileSystem>(
     handle.set_memory(regions, limit)
 }
 
-/// What stopped a queue isn't told by a record, only whether something did.
+/// A record keeps whether a queue was stopped, but not the error that stopped it: `Stopped` is returned for
+/// it.
 pub fn stopped_by(read: &Queue) -> Option<QueueError>
     ensures { is_some result ≡ read.now.stopped }
 {
@@ -145,8 +147,8 @@ pub fn stopped_by(read: &Queue) -> Option<QueueError>
     }
 }
 
-/// The one queue of a device is begun by that of a record, as it stood where the record was made: that is the
-/// event of a move, and the options are those of before.
+/// Resets the one queue of a device from that of a record: to its position, and stopped if it was. That is
+/// the event `Moves`, and the options are those of before.
 pub fn begin_by_record<F: FileSystem>(queue: &mut QueueState, read: &Queue)
     requires some { 1 ≤ queue.old.max_in_flight }
     requires few { queue.old.max_in_flight ≤ read.now.size }
@@ -173,8 +175,8 @@ pub fn begin_by_record<F: FileSystem>(queue: &mut QueueState, read: &Queue)
     queue.stopped = stopped;
 }
 
-/// A queue of which no chain is out, and which is begun where it stands, as after GET_VRING_BASE and
-/// SET_VRING_BASE, goes on as if it weren't begun.
+/// Resets a queue without chains in flight to its own position, as after GET_VRING_BASE and SET_VRING_BASE.
+/// The queue goes on as if it weren't reset.
 pub fn begin_again<F: FileSystem>(queue: &mut QueueState)
     requires goes { queue.old.stopped ≡ None }
     ensures stands { (start now : LiveState F) (es : List LiveEvent) (i : ℕ)

@@ -1,5 +1,5 @@
-//! Other regions while a chain is in flight: the chain keeps the places of its own walk, and the next walks
-//! go over the new regions.
+//! Other regions while a chain is in flight: the chain keeps the mappings of its own pop, and the next pops
+//! use the new regions.
 
 ghost use Rattle.std.specs.Prelude.{◌≡◌, ◌≤◌, ◌^◌, ℕ, [], IfOk, List, None, Some, slice_get};
 ghost use Rattle.fs_regions.specs.Places.{places_in};
@@ -14,9 +14,9 @@ use fs_live::law_handles;
 use fs_regions::GuestMap;
 use fuse_fs::FileSystem;
 
-/// One handle takes a chain, another handle gets other regions, and the chain is returned with its caller's
-/// own bytes. That is a run, if the new regions have places for the queue's returns just where the old ones
-/// have them.
+/// One handle pops a chain, another handle gets other regions, and the chain is returned with its caller's
+/// own bytes. That is a run, if the new regions map the addresses of the queue's returns just where the old
+/// ones do.
 pub fn map_amid<F: FileSystem>(
     first: &mut ChainHandle,
     second: &mut ChainHandle,

@@ -1,5 +1,5 @@
-//! A chain of a queue with the event index is a step of the plain machine, which takes what is seen for its
-//! flags; the driver is told by used_event (VIRTIO 1.2, 2.7.7.2).
+//! With the event index, a chain is a step of the plain machine, which takes the two bytes that are seen for
+//! its flags. The driver is notified by used_event (VIRTIO 1.2, 2.7.7.2).
 
 ghost use Rattle.std.specs.Prelude.{◌≡◌, ℕ, List, [], length, None, Some, Ok, IfOk, OnOk, true};
 ghost use Rattle.fuse_fs.specs.Calls.{FileRun};
@@ -21,8 +21,8 @@ use fuse_fs::FileSystem;
 use fuse_values::FileAnswer;
 use server_phases::Session;
 
-/// A chain whose reply is known goes back, and these two bytes are seen then: whether the driver is told, and
-/// where they stand.
+/// Returns a chain whose reply is known, while these two bytes are seen: whether the driver is notified, and
+/// the address of the two bytes.
 pub fn give_back_by(
     handle: &mut ChainHandle,
     queue: &mut QueueState,
@@ -42,8 +42,8 @@ pub fn give_back_by(
     }
 }
 
-/// A chain that is out alone, whose answer has no data and which lists nothing, is a step by the two bytes
-/// that are seen; whether the driver is told, and where they stand.
+/// A chain that is in flight alone, whose answer has no data and which lists nothing, is a step by the two
+/// bytes seen. Returns whether the driver is notified, and the address of the two bytes.
 pub fn serve_by<F: FileSystem>(
     handle: &mut ChainHandle,
     queue: &mut QueueState,
@@ -77,7 +77,7 @@ pub fn serve_by<F: FileSystem>(
     give_back_by(handle, queue, seen)
 }
 
-/// A walk that comes to a faulty chain: its head, and its fault.
+/// Pops a faulty chain: its head, and its fault. Fails with `WrongOrder` if the pop ends otherwise.
 pub fn walk_faulty(
     handle: &mut ChainHandle,
     queue: &mut QueueState,
@@ -93,7 +93,8 @@ pub fn walk_faulty(
     }
 }
 
-/// So is a faulty chain that is out alone.
+/// A faulty chain that is in flight alone is such a step too. Returns whether the driver is notified, and the
+/// address of the two bytes.
 pub fn serve_faulty<F: FileSystem>(
     handle: &mut ChainHandle,
     queue: &mut QueueState,

@@ -1,4 +1,4 @@
-//! What calls of a handle come to from a walk's beginning on is a step of the plain machine.
+//! The calls of a handle from a pop's beginning on are a step of the plain machine.
 
 ghost use Rattle.std.specs.Prelude.{◌≡◌, ℕ, List, [], length, None, Some, Ok, IfOk, OnOk, false, true};
 ghost use Rattle.fuse_fs.specs.Calls.{FileRun};
@@ -25,7 +25,7 @@ use fuse_fs::FileSystem;
 use fuse_values::FileAnswer;
 use server_phases::Session;
 
-/// Whether a call of walk wants bytes.
+/// Whether a call of `pop` wants bytes.
 pub fn wants_bytes(told: &LoadOutcome) -> bool
     ensures { result ≡ true → WantsBytes told.now }
 {
@@ -35,7 +35,7 @@ pub fn wants_bytes(told: &LoadOutcome) -> bool
     )
 }
 
-/// A walk by these bytes, a call for each, as long as it wants some.
+/// A pop by these bytes, a call for each, as long as it wants some.
 #[tactic(auto, using(fs_chain::proofs::WholeWalks::begins_by, fs_chain::proofs::WholeWalks::goes_on_by))]
 pub fn walk_by(
     handle: &mut ChainHandle,
@@ -55,8 +55,9 @@ pub fn walk_by(
     Ok(told)
 }
 
-/// A walk that finds nothing is an idle step, and one that is refused a step that stops the queue, if its
-/// event index has places; without them it is refused by that, whatever waits, and stops it too.
+/// A pop that finds no available chain is an idle step. A refused pop is a step that stops the queue, if its
+/// event index is mapped. If the event index isn't mapped, the pop is refused for that, also if a chain is
+/// available, and stops the queue too.
 pub fn look<F: FileSystem>(
     handle: &mut ChainHandle,
     queue: &mut QueueState,
@@ -84,7 +85,8 @@ pub fn look<F: FileSystem>(
     walk_by(handle, queue, given)
 }
 
-/// A walk that comes to a chain: its head, how many bytes its request has, and how many its room.
+/// Pops a chain: its head, the length of its request in bytes, and that of its reply buffer. Fails with
+/// `WrongOrder` if the pop ends otherwise.
 pub fn walk_chain(
     handle: &mut ChainHandle,
     queue: &mut QueueState,
@@ -106,7 +108,7 @@ pub fn walk_chain(
     }
 }
 
-/// A chain is asked by its whole request, and its call, if there is one, is answered.
+/// Decodes a chain's whole request, and answers its call, if there is one.
 pub fn reply(
     handle: &mut ChainHandle,
     session: Session,
@@ -134,7 +136,7 @@ pub fn reply(
     }
 }
 
-/// A chain whose reply is known goes back to a driver that wants to be told.
+/// Returns a chain whose reply is known, to a driver that enabled the notification.
 pub fn give_back(handle: &mut ChainHandle, queue: &mut QueueState) -> Result<bool, ChainError>
     ensures back { IfOk result (λ notice. (room behind : List ℕ) → (acts : List Act) × (last : ℕ)
         × GoesBackBy queue.old room behind handle.old.state acts last notice) }
@@ -146,8 +148,8 @@ pub fn give_back(handle: &mut ChainHandle, queue: &mut QueueState) -> Result<boo
     handle.pushed(queue, [0, 0])
 }
 
-/// A chain that is out alone from its walk to its return, whose answer has no data and which lists nothing,
-/// is a step.
+/// A chain that is in flight alone from its pop to its return, whose answer has no data and which lists
+/// nothing, is a step.
 pub fn serve<F: FileSystem>(
     handle: &mut ChainHandle,
     queue: &mut QueueState,

@@ -16,7 +16,7 @@ ghost use Rattle.fs_live.specs.Several.{LiveQueue};
 use fs_live::{law_examples, law_runs};
 use fuse_fs::FileSystem;
 
-/// DESTROY's chain, behind which another one was taken and went back, is a step by its own loads.
+/// DESTROY's chain, after which another one was popped and returned, is a step by its own loads.
 pub fn overlapped<F: FileSystem>()
     ensures { (before after : F) → F.may before Destroy Done after → (now : LiveState F)
         × ((m : State F) (files : F)
@@ -30,7 +30,7 @@ pub fn overlapped<F: FileSystem>()
     law_runs::<F, F>();
 }
 
-/// Where it goes back there are places, though another one that was taken later went back before.
+/// Its return is mapped, though another chain that was popped later was returned before.
 pub fn placed<F: FileSystem>()
     ensures { (before after : F)
         → F.may before Destroy Done after
@@ -42,7 +42,7 @@ pub fn placed<F: FileSystem>()
     law_runs::<F, F>();
 }
 
-/// The chain whose ring's entry was rewritten is a step by what was loaded of it.
+/// The chain whose ring's entry was rewritten is a step by its loads.
 pub fn kept<F: FileSystem>()
     ensures { (before after : F) → F.may before rewritten.told Done after → (now : LiveState F)
         × ((m : State F) (files : F)
@@ -56,7 +56,7 @@ pub fn kept<F: FileSystem>()
     law_runs::<F, F>();
 }
 
-/// LOOKUP's chain, which was asked before INIT was answered, is a step by the options of its asking.
+/// LOOKUP's chain, which was decoded before INIT was answered, is a step with the options of its decoding.
 pub fn asked_before<F: FileSystem>()
     ensures { (before between after : F)
         → F.may before init.starts (Wants 0) between
@@ -73,7 +73,8 @@ pub fn asked_before<F: FileSystem>()
     law_runs::<F, F>();
 }
 
-/// Once both of its chains went back the device moves: whatever it does there it could have done here.
+/// The device moves once both of its chains were returned. Any later run there is one that it could have made
+/// here.
 pub fn moved<F: FileSystem>()
     ensures { (before after : F)
         → F.may before Destroy Done after
@@ -88,7 +89,7 @@ pub fn moved<F: FileSystem>()
     law_runs::<F, F>();
 }
 
-/// The pages that its events mark are those that they tell.
+/// The pages that the run's events mark are those that they report.
 pub fn marked<F: FileSystem>()
     ensures { (before after : F)
         → F.may before Destroy Done after
