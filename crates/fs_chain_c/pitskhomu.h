@@ -1,17 +1,18 @@
 /*
  * pitskhomu.h: the device side of virtio-fs (VIRTIO 1.2, 2.7 and 5.11; FUSE 7.38) for a VMM.
  *
- * The library walks a split virtqueue, decodes each FUSE request and encodes its reply. It touches
- * no guest memory, file, socket or clock. It returns the address of each load and store, and you
- * make it: so the guest's vCPUs run meanwhile. One chain of descriptors takes these calls:
+ * The library walks a split virtqueue, decodes each FUSE request and encodes its reply. It accesses
+ * no guest memory, file, socket or clock: it returns the address of each load and store, and the
+ * caller performs it. So vCPUs may run meanwhile. Each descriptor chain takes these calls:
  *     pk_pop      returns loads of the ring and its descriptors (PK_LOAD), then a chain (PK_DONE)
- *     pk_decode   reads the bytes of the request, and returns the file call that it asks for
- *     pk_reply_*  takes the answer of your file system
+ *     pk_decode   decodes the bytes of the request, and returns the file call
+ *     pk_reply_*  encodes the answer of your file system
  *     pk_push     returns the stores that add the chain to the used ring
- *     pk_pushed   says whether to notify the driver
+ *     pk_pushed   ends the push, and returns whether to notify the driver
  *
- * THE SMALLEST LOOP, of examples/c/sketch.c: there are `load`, `gather` and `scatter`, which copy
- * bytes of the guest's memory, and `answer`, the file system. access.c and monitor.c are larger.
+ * THE SMALLEST LOOP, from examples/c/sketch.c. That file also has `load`, `gather` and `scatter`,
+ * which copy guest bytes, and `answer`, the file system with its pk_reply_* calls. monitor.c shows
+ * more.
  *
  * <!-- examples/c/sketch.c: decode, serve_request, push, serve -->
  * ```
@@ -64,67 +65,73 @@
  * }
  * ```
  *
- * OWNERSHIP. `struct pk_device` and `struct pk_queue` are plain numbers, to be copied. `struct
- * pk_chain` is a handle for one chain at a time: zeros before its first use, never copied, freed by
- * pk_chain_free. No call keeps a pointer that you pass or returns one: a name or a value is a place
- * in the request's bytes (`struct pk_span`). Structs may grow at their end: begin with zeros.
+ * OWNERSHIP. `struct pk_device` and `struct pk_queue` hold plain numbers and may be copied. `struct
+ * pk_chain` is a handle for one chain at a time: zero it before its first use, never copy it, and
+ * free it with pk_chain_free. The library keeps no pointer that you pass and returns none: names
+ * and values are offsets into the request (`struct pk_span`). A later header may add fields at the
+ * end of a struct, so initialise structs with zeros.
  *
- * THREADS. What a call takes as const, other calls may read meanwhile; the rest is its alone. Two
- * calls on one chain, queue or device need an order between them: a lock, or a join. A chain may
- * move between threads. A thread with a chain and a queue of its own needs a lock for `device`
- * alone: many pk_decode, or one pk_reply_init.
+ * THREADS. Calls may run at the same time if they share only arguments that all of them take as
+ * const. Otherwise calls on one chain, queue or device need an order: a lock, or a join. A chain
+ * may move between threads. Threads that have a chain and a queue each share only `device`: use a
+ * reader-writer lock, since pk_reply_init and pk_restore write it, and pk_decode reads it.
  *
- * YOUR PART, which no compiler checks. (A call in a wrong order is refused with a status.)
- *  1. Pointers are valid for their lengths and never NULL, not even with length 0. An argument that
- *     is written overlaps no other.
+ * RULES for the caller. The library can't check them; it does refuse calls in a wrong order.
+ *  1. A pointer is valid for its length, and never NULL, not even with length 0. An argument that
+ *     the call writes overlaps no other.
  *  2. Load each byte once: copy it, pass the copy, and don't read the guest's byte again.
  *  3. A load of 2 bytes is one atomic load with acquire order. Other loads need no order.
- *  4. To push: data into the reply buffer, the front over its first bytes, the used element's two
- *     halves; the used index by one atomic store with release order; a full barrier
- *     (atomic_thread_fence(memory_order_seq_cst)); then the load at `seen_at`.
- *  5. Use a chain's windows only until pk_pushed, pk_drop or pk_abandon. Store into the windows of
- *     the reply buffer alone.
- *  6. Memory stays mapped while a chain is in flight over it: the chain keeps its pop's regions.
- *     While any is, new regions map the queue's rings as the old ones did.
- *  7. In a migration, mark each page that you stored into, after the store and before pk_pushed.
- *     Data that you put into the reply buffer counts, also if the reply leaves it out.
- *  8. Before a queue is reset (pk_queue_begin, pk_restore), free its chains by pk_abandon, and end
- *     their loads, stores and file calls.
- *  9. A decoded chain gets a reply: pk_reply_err(EIO) at the least, or pk_reply_bytes(0) for none.
- * 10. malloc, realloc and free are one allocator's. No call comes from a signal handler, nor from
- *     the child of a fork of a process with threads.
+ *  4. To push, do in this order: copy the data into the reply buffer; copy the front (the reply
+ *     without its data) over its first bytes; store the two halves of the used element; store the
+ *     used index, atomically and with release order; issue a full barrier
+ *     (atomic_thread_fence(memory_order_seq_cst)); load the 2 bytes at `seen_at`.
+ *  5. Use a chain's windows only until pk_pushed, pk_drop or pk_abandon. Store only into those of
+ *     the reply buffer.
+ *  6. A chain keeps the regions that it was popped with: leave that memory mapped while the chain
+ *     is in flight. Meanwhile new regions must map the queue's rings as the old ones did.
+ *  7. In a migration log each page that you stored into, after the store and before pk_pushed. Also
+ *     log data that you put into the reply buffer, but that the reply leaves out.
+ *  8. Before a queue is reset (pk_queue_begin, pk_restore), end the loads, stores and file calls of
+ *     its chains, and free them with pk_abandon.
+ *  9. Answer each decoded chain, unless `answer` is NONE: at least by pk_reply_err(EIO).
+ * 10. malloc, realloc and free belong to one allocator. No call is made from a signal handler, nor
+ *     from the child of a fork of a process with threads.
  *
- * SEVERAL CHAINS IN FLIGHT: up to `max_in_flight` of a queue, each with a `struct pk_chain` of its
- * own. They are pushed in any order. Hold the queue's lock from the first pk_pop of a chain to the
- * last; from pk_push to pk_pushed; and from pk_set_notification to the end of the pop behind it. A
- * pop is refused (PK_OTHER_QUEUE) if another chain was popped between its calls.
+ * SEVERAL CHAINS IN FLIGHT: up to `max_in_flight` of a queue, each with its own `struct pk_chain`.
+ * Push them in any order. Hold the queue's lock from a chain's first pk_pop to its last (if another
+ * chain was popped or dropped between, the pop is refused: PK_OTHER_QUEUE), from pk_push to
+ * pk_pushed, and from pk_set_notification to the end of the pop that follows.
  *
- * NOTIFICATIONS. None is lost under these rules (crate notify; without one in brackets, one is):
- *   - Before a thread sleeps: pk_set_notification(1) after its last pop, the store, a full barrier,
- *     and one more pop, which loads the available index from memory, never a remembered one
- *     (taker_waits, late). It sleeps on PK_IDLE, or if `max_in_flight` chains are in flight.
- *   - A thread that pops a chain while another thread of the queue sleeps does the same before it
- *     releases the lock, with EVENT_IDX and without (asks_again; without, the store may be left out
- *     if the last one was the same). If a chain is available, it pops it or wakes a thread, since
- *     the driver doesn't notify again for it (wakes_another).
+ * NOTIFICATIONS. None is lost, of the driver or the device, under these rules and VIRTIO's for the
+ * driver (2.7.13, 2.7.14). Names in brackets are those of crate notify, whose model loses one
+ * without.
+ *   - Before a thread sleeps, after its last pop: pk_set_notification(1), the store, a full
+ *     barrier, and one more pop. That pop uses no earlier load of the available index (taker_waits,
+ *     late). Sleep if it returns PK_IDLE, or if `max_in_flight` are in flight.
+ *   - A thread that calls pk_pop or pk_set_notification while another thread of the queue sleeps
+ *     does the same before it releases the lock, with any result (PK_IDLE and PK_OUT_OF_MEMORY
+ *     too), with EVENT_IDX and without (asks_again). With a chain in its handle it compares a new
+ *     load of the available index with `next_avail` instead of the pop. Without EVENT_IDX, it may
+ *     omit a store that is the queue's last one. If a chain is available then, it pops it or wakes
+ *     a thread, since the driver doesn't notify again (wakes_another).
  *   - A thread that pushes or drops a chain pops again, or wakes a thread (walks_after).
- *   - The barrier of a push comes before its load (giver_waits), and each push is ended before the
- *     next (checks_often). A woken thread reads its event before it pops.
+ *   - The barrier of a push precedes its load (giver_waits). Each push is ended before the next
+ *     begins (checks_often). A woken thread resets its event (eventfd), and then pops.
  *
  * FEATURES that you may offer: VERSION_1 (32; insist on it), INDIRECT_DESC (28), EVENT_IDX (29; set
  * `event_index`), IN_ORDER (35; push the chains of a queue in the order of their pops), and
- * ACCESS_PLATFORM (33), if the guest's addresses are guest physical ones. Not RING_PACKED (34).
+ * ACCESS_PLATFORM (33), if the driver's addresses are guest physical. Not RING_PACKED (34).
+ * STATUSES. 1 to 8: the queue can't be served; 2 to 8 stop it until its reset. 9: an allocation
+ * failed. 32 to 63 say how to go on. 64 and more: the call did nothing, and zeroed the structs that
+ * it fills, unless its comment says otherwise. Errors are listed in the order of their checks.
  *
- * ERRORS. 1 to 31: the queue refuses; all but PK_STOPPED and PK_OUT_OF_MEMORY stop it until it is
- * reset. 32 to 63: how to go on. From 64 on: nothing was done, and what the call fills is zeros,
- * unless it says otherwise. "Errors" below are in the order of the checks.
- *
- * PROVED, for any arguments of these types: each function returns, never panics, accesses only what
- * it is lent, and does what its contract in crates/fs_chain_c says. All loads, calls, replies and
- * stores follow from the bytes that you passed, by VIRTIO 1.2 and the FUSE grammar: of one chain
- * (law_chains), of many in flight (law_runs, law_handles), of each span (law_spans). See PROVED.md.
- * TESTED, not proved: that pk_chain_free frees all; calls of several threads on one chain; which of
- * PK_OUT_OF_MEMORY and a later error is returned if both could be; inline functions.
+ * PROVED, for any arguments of these types: each function returns, never panics, accesses only the
+ * memory of its arguments, and meets its contract in crates/fs_chain_c. They do as the calls of the
+ * handle in fs_chain. Its loads, calls, replies (but your own bytes) and stores follow from the
+ * bytes passed, by VIRTIO 1.2 and the FUSE grammar: for one chain (law_chains), and for many in
+ * flight (law_runs, law_handles). See PROVED.md.
+ * TESTED, not proved: that pk_chain_free frees all; calls on a chain that moves between threads;
+ * which error is returned if PK_OUT_OF_MEMORY and a later one could be; inline functions.
  */
 #ifndef PITSKHOMU_CHAIN_H
 #define PITSKHOMU_CHAIN_H
@@ -162,7 +169,7 @@ extern "C" {
 
 enum pk_status {
     PK_DONE = 0,
-    /* 1 to 31: the queue refuses. 2 to 8 stop it, and are stored in its `stopped`. */
+    /* 2 to 8 stop the queue, and are stored in its `stopped`. */
     PK_STOPPED = 1,                 /* it was stopped before */
     PK_AVAIL_INDEX_UNREACHABLE = 2, /* the available index isn't mapped */
     PK_AVAIL_TOO_FAR = 3,           /* more chains are available than the queue's size */
@@ -179,13 +186,13 @@ enum pk_status {
     PK_NO_ROOM = 35,    /* the answer was taken, but the reply buffer is too small: the chain is
                            pushed without a reply, and the guest doesn't hold the entry's node */
     PK_FULL = 36,       /* the entry doesn't fit in the size that the guest asked for: undo its
-                           look-up, and reply with the list */
+                           look-up (READDIRPLUS), and reply with the list */
     PK_LIST_FAILS = 37, /* it fits there, but not in the reply buffer: undo its look-up, and reply
                            with pk_reply_err(EIO) */
-    PK_ENTRIES = 38,    /* a failed listing is answered with its entries, since the guest holds the
-                           nodes: after pk_push copy `len - front_len` bytes of the list into the
-                           reply buffer from PK_HEADER on */
-    /* 64 and more: refused, nothing was done. */
+    PK_ENTRIES = 38,    /* the listing failed, but the guest already holds nodes of its entries, so
+                           the reply has them: after pk_push copy the list's first `len - front_len`
+                           bytes into the reply buffer from PK_HEADER on */
+    /* 64 and more: the call did nothing (but PK_NOT_MAPPED). */
     PK_BAD_ARGUMENT = 66, /* a number that the function doesn't allow, or a wrong length */
     PK_SHORT_BUFFER = 69, /* the buffer is too short */
     PK_LONG_REPLY = 71,   /* 2^32 bytes or more, or (pk_reply_bytes) more than the buffer */
@@ -204,8 +211,7 @@ enum pk_status {
     PK_RECORD_BAD_OPTIONS = 87, PK_RECORD_OUT_OF_MEMORY = 89, PK_RECORD_MISMATCH = 90,
 };
 
-/* A fault of the chain of descriptors (VIRTIO 1.2, 2.7.5): it is pushed without a reply. ROOM is
- * the reply buffer. */
+/* Faults of a descriptor chain (2.7.5), which is pushed without a reply. ROOM: the reply buffer. */
 enum pk_fault {
     PK_FAULT_NONE = 0, PK_FAULT_TOO_LONG = 1, PK_FAULT_NEXT_OUT_OF_TABLE = 2,
     PK_FAULT_ADDRESS_OVERFLOW = 3, PK_FAULT_INDIRECT_WITH_NEXT = 4, PK_FAULT_INDIRECT_NESTED = 5,
@@ -213,20 +219,19 @@ enum pk_fault {
     PK_FAULT_REQUEST_UNREACHABLE = 9, PK_FAULT_ROOM_UNREACHABLE = 10,
 };
 
-/* A fault of the request (virtiofsd's Error): there is no file call and no reply. DECODE: it
- * ends early. ENCODE: the reply buffer is too short. NAME: a name doesn't end with its only zero
- * byte. */
+/* A fault of the request (virtiofsd's Error): there is no file call and no reply. DECODE: it ends
+ * early. ENCODE: the reply buffer is too short. NAME: no zero byte at a name's end, or a second. */
 enum pk_request_fault {
     PK_REQUEST_DECODE = 1, PK_REQUEST_ENCODE = 2, PK_REQUEST_MISSING_PARAMETER = 4,
     PK_REQUEST_MISSING_EXTENSION = 5, PK_REQUEST_HEADER_LENGTH = 6, PK_REQUEST_NAME = 7,
     PK_REQUEST_XATTR_SIZE = 9,
 };
 
-/* The file calls: the fields of struct pk_call that each has -> the kind of its good answer
- * (enum pk_answer_kind). All have `unique`; all but INIT, DESTROY and BATCH_FORGET have `node`;
- * all but INIT and DESTROY have `uid`, `gid` and `pid`. With FUSE_ALLOW_IDMAP (Linux 6.12 and
- * later; always agreed on) uid and gid are 0xffffffff but in calls that make a node. The same
- * calls have `group`, one of the caller's besides gid, if `has_group`. */
+/* The file calls. Beside each: its fields of struct pk_call -> the kind of its good answer. All
+ * have `unique`; all but INIT, DESTROY and BATCH_FORGET have `node`; all but INIT and DESTROY have
+ * `uid`, `gid` and `pid`. With FUSE_ALLOW_IDMAP (Linux 6.12 and later; always agreed on) uid and
+ * gid are 0xffffffff, except in calls that make a node. These also have `group`, a supplementary
+ * group, if `has_group`. */
 enum pk_call_kind {
     PK_CALL_NONE = 0,         /* -> none: the reply is known (ENOSYS of locks), or none is sent */
     PK_CALL_LOOKUP = 1,       /* name -> entry */
@@ -272,10 +277,10 @@ enum pk_call_kind {
 /* Not passed on: FATTR_LOCKOWNER, the flags of COPY_FILE_RANGE, a new node's label, the flags of
  * FUSE_SETXATTR_EXT. So don't agree on FUSE_SECURITY_CTX and FUSE_SETXATTR_EXT. */
 
-/* The good answers: PK_ANSWER_X is given by pk_reply_x, DONE by pk_reply_err(.., 0). NONE: make
- * the call, if there is one, then pk_push. pk_reply_err is allowed for each call that has a
- * reply. Of GETXATTR and LISTXATTR the library takes pk_reply_data and pk_reply_xattr: reply as
- * `answer` says. */
+/* The kinds of good answers: reply PK_ANSWER_X with pk_reply_x, DONE with pk_reply_err(.., 0).
+ * NONE: make the call, if there is one, then pk_push. pk_reply_err is allowed for each call that
+ * has a reply. For GETXATTR and LISTXATTR the library accepts pk_reply_data and pk_reply_xattr, so
+ * look at `answer`. */
 enum pk_answer_kind {
     PK_ANSWER_NONE = 0, PK_ANSWER_DONE = 1, PK_ANSWER_ENTRY = 2, PK_ANSWER_ATTR = 3,
     PK_ANSWER_OPEN = 4, PK_ANSWER_CREATE = 5, PK_ANSWER_DATA = 6, PK_ANSWER_XATTR = 7,
@@ -286,13 +291,13 @@ enum pk_answer_kind {
 /* The archive's PK_VERSION, to compare. */
 uint32_t pk_version(void);
 
-/* Returns 1 if a name is one component of a path (POSIX.1-2017, 3.170 and 4.13), else 0: if it
- * is empty, "." or "..", or has a slash or a zero byte. The guest may send any name: test each
- * before you use it in a directory of the host. */
+/* Returns 1 if a name is one component of a path (POSIX.1-2017, 3.170 and 4.13), else 0: if it is
+ * empty, "." or "..", or has a slash or a zero byte. The guest may send any name: test each before
+ * you use it in a directory of the host. */
 uint8_t pk_is_name(const uint8_t *name, size_t name_len) PK_CHECK;
 
 /* ---------------------------------------------------------------- device and queues */
-/* What all queues share. */
+/* The state that all queues share. */
 struct pk_device {
     uint32_t page_size; /* bytes: a power of two, 4096 to 65536 */
     uint32_t limit;     /* bytes of a request or a reply buffer, PK_REQUEST_MAX to 2^31 */
@@ -300,26 +305,26 @@ struct pk_device {
 };
 #define PK_DEVICE {4096u, 0x101000u, 0u}
 
-/* A queue: zeros before its first use, and never again. You set the addresses and what is yours. */
+/* A queue. Zero it before its first use only. Set the addresses and the fields marked "yours". */
 struct pk_queue {
     uint64_t desc, avail, used; /* guest addresses, aligned to 16, 2 and 4; all end below 2^64 */
     uint16_t size;          /* yours: descriptors, a power of two up to 32768 */
-    uint16_t next_avail;    /* the next to pop, modulo 2^16; with none in flight GET_VRING_BASE */
-    uint16_t next_used;     /* the next to push: next_avail - next_used are in flight */
+    uint16_t next_avail;    /* number of the next to pop; with none in flight GET_VRING_BASE */
+    uint16_t next_used;     /* of the next to push: next_avail - next_used are in flight */
     uint16_t max_in_flight; /* yours: 1 to size; 0 counts as 1 */
     uint16_t stopped;       /* the refusal (2 to 8) that stopped it, 1 if pk_restore did, or 0 */
     uint8_t pushing;        /* 1 from pk_push to pk_pushed, else 0 */
     uint8_t event_index;    /* yours: 1 if VIRTIO_F_EVENT_IDX was agreed on, else 0. With 1 each pop
                                tests first that used_event (7) and avail_event (6) are mapped */
     uint32_t reset_count;   /* resets, modulo 2^32. A chain knows its queue by this number and the
-                               addresses, and a guest may give two queues the same addresses: begin
-                               each queue at a number of its own, as its index times 2^24 */
+                               addresses. A guest may give two queues the same addresses, so start
+                               each queue at another number, such as its index times 2^24 */
     uint32_t pop_count;     /* pops and drops, modulo 2^32 */
 };
 
-/* Resets a queue: no chain of it is in flight, and it isn't stopped. `next_avail` is
- * SET_VRING_BASE's number, or 0. pk_pop, pk_push, pk_pushed and pk_drop refuse its earlier chains,
- * for 2^32 resets. Enable notifications next: an earlier device may have left them disabled.
+/* Resets a queue: then no chain of it is in flight, and it isn't stopped. `next_avail` is the
+ * number of SET_VRING_BASE, or 0. Calls with its earlier chains are refused, for 2^32 resets.
+ * Enable notifications next: an earlier device may have left them disabled.
  * Errors: PK_BAD_ARGUMENT (your fields are no queue's). */
 uint32_t pk_queue_begin(struct pk_queue *queue, uint16_t next_avail) PK_CHECK;
 
@@ -336,27 +341,26 @@ struct pk_chain {
     uint32_t full;
 };
 
-/* Sets the regions and the device's limit for the chain's next pops, and copies both. The regions,
- * up to PK_REGIONS_MAX in any order, aren't empty, don't overlap and end at 2^64 at most. Call it
- * first, and for each chain after each change of the guest's memory.
+/* Copies the regions and the device's limit for the chain's next pops. The regions, up to
+ * PK_REGIONS_MAX in any order, aren't empty, don't overlap and end at 2^64 at most. Call it first,
+ * and for each chain after each change of the guest's memory.
  * Errors: PK_BAD_ARGUMENT, PK_OUT_OF_MEMORY, PK_CHAIN_IN_FLIGHT (also while a pop is under way). */
 uint32_t pk_chain_set_memory(struct pk_chain *chain, const struct pk_device *device,
                              const struct pk_region *regions, size_t region_count)
     PK_CHECK PK_READS(3, 4);
 
-/* Frees the handle's memory, and makes it zeros. A chain in flight stays so for its queue until
- * that is reset, and between pk_push and pk_pushed it blocks the queue's pushes: so push it
- * before. */
+/* Frees the handle's memory, and zeroes it. Push its chain before: else the queue counts it as in
+ * flight until a reset, and, between pk_push and pk_pushed, refuses to push others. */
 void pk_chain_free(struct pk_chain *chain) PK_NONNULL;
 
-/* Sets the ticket of the chain's next pop; later ones grow by 1, modulo 2^32, from 1 otherwise. Let
- * handle k of n begin at k * (2^32 / n): then an answer to another handle's chain is refused.
- * Errors: PK_WRONG_ORDER (no memory was set); PK_CHAIN_IN_FLIGHT (also while a pop is under
- * way). */
+/* Sets the ticket of the chain's next pop. Each pop takes the next number, modulo 2^32; the first
+ * takes 1 without this call. Let handle k of n start at k * (2^32 / n): then an answer for another
+ * handle's chain is refused.
+ * Errors: PK_WRONG_ORDER (no memory was set); PK_CHAIN_IN_FLIGHT (or a pop is under way). */
 uint32_t pk_chain_set_ticket(struct pk_chain *chain, uint32_t first) PK_CHECK;
 
-/* What pk_pop returns. With PK_LOAD the load; with PK_DONE the chain; after an error the load
- * that the pop still needs, if any; else zeros. */
+/* The result of pk_pop: with PK_LOAD a load, with PK_DONE a chain. After an error it is the load
+ * that the pop still needs, if there is one, else zeros. */
 struct pk_pop {
     uintptr_t load_at;    /* host address */
     size_t load_len;      /* bytes, 1 to PK_LOAD_MAX */
@@ -367,28 +371,28 @@ struct pk_pop {
     uint32_t ticket;      /* names the chain in each answer */
 };
 
-/* Pops the next available chain. The first call has `loaded_len` 0. After PK_LOAD load the bytes
- * and call again with them, at most size + 4 times. PK_DONE: the chain is in flight. PK_IDLE and
- * errors 1 to 8: the handle is free. Other errors leave the pop where it is; pk_drop ends it. Two
- * loads may be made otherwise. A table entry that crosses two regions is loaded in two parts;
- * instead of the first part you may pass the whole entry. The first load is the available index;
- * you may pass the bytes of the last load of it again, if that was made over the same memory since
- * the queue was reset, and its number isn't `next_avail`.
- * Errors: PK_WRONG_ORDER (no memory was set); PK_BAD_ARGUMENT (the queue's fields are no
- * queue's, as zeros); PK_WRONG_ORDER (the chain is in flight); PK_BAD_ARGUMENT (`loaded_len`
- * isn't the load's); PK_OTHER_QUEUE (then drop or abandon the pop); PK_CHAIN_IN_FLIGHT; then, in
- * no order, PK_OUT_OF_MEMORY, 1 to 8, PK_NOT_MAPPED. */
+/* Pops the next available chain, by several calls. The first one has `loaded_len` 0. After PK_LOAD
+ * load the bytes and call again with them, at most size + 4 times. PK_DONE: the chain is in flight.
+ * PK_IDLE and errors 1 to 8: the handle is free. Other errors leave the pop under way; pk_drop ends
+ * it. Two loads can be saved. A table entry that crosses two regions is loaded in two parts:
+ * instead of the first you may pass the whole entry. The first load is the available index: you may
+ * pass the bytes of an earlier load of it, if that was made over the same memory since the queue's
+ * reset, and its number isn't `next_avail`.
+ * Errors: PK_WRONG_ORDER (no memory was set); PK_BAD_ARGUMENT (the queue's fields are no queue's,
+ * as zeros); PK_WRONG_ORDER (the chain is in flight); PK_BAD_ARGUMENT (`loaded_len` isn't the
+ * load's); PK_OTHER_QUEUE (then drop or abandon the pop); PK_CHAIN_IN_FLIGHT; then, in no order,
+ * PK_OUT_OF_MEMORY, 1 to 8, PK_NOT_MAPPED. */
 uint32_t pk_pop(struct pk_chain *chain, struct pk_queue *queue, const uint8_t *loaded,
                 size_t loaded_len, struct pk_pop *pop) PK_CHECK PK_READS(3, 4) PK_FILLS(5);
 
-/* Undoes a pop, if the chain wasn't decoded: the queue's next pop returns it again. Ends a pop that
- * is under way, of any queue.
+/* Undoes a pop whose chain wasn't decoded: the queue's next pop returns the chain again. Also ends
+ * a pop that is under way, of any queue.
  * Errors: PK_BAD_ARGUMENT (the queue's fields); PK_WRONG_ORDER (it was decoded, or has a fault);
  * PK_OTHER_QUEUE; PK_WRONG_ORDER (another chain was popped later: drop that one first). */
 uint32_t pk_drop(struct pk_chain *chain, struct pk_queue *queue) PK_NONNULL;
 
-/* Frees the handle for another pop, in any state, without its queue: for a queue that was or
- * will be reset. The queue counts the chain as pk_chain_free says. */
+/* Frees the handle for another pop, in any state, for a queue that was or will be reset. Until then
+ * the queue counts the chain as in flight (pk_chain_free). */
 void pk_abandon(struct pk_chain *chain) PK_NONNULL;
 
 /* A piece of memory, laid out as struct iovec: cast an array of it for preadv and the like. */
@@ -400,11 +404,11 @@ struct pk_window {
 /* A range of guest addresses. */
 struct pk_range { uint64_t guest, len; };
 
-/* Each fills the windows (or guest ranges, for a migration's log) of up to `len` bytes from
- * `from` on, of a chain's request or reply buffer, and returns how many it filled: 0 behind the
- * end, or if no chain is in flight. A window ends where its descriptor or region ends, a range
- * with its descriptor. If they cover fewer bytes than you asked for, go on from there. Each call
- * goes through all descriptors of the chain, so ask for many windows at once. */
+/* Each fills the windows (or guest ranges, for a migration's log) of `len` bytes of a chain's
+ * request or reply buffer, from byte `from` on. It returns how many it filled: 0 past the end, or
+ * if no chain is in flight. A window ends where its descriptor or region ends, a range where its
+ * descriptor does. If they cover fewer than `len` bytes, call again from there. Each call goes
+ * through all descriptors of the chain, so ask for many windows at once. */
 size_t pk_request_windows(struct pk_chain *chain, uint64_t from, uint64_t len,
                           struct pk_window *windows, size_t window_count)
     PK_NONNULL PK_WRITES(4, 5);
@@ -414,7 +418,7 @@ size_t pk_reply_ranges(struct pk_chain *chain, uint64_t from, uint64_t len, stru
                        size_t range_count) PK_NONNULL PK_WRITES(4, 5);
 
 /* ---------------------------------------------------------------- decode */
-/* A place in the bytes of the request. A name has no zero byte, and one follows it. */
+/* Bytes of the request, by their offset. A name has no zero byte, and one follows it. */
 struct pk_span { uint32_t at, len; };
 
 /* struct fuse_attr; with SETATTR, the values to set. */
@@ -428,15 +432,14 @@ struct pk_attr {
     uint32_t flags;      /* FUSE_ATTR_ bits */
 };
 
-/* A file call. enum pk_call_kind lists the fields that each kind has; the others are 0. Flags of
- * 8 bits are 0 or 1; other bits are those of linux/fuse.h. Nodes, handles, offsets and sizes are
- * the guest's numbers and may be any, also before INIT: nodes that it doesn't hold, handles that
- * aren't open. */
+/* A file call. enum pk_call_kind lists the fields that each kind has; the others are 0. A uint8_t
+ * is 0 or 1; flags are those of linux/fuse.h. The guest may send any node, handle, offset and size,
+ * also before INIT: a node that it doesn't hold, a handle that isn't open. */
 struct pk_call {
     uint32_t kind;   /* enum pk_call_kind */
     uint32_t answer; /* enum pk_answer_kind */
     uint32_t opcode; /* the guest's, also without a call */
-    uint32_t error;  /* 0 */
+    uint32_t error;  /* always 0 */
     uint32_t fault;  /* enum pk_request_fault, or 0 */
     uint64_t unique; /* the guest's number of the request */
     uint32_t uid, gid, pid;
@@ -453,16 +456,16 @@ struct pk_call {
     uint32_t ticket; /* pass it with each answer */
 };
 
-/* Decodes a request from its first bytes: the lesser of its length and PK_FIRST, and after PK_MORE
- * as many as `needed` says. Load only the new bytes, and pass all of them. A buffer of the device's
- * limit holds every request; WRITE's data stays in place. If `answer` is PK_ANSWER_NONE, make the
- * call, if there is one, and pk_push. It is never refused for lack of memory.
- * Errors: PK_WRONG_ORDER (no memory was set); PK_BAD_ARGUMENT (the device's fields);
- * PK_WRONG_ORDER (no chain, a faulty one, or a decoded one); PK_BAD_ARGUMENT (too many bytes). */
+/* Decodes a request from its first PK_FIRST bytes, or from all if it is shorter. After PK_MORE load
+ * more, and pass its first `needed` bytes. A buffer of the device's limit holds every request; the
+ * data of a WRITE stays in guest memory. If `answer` is PK_ANSWER_NONE, make the call, if there is
+ * one, and pk_push. It never returns PK_OUT_OF_MEMORY.
+ * Errors: PK_WRONG_ORDER (no memory was set); PK_BAD_ARGUMENT (the device's fields); PK_WRONG_ORDER
+ * (no chain, a faulty one, or a decoded one); PK_BAD_ARGUMENT (too many bytes). */
 uint32_t pk_decode(struct pk_chain *chain, const struct pk_device *device, const uint8_t *request,
                    size_t request_len, struct pk_call *call) PK_CHECK PK_READS(3, 4) PK_FILLS(5);
 
-/* BATCH_FORGET: pair `k`, below count: the guest holds `*node` `*count` times less. */
+/* Pair `k`, below count, of BATCH_FORGET: the guest holds `*node` `*count` times less. */
 static inline void pk_pair(const uint8_t *request, const struct pk_call *call, uint64_t k,
                            uint64_t *node, uint64_t *count) {
     const uint8_t *p = request + call->value.at + 16 * k;
@@ -489,10 +492,10 @@ struct pk_statfs {
     uint32_t bsize, namelen, frsize; /* bytes */
 };
 
-/* Each of these answers the chain's call once, by its ticket, so a late answer is refused. They
- * touch no guest memory, and are never refused for lack of memory; pk_push returns the reply.
- * Errors: the function's own; PK_WRONG_ORDER (no call is unanswered); PK_OTHER_CALL;
- * PK_OTHER_KIND. The call stays unanswered then. PK_NO_ROOM is no error. */
+/* Each answers the chain's call once. The ticket names the call, so a late answer is refused. They
+ * access no guest memory and never return PK_OUT_OF_MEMORY. pk_push returns the reply.
+ * Errors: the function's own; PK_WRONG_ORDER (no call is unanswered); PK_OTHER_CALL; PK_OTHER_KIND.
+ * The call stays unanswered then. PK_NO_ROOM is no error. */
 
 /* Any call: an errno of Linux, 1 to 4095; or 0, if the kind of its answer is done.
  * Errors: PK_BAD_ARGUMENT (another number). It may return PK_ENTRIES. */
@@ -513,7 +516,7 @@ uint32_t pk_reply_create(struct pk_chain *chain, uint32_t ticket, const struct p
 uint32_t pk_reply_attr(struct pk_chain *chain, uint32_t ticket, const struct pk_attr *attr,
                        uint64_t secs, uint32_t nanos) PK_CHECK;
 
-/* OPEN, OPENDIR: `handle` is your number, which READ and the like bring; open_flags: FOPEN_. */
+/* OPEN, OPENDIR: `handle` is your number, which the guest passes to READ etc. open_flags: FOPEN_ */
 uint32_t pk_reply_open(struct pk_chain *chain, uint32_t ticket, uint64_t handle,
                        uint32_t open_flags) PK_CHECK;
 
@@ -530,26 +533,26 @@ uint32_t pk_reply_statfs(struct pk_chain *chain, uint32_t ticket, const struct p
     PK_CHECK;
 uint32_t pk_reply_lseek(struct pk_chain *chain, uint32_t ticket, uint64_t offset) PK_CHECK;
 
-/* INIT: `wanted` are the options, of those that the guest supports, that you want besides the
- * ones that are always agreed on. Sets device->options. The rest of struct fuse_init_out is
- * virtiofsd's: 7.38, max_readahead as the guest's, max_background 65535, congestion_threshold
- * 49149, max_write 0x100000, time_gran 1, max_pages 0xfffff / page_size + 1. */
+/* INIT: `wanted` are options (FUSE_ bits) to agree on, if the guest supports them, besides the
+ * server's own. Sets device->options. The rest of struct fuse_init_out is as virtiofsd sends it:
+ * 7.38, max_readahead as the guest's, max_background 65535, congestion_threshold 49149, max_write
+ * 0x100000, time_gran 1, max_pages 0xfffff / page_size + 1. */
 uint32_t pk_reply_init(struct pk_chain *chain, uint32_t ticket, struct pk_device *device,
                        uint64_t wanted) PK_CHECK;
 
-/* READDIR: appends an entry to `list`, a buffer of yours of data_len bytes at most, the same one
- * for all entries of the reply. The guest passes `next_offset` as the offset of the READDIR that
- * goes on behind this entry; `type` is DT_ of dirent.h. Returns PK_DONE, PK_FULL or PK_LIST_FAILS.
- * Errors: PK_BAD_ARGUMENT (a name that is empty, longer than 255 bytes or has a slash, for which
- * Linux would fail the listing; a type that isn't DT_UNKNOWN, FIFO, CHR, DIR, BLK, REG, LNK or
- * SOCK); PK_WRONG_ORDER; PK_OTHER_CALL; PK_BAD_ARGUMENT (list_len isn't that of the list with
+/* READDIR: appends an entry to `list`, a buffer of yours of at most data_len bytes, the same one
+ * for all entries of the reply. `next_offset` is the offset of the READDIR that continues after
+ * this entry; `type` is DT_ of dirent.h. Returns PK_DONE, PK_FULL or PK_LIST_FAILS.
+ * Errors: PK_BAD_ARGUMENT (the name is empty or has a slash, for which Linux would fail the
+ * listing; it is longer than 255 bytes; or the type isn't DT_UNKNOWN, FIFO, CHR, DIR, BLK, REG, LNK
+ * or SOCK); PK_WRONG_ORDER; PK_OTHER_CALL; PK_BAD_ARGUMENT (list_len isn't that of the earlier
  * entries); PK_OTHER_KIND; PK_SHORT_BUFFER (the list ends before the entry). */
 uint32_t pk_add_direntry(struct pk_chain *chain, uint32_t ticket, uint8_t *list, size_t list_len,
                          const uint8_t *name, size_t name_len, uint64_t ino, uint64_t next_offset,
                          uint32_t type) PK_CHECK PK_READS(5, 6);
 
-/* READDIRPLUS: the same with an entry, whose node the guest then holds once more. For "." and ".."
- * entry->node is 0. After all but PK_DONE undo the look-up. Type and ino are the attributes'.
+/* READDIRPLUS: the same with an entry, whose node the guest then holds once more. "." and ".." have
+ * node 0. Type and ino are the attributes'. After any status but PK_DONE undo the look-up.
  * Errors: as pk_add_direntry; PK_BAD_ARGUMENT also for nanoseconds of 10^9 or more. */
 uint32_t pk_add_direntry_plus(struct pk_chain *chain, uint32_t ticket, uint8_t *list,
                               size_t list_len, const uint8_t *name, size_t name_len,
@@ -561,26 +564,26 @@ static inline uint64_t pk_direntry_len(size_t name_len, int plus) {
     return ((plus ? 152u : 24u) + (uint64_t)name_len + 7) & ~(uint64_t)7;
 }
 
-/* READDIR, READDIRPLUS: replies with the entries so far; none is the end of the directory. Copy
- * the first `*len` bytes of the list into the reply buffer from PK_HEADER on. */
+/* READDIR, READDIRPLUS: replies with the entries so far; a reply without any is the end of the
+ * directory. Copy the first `*len` bytes of the list into the reply buffer from PK_HEADER on. */
 uint32_t pk_reply_entries(struct pk_chain *chain, uint32_t ticket, uint64_t *len)
     PK_CHECK PK_FILLS(3);
 
 /* Replies with `len` bytes of your own, struct fuse_out_header included, which you put into the
  * reply buffer from 0 on before the used index is stored; 0 is no reply. Allowed in place of
- * pk_decode (the opcode is at 4 of the request, `unique` at 8), so that a FUSE server of yours may
- * serve any request; or in place of the answer of a call. What the guest learns is up to you then:
- * nodes it holds, device->options after INIT, nodes of pk_add_direntry_plus that your bytes leave
- * out. The library doesn't read your header. pk_push returns no front, and `len` for the used
- * element.
- * Errors: PK_WRONG_ORDER (no chain, a faulty one, or one with a reply); PK_OTHER_CALL
- * (`ticket`); PK_LONG_REPLY (more than reply_len of the pop, or 2^32 and more). */
+ * pk_decode (the opcode is at byte 4 of the request, `unique` at 8), so that a FUSE server of yours
+ * may serve any request; or in place of a call's answer. You then account for the guest's nodes,
+ * also those of pk_add_direntry_plus that your bytes leave out, and set device->options after INIT.
+ * The library doesn't read your header. pk_push returns no front, and `len` for the used element.
+ * Errors: PK_WRONG_ORDER (no chain, a faulty one, or one with a reply); PK_OTHER_CALL (`ticket`);
+ * PK_LONG_REPLY (more than reply_len of the pop, or 2^32 and more). */
 uint32_t pk_reply_bytes(struct pk_chain *chain, uint32_t ticket, uint64_t len) PK_CHECK;
 
 /* ---------------------------------------------------------------- push */
-/* What to store and load, in this order (rule 4; VIRTIO 1.2, 2.7.8 and 2.7.7). Little-endian. */
+/* The stores of a push, then its load, in this order (rule 4; VIRTIO 1.2, 2.7.8 and 2.7.7). All
+ * numbers are little-endian in memory. */
 struct pk_stores {
-    size_t front_len;        /* bytes of `front` for the reply buffer, from 0 on; may be 0 */
+    size_t front_len;        /* bytes of `front`, for the start of the reply buffer; may be 0 */
     uintptr_t id_at, len_at; /* host addresses of the used element's halves, 4 bytes each */
     uint32_t id, len;        /* and their values */
     uintptr_t index_at;      /* host address of the used index, 2 bytes */
@@ -590,18 +593,17 @@ struct pk_stores {
     uint64_t index_guest;    /* and of the index's 2 */
 };
 
-/* Returns the stores that add the chain to the used ring, behind those that were pushed before.
- * Errors: PK_WRONG_ORDER (no memory was set); PK_BAD_ARGUMENT (the queue's fields);
- * PK_WRONG_ORDER (its call is unanswered, or it is pushed already); PK_OTHER_QUEUE; PK_PUSHING;
- * PK_SHORT_BUFFER (front: one of PK_FRONT_MAX bytes is never too short); PK_NOT_MAPPED (rule 6:
- * reset the queue). */
+/* Returns the stores that add the chain to the used ring, after the chains pushed before.
+ * Errors: PK_WRONG_ORDER (no memory was set); PK_BAD_ARGUMENT (the queue's fields); PK_WRONG_ORDER
+ * (its call is unanswered, or it is pushed already); PK_OTHER_QUEUE; PK_PUSHING; PK_SHORT_BUFFER
+ * (PK_FRONT_MAX bytes are enough); PK_NOT_MAPPED (the push is under way then: reset the queue). */
 uint32_t pk_push(struct pk_chain *chain, struct pk_queue *queue, uint8_t *front, size_t front_len,
                  struct pk_stores *stores) PK_CHECK PK_WRITES(3, 4) PK_FILLS(5);
 
 /* Ends the push once the stores are made: the handle is free. `seen` is the number that you loaded
  * at seen_at. `*notify` is 1 if the driver is to be notified, else 0.
- * Errors: PK_WRONG_ORDER (no memory was set); PK_BAD_ARGUMENT (the queue's fields);
- * PK_WRONG_ORDER (no push is under way); PK_OTHER_QUEUE (if it was reset, abandon the chain). */
+ * Errors: PK_WRONG_ORDER (no memory was set); PK_BAD_ARGUMENT (the queue's fields); PK_WRONG_ORDER
+ * (no push is under way); PK_OTHER_QUEUE (if it was reset, abandon the chain). */
 uint32_t pk_pushed(struct pk_chain *chain, struct pk_queue *queue, uint16_t seen, uint8_t *notify)
     PK_CHECK PK_FILLS(4);
 
@@ -614,10 +616,10 @@ struct pk_store {
 };
 
 /* Returns the store that enables (1) or disables (0) available buffer notifications (VIRTIO 1.2,
- * 2.7.10): the used flags, or with event_index avail_event, and nothing to disable them. It reads
- * only the regions of the chain. The guest address, for a log, is `used`, or used + 4 + 8 * size.
- * Errors: PK_WRONG_ORDER (no memory was set); PK_BAD_ARGUMENT (the queue's fields);
- * PK_NOT_MAPPED. */
+ * 2.7.10). It is to the used ring's flags at guest address `used`, or with event_index to
+ * avail_event at used + 4 + 8 * size. With event_index nothing is stored to disable them. Of the
+ * chain it uses only the regions.
+ * Errors: PK_WRONG_ORDER (no memory was set); PK_BAD_ARGUMENT (the queue); PK_NOT_MAPPED. */
 uint32_t pk_set_notification(struct pk_chain *chain, const struct pk_queue *queue, uint32_t enabled,
                              struct pk_store *store) PK_CHECK PK_FILLS(4);
 
@@ -625,8 +627,8 @@ uint32_t pk_set_notification(struct pk_chain *chain, const struct pk_queue *queu
 /* Writes the record of device and queues to the front of `buffer`: addresses, sizes, next_avail,
  * stopped or not, options, page size and limit. No chain may be in flight. `*len` is its length,
  * also with PK_SHORT_BUFFER, and 0 after other errors.
- * Errors: PK_BAD_ARGUMENT (the device's fields, unknown options, not 1 to PK_QUEUES_MAX queues);
- * of the first queue that has one, PK_BAD_ARGUMENT or PK_CHAIN_IN_FLIGHT; PK_OUT_OF_MEMORY;
+ * Errors: PK_BAD_ARGUMENT (the device's fields, unknown options, not 1 to PK_QUEUES_MAX queues); of
+ * the first queue that has one, PK_BAD_ARGUMENT or PK_CHAIN_IN_FLIGHT; PK_OUT_OF_MEMORY;
  * PK_SHORT_BUFFER. */
 uint32_t pk_save(const struct pk_device *device, const struct pk_queue *queues, size_t queue_count,
                  uint8_t *buffer, size_t buffer_len, size_t *len)
@@ -635,8 +637,8 @@ uint32_t pk_save(const struct pk_device *device, const struct pk_queue *queues, 
 /* Reads a record at the front of `saved` into device->options and the first `*count` queues, and
  * resets these. Set before: page size and limit, which must be the record's; event_index and
  * max_in_flight, which it doesn't have. An error changes neither device nor queues.
- * Errors: PK_BAD_ARGUMENT (the device's fields); 81 to 90, by what is read first;
- * PK_SHORT_BUFFER (too few queues: `*count` says how many). */
+ * Errors: PK_BAD_ARGUMENT (the device's fields); 81 to 90, in the order of the record's parts;
+ * PK_SHORT_BUFFER (too few queues: `*count` is how many the record has). */
 uint32_t pk_restore(struct pk_device *device, struct pk_queue *queues, size_t queue_count,
                     const uint8_t *saved, size_t saved_len, size_t *count)
     PK_CHECK PK_WRITES(2, 3) PK_READS(4, 5) PK_FILLS(6);
