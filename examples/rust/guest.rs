@@ -1,11 +1,12 @@
 //! A guest for monitor.rs: a driver that draws a ring by hand (VIRTIO 1.2, 2.7), one chain at a
-//! time, and asks for files. It isn't here to be copied, and stands still while it is served: so
-//! its memory is a plain list of bytes, where a monitor has mapped memory, whose `load_u16` and
-//! `store_u16` are atomic.
+//! time, and asks for files. It isn't here to be copied, and doesn't run while it is served: so its
+//! memory is a list of bytes, where a VMM has mapped memory (`GuestSlice::new`).
 use pitskhomu::{
-    Device, FileSystem, GuestMemory, GuestRange, Queue, QueueLayout, Region, Status, Worker,
+    Device, FileSystem, GuestMemory, GuestRange, GuestSlice, Queue, QueueLayout, Region, Status,
+    Worker,
 };
 use std::cell::RefCell;
+use std::sync::atomic::AtomicU8;
 
 const PAGE: usize = 4096;
 const MEMORY: usize = 16 * PAGE;
@@ -17,28 +18,25 @@ const REQUEST: usize = 4 * PAGE;
 const ROOM: usize = 8 * PAGE;
 
 struct Memory {
-    bytes: RefCell<Vec<u8>>,
+    bytes: Vec<AtomicU8>,
     /// A migration's log: whether a page was written.
     written: RefCell<[bool; MEMORY / PAGE]>,
 }
 
-impl GuestMemory for Memory {
+impl Memory {
+    /// What the guest itself does.
     fn load(&self, at: usize, bytes: &mut [u8]) {
-        bytes.copy_from_slice(&self.bytes.borrow()[at..at + bytes.len()]);
-    }
-
-    fn load_u16(&self, at: usize) -> u16 {
-        let mut bytes = [0; 2];
-        self.load(at, &mut bytes);
-        u16::from_le_bytes(bytes)
+        GuestSlice::from(&self.bytes[at..]).load(bytes);
     }
 
     fn store(&self, at: usize, bytes: &[u8]) {
-        self.bytes.borrow_mut()[at..at + bytes.len()].copy_from_slice(bytes);
+        GuestSlice::from(&self.bytes[at..]).store(bytes);
     }
+}
 
-    fn store_u16(&self, at: usize, value: u16) {
-        self.store(at, &value.to_le_bytes());
+impl GuestMemory for Memory {
+    fn get_slice(&self, at: usize, len: usize) -> Option<GuestSlice<'_>> {
+        self.bytes.get(at..)?.get(..len).map(GuestSlice::from)
     }
 
     fn is_logging(&self) -> bool {
@@ -79,7 +77,7 @@ pub struct Guest<F> {
 impl<F: FileSystem> Guest<F> {
     pub fn new(files: F) -> Guest<F> {
         let memory = Memory {
-            bytes: RefCell::new(vec![0; MEMORY]),
+            bytes: (0..MEMORY).map(|_| AtomicU8::new(0)).collect(),
             written: RefCell::new([false; MEMORY / PAGE]),
         };
         let layout = QueueLayout {
@@ -116,8 +114,8 @@ impl<F: FileSystem> Guest<F> {
         self.offered = self.offered.wrapping_add(1);
         self.draw(0, REQUEST, len, 1);
         self.draw(1, ROOM, room, 2);
-        self.memory.store_u16(AVAIL + 4 + 2 * turn, 0);
-        self.memory.store_u16(AVAIL + 2, self.offered);
+        self.memory.store(AVAIL + 4 + 2 * turn, &0u16.to_le_bytes());
+        self.memory.store(AVAIL + 2, &self.offered.to_le_bytes());
         let mut serve =
             || self.worker.serve(&mut self.queue, &self.device, &self.files, &self.memory);
         let served = serve().expect("the ring is good").expect("a chain waits");

@@ -1,6 +1,6 @@
-//! A migration's log: a bit for each page of the guest's memory, which the front-end reads. Pages
-//! are marked by vm-memory itself wherever it writes (its `Bitmap`), so no store can forget its
-//! mark.
+//! A migration's log: a bit for each page of the guest's memory, which the front-end reads.
+//! vm-memory marks the pages of a file's data where it writes them (its `Bitmap`); the worker
+//! reports each reply and each store in a ring before the driver is notified.
 use std::fs::File;
 use std::io;
 use std::sync::atomic::{AtomicBool, AtomicU8, Ordering};
@@ -58,12 +58,18 @@ impl Logging {
         self.is_on.store(is_on, Ordering::Release);
     }
 
-    fn mark(&self, first: u64, len: usize) {
-        if len == 0 || !self.is_on.load(Ordering::Acquire) {
+    /// Whether pages are logged.
+    pub fn is_on(&self) -> bool {
+        self.is_on.load(Ordering::Acquire)
+    }
+
+    /// Marks the pages of `len` bytes from a guest address on, if pages are logged.
+    pub fn mark(&self, first: u64, len: u64) {
+        if len == 0 || !self.is_on() {
             return;
         }
         if let Some(log) = self.log.read().unwrap_or_else(PoisonError::into_inner).as_ref() {
-            log.mark(first, first.saturating_add(len as u64 - 1));
+            log.mark(first, first.saturating_add(len - 1));
         }
     }
 }
@@ -86,7 +92,7 @@ impl Marks {
 
 fn mark(region: &RegionLog, offset: usize, len: usize) {
     if let Some((logging, guest)) = region.get() {
-        logging.mark(guest.saturating_add(offset as u64), len);
+        logging.mark(guest.saturating_add(offset as u64), len as u64);
     }
 }
 

@@ -1,10 +1,9 @@
 //! The guest's memory as the front-end reports it. A table never changes: another replaces it, and
 //! the old one stays mapped while a chain in flight was taken over it. The library is told each
-//! region by the guest's own addresses, so each access is looked up here and checked; vm-memory
-//! makes it, and marks it in the log. (vm-memory's own look-up takes several times as long, some
-//! fifteen times a request.)
+//! region by the guest's own addresses, so each access is looked up here and checked. (vm-memory's
+//! own look-up takes several times as long, some fifteen times a request.)
 use crate::marks::{Logging, Marks, MarksFrom};
-use pitskhomu::QueueLayout;
+use pitskhomu::{GuestRange, GuestSlice, QueueLayout};
 use std::fs::File;
 use std::io;
 use std::sync::atomic::{AtomicU64, Ordering};
@@ -149,17 +148,20 @@ impl Table {
             .collect()
     }
 
-    /// A stretch within one region, if it is one.
-    pub fn slice(&self, at: usize, len: usize) -> Option<Slice<'_>> {
+    /// The stretch that `len` bytes from a guest address on lie in, and at which of its bytes they
+    /// begin.
+    fn find(&self, at: usize, len: usize) -> Option<(&Stretch, usize)> {
         let offset_in = |stretch: &Stretch| {
             (at as u64).checked_sub(stretch.guest).filter(|offset| *offset < stretch.len)
         };
         let (stretch, offset) =
             self.stretches.iter().find_map(|stretch| Some((stretch, offset_in(stretch)?)))?;
-        if len as u64 > stretch.len - offset {
-            return None;
-        }
-        let offset = offset as usize;
+        (len as u64 <= stretch.len - offset).then_some((stretch, offset as usize))
+    }
+
+    /// A stretch within one region, if it is one.
+    pub fn slice(&self, at: usize, len: usize) -> Option<Slice<'_>> {
+        let (stretch, offset) = self.find(at, len)?;
         // SAFETY: these bytes are a part of a region that `self.guest` has mapped as long as it
         // lives, and so as long as the slice.
         Some(unsafe {
@@ -190,32 +192,19 @@ impl Table {
     }
 }
 
-/// The worker asks for bytes of the regions alone that it was told, and the table has these: an
-/// access that fails would be the library's own mistake. It is answered by zeros, and stores
-/// nothing.
+/// The worker asks for bytes of the table's own regions alone, so it gets them all.
 impl pitskhomu::GuestMemory for Table {
-    fn load(&self, at: usize, to: &mut [u8]) {
-        match self.slice(at, to.len()) {
-            Some(slice) => {
-                slice.copy_to(to);
-            }
-            None => to.fill(0),
-        }
+    fn get_slice(&self, at: usize, len: usize) -> Option<GuestSlice<'_>> {
+        let (stretch, offset) = self.find(at, len)?;
+        // SAFETY: as of `slice`. Other threads access the bytes by vm-memory alone, which makes no
+        // reference to them.
+        Some(unsafe { GuestSlice::new((stretch.host as *mut u8).add(offset), len) })
     }
-    fn load_u16(&self, at: usize) -> u16 {
-        self.slice(at, 2)
-            .and_then(|slice| slice.load(0, Ordering::Acquire).ok())
-            .map_or(0, u16::from_le)
+    fn is_logging(&self) -> bool {
+        self.logging.is_on()
     }
-    fn store(&self, at: usize, bytes: &[u8]) {
-        if let Some(slice) = self.slice(at, bytes.len()) {
-            slice.copy_from(bytes);
-        }
-    }
-    fn store_u16(&self, at: usize, value: u16) {
-        if let Some(slice) = self.slice(at, 2) {
-            let _ = slice.store(value.to_le(), 0, Ordering::Release);
-        }
+    fn mark(&self, written: GuestRange) {
+        self.logging.mark(written.guest, written.len);
     }
 }
 
@@ -274,17 +263,13 @@ mod tests {
     #[test]
     fn what_is_stored_is_loaded() {
         let table = table();
-        table.store(0x5ffd, &[1, 2, 3]);
-        table.store(0x5ffe, &[9, 9, 9]); // past the end: nothing is stored
-        table.store_u16(HIGH as usize + 2, 0x1234);
+        let bytes_at = |at: u64, len| table.get_slice(at as usize, len);
+        bytes_at(0x5ffd, 3).expect("bytes").store(&[1, 2, 3]);
+        bytes_at(HIGH + 2, 2).expect("bytes").store(&0x1234u16.to_le_bytes());
         let mut bytes = [7; 3];
-        table.load(0x5ffd, &mut bytes);
-        assert_eq!((bytes, table.load_u16(HIGH as usize + 2)), ([1, 2, 3], 0x1234));
-        table.load(0x5ffe, &mut bytes);
-        assert_eq!(
-            (bytes, table.load_u16(HIGH as usize + 3), table.load_u16(0x6000)),
-            ([0, 0, 0], 0, 0)
-        );
+        bytes_at(0x5ffd, 3).expect("bytes").load(&mut bytes);
+        assert_eq!(bytes, [1, 2, 3]);
+        assert!(bytes_at(0x5ffe, 3).is_none() && bytes_at(0x6000, 1).is_none());
         assert_eq!(
             (table.available_index(HIGH), table.available_index(u64::MAX)),
             (Some(0x1234), None)

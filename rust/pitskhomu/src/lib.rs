@@ -1,12 +1,11 @@
 //! The device's side of virtio-fs (VIRTIO 1.2, 2.7 and 5.11; FUSE 7.38): a safe wrapper of
 //! Pitskhomu's proved C library.
 //!
-//! The library walks the split virtqueue, reads each FUSE request, and makes each reply; it touches
-//! no memory, no file and no clock. This crate has the loop round it. Who uses it writes no
-//! `unsafe`:
+//! The library walks the split virtqueue, decodes each FUSE request, and lays out each reply; it
+//! touches no memory, no file and no clock. This crate has the loop around it:
 //!
-//! - [`GuestMemory`] is the guest's memory, which runs meanwhile: copies in and out of it by
-//!   number.
+//! - [`GuestMemory`] finds the guest's memory. The worker copies it, since the guest runs at the
+//!   same time; only [`GuestSlice::new`], which makes a slice of a pointer, is `unsafe`.
 //! - [`FileSystem`] is what the guest mounts: a method for each call, with a default for all but
 //!   two.
 //! - A [`Worker`] on each thread serves a [`Queue`] of its own, or one that several serve
@@ -64,6 +63,7 @@ mod listing;
 mod memory;
 mod queue;
 mod requests;
+mod slice;
 mod status;
 mod sys;
 mod values;
@@ -87,6 +87,7 @@ pub use requests::{
     Allocate, Child, CopyFileRange, Create, FilePlace, Forgets, Init, MakeDirectory, MakeNode,
     Open, Read, ReadDirectory, Release, Seek, SetAttributes, SetTime, Write,
 };
+pub use slice::GuestSlice;
 pub use status::{Fault, RequestFault, Status};
 pub use values::{
     Attributes, Context, DirectoryEntry, Entry, Handle, Node, Opened, Statistics, Time,

@@ -1,35 +1,87 @@
-//! The guest's memory, by numbers: the library touches none, and the worker asks whoever keeps it.
+//! The guest's memory, by numbers: the library touches none, and the worker asks the VMM for the
+//! bytes.
+use crate::slice::GuestSlice;
 use core::sync::atomic::{AtomicUsize, Ordering};
 
-/// The guest's memory, by the numbers of `Region::host`. A worker asks for bytes of regions alone,
-/// and for no more of them than the regions have. The guest and other threads write to it
-/// meanwhile, so no reference to its bytes may be had: each method copies, and looks at each byte
-/// once. No method fails: keep the memory mapped while a worker has regions of it.
+/// The guest's memory, by the numbers of `Region::host`.
+///
+/// It finds bytes, and the worker copies them. A worker asks for bytes of its regions alone; other
+/// code may call `get_slice` with any number, so each is checked. No `unsafe` is needed for memory
+/// that is a list of atomic bytes. Memory that is mapped has to make a slice of a pointer, and
+/// [`GuestSlice::new`] says what `unsafe` code owes for it.
+///
+/// # Examples
+/// ```
+/// use pitskhomu::{GuestMemory, GuestSlice};
+/// use std::sync::atomic::AtomicU8;
+///
+/// /// A guest's memory, mapped at one address: it is the number of the first byte.
+/// struct Mapped {
+///     at: *mut u8,
+///     len: usize,
+/// }
+///
+/// impl GuestMemory for Mapped {
+///     fn get_slice(&self, at: usize, len: usize) -> Option<GuestSlice<'_>> {
+///         let from = at.checked_sub(self.at as usize)?;
+///         if from.checked_add(len)? > self.len {
+///             return None;
+///         }
+///         // SAFETY: the bytes are mapped until `self` is dropped, and the guest alone has others'
+///         // references to them.
+///         Some(unsafe { GuestSlice::new(self.at.add(from), len) })
+///     }
+/// }
+/// # let bytes: Vec<AtomicU8> = (0..8).map(AtomicU8::new).collect();
+/// # let mapped = Mapped { at: bytes.as_ptr() as *mut u8, len: 8 };
+/// # assert!(mapped.get_slice(mapped.at as usize + 8, 0).is_some());
+/// # assert!(mapped.get_slice(mapped.at as usize + 8, 1).is_none());
+/// # assert!(mapped.get_slice(usize::MAX, usize::MAX).is_none());
+/// ```
 pub trait GuestMemory {
-    /// Copies bytes out, from any place: `bytes` is filled. It is asked for tables of descriptors,
-    /// up to 4,096 bytes of one at a time, and for what a guest puts into its request, which may
-    /// have any length and stand at any place: so two bytes here aren't a ring's.
-    fn load(&self, at: usize, bytes: &mut [u8]);
+    /// The `len` bytes from the number `at` on; `None` unless all of them are mapped in one
+    /// stretch.
+    ///
+    /// A worker that doesn't get bytes of its own regions loads zeros in their place, and stores
+    /// nothing: keep memory mapped while a worker has regions of it.
+    fn get_slice(&self, at: usize, len: usize) -> Option<GuestSlice<'_>>;
 
-    /// Takes a little-endian number of two bytes out of a ring, by one atomic load (relaxed is
-    /// enough: the worker has the fences). `at` is even.
-    fn load_u16(&self, at: usize) -> u16;
-
-    /// Copies bytes in, to any place.
-    fn store(&self, at: usize, bytes: &[u8]);
-
-    /// Stores a little-endian number of two bytes in a ring, by one atomic store (relaxed is
-    /// enough). `at` is even.
-    fn store_u16(&self, at: usize, value: u16);
-
-    /// Whether `mark` is to be told what was written: while a migration's log is on.
+    /// Whether `mark` is called: while a migration's log is on.
     fn is_logging(&self) -> bool {
         false
     }
 
-    /// These bytes of the guest were written: mark their pages in the migration's log. Told after
-    /// the stores and before the driver is. What a file system wrote by windows is among them.
+    /// These bytes of the guest were written: mark their pages in the migration's log. It is called
+    /// after the stores and before the driver is notified. Bytes that a file system wrote by
+    /// windows are among them.
     fn mark(&self, _written: GuestRange) {}
+}
+
+/// Fills `bytes` from the number `at` on.
+pub(crate) fn load(memory: &dyn GuestMemory, at: usize, bytes: &mut [u8]) {
+    let loaded = memory.get_slice(at, bytes.len()).map_or(0, |slice| slice.load(bytes));
+    bytes[loaded..].fill(0);
+}
+
+/// Stores bytes from the number `at` on.
+pub(crate) fn store(memory: &dyn GuestMemory, at: usize, bytes: &[u8]) {
+    if let Some(slice) = memory.get_slice(at, bytes.len()) {
+        slice.store(bytes);
+    }
+}
+
+/// A number of a ring, which is at an even place.
+pub(crate) fn load_u16(memory: &dyn GuestMemory, at: usize) -> u16 {
+    debug_assert_eq!(at % 2, 0);
+    memory.get_slice(at, 2).map_or(0, |slice| slice.load_u16())
+}
+
+/// Stores a number of a ring, which is at an even place.
+pub(crate) fn store_u16(memory: &dyn GuestMemory, at: usize, number: u16) {
+    debug_assert_eq!(at % 2, 0);
+    if let Some(slice) = memory.get_slice(at, 2) {
+        slice.store_u16(number);
+    }
 }
 
 /// A stretch of the guest's memory (struct pk_region). All three numbers are multiples of 4096.

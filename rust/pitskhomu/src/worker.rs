@@ -332,8 +332,8 @@ impl Worker {
         let sys::Pop { load_at: at, load_len: len, .. } = self.step;
         grow(&mut self.loaded, len)?;
         match &mut self.loaded[..len] {
-            bytes @ [_, _] => bytes.copy_from_slice(&memory.load_u16(at).to_le_bytes()),
-            bytes => memory.load(at, bytes),
+            bytes @ [_, _] => bytes.copy_from_slice(&memory::load_u16(memory, at).to_le_bytes()),
+            bytes => memory::load(memory, at, bytes),
         }
         fence(Ordering::Acquire);
         Ok(())
@@ -458,16 +458,16 @@ impl Worker {
             store_room(&mut self.chain, memory, sys::HEADER, &self.list[..len]);
         }
         store_room(&mut self.chain, memory, 0, &self.front[..stores.front_len]);
-        memory.store(stores.id_at, &stores.id.to_le_bytes());
-        memory.store(stores.len_at, &stores.len.to_le_bytes());
+        memory::store(memory, stores.id_at, &stores.id.to_le_bytes());
+        memory::store(memory, stores.len_at, &stores.len.to_le_bytes());
         fence(Ordering::Release);
-        memory.store_u16(stores.index_at, stores.index);
+        memory::store_u16(memory, stores.index_at, stores.index);
         if memory.is_logging() {
             self.mark_written(memory, stores);
         }
         // What the driver wants is read after it can see the index, or a notification is lost.
         fence(Ordering::SeqCst);
-        self.chain.pushed(queue, memory.load_u16(stores.seen_at))
+        self.chain.pushed(queue, memory::load_u16(memory, stores.seen_at))
     }
 
     /// Says to the driver whether its kicks are wanted (VIRTIO 1.2, 2.7.10): they are before you
@@ -495,7 +495,7 @@ impl Worker {
         if store.len == 0 {
             return Ok(false);
         }
-        memory.store_u16(store.at, store.value);
+        memory::store_u16(memory, store.at, store.value);
         if memory.is_logging() {
             memory.mark(GuestRange { guest: queue.kick_address(), len: store.len.into() });
         }

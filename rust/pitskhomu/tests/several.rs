@@ -6,6 +6,7 @@ use guest::recorder::Recorder;
 use guest::*;
 use pitskhomu::*;
 use std::panic::{catch_unwind, AssertUnwindSafe};
+use std::sync::atomic::AtomicU8;
 use std::sync::Mutex;
 
 const HELLO: &[u8] = b"hello\0";
@@ -207,20 +208,14 @@ fn a_call_that_panics_is_answered_eio_behind_another() {
 }
 
 /// Memory that threads share.
-struct Shared(Mutex<Memory>);
+struct Shared<'m> {
+    bytes: &'m [AtomicU8],
+    host: usize,
+}
 
-impl GuestMemory for Shared {
-    fn load(&self, at: usize, bytes: &mut [u8]) {
-        self.0.lock().unwrap().load(at, bytes)
-    }
-    fn load_u16(&self, at: usize) -> u16 {
-        self.0.lock().unwrap().load_u16(at)
-    }
-    fn store(&self, at: usize, bytes: &[u8]) {
-        self.0.lock().unwrap().store(at, bytes)
-    }
-    fn store_u16(&self, at: usize, value: u16) {
-        self.0.lock().unwrap().store_u16(at, value)
+impl GuestMemory for Shared<'_> {
+    fn get_slice(&self, at: usize, len: usize) -> Option<GuestSlice<'_>> {
+        Some(GuestSlice::from(&self.bytes[at - self.host..][..len]))
     }
 }
 
@@ -251,7 +246,7 @@ fn threads_serve_one_queue() {
         for k in 0..chains {
             offer(&mut guest, k);
         }
-        let memory = Shared(Mutex::new(std::mem::replace(&mut guest.memory, Memory::new(0, 0))));
+        let memory = Shared { bytes: &guest.memory.bytes, host: guest.memory.host };
         let (device, queue) = (&guest.device, Mutex::new(&mut guest.queue));
         std::thread::scope(|scope| {
             for worker in &mut workers {
@@ -263,7 +258,6 @@ fn threads_serve_one_queue() {
                 });
             }
         });
-        guest.memory = memory.0.into_inner().unwrap();
         let (index, mut heads) = used(&guest, first, chains);
         heads.sort_unstable();
         assert_eq!((guest.queue.in_flight(), index), (0, first.wrapping_add(chains)));

@@ -445,7 +445,7 @@ impl FileSystem for ByWindows<'_> {
         let ranges = data.ranges(&mut ranges).to_vec();
         assert_eq!(windows, [Window { at: self.0.host + ROOM as usize + 0x1000, len: 100 }]);
         assert_eq!(ranges, [GuestRange { guest: ROOM + 0x1000, len: 100 }]);
-        self.0.store(windows[0].at, b"by windows");
+        self.0.get_slice(windows[0].at, 10).unwrap().store(b"by windows");
         data.advance(10);
         assert_eq!((data.done(), data.left()), (10, 90));
         data.advance(1000); // no more than are left

@@ -5,6 +5,7 @@ pub mod recorder;
 
 use pitskhomu::*;
 use std::cell::{Cell, RefCell};
+use std::sync::atomic::{AtomicU8, Ordering};
 
 /// The queue's size.
 pub const SIZE: u16 = 16;
@@ -25,11 +26,11 @@ pub const INDIRECT: u16 = 4;
 
 /// Memory whose first byte is number `host`. What is loaded and stored has to lie in it.
 pub struct Memory {
-    bytes: RefCell<Vec<u8>>,
+    pub bytes: Box<[AtomicU8]>,
     pub host: usize,
     pub is_logging: Cell<bool>,
     pub marks: RefCell<Vec<GuestRange>>,
-    /// Panics at the load of two bytes after so many.
+    /// Panics at the access to two bytes of the available ring after so many.
     pub panics_after: Cell<Option<u32>>,
     /// How often the available index was loaded.
     pub index_loads: Cell<u32>,
@@ -37,8 +38,10 @@ pub struct Memory {
 
 impl Memory {
     pub fn new(len: usize, host: usize) -> Memory {
+        let bytes = Box::into_raw(vec![0u8; len].into_boxed_slice());
         Memory {
-            bytes: RefCell::new(vec![0; len]),
+            // SAFETY: an atomic byte is laid out as a byte is. (One by one takes a second.)
+            bytes: unsafe { Box::from_raw(bytes as *mut [AtomicU8]) },
             host,
             is_logging: Cell::new(false),
             marks: RefCell::default(),
@@ -49,41 +52,30 @@ impl Memory {
 
     /// The guest's own view.
     pub fn read(&self, guest: u64, len: usize) -> Vec<u8> {
-        self.bytes.borrow()[guest as usize..][..len].to_vec()
+        let bytes = &self.bytes[guest as usize..][..len];
+        bytes.iter().map(|byte| byte.load(Ordering::Relaxed)).collect()
     }
 
     pub fn write(&self, guest: u64, bytes: &[u8]) {
-        self.bytes.borrow_mut()[guest as usize..][..bytes.len()].copy_from_slice(bytes);
+        assert_eq!(GuestSlice::from(&self.bytes[guest as usize..]).store(bytes), bytes.len());
     }
 }
 
 impl GuestMemory for Memory {
-    fn load(&self, at: usize, bytes: &mut [u8]) {
-        bytes.copy_from_slice(&self.bytes.borrow()[at - self.host..][..bytes.len()]);
-    }
-
-    fn load_u16(&self, at: usize) -> u16 {
-        match self.panics_after.get() {
-            Some(0) => panic!("the memory panics, as it was told to"),
-            Some(left) => self.panics_after.set(Some(left - 1)),
-            None => {}
+    fn get_slice(&self, at: usize, len: usize) -> Option<GuestSlice<'_>> {
+        let guest = at - self.host;
+        let ring = AVAILABLE as usize..AVAILABLE as usize + 0x1000;
+        if len == 2 && ring.contains(&guest) {
+            match self.panics_after.get() {
+                Some(0) => panic!("the memory panics, as the test wants it"),
+                Some(left) => self.panics_after.set(Some(left - 1)),
+                None => {}
+            }
+            if guest == AVAILABLE as usize + 2 {
+                self.index_loads.set(self.index_loads.get() + 1);
+            }
         }
-        assert_eq!(at % 2, 0, "an odd place");
-        if at - self.host == AVAILABLE as usize + 2 {
-            self.index_loads.set(self.index_loads.get() + 1);
-        }
-        let mut bytes = [0; 2];
-        self.load(at, &mut bytes);
-        u16::from_le_bytes(bytes)
-    }
-
-    fn store(&self, at: usize, bytes: &[u8]) {
-        self.write((at - self.host) as u64, bytes);
-    }
-
-    fn store_u16(&self, at: usize, value: u16) {
-        assert_eq!(at % 2, 0, "an odd place");
-        self.store(at, &value.to_le_bytes());
+        Some(GuestSlice::from(&self.bytes[guest..][..len]))
     }
 
     fn is_logging(&self) -> bool {
