@@ -90,7 +90,14 @@ impl<F: FileSystem> Guest<F> {
         worker
             .set_memory(&device, &[Region { guest: 0, len: MEMORY as u64, host: 0 }])
             .expect("one region is taken");
-        Guest { memory, offered: 0, worker, queue: Queue::new(layout, 0), device, files }
+        Guest {
+            memory,
+            offered: 0,
+            worker,
+            queue: Queue::new(layout, 0).expect("a queue's numbers"),
+            device,
+            files,
+        }
     }
 
     /// The numbers of the pages that were written.

@@ -1,6 +1,6 @@
-//! A monitor over the crate `pitskhomu` with a file system in memory: what examples/c/monitor.c
-//! does, without a line of `unsafe`. Copy `Files` and put your own calls in the place of these;
-//! `guest.rs` plays the guest, and has the memory that a monitor would map.
+//! A VMM over the crate `pitskhomu` with a file system in memory: it does what examples/c/monitor.c
+//! does, without a line of `unsafe`. Copy `Files` and put your own calls in the place of these.
+//! `guest.rs` is the guest; it has the memory that a VMM would map.
 #![forbid(unsafe_code)]
 mod guest;
 
@@ -29,7 +29,7 @@ const GOOD_FOR: Duration = Duration::from_secs(1);
 /// A file. One that has no name lives as long as the guest holds its node.
 struct File {
     name: Option<CString>,
-    /// How often the guest was told the node, less what it forgot.
+    /// How often the guest holds the node.
     held: u64,
     generation: u64,
     attributes: Attributes,
@@ -47,11 +47,11 @@ impl File {
         }
         self.contents.resize(size as usize, 0);
         self.attributes.size = size;
-        self.attributes.blocks = (size + 511) / 512; // of 512 bytes, whatever block_size is
+        self.attributes.blocks = (size + 511) / 512; // of 512 bytes, with any block_size
         Ok(())
     }
 
-    /// What the name stands for; the guest holds the node once more.
+    /// The entry of its name; the guest holds the node once more.
     fn entry(&mut self) -> Entry {
         self.held += 1;
         Entry {
@@ -64,7 +64,7 @@ impl File {
     }
 }
 
-/// All files stand in the root. File k is node k + 2.
+/// All files are in the root. File k is node k + 2.
 #[derive(Default)]
 struct Places {
     files: [Option<File>; FILES],

@@ -1,6 +1,6 @@
 //! Finds the library's archive, and has it linked.
 //!
-//! - `PITSKHOMU_ARCHIVE`: the path of the archive of fs_chain_c. Unset: the newer one of the
+//! - `PITSKHOMU_ARCHIVE`: the path of the archive of `fs_chain_c`. Unset: the newer one of the
 //!   repository's two, `crates/fs_chain_c/out/libfs_chain_c.a`, which is proved, and
 //!   `out/unproved/libfs_chain_c.a`, which isn't. Empty: nothing is linked, so that `cargo check`
 //!   and `cargo doc` need no archive.
@@ -87,7 +87,7 @@ fn heap_of_toolchain() -> Option<PathBuf> {
     Some(toolchain.join("c").join(HEAP)).filter(|heap| heap.is_file())
 }
 
-/// Has an archive linked under a name of its own, whatever its file is called.
+/// Links an archive, under a name of its own.
 fn link(archive: &Path, name: &str) {
     println!("cargo:rerun-if-changed={}", archive.display());
     let folder = env::var_os("OUT_DIR").map(PathBuf::from).expect("cargo sets OUT_DIR");

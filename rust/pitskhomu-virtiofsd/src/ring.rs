@@ -88,7 +88,7 @@ impl State {
     }
 
     /// The queue for a record, if the front-end ever told its numbers.
-    pub fn queue_if_begun(&self) -> Option<Queue> {
+    pub fn queue_if_begun(&self) -> Option<Result<Queue, Status>> {
         let Numbers { layout, next_avail, .. } = self.numbers;
         (layout.size != 0 && layout.descriptors != 0).then(|| Queue::new(layout, next_avail))
     }
@@ -100,8 +100,10 @@ impl State {
 
     fn begin(&mut self, threads: u16) -> Result<(), Status> {
         let Numbers { layout, next_avail, has_event_index } = self.numbers;
-        let anew = Queue::new(layout, next_avail).with_max_in_flight(threads.min(layout.size));
-        self.queue.begin(anew.with_event_index(has_event_index))?;
+        let queue = Queue::new(layout, next_avail)?
+            .with_max_in_flight(threads.min(layout.size))?
+            .with_event_index(has_event_index);
+        self.queue.begin(queue)?;
         (self.is_new, self.told) = (false, None);
         Ok(())
     }

@@ -40,8 +40,9 @@ fn invalid(why: &str) -> io::Error {
 /// Sends the state of a core whose rings stand.
 pub fn save<F: ServedFs>(core: &Core<F>, scratch: &File, pipe: File) -> io::Result<()> {
     // A ring that was never begun has no numbers to save.
-    let queues = core.rings.iter().map(|ring| ring.lock().queue_if_begun());
-    send(&core.fs, &core.device, &queues.flatten().collect::<Vec<_>>(), scratch, pipe)
+    let queues = core.rings.iter().filter_map(|ring| ring.lock().queue_if_begun());
+    let queues = queues.collect::<Result<Vec<_>, _>>()?;
+    send(&core.fs, &core.device, &queues, scratch, pipe)
 }
 
 fn send(
@@ -190,7 +191,7 @@ mod tests {
         let layout =
             p::QueueLayout { size: 64, descriptors: 0x10000, available: 0x11000, used: 0x12000 };
         let room = scratch().unwrap();
-        for queues in [vec![], vec![p::Queue::new(layout, 7)]] {
+        for queues in [vec![], vec![p::Queue::new(layout, 7).unwrap()]] {
             let pipe = scratch().unwrap();
             send(&source, &device, &queues, &room, pipe.try_clone().unwrap()).unwrap();
             let sent = bytes(&pipe);

@@ -1,10 +1,9 @@
-//! The calls of the library, each behind a safe function: with `sys` the one place of the crate
-//! that is `unsafe`.
+//! The calls of the library, each behind a safe function.
 //!
-//! What each block owes is the header's first and seventh rule, and Rust's borrows keep both:
-//! handles, queues and records are borrowed, so they are good and don't overlap; slices are good
-//! for their lengths, and their pointers aren't NULL; what a call changes is borrowed mutably, so
-//! it is that call's alone. No call keeps a pointer, and none answers one.
+//! Each block owes the header's first rule and its THREADS, and Rust's borrows keep both. Handles,
+//! queues and records are borrowed, so they are valid and don't overlap. Slices are valid for their
+//! lengths, and their pointers aren't NULL. Anything that a call changes is borrowed mutably, so it
+//! is that call's alone. No call keeps a pointer or returns one.
 #![allow(unsafe_code)]
 
 use crate::errno::Errno;
@@ -14,47 +13,47 @@ use crate::status::Status;
 use crate::sys::{self, status};
 use core::ptr;
 
-/// What a walk comes to.
+/// The result of a call of `pop`.
 pub(crate) enum Popped {
-    /// The step's bytes are to be loaded.
+    /// The pop needs a load.
     Load,
-    /// No chain waits.
+    /// No chain is available.
     Idle,
-    /// A chain is out.
-    Out,
+    /// The chain is in flight.
+    InFlight,
 }
 
-/// What a request comes to.
+/// The result of `decode`.
 pub(crate) enum Decoded {
     /// A call, or none.
     Call,
-    /// So many bytes of the request are wanted, from its start.
+    /// It needs so many bytes of the request, from its start.
     More(usize),
 }
 
-/// What an answer comes to.
+/// The result of an answer.
 #[derive(Clone, Copy, Debug, PartialEq, Eq)]
 pub(crate) enum Replied {
     /// A reply.
     Whole,
-    /// The room holds no such reply: the chain goes back with none.
+    /// The reply buffer is too small: the chain is returned without a reply.
     NoRoom,
     /// A listing that failed is answered by the entries so far.
     Entries,
 }
 
-/// What an entry of a listing comes to.
+/// The result of an entry of a listing.
 #[derive(Clone, Copy, Debug, PartialEq, Eq)]
 pub(crate) enum Added {
     /// It is in the list.
     In,
-    /// It has no place in what was asked for.
+    /// It doesn't fit in the size that the guest asked for.
     Full,
-    /// It has none in the room.
+    /// It fits there, but not in the reply buffer.
     NoRoom,
 }
 
-/// The one handle of the library (struct pk_chain), and the ticket of the chain that is out: each
+/// The one handle of the library (struct `pk_chain`), and the ticket of the chain that is out: each
 /// answer brings it. A worker answers before it takes another, so no answer comes late.
 #[derive(Debug)]
 pub(crate) struct Chain {
@@ -85,20 +84,20 @@ impl Chain {
         })
     }
 
-    /// `loaded` has the bytes that the step before wanted; at first none.
+    /// `loaded` has the bytes of the load that the last call returned; at first none.
     pub fn pop(
         &mut self,
         queue: &mut Queue,
         loaded: &[u8],
-        step: &mut sys::Pop,
+        pop: &mut sys::Pop,
     ) -> Result<Popped, Status> {
         // SAFETY: as the module says.
         match unsafe {
-            sys::pk_pop(&mut self.handle, queue.numbers_mut(), loaded.as_ptr(), loaded.len(), step)
+            sys::pk_pop(&mut self.handle, queue.numbers_mut(), loaded.as_ptr(), loaded.len(), pop)
         } {
             status::DONE => {
-                self.ticket = step.ticket;
-                Ok(Popped::Out)
+                self.ticket = pop.ticket;
+                Ok(Popped::InFlight)
             }
             status::IDLE => Ok(Popped::Idle),
             status::LOAD => Ok(Popped::Load),
@@ -106,23 +105,18 @@ impl Chain {
         }
     }
 
-    pub fn give_up(&mut self, queue: &mut Queue) -> Result<(), Status> {
-        // SAFETY: as the module says.
-        Status::check(unsafe { sys::pk_drop(&mut self.handle, queue.numbers_mut()) })
-    }
-
-    /// The chain is free; its queue isn't told.
+    /// Frees the handle without its queue.
     pub fn abandon(&mut self) {
         // SAFETY: as the module says.
         unsafe { sys::pk_abandon(&mut self.handle) }
     }
 
-    /// What says to the driver whether its kicks are wanted.
-    pub fn set_notification(&mut self, queue: &Queue, wanted: bool) -> Result<sys::Store, Status> {
+    /// The store that enables or disables notifications of the driver.
+    pub fn set_notification(&mut self, queue: &Queue, enabled: bool) -> Result<sys::Store, Status> {
         let mut store = sys::Store::default();
         // SAFETY: as the module says.
         Status::check(unsafe {
-            sys::pk_set_notification(&mut self.handle, queue.numbers(), wanted.into(), &mut store)
+            sys::pk_set_notification(&mut self.handle, queue.numbers(), enabled.into(), &mut store)
         })?;
         Ok(store)
     }
@@ -310,7 +304,7 @@ impl Chain {
         added(number)
     }
 
-    /// How many bytes of the list are the data.
+    /// Returns the number of the list's bytes that are the data, too.
     pub fn reply_entries(&mut self) -> Result<(Replied, u64), Status> {
         let mut len = 0;
         // SAFETY: as the module says.
@@ -319,7 +313,7 @@ impl Chain {
         Ok((reply, len))
     }
 
-    /// The reply is so many bytes of the caller's own.
+    /// The reply is `len` bytes of the caller's own.
     pub fn reply_bytes(&mut self, len: u64) -> Result<(), Status> {
         // SAFETY: as the module says.
         Status::check(unsafe { sys::pk_reply_bytes(&mut self.handle, self.ticket, len) })
@@ -340,7 +334,7 @@ impl Chain {
         Ok(stores)
     }
 
-    /// Whether the driver wants to be told.
+    /// Whether the driver is to be notified.
     pub fn pushed(&mut self, queue: &mut Queue, seen: u16) -> Result<bool, Status> {
         let mut notify = 0;
         // SAFETY: as the module says.
@@ -369,7 +363,7 @@ fn added(number: u32) -> Result<Added, Status> {
     }
 }
 
-/// Begins a queue anew.
+/// Resets a queue.
 pub(crate) fn begin(queue: &mut sys::Queue, position: u16) -> Result<(), Status> {
     // SAFETY: as the module says.
     Status::check(unsafe { sys::pk_queue_begin(queue, position) })
@@ -387,7 +381,7 @@ pub(crate) fn is_name(name: &[u8]) -> bool {
     unsafe { sys::pk_is_name(name.as_ptr(), name.len()) == 1 }
 }
 
-/// How long the record is, also with `ShortBuffer`, and whether it stands in the buffer.
+/// The length of the record, also with `ShortBuffer`, and whether it is in the buffer.
 pub(crate) fn save(
     device: &sys::Device,
     queues: &[sys::Queue],
@@ -408,7 +402,7 @@ pub(crate) fn save(
     (len, Status::check(number))
 }
 
-/// How many queues the record has.
+/// The number of queues in the record.
 pub(crate) fn restore(
     device: &mut sys::Device,
     queues: &mut [sys::Queue],

@@ -1,15 +1,34 @@
-//! What all queues share, and the record that carries it to another host.
+//! The state that all queues share, and the record that carries it to another host.
 use crate::chain;
 use crate::flags::Options;
-use crate::queue::Queue;
+use crate::queue::{self, Queue};
 use crate::status::Status;
 use crate::sys;
 use alloc::vec::Vec;
 use core::sync::atomic::{AtomicU64, Ordering};
 
-/// What all queues of a device share (struct pk_device). The options that INIT agreed on are one
-/// atomic word, so that workers of several threads share it by reference, without a lock.
+/// What all queues of a device share (struct `pk_device`). The options that INIT agreed on are one
+/// atomic word, so workers of several threads share a device by reference, without a lock.
+///
+/// # Examples
+/// ```
+/// use pitskhomu::{Device, Options, Queue, QueueLayout, Status};
+///
+/// # fn main() -> Result<(), Status> {
+/// let device = Device::new(4096, Device::LEAST_LIMIT)?;
+/// assert_eq!(device.options(), Options::empty(), "no INIT yet");
+/// assert_eq!(Device::new(1000, 0).err(), Some(Status::BadArgument));
+///
+/// // To another host: the record has device and queues, but no memory and no file.
+/// let layout = QueueLayout { size: 64, descriptors: 0x1000, available: 0x2000, used: 0x3000 };
+/// let record = device.save(&[Queue::new(layout, 7)?])?;
+/// let queues = Device::default().restore(&record)?;
+/// assert_eq!((queues.len(), queues[0].next_avail()), (1, 7));
+/// # Ok(())
+/// # }
+/// ```
 #[derive(Debug)]
+#[must_use]
 pub struct Device {
     page_size: u32,
     limit: u32,
@@ -19,13 +38,16 @@ pub struct Device {
 impl Default for Device {
     /// A device for a guest with pages of 4096 bytes, with the least limit.
     fn default() -> Device {
-        Device::new(4096, Device::LEAST_LIMIT)
+        Device::of_numbers(4096, Device::LEAST_LIMIT)
     }
 }
 
 impl Device {
-    /// The least limit, in bytes: what one READ or WRITE of 1 MiB needs with its headers.
-    pub const LEAST_LIMIT: u32 = 0x101000;
+    /// The least limit, in bytes: enough for one READ or WRITE of 1 MiB with its headers.
+    pub const LEAST_LIMIT: u32 = 0x0010_1000;
+
+    /// The greatest limit, in bytes.
+    pub const MOST_LIMIT: u32 = 1 << 31;
 
     /// The most regions that the guest's memory may have.
     pub const MOST_REGIONS: usize = sys::REGIONS_MAX;
@@ -33,38 +55,56 @@ impl Device {
     /// The most queues that a record has.
     pub const MOST_QUEUES: usize = sys::QUEUES_MAX;
 
-    /// `page_size` is the guest's, in bytes: a power of two from 4096 to 65536. A request or a room
-    /// of more than `limit` bytes, from `LEAST_LIMIT` to 2^31, makes a chain faulty. Other numbers
-    /// are refused by the first call with it (`Status::BadArgument`).
-    pub const fn new(page_size: u32, limit: u32) -> Device {
+    /// A device. `page_size` is the guest's, in bytes: a power of two from 4096 to 65536. A request
+    /// or a reply buffer of more than `limit` bytes, from `LEAST_LIMIT` to `MOST_LIMIT`, makes a
+    /// chain faulty.
+    ///
+    /// # Errors
+    /// `BadArgument`: the page size or the limit is another number.
+    pub const fn new(page_size: u32, limit: u32) -> Result<Device, Status> {
+        let is_page = page_size.is_power_of_two() && page_size >= 4096 && page_size <= 65536;
+        if is_page && limit >= Device::LEAST_LIMIT && limit <= Device::MOST_LIMIT {
+            Ok(Device::of_numbers(page_size, limit))
+        } else {
+            Err(Status::BadArgument)
+        }
+    }
+
+    const fn of_numbers(page_size: u32, limit: u32) -> Device {
         Device { page_size, limit, options: AtomicU64::new(0) }
     }
 
     /// The guest's page size, in bytes.
+    #[must_use]
     pub const fn page_size(&self) -> u32 {
         self.page_size
     }
 
-    /// How many bytes a request and a room may have.
+    /// The most bytes of a request, and of a reply buffer.
+    #[must_use]
     pub const fn limit(&self) -> u32 {
         self.limit
     }
 
-    /// What INIT agreed on; no flag before.
+    /// The options that INIT agreed on; none before.
+    #[must_use]
     pub fn options(&self) -> Options {
         Options::from_bits(self.options.load(Ordering::Acquire))
     }
 
-    /// The session ends, or it goes on from another host's: sets what INIT agreed on. A reset of
-    /// the device sets no flag.
+    /// Sets the options that INIT agreed on: none when the device is reset, or those of another
+    /// host's session that goes on here.
     pub fn set_options(&self, options: Options) {
         self.options.store(options.bits(), Ordering::Release);
     }
 
-    /// The record of the device and its queues, 1 to `MOST_QUEUES` of them: positions, layouts,
-    /// which are stopped, options, page size and limit, and no memory and no file. Errors:
-    /// `BadArgument` (numbers of the device or of a queue that are none; options that aren't
-    /// known), `ChainInFlight` (of a queue), `OutOfMemory`.
+    /// The record of the device and its queues, 1 to `MOST_QUEUES` of them: layouts, positions,
+    /// which queues are stopped, options, page size and limit.
+    ///
+    /// # Errors
+    /// - `BadArgument`: the number of queues, a queue that isn't set up, unknown options.
+    /// - `ChainInFlight`: a queue has one.
+    /// - `OutOfMemory`: an allocation failed.
     pub fn save(&self, queues: &[Queue]) -> Result<Vec<u8>, Status> {
         let numbers = self.numbers();
         let mut places = [sys::Queue::default(); Device::MOST_QUEUES];
@@ -81,14 +121,20 @@ impl Device {
         saved.map(|()| record)
     }
 
-    /// Takes options and queues over from a record of a device with the same page size and limit.
-    /// Other bytes may stand behind it. A queue that was stopped is so here (`Status::Stopped`).
-    /// Errors: `BadArgument` (of the device), those that begin with `Record`; then options stay as
-    /// they were.
+    /// Takes the options from a record of a device with the same page size and limit, and returns
+    /// its queues. Other bytes may follow the record. A queue that was stopped is stopped here too
+    /// (`Status::Stopped`). One chain of each queue may be in flight, and no queue has an event
+    /// index: [`Queue::with_max_in_flight`] and [`Queue::with_event_index`] set these.
+    ///
+    /// # Errors
+    /// Those that begin with `Record`, and `OutOfMemory`. The options stay as they were.
     pub fn restore(&self, record: &[u8]) -> Result<Vec<Queue>, Status> {
         let mut queues = Vec::new();
         queues.try_reserve_exact(Device::MOST_QUEUES).map_err(|_| Status::OutOfMemory)?;
         let mut places = [sys::Queue::default(); Device::MOST_QUEUES];
+        for place in &mut places {
+            *place = queue::fresh_numbers();
+        }
         let mut numbers = self.numbers();
         let count = chain::restore(&mut numbers, &mut places, record)?;
         queues.extend(places.iter().take(count).copied().map(Queue::of_numbers));
@@ -101,7 +147,7 @@ impl Device {
     }
 }
 
-/// So many zero bytes.
+/// Zero bytes.
 fn zeros(len: usize) -> Result<Vec<u8>, Status> {
     let mut bytes = Vec::new();
     bytes.try_reserve_exact(len).map_err(|_| Status::OutOfMemory)?;

@@ -11,10 +11,11 @@ pub type Answer<T> = Result<T, Errno>;
 pub struct Errno(NonZeroU32);
 
 impl Errno {
-    /// The greatest number that a reply tells (linux/err.h, MAX_ERRNO).
+    /// The greatest number that a reply tells (linux/err.h, `MAX_ERRNO`).
     pub const MAX: u32 = 4095;
 
     /// The errno of a number; `None` if it is 0 or above `MAX`.
+    #[must_use]
     pub const fn new(number: u32) -> Option<Errno> {
         match NonZeroU32::new(number) {
             Some(errno) if number <= Errno::MAX => Some(Errno(errno)),
@@ -28,6 +29,7 @@ impl Errno {
     }
 
     /// Its number, from 1 to 4095.
+    #[must_use]
     pub const fn number(self) -> u32 {
         self.0.get()
     }
@@ -79,6 +81,7 @@ impl From<std::io::Error> for Errno {
 
 #[cfg(feature = "std")]
 impl From<Errno> for std::io::Error {
+    #[allow(clippy::cast_possible_wrap)] // at most 4095
     fn from(errno: Errno) -> std::io::Error {
         std::io::Error::from_raw_os_error(errno.number() as i32)
     }

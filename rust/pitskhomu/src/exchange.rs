@@ -1,15 +1,15 @@
 //! A chain by its bytes, for a FUSE server of one's own.
 use crate::chain::Chain;
-use crate::data::{load_request, store_room};
+use crate::data::{at_most, load_request, store_room};
 use crate::errno::Errno;
 use crate::memory::{GuestMemory, Window};
 use core::fmt;
 
-/// A reply's header (struct fuse_out_header).
+/// A reply's header (struct `fuse_out_header`).
 const HEADER_LEN: usize = 16;
 
-/// A chain that is out: the bytes of its request, and the room for a reply, header and all
-/// (`FileSystem::reply_by_bytes`).
+/// A chain in flight by its bytes: the request, and the reply buffer, header included
+/// ([`FileSystem::reply_by_bytes`](crate::FileSystem::reply_by_bytes)).
 pub struct Exchange<'a> {
     chain: &'a mut Chain,
     memory: &'a dyn GuestMemory,
@@ -17,7 +17,7 @@ pub struct Exchange<'a> {
     front: &'a [u8],
     request_len: u64,
     room_len: u64,
-    /// How many bytes of the room, from its front on, may have been written.
+    /// The reply buffer may have been written up to this byte.
     written: u64,
 }
 
@@ -42,31 +42,35 @@ impl<'a> Exchange<'a> {
         Exchange { chain, memory, front, request_len, room_len, written: 0 }
     }
 
-    /// How many bytes the request has.
+    /// The length of the request, in bytes.
+    #[must_use]
     pub fn request_len(&self) -> u64 {
         self.request_len
     }
 
-    /// How many bytes the room for the reply has.
+    /// The length of the reply buffer, in bytes.
+    #[must_use]
     pub fn room_len(&self) -> u64 {
         self.room_len
     }
 
-    /// The request's opcode (struct fuse_in_header); 0 if it is too short to have one.
+    /// The request's opcode (struct `fuse_in_header`); 0 if it is too short to have one.
+    #[must_use]
     pub fn opcode(&self) -> u32 {
         opcode(self.front)
     }
 
-    /// The guest's number of the request (struct fuse_in_header); 0 if it is too short to have one.
+    /// The guest's number of the request (struct `fuse_in_header`); 0 if it is too short to have
+    /// one.
+    #[must_use]
     pub fn unique(&self) -> u64 {
         unique(self.front)
     }
 
-    /// Copies bytes of the request out, from one on, and says how many there were. The guest may
-    /// write meanwhile: take each byte once. The first bytes, which have the header, stay what they
-    /// were.
+    /// Copies bytes of the request out, from one on, and returns their number. The guest may write
+    /// at the same time: load each byte once. The first bytes, which have the header, don't change.
     pub fn load(&mut self, from: u64, bytes: &mut [u8]) -> usize {
-        let known = self.front.get(from.min(usize::MAX as u64) as usize..).unwrap_or_default();
+        let known = self.front.get(at_most(from, usize::MAX)..).unwrap_or_default();
         let len = known.len().min(bytes.len());
         bytes[..len].copy_from_slice(&known[..len]);
         len + load_request(
@@ -82,27 +86,28 @@ impl<'a> Exchange<'a> {
         self.chain.request_windows(from, u64::MAX - from, windows)
     }
 
-    /// Stores bytes in the room, from one of it on, and says how many had a place.
+    /// Stores bytes in the reply buffer, from one of it on, and returns how many fit.
     pub fn store(&mut self, from: u64, bytes: &[u8]) -> usize {
         let stored = store_room(self.chain, self.memory, from, bytes);
         self.written_up_to(from.saturating_add(stored as u64));
         stored
     }
 
-    /// The windows of the room from one of its bytes on, as many as the slice takes. What was
-    /// stored by them is told by `written_up_to`.
+    /// The windows of the reply buffer from one of its bytes on, as many as the slice takes. Report
+    /// the bytes that you store by them with `written_up_to`.
     pub fn reply_windows<'w>(&mut self, from: u64, windows: &'w mut [Window]) -> &'w [Window] {
         self.chain.reply_windows(from, u64::MAX - from, windows)
     }
 
-    /// The room was written up to this byte of it, by its windows: for a migration's log, where the
-    /// reply ends before.
+    /// Reports that the reply buffer was written up to this byte, by its windows: for a migration's
+    /// log, if the reply ends before.
     pub fn written_up_to(&mut self, end: u64) {
         self.written = self.written.max(end.min(self.room_len));
     }
 
-    /// Stores the reply of an error, and says how many bytes it has: 0 if the request has no number
-    /// or the room no place for it.
+    /// Stores the reply of an error, and returns its length: 0 if the request has no number, or the
+    /// reply buffer is too small.
+    #[allow(clippy::cast_possible_truncation)] // the header's length is 16
     pub fn store_error(&mut self, error: Errno) -> u64 {
         if self.front.len() < HEADER_LEN || self.room_len < HEADER_LEN as u64 {
             return 0;

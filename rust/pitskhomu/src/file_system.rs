@@ -4,31 +4,87 @@ use crate::errno::{Answer, Errno};
 use crate::exchange::Exchange;
 use crate::flags::{AccessMask, Options, RenameFlags};
 use crate::listing::Listing;
-use crate::requests::*;
+use crate::requests::{
+    Allocate, Child, CopyFileRange, Create, Forgets, Init, MakeDirectory, MakeNode, Open, Read,
+    ReadDirectory, Release, Seek, SetAttributes, Write,
+};
 use crate::values::{Attributes, Context, Entry, Handle, Node, Opened, Statistics};
 use crate::CStr;
 use core::time::Duration;
 
-/// A file system, which workers of several threads share by reference. Numbers of nodes and open
-/// files are its own. A name is any bytes but zero: who serves a directory of the host refuses what
-/// [`is_name`](crate::is_name) does. What isn't implemented answers ENOSYS, or "done" where that is
-/// harmless. An answer whose reply has no room is taken back: an entry by `forget`, an open file by
+/// A file system. Workers of several threads share it by reference.
+///
+/// It chooses the numbers of nodes and open files. A name is any bytes but zero: a server of a host
+/// directory refuses each name for which [`is_name`](crate::is_name) is false. A method that isn't
+/// implemented answers ENOSYS, or "done" where that is harmless. If the reply buffer is too small
+/// for an answer, the worker takes the answer back: an entry by `forget`, an open file by
 /// `release`.
+///
+/// # Errors
+/// Each method answers the errno with which the guest's system call is to fail.
+///
+/// # Examples
+/// ```
+/// use pitskhomu::*;
+/// use std::time::Duration;
+///
+/// /// One file, "hello", with a text.
+/// struct Hello(&'static [u8]);
+///
+/// const FILE: Node = Node(2);
+///
+/// impl Hello {
+///     fn attributes(&self, node: Node) -> Attributes {
+///         let mode = if node == FILE { 0o100_444 } else { 0o40_555 };
+///         let size = if node == FILE { self.0.len() as u64 } else { 0 };
+///         Attributes { inode: node.0, mode, size, links: 1, ..Attributes::default() }
+///     }
+/// }
+///
+/// impl FileSystem for Hello {
+///     fn lookup(&self, _: &Context, parent: Node, name: &CStr) -> Answer<Entry> {
+///         if parent != Node::ROOT || name.to_bytes() != b"hello" {
+///             return Err(Errno::ENOENT);
+///         }
+///         Ok(Entry { node: FILE, attributes: self.attributes(FILE), ..Entry::default() })
+///     }
+///
+///     fn getattr(
+///         &self,
+///         _: &Context,
+///         node: Node,
+///         _: Option<Handle>,
+///     ) -> Answer<(Attributes, Duration)> {
+///         Ok((self.attributes(node), Duration::from_secs(1)))
+///     }
+///
+///     fn read(&self, _: &Context, _: Node, read: Read, data: &mut ReadData<'_>) -> Answer<()> {
+///         let from = self.0.len().min(usize::try_from(read.offset).unwrap_or(usize::MAX));
+///         data.put(&self.0[from..]);
+///         Ok(())
+///     }
+/// }
+/// # let hello = Hello(b"Hello, guest!");
+/// # assert_eq!(hello.attributes(FILE).size, 13);
+/// ```
 #[allow(unused_variables)]
+#[allow(clippy::missing_errors_doc)] // each answers an errno, as the trait says
 pub trait FileSystem {
-    /// Any request, before the library reads it: `Some` if it is replied here, by bytes of one's
-    /// own, and how many they are, header and all (struct fuse_out_header); they stand in the room
-    /// from its front on by then, and 0 is silence. So a request that the library doesn't serve is
-    /// served, or each by a FUSE server of one's own. More bytes than the room has are answered
-    /// EIO. What the guest is told so the library has no part in: nothing is taken back, and after
-    /// INIT the device's options are to be set. `None`: the library reads it.
+    /// Any request, before the library decodes it. `Some` if this replies to it by bytes of its
+    /// own: the reply's length, header included (struct `fuse_out_header`), after it put the bytes
+    /// into the reply buffer; 0 is no reply. A length above the buffer's is answered EIO. `None`:
+    /// the library decodes it.
+    ///
+    /// So a file system can serve an opcode that the library doesn't know, or be any FUSE server.
+    /// The library doesn't see these replies: it takes nothing back, and after INIT you set the
+    /// device's options.
     fn reply_by_bytes(&self, exchange: &mut Exchange<'_>) -> Option<u64> {
         None
     }
 
-    /// INIT: a session begins. The guest holds no node but the root, and nothing is open. Which
-    /// options are wanted, of those that the guest can, besides those that are agreed on anyway. An
-    /// error ends the session before it began.
+    /// INIT: a session begins. The guest holds no node but the root, and no file is open. Answers
+    /// the options that the file system wants, out of the guest's own; some are agreed on in any
+    /// case. With an error there is no session.
     fn init(&self, init: Init) -> Answer<Options> {
         Ok(Options::empty())
     }
@@ -43,7 +99,7 @@ pub trait FileSystem {
     /// FORGET: the guest holds a node so many times less.
     fn forget(&self, node: Node, count: u64) {}
 
-    /// BATCH_FORGET: several at a time; each by `forget` unless this says otherwise.
+    /// `BATCH_FORGET`: several at a time; each by `forget` unless this says otherwise.
     fn forget_all(&self, forgets: Forgets<'_>) {
         forgets.for_each(|(node, count)| self.forget(node, count));
     }
@@ -67,9 +123,8 @@ pub trait FileSystem {
         Err(Errno::ENOSYS)
     }
 
-    /// READLINK: puts what a link leads to at the front of `target`, and says how many bytes it
-    /// has. What stands in `target` before means nothing. More bytes than `target` has are answered
-    /// ERANGE.
+    /// READLINK: puts a link's target at the front of `target`, and answers its length. `target`
+    /// may hold any bytes before. A length above that of `target` is answered ERANGE.
     fn readlink(&self, context: &Context, node: Node, target: &mut [u8]) -> Answer<usize> {
         Err(Errno::ENOSYS)
     }
@@ -115,7 +170,7 @@ pub trait FileSystem {
         Err(Errno::ENOSYS)
     }
 
-    /// OPEN: what it answers, READ and its kin bring back until RELEASE.
+    /// OPEN: the guest passes the handle that it answers with READ and the like, until RELEASE.
     fn open(&self, context: &Context, node: Node, open: Open) -> Answer<Opened> {
         Ok(Opened::default())
     }
@@ -130,7 +185,7 @@ pub trait FileSystem {
         Err(Errno::ENOSYS)
     }
 
-    /// READ: puts data in. What was put in by then is the answer; none ends the file.
+    /// READ: puts data in. The data that was put in is the answer; none is the end of the file.
     fn read(
         &self,
         context: &Context,
@@ -141,7 +196,7 @@ pub trait FileSystem {
         Err(Errno::ENOSYS)
     }
 
-    /// WRITE: takes data out. What was taken out by then is the answer.
+    /// WRITE: takes data out. The number of bytes that were taken out is the answer.
     fn write(
         &self,
         context: &Context,
@@ -152,7 +207,7 @@ pub trait FileSystem {
         Err(Errno::ENOSYS)
     }
 
-    /// STATFS: what the file system holds and has room for.
+    /// STATFS: the file system's size and free space.
     fn statfs(&self, context: &Context, node: Node) -> Answer<Statistics> {
         Ok(Statistics::default())
     }
@@ -162,7 +217,7 @@ pub trait FileSystem {
         Ok(())
     }
 
-    /// FSYNC: what was written lasts; `data_only` as of fdatasync.
+    /// FSYNC: writes the file's data and attributes to the disk; `data_only` as of fdatasync.
     fn fsync(&self, context: &Context, node: Node, handle: Handle, data_only: bool) -> Answer<()> {
         Err(Errno::ENOSYS)
     }
@@ -172,8 +227,8 @@ pub trait FileSystem {
         Err(Errno::ENOSYS)
     }
 
-    /// SETXATTR: sets an extended attribute; `flags` as of setxattr (XATTR_CREATE 1, XATTR_REPLACE
-    /// 2).
+    /// SETXATTR: sets an extended attribute; `flags` as of setxattr (`XATTR_CREATE` 1,
+    /// `XATTR_REPLACE` 2).
     fn setxattr(
         &self,
         context: &Context,
@@ -185,9 +240,9 @@ pub trait FileSystem {
         Err(Errno::ENOSYS)
     }
 
-    /// GETXATTR: puts the value at the front of `value`, and says how many bytes it has. An empty
-    /// `value` asks for the number alone. ERANGE if it doesn't fit, ENODATA if there is none. What
-    /// stands in `value` before means nothing.
+    /// GETXATTR: puts the value at the front of `value`, and answers its length. An empty `value`
+    /// asks for the length alone. ERANGE if it doesn't fit, ENODATA if there is none. `value` may
+    /// hold any bytes before.
     fn getxattr(
         &self,
         context: &Context,
@@ -208,8 +263,8 @@ pub trait FileSystem {
         Err(Errno::ENOSYS)
     }
 
-    /// OPENDIR: what it answers, READDIR and its kin bring back until RELEASEDIR; `flags` as of
-    /// `Open`.
+    /// OPENDIR: the guest passes the handle that it answers with READDIR and the like, until
+    /// RELEASEDIR; `flags` as of `Open`.
     fn opendir(&self, context: &Context, node: Node, flags: u32) -> Answer<Opened> {
         Ok(Opened::default())
     }
@@ -231,7 +286,7 @@ pub trait FileSystem {
         Ok(())
     }
 
-    /// FSYNCDIR: a directory's entries last; as `fsync`.
+    /// FSYNCDIR: writes a directory's entries to the disk; as `fsync`.
     fn fsyncdir(
         &self,
         context: &Context,
@@ -252,18 +307,17 @@ pub trait FileSystem {
         Err(Errno::ENOSYS)
     }
 
-    /// LSEEK: where it comes to, in bytes from the file's beginning. ENXIO if there is no such
-    /// place.
+    /// LSEEK: the new offset, in bytes from the file's beginning. ENXIO if there is none.
     fn lseek(&self, context: &Context, node: Node, seek: Seek) -> Answer<u64> {
         Err(Errno::ENOSYS)
     }
 
-    /// COPY_FILE_RANGE: how many bytes were copied, at most those that were asked for.
+    /// `COPY_FILE_RANGE`: how many bytes were copied, at most those that were asked for.
     fn copy_file_range(&self, context: &Context, copy: CopyFileRange) -> Answer<u64> {
         Err(Errno::ENOSYS)
     }
 
-    /// SYNCFS: all that was written lasts.
+    /// SYNCFS: writes all data to the disk.
     fn syncfs(&self, context: &Context, node: Node) -> Answer<()> {
         Err(Errno::ENOSYS)
     }

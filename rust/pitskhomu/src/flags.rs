@@ -89,16 +89,16 @@ macro_rules! flags {
 }
 
 flags! {
-    /// The FUSE_ flags of INIT (struct fuse_init_in of linux/fuse.h, `flags | flags2 << 32`): what
-    /// the guest can, what is wanted, and what was agreed on.
+    /// The `FUSE_` flags of INIT (struct `fuse_init_in` of linux/fuse.h, `flags | flags2 << 32`):
+    /// those of the guest, those that the file system wants, or those that were agreed on.
     Options: u64 {
         /// Reads may be asynchronous.
         ASYNC_READ = 1 << 0;
-        /// Locks are the file system's. No lock is told to it here.
+        /// Locks are the file system's. This crate passes no lock on.
         POSIX_LOCKS = 1 << 1;
         /// The file system wants the handle with attributes.
         FILE_OPS = 1 << 2;
-        /// OPEN itself truncates by O_TRUNC.
+        /// OPEN itself truncates by `O_TRUNC`.
         ATOMIC_O_TRUNC = 1 << 3;
         /// The file system answers LOOKUP of "." and "..".
         EXPORT_SUPPORT = 1 << 4;
@@ -112,7 +112,7 @@ flags! {
         SPLICE_MOVE = 1 << 8;
         /// Data may be spliced in.
         SPLICE_READ = 1 << 9;
-        /// flock's locks are the file system's. No lock is told to it here.
+        /// flock's locks are the file system's. This crate passes no lock on.
         FLOCK_LOCKS = 1 << 10;
         /// IOCTL of directories.
         HAS_IOCTL_DIR = 1 << 11;
@@ -124,7 +124,7 @@ flags! {
         READDIRPLUS_AUTO = 1 << 14;
         /// Direct reads and writes may be asynchronous.
         ASYNC_DIO = 1 << 15;
-        /// The guest caches what is written, and sends it later (`Write::delayed`).
+        /// The guest caches written data, and sends it later (`Write::delayed`).
         WRITEBACK_CACHE = 1 << 16;
         /// OPEN isn't wanted at all, if it was answered by ENOSYS once.
         NO_OPEN_SUPPORT = 1 << 17;
@@ -138,29 +138,29 @@ flags! {
         ABORT_ERROR = 1 << 21;
         /// More than 32 pages a request.
         MAX_PAGES = 1 << 22;
-        /// The guest caches what links lead to.
+        /// The guest caches the targets of links.
         CACHE_SYMLINKS = 1 << 23;
         /// OPENDIR isn't wanted at all, if it was answered by ENOSYS once.
         NO_OPENDIR_SUPPORT = 1 << 24;
         /// Cached data is dropped by notices alone.
         EXPLICIT_INVAL_DATA = 1 << 25;
-        /// Attributes may tell that a directory is another mount (`Attributes::SUBMOUNT`).
+        /// Attributes may say that a directory is another mount (`Attributes::SUBMOUNT`).
         SUBMOUNTS = 1 << 27;
-        /// The file system clears set-user and set-group bits where it is told to (`kill_priv`).
+        /// The file system clears set-user and set-group bits where a call says so (`kill_priv`).
         HANDLE_KILLPRIV_V2 = 1 << 28;
-        /// SETXATTR has flags of its own. They aren't told here, so don't want it.
+        /// SETXATTR has flags of its own. This crate doesn't pass them on, so don't want it.
         SETXATTR_EXT = 1 << 29;
         /// INIT has a second word of flags.
         INIT_EXT = 1 << 30;
-        /// CREATE and its kin have the label of a new node. It isn't told here, so don't want it.
+        /// Calls that make a node have its label. This crate doesn't pass it on, so don't want it.
         SECURITY_CTX = 1 << 32;
         /// Nodes may be mapped one by one. There is no shared memory window here.
         HAS_INODE_DAX = 1 << 33;
-        /// Calls that make a node tell one of the caller's groups (`Context::supplementary_group`).
+        /// Calls that make a node have one of the caller's groups (`Context::supplementary_group`).
         CREATE_SUPP_GROUP = 1 << 34;
         /// Files that are opened for direct reads and writes may be mapped.
         DIRECT_IO_ALLOW_MMAP = 1 << 36;
-        /// Mounts with mapped users; then most calls tell no user and no group (`Context::uid`).
+        /// Mounts with mapped users; then most calls have no user and no group (`Context::uid`).
         ALLOW_IDMAP = 1 << 40;
     }
 }
@@ -170,11 +170,11 @@ flags! {
     OpenOptions: u32 {
         /// Reads and writes pass the guest's cache by.
         DIRECT_IO = 1 << 0;
-        /// What the guest cached of the file stays good.
+        /// The guest keeps its cached data of the file.
         KEEP_CACHE = 1 << 1;
         /// The file can't be sought in.
         NONSEEKABLE = 1 << 2;
-        /// The guest may cache what the directory lists.
+        /// The guest may cache the directory's entries.
         CACHE_DIR = 1 << 3;
         /// The file is a stream.
         STREAM = 1 << 4;
@@ -224,18 +224,18 @@ flags! {
 }
 
 flags! {
-    /// What ACCESS asks for (unistd.h). No flag: whether the node is there (F_OK).
+    /// The permissions that ACCESS asks for (unistd.h). No flag: whether the node exists (`F_OK`).
     AccessMask: u32 {
-        /// X_OK.
+        /// `X_OK`.
         EXECUTE = 1;
-        /// W_OK.
+        /// `W_OK`.
         WRITE = 2;
-        /// R_OK.
+        /// `R_OK`.
         READ = 4;
     }
 }
 
-/// The kind of a file, as a directory tells it (DT_ of dirent.h).
+/// The kind of a file in a directory's entry (`DT_` of dirent.h).
 #[derive(Clone, Copy, Debug, Default, PartialEq, Eq, Hash)]
 pub struct FileKind(
     /// Its number.
@@ -243,29 +243,31 @@ pub struct FileKind(
 );
 
 impl FileKind {
-    /// DT_UNKNOWN.
+    /// `DT_UNKNOWN`.
     pub const UNKNOWN: FileKind = FileKind(0);
-    /// DT_FIFO, a named pipe.
+    /// `DT_FIFO`, a named pipe.
     pub const FIFO: FileKind = FileKind(1);
-    /// DT_CHR, a character device.
+    /// `DT_CHR`, a character device.
     pub const CHARACTER_DEVICE: FileKind = FileKind(2);
-    /// DT_DIR, a directory.
+    /// `DT_DIR`, a directory.
     pub const DIRECTORY: FileKind = FileKind(4);
-    /// DT_BLK, a block device.
+    /// `DT_BLK`, a block device.
     pub const BLOCK_DEVICE: FileKind = FileKind(6);
-    /// DT_REG, a regular file.
+    /// `DT_REG`, a regular file.
     pub const REGULAR: FileKind = FileKind(8);
-    /// DT_LNK, a symbolic link.
+    /// `DT_LNK`, a symbolic link.
     pub const SYMBOLIC_LINK: FileKind = FileKind(10);
-    /// DT_SOCK, a socket.
+    /// `DT_SOCK`, a socket.
     pub const SOCKET: FileKind = FileKind(12);
 
-    /// The kind that a mode has (S_IFMT of sys/stat.h).
+    /// The kind that a mode has (`S_IFMT` of sys/stat.h).
+    #[must_use]
     pub const fn of_mode(mode: u32) -> FileKind {
         FileKind(mode >> 12 & 15)
     }
 
     /// The bits of a mode for this kind, without permissions.
+    #[must_use]
     pub const fn mode(self) -> u32 {
         (self.0 & 15) << 12
     }

@@ -6,15 +6,16 @@
 //!
 //! - [`GuestMemory`] finds the guest's memory. The worker copies it, since the guest runs at the
 //!   same time; only [`GuestSlice::new`], which makes a slice of a pointer, is `unsafe`.
-//! - [`FileSystem`] is what the guest mounts: a method for each call, with a default for all but
+//! - [`FileSystem`] is mounted by the guest: a method for each call, with a default for all but
 //!   two.
-//! - A [`Worker`] on each thread serves a [`Queue`] of its own, or one that several serve
+//! - A [`Worker`] on each thread serves a [`Queue`] of its own, or one that several workers serve
 //!   ([`Worker::take`]); all share a [`Device`].
 //!
+//! # Examples
 //! ```no_run
 //! use pitskhomu::{Device, FileSystem, GuestMemory, Queue, QueueLayout, Region, Status, Worker};
 //!
-//! fn serve_what_waits(
+//! fn serve_all(
 //!     worker: &mut Worker,
 //!     queue: &mut Queue,
 //!     device: &Device,
@@ -25,7 +26,7 @@
 //!     while let Some(served) = worker.serve(queue, device, file_system, memory)? {
 //!         notify |= served.notify;
 //!     }
-//!     Ok(notify) // whether the driver wants an interrupt
+//!     Ok(notify) // whether to interrupt the driver
 //! }
 //!
 //! # fn begin(file_system: &dyn FileSystem, memory: &dyn GuestMemory) -> Result<(), Status> {
@@ -33,18 +34,18 @@
 //! let mut worker = Worker::new();
 //! worker.set_memory(&device, &[Region { guest: 0, len: 0x10_0000, host: 0 }])?;
 //! let layout = QueueLayout { size: 64, descriptors: 0x1000, available: 0x2000, used: 0x3000 };
-//! let mut queue = Queue::new(layout, 0);
-//! serve_what_waits(&mut worker, &mut queue, &device, file_system, memory)?;
+//! let mut queue = Queue::new(layout, 0)?;
+//! serve_all(&mut worker, &mut queue, &device, file_system, memory)?;
 //! # Ok(())
 //! # }
 //! ```
 //!
-//! What is proved is the library: each of its functions, whatever the guest writes (docs/PROVED.md
-//! of the repository). This crate is tested and not proved. The example `monitor` has a file system
-//! and a guest in memory.
+//! Each function of the library is proved, for any bytes that the guest writes (docs/PROVED.md of
+//! the repository). This crate is tested, not proved. The example `monitor` has a file system and a
+//! guest in memory.
 //!
-//! The feature `std`, which is on by default, has [`Errno`] made of `std::io::Error`, and makes it
-//! and [`Status`] errors. Without it the crate is `no_std` with `alloc`.
+//! The feature `std`, which is on by default, makes an [`Errno`] of a `std::io::Error`, and makes
+//! it and [`Status`] errors. Without it the crate is `no_std` with `alloc`.
 #![no_std]
 #![deny(missing_docs, missing_debug_implementations, unsafe_code, unsafe_op_in_unsafe_fn)]
 
@@ -94,17 +95,19 @@ pub use values::{
 };
 pub use worker::{Served, Worker};
 
-/// The version of pitskhomu.h that this crate follows (PK_VERSION).
+/// The version of pitskhomu.h that this crate follows (`PK_VERSION`).
 pub const VERSION: u32 = sys::VERSION;
 
 /// The version of the archive that is linked: compare it once with [`VERSION`], where the two may
 /// be of two releases.
+#[must_use]
 pub fn version() -> u32 {
     chain::version()
 }
 
 /// Whether a name is one component of a path. If not, it is empty, `.` or `..`, or has a slash or a
 /// zero byte. A link leads elsewhere still.
+#[must_use]
 pub fn is_name(name: &[u8]) -> bool {
     chain::is_name(name)
 }

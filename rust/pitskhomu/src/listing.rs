@@ -5,7 +5,7 @@ use crate::file_system::FileSystem;
 use crate::values::{Attributes, Context, DirectoryEntry, Entry, Node};
 use core::fmt;
 
-/// The longest name (NAME_MAX of linux/limits.h).
+/// The longest name (`NAME_MAX` of linux/limits.h).
 const NAME_MAX: usize = 255;
 
 /// The entries that READDIR or READDIRPLUS answers.
@@ -16,8 +16,6 @@ pub struct Listing<'a> {
     context: &'a Context,
     directory: Node,
     with_nodes: bool,
-    /// How many bytes of entries the guest asked for.
-    asked: u64,
     used: usize,
     ended: bool,
 }
@@ -42,14 +40,13 @@ impl<'a> Listing<'a> {
         context: &'a Context,
         directory: Node,
         with_nodes: bool,
-        asked: u64,
     ) -> Listing<'a> {
-        let (used, ended) = (0, false);
-        Listing { chain, list, file_system, context, directory, with_nodes, asked, used, ended }
+        Listing { chain, list, file_system, context, directory, with_nodes, used: 0, ended: false }
     }
 
     /// How many bytes of entries may be put in yet. One takes 24 and its name, with nodes 152 and
-    /// its name, rounded up to 8 (struct fuse_dirent, struct fuse_direntplus).
+    /// its name, rounded up to 8 (struct `fuse_dirent`, struct `fuse_direntplus`).
+    #[must_use]
     pub fn left(&self) -> usize {
         if self.ended {
             0
@@ -59,16 +56,21 @@ impl<'a> Listing<'a> {
     }
 
     /// Whether entries come with their nodes (READDIRPLUS): then `add` looks each up.
+    #[must_use]
     pub fn has_nodes(&self) -> bool {
         self.with_nodes
     }
 
     /// Adds an entry behind those before it; `false` if it doesn't fit, which ends the list. With
-    /// nodes it is looked up first by `FileSystem::lookup`, but `.` and `..` aren't; what the guest
-    /// isn't told after all is forgotten. Errors, which `readdir` answers in its turn: those of the
-    /// look-up, `EINVAL` (the first entry doesn't fit: no entry at all would end the directory),
-    /// `ENAMETOOLONG` (a name that is empty or longer than 255 bytes), `EIO` (the entry fits the
-    /// size that the guest asked for, and the room is shorter; or the name has a slash).
+    /// nodes it calls `FileSystem::lookup` first, except for `.` and `..`, and `forget` if the
+    /// entry doesn't fit.
+    ///
+    /// # Errors
+    /// Return them from `readdir`.
+    /// - Those of the look-up.
+    /// - `EINVAL`: the first entry doesn't fit. No entry at all would be the directory's end.
+    /// - `ENAMETOOLONG`: the name is empty or longer than 255 bytes.
+    /// - `EIO`: the reply buffer is smaller than the guest asked for, or the name has a slash.
     pub fn add(&mut self, entry: DirectoryEntry<'_>) -> Answer<bool> {
         let name = entry.name.to_bytes();
         if name.is_empty() || name.len() > NAME_MAX {
@@ -77,11 +79,7 @@ impl<'a> Listing<'a> {
         let len = entry_len(name.len(), self.with_nodes);
         if len > self.left() {
             self.ended = true;
-            return match self.asked.saturating_sub(self.used as u64) {
-                asked if len as u64 <= asked => Err(Errno::EIO),
-                _ if self.used == 0 => Err(Errno::EINVAL),
-                _ => Ok(false),
-            };
+            return if self.used == 0 { Err(Errno::EINVAL) } else { Ok(false) };
         }
         let added =
             if self.with_nodes { self.add_with_node(&entry)? } else { self.add_plain(&entry)? };

@@ -84,7 +84,7 @@ pub(crate) fn store_u16(memory: &dyn GuestMemory, at: usize, number: u16) {
     }
 }
 
-/// A stretch of the guest's memory (struct pk_region). All three numbers are multiples of 4096.
+/// A stretch of the guest's memory (struct `pk_region`). All three numbers are multiples of 4096.
 #[repr(C)]
 #[derive(Clone, Copy, Debug, Default, PartialEq, Eq)]
 pub struct Region {
@@ -97,16 +97,16 @@ pub struct Region {
     pub host: usize,
 }
 
-/// How often regions were told, to any worker.
-static TOLD: AtomicUsize = AtomicUsize::new(0);
+/// How often regions were set, for any worker.
+static SET: AtomicUsize = AtomicUsize::new(0);
 
-/// The number of a telling of regions, above those of all before. Other memory may stand behind the
-/// same regions, so they tell nothing by themselves.
-pub(crate) fn next_telling() -> usize {
-    TOLD.fetch_add(1, Ordering::Relaxed) + 1
+/// The number of a worker's new regions, above those of all before. The same regions may lie over
+/// other memory, so they say nothing by themselves.
+pub(crate) fn next_regions() -> usize {
+    SET.fetch_add(1, Ordering::Relaxed) + 1
 }
 
-/// `len` bytes of memory from the number `at` on (struct pk_window), laid out as struct iovec is.
+/// `len` bytes of memory from the number `at` on (struct `pk_window`), laid out as struct iovec is.
 #[repr(C)]
 #[derive(Clone, Copy, Debug, Default, PartialEq, Eq)]
 pub struct Window {
@@ -116,7 +116,7 @@ pub struct Window {
     pub len: usize,
 }
 
-/// `len` bytes of the guest from a guest address on (struct pk_range).
+/// `len` bytes of the guest from a guest address on (struct `pk_range`).
 #[repr(C)]
 #[derive(Clone, Copy, Debug, Default, PartialEq, Eq)]
 pub struct GuestRange {

@@ -1,13 +1,14 @@
-//! A virtqueue: where its parts stand, and how far it has come.
+//! A virtqueue: its size, the addresses of its parts, and its positions.
 use crate::chain;
 use crate::status::Status;
 use crate::sys;
+use core::sync::atomic::{AtomicU32, Ordering};
 
 /// The size of a split virtqueue and the guest addresses of its parts (VIRTIO 1.2, 2.7), as the
-/// driver told them.
+/// driver set them.
 #[derive(Clone, Copy, Debug, Default, PartialEq, Eq)]
 pub struct QueueLayout {
-    /// How many descriptors: a power of two up to 32768.
+    /// The number of descriptors: a power of two up to 32768.
     pub size: u16,
     /// The guest address of the descriptor table, a multiple of 16.
     pub descriptors: u64,
@@ -17,45 +18,79 @@ pub struct QueueLayout {
     pub used: u64,
 }
 
-/// What the available index was when it was loaded last (VIRTIO 1.2, 2.7.6), and which telling of
-/// regions it is known to come behind. All workers of a queue go over the same memory, and each is
-/// told after it has changed: so it is that of a worker that was told before.
+/// The available index as it was loaded last (VIRTIO 1.2, 2.7.6), and which regions it was loaded
+/// with. All workers of a queue use the same memory, and each gets new regions after it has
+/// changed. So an index of newer regions than a worker's own is good for that worker too.
 #[derive(Clone, Copy, Debug)]
 struct Seen {
     index: u16,
-    told: usize,
+    regions: usize,
 }
 
-/// A queue. It is told with each call, and moved on by it. Of several workers each has at most one
-/// chain out of it. Its available index is loaded again once all that it told of was taken, and
-/// where the queue begins anew or a worker's regions were told since.
-#[derive(Debug, Default)]
+/// A virtqueue.
+///
+/// Each call that takes it moves it on. Each of several workers has at most one chain of it in
+/// flight. The available index is loaded again once all chains up to it were taken, after
+/// [`Queue::begin`], and after a worker got new regions.
+///
+/// `Queue::default()` isn't set up: each call refuses it with [`Status::BadArgument`].
+///
+/// # Examples
+/// ```
+/// use pitskhomu::{Queue, QueueLayout, Status};
+///
+/// # fn main() -> Result<(), Status> {
+/// let layout = QueueLayout { size: 64, descriptors: 0x1000, available: 0x2000, used: 0x3000 };
+/// let mut queue = Queue::new(layout, 0)?.with_max_in_flight(4)?.with_event_index(true);
+/// assert_eq!((queue.next_avail(), queue.in_flight()), (0, 0));
+///
+/// let odd = QueueLayout { size: 63, ..layout };
+/// assert_eq!(Queue::new(odd, 0).err(), Some(Status::BadArgument));
+///
+/// // The driver reset the device, and set the queue up again.
+/// queue.begin(Queue::new(layout, 7)?)?;
+/// assert_eq!(queue.next_avail(), 7);
+/// # Ok(())
+/// # }
+/// ```
+#[derive(Debug)]
+#[must_use]
 pub struct Queue {
     numbers: sys::Queue,
     seen: Option<Seen>,
 }
 
+impl Default for Queue {
+    fn default() -> Queue {
+        Queue::of_numbers(fresh_numbers())
+    }
+}
+
+/// Where the resets of the next new queue are counted from. A chain knows its queue by that count
+/// and the addresses, and a guest may give two queues the same addresses.
+static RESET_COUNT: AtomicU32 = AtomicU32::new(0);
+
+/// From one queue's count to the next one's: odd, so that all 2^32 counts are used.
+const RESET_COUNTS_APART: u32 = (1 << 24) + 1;
+
+/// Zeros, but for a count of resets that no other queue has.
+pub(crate) fn fresh_numbers() -> sys::Queue {
+    let reset_count = RESET_COUNT.fetch_add(RESET_COUNTS_APART, Ordering::Relaxed);
+    sys::Queue { max_in_flight: 1, reset_count, ..sys::Queue::default() }
+}
+
 impl Queue {
-    /// A queue that begins at a position of the available ring: 0 after a reset, or where another
-    /// left off. One chain is out of it at a time. Numbers that are none are refused by the first
-    /// call with it (`Status::BadArgument`). To begin a queue anew, hand this to its `begin`: by
-    /// its numbers alone it can't be told from one of before.
-    pub const fn new(layout: QueueLayout, position: u16) -> Queue {
-        let QueueLayout { size, descriptors, available, used } = layout;
-        Queue::of_numbers(sys::Queue {
-            desc: descriptors,
-            avail: available,
-            used,
-            size,
-            next_avail: position,
-            next_used: position,
-            max_in_flight: 1,
-            stopped: 0,
-            pushing: 0,
-            event_index: 0,
-            reset_count: 0,
-            pop_count: 0,
-        })
+    /// A queue whose next chain is at the position `next_avail` of the available ring: 0 after a
+    /// reset, or the position that another device reported. One chain may be in flight.
+    ///
+    /// # Errors
+    /// `BadArgument`: the size isn't a power of two up to 32768, an address isn't aligned, or a
+    /// part ends behind the greatest address.
+    pub fn new(layout: QueueLayout, next_avail: u16) -> Result<Queue, Status> {
+        let QueueLayout { size, descriptors: desc, available: avail, used } = layout;
+        let mut numbers = sys::Queue { desc, avail, used, size, ..fresh_numbers() };
+        chain::begin(&mut numbers, next_avail)?;
+        Ok(Queue::of_numbers(numbers))
     }
 
     /// A queue whose index wasn't loaded yet.
@@ -71,93 +106,112 @@ impl Queue {
         &mut self.numbers
     }
 
-    /// The available index as it was loaded last, over the memory of a worker of this telling, if
-    /// it tells of a chain that wasn't taken yet. That load acquired, and who has the queue now
-    /// comes behind it.
-    pub(crate) fn seen_index(&self, told: usize) -> Option<u16> {
+    /// The available index that was loaded last with these regions or newer ones, if a chain before
+    /// it wasn't taken yet. That load acquired, and the queue's lock orders this behind it.
+    pub(crate) fn seen_index(&self, regions: usize) -> Option<u16> {
         self.seen
-            .filter(|seen| seen.told >= told && seen.index != self.next_avail())
+            .filter(|seen| seen.regions >= regions && seen.index != self.next_avail())
             .map(|seen| seen.index)
     }
 
-    /// The available index was loaded by a worker of this telling.
-    pub(crate) fn see_index(&mut self, index: u16, told: usize) {
-        let told = self.seen.map_or(told, |seen| seen.told.max(told));
-        self.seen = Some(Seen { index, told });
+    /// A worker with these regions loaded the available index.
+    pub(crate) fn see_index(&mut self, index: u16, regions: usize) {
+        let regions = self.seen.map_or(regions, |seen| seen.regions.max(regions));
+        self.seen = Some(Seen { index, regions });
     }
 
-    /// The same with up to `most` chains out at a time, 1 to the queue's size: as many as workers
-    /// serve it.
-    pub const fn with_max_in_flight(mut self, most: u16) -> Queue {
-        self.numbers.max_in_flight = most;
+    /// The same with up to `max_in_flight` chains in flight: as many as workers serve it.
+    ///
+    /// # Errors
+    /// `BadArgument`: it isn't from 1 to the queue's size.
+    pub fn with_max_in_flight(mut self, max_in_flight: u16) -> Result<Queue, Status> {
+        if max_in_flight == 0 || max_in_flight > self.numbers.size {
+            return Err(Status::BadArgument);
+        }
+        self.numbers.max_in_flight = max_in_flight;
+        Ok(self)
+    }
+
+    /// The same for a driver that accepted `VIRTIO_F_EVENT_IDX`, or didn't. With it driver and
+    /// device say at which chain they want the next notification, and without it they set flags
+    /// (VIRTIO 1.2, 2.7.7 and 2.7.10).
+    pub const fn with_event_index(mut self, is_accepted: bool) -> Queue {
+        self.numbers.event_index = is_accepted as u8;
         self
     }
 
-    /// The same for a driver that took VIRTIO_F_EVENT_IDX, or that didn't: by it driver and device
-    /// say at which chain they want to be told next, and not by flags (VIRTIO 1.2, 2.7.7 and
-    /// 2.7.10).
-    pub const fn with_event_index(mut self, is_taken: bool) -> Queue {
-        self.numbers.event_index = is_taken as u8;
-        self
-    }
-
-    /// Begins anew, as another does: its walks and the chains that are out of it are refused from
-    /// here on (`Status::OtherQueue`; their workers `abandon` them). Errors, after which it is as
-    /// it was: `BadArgument`.
-    pub fn begin(&mut self, anew: Queue) -> Result<(), Status> {
-        let mut numbers = sys::Queue { reset_count: self.numbers.reset_count, ..anew.numbers };
-        chain::begin(&mut numbers, anew.numbers.next_avail)?;
+    /// Resets the queue, which is `queue` from here on. Its chains in flight are refused then
+    /// (`Status::OtherQueue`): have each worker [`abandon`](crate::Worker::abandon) its own before.
+    ///
+    /// # Errors
+    /// `BadArgument`: `queue` isn't set up. This one stays as it was.
+    #[allow(clippy::needless_pass_by_value)] // there is one of it, not two
+    pub fn begin(&mut self, queue: Queue) -> Result<(), Status> {
+        let next_avail = queue.next_avail();
+        let mut numbers = sys::Queue { reset_count: self.numbers.reset_count, ..queue.numbers };
+        chain::begin(&mut numbers, next_avail)?;
         *self = Queue::of_numbers(numbers);
         Ok(())
     }
 
-    /// Its size, and where its parts stand.
+    /// Its size and addresses.
+    #[must_use]
     pub const fn layout(&self) -> QueueLayout {
         let sys::Queue { size, desc: descriptors, avail: available, used, .. } = self.numbers;
         QueueLayout { size, descriptors, available, used }
     }
 
-    /// Where the next chain is taken, modulo 2^16. While none is out it is where the queue stands.
+    /// The position of the next chain to take, modulo 2^16. While none is in flight it is the
+    /// queue's state (`GET_VRING_BASE` of vhost-user).
+    #[must_use]
     pub const fn next_avail(&self) -> u16 {
         self.numbers.next_avail
     }
 
-    /// How many chains went back, modulo 2^16, counted from where it began.
+    /// The position of the next used element, modulo 2^16.
+    #[must_use]
     pub const fn next_used(&self) -> u16 {
         self.numbers.next_used
     }
 
-    /// How many chains are out: of one worker between calls only after a panic.
+    /// The number of chains in flight.
+    #[must_use]
     pub const fn in_flight(&self) -> u16 {
         self.numbers.next_avail.wrapping_sub(self.numbers.next_used)
     }
 
-    /// How many may be out.
+    /// The greatest number of chains in flight.
+    #[must_use]
     pub const fn max_in_flight(&self) -> u16 {
         self.numbers.max_in_flight
     }
 
-    /// Whether a chain waits by the available index as it was loaded last. If it tells of none, one
-    /// may wait all the same: load it then.
+    /// Whether a chain is available by the index that was loaded last. If none is, one may be
+    /// available all the same: load the index then.
+    #[must_use]
     pub fn knows_more(&self) -> bool {
         self.seen.map_or(false, |seen| seen.index != self.next_avail())
     }
 
-    /// Whether the driver took VIRTIO_F_EVENT_IDX.
+    /// Whether the driver accepted `VIRTIO_F_EVENT_IDX`.
+    #[must_use]
     pub const fn has_event_index(&self) -> bool {
         self.numbers.event_index != 0
     }
 
-    /// The refusal that stopped it, if one did; of a queue of a record `Status::Stopped`.
+    /// The refusal that stopped it, if any; `Status::Stopped` if [`Device::restore`] did.
+    ///
+    /// [`Device::restore`]: crate::Device::restore
+    #[must_use]
     pub fn stopped(&self) -> Option<Status> {
         Some(self.numbers.stopped)
             .filter(|&number| number != 0)
             .map(|number| Status::of(number.into()))
     }
 
-    /// The guest address of what says whether the driver's kicks are wanted: avail_event, or the
-    /// flags of the used ring (VIRTIO 1.2, 2.7.8 and 2.7.10).
-    pub(crate) const fn kick_address(&self) -> u64 {
+    /// The guest address that says whether available buffer notifications are enabled:
+    /// `avail_event`, or the flags of the used ring (VIRTIO 1.2, 2.7.8 and 2.7.10).
+    pub(crate) const fn notification_address(&self) -> u64 {
         if self.has_event_index() {
             self.numbers.used + 4 + 8 * self.numbers.size as u64
         } else {

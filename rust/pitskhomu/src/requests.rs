@@ -1,9 +1,10 @@
-//! What the longer calls bring, a structure each. Fields may be added: so they are made here alone.
+//! The arguments of the longer calls, a structure each. Only this crate makes them, so fields may
+//! be added.
 use crate::flags::{Options, SetAttributesValid};
 use crate::values::{Attributes, Handle, Node, Time};
 use crate::CStr;
 
-/// What MKNOD makes (struct fuse_mknod_in).
+/// The arguments of MKNOD (struct `fuse_mknod_in`).
 #[derive(Clone, Copy, Debug)]
 #[non_exhaustive]
 pub struct MakeNode {
@@ -16,7 +17,7 @@ pub struct MakeNode {
     pub umask: u32,
 }
 
-/// What MKDIR makes (struct fuse_mkdir_in).
+/// The arguments of MKDIR (struct `fuse_mkdir_in`).
 #[derive(Clone, Copy, Debug)]
 #[non_exhaustive]
 pub struct MakeDirectory {
@@ -26,18 +27,18 @@ pub struct MakeDirectory {
     pub umask: u32,
 }
 
-/// How OPEN opens a file (struct fuse_open_in).
+/// How OPEN opens a file (struct `fuse_open_in`).
 #[derive(Clone, Copy, Debug)]
 #[non_exhaustive]
 pub struct Open {
     /// O_ flags of Linux x86 (fcntl.h).
     pub flags: u32,
-    /// FUSE_OPEN_KILL_SUIDGID: set-user and set-group bits are to be cleared (with O_TRUNC;
+    /// `FUSE_OPEN_KILL_SUIDGID`: set-user and set-group bits are to be cleared (with `O_TRUNC`;
     /// `Options::HANDLE_KILLPRIV_V2`).
     pub kill_priv: bool,
 }
 
-/// What CREATE makes and how it opens it (struct fuse_create_in).
+/// The arguments of CREATE (struct `fuse_create_in`).
 #[derive(Clone, Copy, Debug)]
 #[non_exhaustive]
 pub struct Create {
@@ -51,7 +52,7 @@ pub struct Create {
     pub kill_priv: bool,
 }
 
-/// Which data READ wants (struct fuse_read_in).
+/// Which data READ wants (struct `fuse_read_in`).
 #[derive(Clone, Copy, Debug)]
 #[non_exhaustive]
 pub struct Read {
@@ -59,15 +60,15 @@ pub struct Read {
     pub handle: Handle,
     /// From which byte on.
     pub offset: u64,
-    /// How many bytes. What the room takes may be less: `ReadData::left`.
+    /// How many bytes. The reply buffer may have room for fewer: `ReadData::left`.
     pub size: u64,
     /// The file's O_ flags.
     pub flags: u32,
-    /// Whose locks count, with FUSE_READ_LOCKOWNER.
+    /// Whose locks count, with `FUSE_READ_LOCKOWNER`.
     pub lock_owner: Option<u64>,
 }
 
-/// Where WRITE's data goes (struct fuse_write_in).
+/// Where WRITE's data goes (struct `fuse_write_in`).
 #[derive(Clone, Copy, Debug)]
 #[non_exhaustive]
 pub struct Write {
@@ -75,19 +76,19 @@ pub struct Write {
     pub handle: Handle,
     /// From which byte on.
     pub offset: u64,
-    /// How many bytes, as the guest says. What came may be another number: `WriteData::left`.
+    /// How many bytes, as the guest says. The request may have another number: `WriteData::left`.
     pub size: u64,
     /// The file's O_ flags.
     pub flags: u32,
-    /// Whose locks count, with FUSE_WRITE_LOCKOWNER.
+    /// Whose locks count, with `FUSE_WRITE_LOCKOWNER`.
     pub lock_owner: Option<u64>,
-    /// FUSE_WRITE_CACHE: it comes late, from the guest's cache, and not from who wrote it.
+    /// `FUSE_WRITE_CACHE`: it comes late, from the guest's cache, so the caller isn't the writer.
     pub delayed: bool,
-    /// FUSE_WRITE_KILL_SUIDGID: set-user and set-group bits are to be cleared.
+    /// `FUSE_WRITE_KILL_SUIDGID`: set-user and set-group bits are to be cleared.
     pub kill_priv: bool,
 }
 
-/// How RELEASE closes a file (struct fuse_release_in).
+/// How RELEASE closes a file (struct `fuse_release_in`).
 #[derive(Clone, Copy, Debug, Default)]
 #[non_exhaustive]
 pub struct Release {
@@ -95,15 +96,15 @@ pub struct Release {
     pub handle: Handle,
     /// The file's O_ flags.
     pub flags: u32,
-    /// FUSE_RELEASE_FLUSH: as by FLUSH before.
+    /// `FUSE_RELEASE_FLUSH`: as by FLUSH before.
     pub flush: bool,
-    /// FUSE_RELEASE_FLOCK_UNLOCK: flock's locks go.
+    /// `FUSE_RELEASE_FLOCK_UNLOCK`: flock's locks go.
     pub unlock: bool,
     /// Whose locks, with one of these two.
     pub lock_owner: Option<u64>,
 }
 
-/// Which entries READDIR or READDIRPLUS wants (struct fuse_read_in).
+/// Which entries READDIR or READDIRPLUS wants (struct `fuse_read_in`).
 #[derive(Clone, Copy, Debug)]
 #[non_exhaustive]
 pub struct ReadDirectory {
@@ -111,17 +112,18 @@ pub struct ReadDirectory {
     pub handle: Handle,
     /// From where on: 0, or the `next_offset` of an entry before.
     pub offset: u64,
-    /// How many bytes of entries, at most. What the room takes may be less: `Listing::left`.
+    /// How many bytes of entries, at most. The reply buffer may have room for fewer:
+    /// `Listing::left`.
     pub size: u64,
 }
 
-/// What FALLOCATE does to a file (struct fuse_fallocate_in).
+/// The arguments of FALLOCATE (struct `fuse_fallocate_in`).
 #[derive(Clone, Copy, Debug)]
 #[non_exhaustive]
 pub struct Allocate {
     /// Of which open file.
     pub handle: Handle,
-    /// FALLOC_FL_ flags (linux/falloc.h).
+    /// `FALLOC_FL`_ flags (linux/falloc.h).
     pub mode: u32,
     /// From which byte on.
     pub offset: u64,
@@ -129,7 +131,7 @@ pub struct Allocate {
     pub len: u64,
 }
 
-/// What LSEEK looks for (struct fuse_lseek_in).
+/// The arguments of LSEEK (struct `fuse_lseek_in`).
 #[derive(Clone, Copy, Debug)]
 #[non_exhaustive]
 pub struct Seek {
@@ -137,7 +139,7 @@ pub struct Seek {
     pub handle: Handle,
     /// From which byte on.
     pub offset: u64,
-    /// SEEK_ of linux/fs.h: SEEK_DATA is 3, SEEK_HOLE 4.
+    /// SEEK_ of linux/fs.h: `SEEK_DATA` is 3, `SEEK_HOLE` 4.
     pub whence: u32,
 }
 
@@ -152,8 +154,8 @@ pub struct FilePlace {
     pub offset: u64,
 }
 
-/// What COPY_FILE_RANGE copies (struct fuse_copy_file_range_in). Its flags, 0 in Linux, aren't
-/// told.
+/// The arguments of `COPY_FILE_RANGE` (struct `fuse_copy_file_range_in`), without its flags, which
+/// are 0 in Linux.
 #[derive(Clone, Copy, Debug)]
 #[non_exhaustive]
 pub struct CopyFileRange {
@@ -165,11 +167,11 @@ pub struct CopyFileRange {
     pub len: u64,
 }
 
-/// What INIT brings (struct fuse_init_in).
+/// The arguments of INIT (struct `fuse_init_in`).
 #[derive(Clone, Copy, Debug)]
 #[non_exhaustive]
 pub struct Init {
-    /// What the guest can.
+    /// The guest's options.
     pub capable: Options,
 }
 
@@ -191,18 +193,17 @@ pub enum SetTime {
     Now,
 }
 
-/// What SETATTR sets (struct fuse_setattr_in).
+/// The arguments of SETATTR (struct `fuse_setattr_in`).
 #[derive(Clone, Copy, Debug)]
 #[non_exhaustive]
 pub struct SetAttributes {
     /// Which attributes are set.
     pub valid: SetAttributesValid,
-    /// Their values; of those that aren't set, what the guest wrote.
+    /// Their values; of the others, any number that the guest wrote.
     pub attributes: Attributes,
-    /// The open file, with FATTR_FH.
+    /// The open file, with `FATTR_FH`.
     pub handle: Option<Handle>,
-    /// Whose locks count, where the guest says so (FATTR_LOCKOWNER, which isn't told); Linux writes
-    /// 0 else.
+    /// Whose locks count, if the guest says so (`FATTR_LOCKOWNER`); otherwise Linux writes 0.
     pub lock_owner: u64,
 }
 
@@ -212,26 +213,31 @@ impl SetAttributes {
     }
 
     /// The permissions.
+    #[must_use]
     pub fn mode(&self) -> Option<u32> {
         self.if_valid(SetAttributesValid::MODE, self.attributes.mode)
     }
 
     /// The user.
+    #[must_use]
     pub fn uid(&self) -> Option<u32> {
         self.if_valid(SetAttributesValid::UID, self.attributes.uid)
     }
 
     /// The group.
+    #[must_use]
     pub fn gid(&self) -> Option<u32> {
         self.if_valid(SetAttributesValid::GID, self.attributes.gid)
     }
 
     /// The length in bytes.
+    #[must_use]
     pub fn size(&self) -> Option<u64> {
         self.if_valid(SetAttributesValid::SIZE, self.attributes.size)
     }
 
     /// When it was read last.
+    #[must_use]
     pub fn atime(&self) -> Option<SetTime> {
         let now = self.valid.contains(SetAttributesValid::ATIME_NOW);
         let time = if now { SetTime::Now } else { SetTime::To(self.attributes.atime) };
@@ -239,6 +245,7 @@ impl SetAttributes {
     }
 
     /// When its data changed last.
+    #[must_use]
     pub fn mtime(&self) -> Option<SetTime> {
         let now = self.valid.contains(SetAttributesValid::MTIME_NOW);
         let time = if now { SetTime::Now } else { SetTime::To(self.attributes.mtime) };
@@ -246,24 +253,26 @@ impl SetAttributes {
     }
 
     /// When it changed last.
+    #[must_use]
     pub fn ctime(&self) -> Option<Time> {
         self.if_valid(SetAttributesValid::CTIME, self.attributes.ctime)
     }
 
     /// Whether set-user and set-group bits are to be cleared (`Options::HANDLE_KILLPRIV_V2`).
+    #[must_use]
     pub fn kills_priv(&self) -> bool {
         self.valid.contains(SetAttributesValid::KILL_SUIDGID)
     }
 }
 
-/// The nodes of FORGET or BATCH_FORGET: each with how many times less the guest holds it.
+/// The nodes of FORGET or `BATCH_FORGET`: each with how many times less the guest holds it.
 #[derive(Clone, Debug)]
 pub struct Forgets<'r> {
     pairs: core::slice::ChunksExact<'r, u8>,
 }
 
 impl<'r> Forgets<'r> {
-    /// Pairs of 8 bytes each, little-endian (struct fuse_forget_one).
+    /// Pairs of 8 bytes each, little-endian (struct `fuse_forget_one`).
     pub(crate) fn new(pairs: &'r [u8]) -> Forgets<'r> {
         Forgets { pairs: pairs.chunks_exact(16) }
     }

@@ -62,7 +62,7 @@ impl<'m> GuestSlice<'m> {
     /// - other threads of this process access them by atomic or volatile operations alone. Accesses
     ///   of the guest and of other processes are no matter.
     #[must_use]
-    pub const unsafe fn new(at: *mut u8, len: usize) -> GuestSlice<'m> {
+    pub unsafe fn new(at: *mut u8, len: usize) -> GuestSlice<'m> {
         GuestSlice { at, len, is_wide: true, memory: PhantomData }
     }
 
@@ -91,6 +91,7 @@ impl<'m> GuestSlice<'m> {
     }
 
     /// The word that begins at the byte `from`, if it ends before `end` and is aligned.
+    #[allow(clippy::cast_ptr_alignment)] // the test is before
     fn word(&self, from: usize, end: usize) -> Option<&'m AtomicUsize> {
         let at = self.byte(from);
         if !self.is_wide || at as usize % size_of::<usize>() != 0 || end - from < size_of::<usize>()
@@ -102,6 +103,7 @@ impl<'m> GuestSlice<'m> {
     }
 
     /// The number of two bytes that the slice begins with, if it is long enough and aligned.
+    #[allow(clippy::cast_ptr_alignment)] // the test is before
     fn half(&self) -> Option<&'m AtomicU16> {
         if !self.is_wide || self.at as usize % size_of::<u16>() != 0 || self.len < size_of::<u16>()
         {
@@ -128,6 +130,7 @@ impl<'m> GuestSlice<'m> {
     }
 
     /// Copies bytes in, from the first on: as many as both have. Returns their number.
+    #[allow(clippy::must_use_candidate)] // a caller who knows the length needs no number
     pub fn store(&self, bytes: &[u8]) -> usize {
         let (len, mut done) = (self.len.min(bytes.len()), 0);
         while done < len {

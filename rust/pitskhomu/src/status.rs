@@ -1,8 +1,7 @@
-//! What the library's numbers say: why a call was refused, what is wrong with a chain, and what
-//! with a request.
+//! The library's numbers: refusals of its calls, faults of chains, and faults of requests.
 use core::fmt;
 
-/// An enum over numbers of the header: each with its number, and with the text that tells it.
+/// An enum over numbers of the header: each with its number, and with a text.
 macro_rules! numbered {
     ($(#[$about:meta])* $type:ident,
         $header:literal { $($(#[$doc:meta])* $name:ident = $number:literal, $text:literal;)* }) => {
@@ -44,9 +43,20 @@ macro_rules! numbered {
 }
 
 numbered! {
-    /// Why the library refused (enum pk_status): nothing was done, but that 2 to 8 stop the queue.
+    /// A refusal of the library (enum `pk_status`). It changed nothing, except that 2 to 8 stop the
+    /// queue.
+    ///
+    /// # Examples
+    /// ```
+    /// use pitskhomu::{Queue, QueueLayout, Status};
+    ///
+    /// let refused = Queue::new(QueueLayout::default(), 0).unwrap_err();
+    /// assert_eq!((refused, refused.number()), (Status::BadArgument, 66));
+    /// assert!(!refused.stops_queue() && Status::AvailTooFar.stops_queue());
+    /// println!("{refused}");
+    /// ```
     Status, "enum pk_status" {
-        /// The queue stopped before: nothing until it is begun anew.
+        /// The queue stopped before. Reset it.
         Stopped = 1, "the queue stopped before";
         /// The available index lies in no region. It stops the queue.
         AvailIndexUnreachable = 2, "the available index is unreachable";
@@ -56,32 +66,32 @@ numbered! {
         RingEntryUnreachable = 4, "an entry of the available ring is unreachable";
         /// The available ring names a descriptor that the table doesn't have. It stops the queue.
         HeadOutOfTable = 5, "a chain's head is out of the descriptor table";
-        /// The used ring lies in no region, or avail_event at its end. It stops the queue.
+        /// The used ring lies in no region, or `avail_event` at its end. It stops the queue.
         UsedUnreachable = 6, "the used ring is unreachable";
-        /// The available flags lie in no region, or used_event of a queue with an event index. It
+        /// The available flags lie in no region, or `used_event` of a queue with an event index. It
         /// stops the queue.
         AvailFlagsUnreachable = 7, "the available flags or used_event are unreachable";
         /// A descriptor of the table lies in no region. It stops the queue.
         DescriptorUnreachable = 8, "a descriptor is unreachable";
-        /// Memory is wanting; the call may be made again. The driver doesn't notify again of a
-        /// chain that waits.
-        OutOfMemory = 9, "memory is wanting";
+        /// An allocation failed; call again later. The driver doesn't notify again for a chain that
+        /// is available.
+        OutOfMemory = 9, "out of memory";
         /// A number that isn't one of those that a call takes: of a queue, of a device, of regions.
-        BadArgument = 66, "a number of the queue, the device or the regions is none that it may be";
+        BadArgument = 66, "a number that the queue, the device or the regions can't have";
         /// The buffer is too short.
         ShortBuffer = 69, "the buffer is too short";
-        /// More data than a reply can tell, or more bytes than the room has.
-        LongReply = 71, "more data than a reply can tell, or than the room has";
-        /// The chain isn't where this call goes on from: no memory was told, for one.
+        /// 4 GiB of data or more, or more bytes than the reply buffer has.
+        LongReply = 71, "the reply is too long";
+        /// The call doesn't come next for the chain; or no memory was set.
         WrongOrder = 73, "a call in a wrong order";
-        /// The chain isn't out of this queue as it stands.
+        /// The chain is of another queue, or its queue was reset.
         OtherQueue = 74, "the chain is of another queue";
         /// An answer of another kind than the call's.
         OtherKind = 75, "an answer of another kind than the call's";
-        /// The queue has as many chains out as it may, or the worker's chain is walked or out.
-        ChainInFlight = 76, "a chain is out";
-        /// What is to be loaded or stored has no place.
-        NotMapped = 77, "what is to be loaded or stored has no place";
+        /// As many chains of the queue are in flight as may be, or the worker has one.
+        ChainInFlight = 76, "a chain is in flight";
+        /// Bytes of a ring aren't in the worker's regions.
+        NotMapped = 77, "bytes of a ring aren't mapped";
         /// Another chain of the queue is being returned.
         Pushing = 78, "another chain of the queue is being returned";
         /// The answer is of a call that is gone.
@@ -100,21 +110,23 @@ numbered! {
         RecordBadQueue = 86, "a queue of the record is none";
         /// A record with options that aren't known.
         RecordBadOptions = 87, "the record's options aren't known";
-        /// Memory is wanting to read a record; the call may be made again.
-        RecordOutOfMemory = 89, "memory is wanting to read the record";
+        /// An allocation failed; call again later.
+        RecordOutOfMemory = 89, "out of memory for the record";
         /// A record of a device with another page size or limit.
         RecordMismatch = 90, "the record is of a device with another page size or limit";
     }
 }
 
 impl Status {
-    /// Whether the queue is stopped by it, or was before: set DEVICE_NEEDS_RESET (VIRTIO 1.2,
+    /// Whether the queue is stopped by it, or was before: set `DEVICE_NEEDS_RESET` (VIRTIO 1.2,
     /// 2.1.2).
+    #[must_use]
     pub fn stops_queue(self) -> bool {
         matches!(self.number(), 1..=8)
     }
 
-    /// Whether memory alone was wanting: the same call may do later.
+    /// Whether an allocation failed: the same call may succeed later.
+    #[must_use]
     pub fn is_out_of_memory(self) -> bool {
         matches!(self, Status::OutOfMemory | Status::RecordOutOfMemory)
     }
@@ -144,8 +156,8 @@ impl From<Status> for std::io::Error {
 }
 
 numbered! {
-    /// What is wrong with a chain of descriptors (enum pk_fault; VIRTIO 1.2, 2.7.5): it goes back
-    /// with no reply.
+    /// A fault of a chain of descriptors (enum `pk_fault`; VIRTIO 1.2, 2.7.5). It is returned
+    /// without a reply.
     Fault, "enum pk_fault" {
         /// More descriptors than the table has.
         TooLong = 1, "the chain is longer than its table";
@@ -161,32 +173,31 @@ numbered! {
         IndirectLength = 6, "an indirect table has a wrong length";
         /// An indirect table lies in no region.
         TableUnreachable = 7, "an indirect table is unreachable";
-        /// A request or a room of more bytes than the device's limit.
-        OverLimit = 8, "the request or the room is over the limit";
+        /// A request or a reply buffer of more bytes than the device's limit.
+        OverLimit = 8, "the request or the reply buffer is over the limit";
         /// Bytes of the request lie in no region.
         RequestUnreachable = 9, "the request is unreachable";
-        /// Bytes of the room lie in no region.
-        RoomUnreachable = 10, "the room is unreachable";
+        /// Bytes of the reply buffer lie in no region.
+        RoomUnreachable = 10, "the reply buffer is unreachable";
     }
 }
 
 numbered! {
-    /// What is wrong with a FUSE request (enum pk_request_fault): no call is made, and there is no
-    /// reply.
+    /// A fault of a FUSE request (enum `pk_request_fault`). There is no file call and no reply.
     RequestFault, "enum pk_request_fault" {
         /// The request ends early.
         Decode = 1, "the request ends early";
-        /// The reply is longer than the room.
-        Encode = 2, "the reply is longer than the room";
+        /// The reply buffer is too short.
+        Encode = 2, "the reply buffer is too short";
         /// A name or a value is missing.
         MissingParameter = 4, "a parameter is missing";
         /// An extension that was agreed on is missing.
         MissingExtension = 5, "an extension is missing";
-        /// The length in the request's header is too small (struct fuse_in_header).
+        /// The length in the request's header is too small (struct `fuse_in_header`).
         HeaderLength = 6, "the header's length is too small";
         /// A name doesn't end with its only zero byte.
         Name = 7, "a name doesn't end with its only zero byte";
-        /// The size of an extended attribute isn't its value's (struct fuse_setxattr_in).
+        /// The size of an extended attribute isn't its value's (struct `fuse_setxattr_in`).
         XattrSize = 9, "the size of an extended attribute isn't its value's";
     }
 }

@@ -1,5 +1,8 @@
-//! What pitskhomu.h declares, in its order, with its names (without `fs_` and `FS_`). The header
-//! says what each function does and owes. The script `tools/declared` compares the two.
+//! The declarations of pitskhomu.h, in its order, with its names (without `pk_` and `PK_`). The
+//! header documents them. The script `tools/declared` compares the two.
+// The numbers and fields are written as the header has them.
+#![allow(clippy::unreadable_literal, clippy::struct_field_names)]
+
 use crate::memory::{GuestRange as Range, Region, Window};
 use core::ffi::c_void;
 
@@ -11,7 +14,7 @@ pub const REQUEST_MAX: usize = 0x101000;
 pub const FRONT_MAX: usize = 160;
 pub const HEADER: u64 = 16;
 
-/// enum pk_status: how to go on. The refusals are `Status`.
+/// enum `pk_status`: how to go on. The refusals are `Status`.
 pub mod status {
     pub const DONE: u32 = 0;
     pub const LOAD: u32 = 32;
@@ -23,7 +26,7 @@ pub mod status {
     pub const ENTRIES: u32 = 38;
 }
 
-/// enum pk_call_kind.
+/// enum `pk_call_kind`.
 pub mod kind {
     pub const NONE: u32 = 0;
     pub const LOOKUP: u32 = 1;
@@ -65,7 +68,7 @@ pub mod kind {
     pub const SYNCFS: u32 = 50;
 }
 
-/// enum pk_answer_kind: what the wrapper has to tell apart.
+/// enum `pk_answer_kind`: the kinds that the wrapper treats apart.
 pub mod answer {
     pub const NONE: u32 = 0;
     pub const XATTR: u32 = 7;
@@ -252,6 +255,7 @@ extern "C" {
     pub fn pk_abandon(chain: &mut Chain);
     pub fn pk_set_notification(chain: &mut Chain, queue: &Queue, enabled: u32,
         store: &mut Store) -> u32;
+    #[allow(dead_code)] // a worker answers each chain that it pops
     pub fn pk_drop(chain: &mut Chain, queue: &mut Queue) -> u32;
     pub fn pk_request_windows(chain: &mut Chain, from: u64, len: u64, windows: *mut Window,
         window_count: usize) -> usize;

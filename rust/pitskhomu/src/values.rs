@@ -1,4 +1,4 @@
-//! What a file system is told and answers: nodes, attributes, entries, times.
+//! The values of file calls and answers: nodes, attributes, entries, times.
 use crate::flags::{FileKind, OpenOptions};
 use crate::sys;
 use core::time::Duration;
@@ -11,7 +11,7 @@ pub struct Node(
 );
 
 impl Node {
-    /// The root (FUSE_ROOT_ID).
+    /// The root (`FUSE_ROOT_ID`).
     pub const ROOT: Node = Node(1);
 }
 
@@ -22,21 +22,21 @@ pub struct Handle(
     pub u64,
 );
 
-/// Who asks (struct fuse_in_header).
+/// Who asks (struct `fuse_in_header`).
 #[derive(Clone, Copy, Debug, Default, PartialEq, Eq)]
 #[non_exhaustive]
 pub struct Context {
     /// The guest's number of the request.
     pub unique: u64,
-    /// The user; with `Options::ALLOW_IDMAP` Linux since 6.12 tells it with calls that make a node,
-    /// and else `u32::MAX`.
+    /// The user. With `Options::ALLOW_IDMAP` (Linux 6.12 and later) only calls that make a node
+    /// have it; in the others it is `u32::MAX`.
     pub uid: u32,
     /// The group; as `uid`.
     pub gid: u32,
     /// The process.
     pub pid: u32,
-    /// With a call that makes a node: one of the caller's groups besides `gid`, if the guest tells
-    /// one.
+    /// In a call that makes a node, if the guest sends it: one of the caller's groups besides
+    /// `gid`.
     pub supplementary_group: Option<u32>,
 }
 
@@ -49,10 +49,10 @@ pub struct Time {
     pub nanos: u32,
 }
 
-/// A node's attributes (struct fuse_attr).
+/// A node's attributes (struct `fuse_attr`).
 #[derive(Clone, Copy, Debug, Default, PartialEq, Eq)]
 pub struct Attributes {
-    /// The number that stat tells, which may be another than the node's.
+    /// The number that stat reports, which may differ from the node's.
     pub inode: u64,
     /// Its length in bytes.
     pub size: u64,
@@ -64,7 +64,7 @@ pub struct Attributes {
     pub mtime: Time,
     /// When it changed last.
     pub ctime: Time,
-    /// Kind and permissions (S_IFMT of sys/stat.h is among it).
+    /// Kind and permissions (`S_IFMT` of sys/stat.h is among it).
     pub mode: u32,
     /// How many names it has.
     pub links: u32,
@@ -77,16 +77,18 @@ pub struct Attributes {
     pub rdev: u32,
     /// How many bytes are best read at a time.
     pub block_size: u32,
-    /// FUSE_ATTR_ flags: `SUBMOUNT`, `DAX`.
+    /// `FUSE_ATTR`_ flags: `SUBMOUNT`, `DAX`.
     pub flags: u32,
 }
 
 impl Attributes {
-    /// FUSE_ATTR_SUBMOUNT: the directory is the root of another mount.
+    /// `FUSE_ATTR_SUBMOUNT`: the directory is the root of another mount.
     pub const SUBMOUNT: u32 = 1;
-    /// FUSE_ATTR_DAX: the file may be mapped. There is no shared memory window here.
+    /// `FUSE_ATTR_DAX`: the file may be mapped. There is no shared memory window here.
     pub const DAX: u32 = 2;
 
+    /// Seconds are the same 64 bits, which Linux reads as signed.
+    #[allow(clippy::cast_sign_loss)]
     pub(crate) fn raw(&self) -> sys::Attr {
         sys::Attr {
             ino: self.inode,
@@ -108,6 +110,7 @@ impl Attributes {
         }
     }
 
+    #[allow(clippy::cast_possible_wrap)] // as of `raw`
     pub(crate) fn of_raw(raw: &sys::Attr) -> Attributes {
         let time = |seconds, nanos| Time { seconds: seconds as i64, nanos };
         Attributes {
@@ -128,8 +131,8 @@ impl Attributes {
     }
 }
 
-/// What a name stands for (struct fuse_entry_out). The default is node 0: it is known that the name
-/// isn't there, for `entry_timeout`.
+/// The node of a name (struct `fuse_entry_out`). The default is node 0: the name doesn't exist, and
+/// the guest may remember that.
 #[derive(Clone, Copy, Debug, Default, PartialEq, Eq)]
 pub struct Entry {
     /// The node, which the guest holds once more; `Node(0)` if the name isn't there.
@@ -158,7 +161,7 @@ impl Entry {
     }
 }
 
-/// A file or directory that was opened (struct fuse_open_out).
+/// A file or directory that was opened (struct `fuse_open_out`).
 #[derive(Clone, Copy, Debug, Default, PartialEq, Eq)]
 pub struct Opened {
     /// The file system's number of it, which READ and its kin bring back.
@@ -167,7 +170,7 @@ pub struct Opened {
     pub options: OpenOptions,
 }
 
-/// The file system as a whole (struct fuse_kstatfs).
+/// The file system as a whole (struct `fuse_kstatfs`).
 #[derive(Clone, Copy, Debug, PartialEq, Eq)]
 pub struct Statistics {
     /// How many blocks of `fragment_size` bytes there are.
@@ -219,15 +222,15 @@ impl Statistics {
     }
 }
 
-/// A name of a directory (struct fuse_dirent).
+/// A name of a directory (struct `fuse_dirent`).
 #[derive(Clone, Copy, Debug)]
 pub struct DirectoryEntry<'n> {
     /// The name, of 1 to 255 bytes.
     pub name: &'n crate::CStr,
-    /// The number that getdents tells.
+    /// The number that getdents reports.
     pub inode: u64,
     /// The offset that goes on behind this entry.
     pub next_offset: u64,
-    /// What the name stands for.
+    /// The file's kind.
     pub kind: FileKind,
 }

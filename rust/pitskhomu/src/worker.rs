@@ -1,8 +1,8 @@
-//! The worker: from a chain's walk to its return.
+//! The worker: from a chain's pop to its push.
 mod answering;
 
 use crate::chain::{Chain, Decoded, Popped, Replied};
-use crate::data::{load_request, store_room};
+use crate::data::{at_most, load_request, store_room};
 use crate::device::Device;
 use crate::errno::Errno;
 use crate::exchange::{self, Exchange};
@@ -13,83 +13,136 @@ use crate::status::{Fault, RequestFault, Status};
 use crate::sys;
 use alloc::vec::Vec;
 use core::fmt;
+use core::mem;
 use core::sync::atomic::{fence, Ordering};
 
-/// What came of a chain that went back.
+/// A chain that was returned to the driver, and how.
 #[derive(Clone, Copy, Debug, PartialEq, Eq)]
 #[non_exhaustive]
 pub struct Served {
-    /// The number that the guest knows the chain by: its first descriptor's.
+    /// The index of the chain's first descriptor, by which the driver knows it.
     pub head: u16,
-    /// How many bytes the request has; 0 with a fault.
+    /// The length of the request, in bytes; 0 with a fault.
     pub request_len: u64,
-    /// How many bytes the room for the reply has; 0 with a fault.
+    /// The length of the reply buffer, in bytes; 0 with a fault.
     pub room_len: u64,
-    /// The request's opcode, as the guest wrote it (enum fuse_opcode of linux/fuse.h); 0 if the
+    /// The request's opcode, as the guest wrote it (enum `fuse_opcode` of linux/fuse.h). 0 if the
     /// request was too short to have one, or with a fault.
     pub opcode: u32,
     /// The guest's number of the request.
     pub unique: u64,
-    /// How many bytes the reply has; 0 if there is none.
+    /// The length of the reply, in bytes; 0 if there is none.
     pub reply_len: u32,
-    /// What is wrong with the chain, if anything: it went back with no reply.
+    /// The fault of the chain, if any. It got no reply.
     pub fault: Option<Fault>,
-    /// What is wrong with the request, if anything: it went back with no reply, and no call was
-    /// made.
+    /// The fault of the request, if any. It got no reply, and no file call was made.
     pub request_fault: Option<RequestFault>,
-    /// Whether the answer had no room: the chain went back with no reply, and what the call gave
-    /// the guest was taken back.
+    /// Whether the reply buffer was too small for the answer. Then there is no reply, and the
+    /// worker took the answer back: it forgot the entry, and released the file.
     pub had_no_room: bool,
-    /// Whether the driver wants to be told (VIRTIO 1.2, 2.7.7). One notification will do for
+    /// Whether the driver is to be notified (VIRTIO 1.2, 2.7.7). One notification will do for
     /// several chains.
     pub notify: bool,
 }
 
-/// How far a worker has come with a chain.
+/// How far the worker's chain has come. The library keeps the order of the calls. This is beside it
+/// what a panic of the file system must not undo: which chains it has seen.
 #[derive(Clone, Copy, Debug, PartialEq, Eq)]
-enum Phase {
-    Free,
-    /// It is walked.
-    Walking,
-    /// It is out, and nobody was told of its request.
-    Taken,
-    /// Its request was handed to the file system, which may reply by bytes.
-    Handed,
-    /// A call waits for its answer.
+enum Progress {
+    /// It is popped, and the file system hasn't seen its request.
+    Popped,
+    /// The file system has seen its request, and owes the answer.
     Asked,
-    /// The reply is known.
+    /// Its reply is known, or it gets none.
     Answered,
-    /// The stores were told.
-    Returning,
 }
 
-/// What serves the chains of queues, one at a time: the handle of the library and its buffers,
-/// which grow as they are needed, to some 2 MiB at most. A thread has one of its own; it may be
-/// handed from thread to thread.
+/// Serves the chains of queues, one at a time. It has the library's handle and its buffers, which
+/// grow as needed, to some 2 MiB at most. Each thread has a worker of its own; a worker may move
+/// between threads.
+///
+/// # Examples
+/// ```
+/// use pitskhomu::*;
+/// use std::sync::atomic::AtomicU8;
+/// use std::time::Duration;
+///
+/// /// A file system with no file.
+/// struct Empty;
+///
+/// impl FileSystem for Empty {
+///     fn lookup(&self, _: &Context, _: Node, _: &CStr) -> Answer<Entry> {
+///         Err(Errno::ENOENT)
+///     }
+///     fn getattr(
+///         &self,
+///         _: &Context,
+///         _: Node,
+///         _: Option<Handle>,
+///     ) -> Answer<(Attributes, Duration)> {
+///         let root = Attributes { inode: 1, mode: 0o40_755, links: 2, ..Attributes::default() };
+///         Ok((root, Duration::from_secs(1)))
+///     }
+/// }
+///
+/// /// The memory of a guest that doesn't run.
+/// struct Memory(Vec<AtomicU8>);
+///
+/// impl GuestMemory for Memory {
+///     fn get_slice(&self, at: usize, len: usize) -> Option<GuestSlice<'_>> {
+///         self.0.get(at..)?.get(..len).map(GuestSlice::from)
+///     }
+/// }
+///
+/// # fn main() -> Result<(), Status> {
+/// let memory = Memory((0..0x4000).map(|_| AtomicU8::new(0)).collect());
+/// // A LOOKUP of the name "a" in the root: descriptor 0 has the request, 1 the reply buffer.
+/// let write = |at: usize, bytes: &[u8]| {
+///     GuestSlice::from(&memory.0[at..]).store(bytes);
+/// };
+/// write(0x0000, &[0, 0x30, 0, 0, 0, 0, 0, 0, 42, 0, 0, 0, 1, 0, 1, 0]);
+/// write(0x0010, &[0, 0x38, 0, 0, 0, 0, 0, 0, 144, 0, 0, 0, 2, 0, 0, 0]);
+/// write(0x1002, &[1, 0, 0, 0]); // the available index, and the head of the one chain
+/// write(0x3000, &[42, 0, 0, 0, 1, 0, 0, 0, 9, 0, 0, 0, 0, 0, 0, 0, 1]);
+/// write(0x3028, b"a");
+///
+/// let device = Device::default();
+/// let mut worker = Worker::new();
+/// worker.set_memory(&device, &[Region { guest: 0, len: 0x4000, host: 0 }])?;
+/// let layout = QueueLayout { size: 8, descriptors: 0, available: 0x1000, used: 0x2000 };
+/// let mut queue = Queue::new(layout, 0)?;
+/// let served = worker.serve(&mut queue, &device, &Empty, &memory)?.expect("one is available");
+/// assert_eq!((served.opcode, served.unique, served.reply_len), (1, 9, 16));
+/// assert_eq!(worker.serve(&mut queue, &device, &Empty, &memory)?, None);
+/// # Ok(())
+/// # }
+/// ```
+#[must_use]
 pub struct Worker {
     chain: Chain,
-    phase: Phase,
-    /// The number of the telling of its regions.
-    told: usize,
-    /// What a walk loaded.
+    /// `None` if it has no chain.
+    progress: Option<Progress>,
+    /// The number of its regions.
+    regions: usize,
+    /// The bytes of a pop's load.
     loaded: Vec<u8>,
     /// The request, as far as it was loaded.
     request: Vec<u8>,
-    /// What a listing, a link or an extended attribute answers.
+    /// The bytes that a listing, a link or an extended attribute answers.
     list: Vec<u8>,
     front: [u8; sys::FRONT_MAX],
-    step: sys::Pop,
+    pop: sys::Pop,
     call: sys::Call,
     replied: Replied,
-    /// How many bytes of the room, from its front on, the file system may have written.
+    /// The file system may have written so many bytes of the reply buffer, from its front on.
     written: u64,
 }
 
 impl fmt::Debug for Worker {
     fn fmt(&self, f: &mut fmt::Formatter<'_>) -> fmt::Result {
         f.debug_struct("Worker")
-            .field("phase", &self.phase)
-            .field("step", &self.step)
+            .field("progress", &self.progress)
+            .field("pop", &self.pop)
             .finish_non_exhaustive()
     }
 }
@@ -100,42 +153,75 @@ impl Default for Worker {
     }
 }
 
+/// Frees the handle unless it is forgotten: so a pop at whose loads the memory panics ends.
+struct Popping<'w>(&'w mut Worker);
+
+impl Drop for Popping<'_> {
+    fn drop(&mut self) {
+        self.0.chain.abandon();
+    }
+}
+
+/// Ends a push unless it is forgotten: so one at whose stores the memory panics doesn't block the
+/// queue's others.
+struct Pushing<'w>(&'w mut Worker, &'w mut Queue);
+
+impl Drop for Pushing<'_> {
+    fn drop(&mut self) {
+        let _ = self.0.chain.pushed(self.1, 0);
+        self.0.abandon();
+    }
+}
+
 impl Worker {
-    /// A worker that holds no memory yet. Have it told the guest's by `set_memory` first.
+    /// A worker without memory: call `set_memory` first.
     pub fn new() -> Worker {
         Worker {
             chain: Chain::new(),
-            phase: Phase::Free,
-            told: 0,
+            progress: None,
+            regions: 0,
             loaded: Vec::new(),
             request: Vec::new(),
             list: Vec::new(),
             front: [0; sys::FRONT_MAX],
-            step: sys::Pop::default(),
+            pop: sys::Pop::default(),
             call: sys::Call::default(),
             replied: Replied::Whole,
             written: 0,
         }
     }
 
-    /// Over which memory the next chains go: at most `Device::MOST_REGIONS` regions that don't
-    /// overlap, none empty, in any order. They are copied. Call it first, and after each change of
-    /// the guest's memory. Errors, after which the regions stay as they were: `BadArgument`,
-    /// `OutOfMemory`, `ChainInFlight` (after a panic).
+    /// Sets the regions of the guest's memory for the next chains, and copies them: at most
+    /// `Device::MOST_REGIONS` in any order. They aren't empty and don't overlap. Call it first, and
+    /// after each change of the guest's memory.
+    ///
+    /// # Errors
+    /// The regions stay as they were.
+    /// - `BadArgument`: these are no regions.
+    /// - `ChainInFlight`: the worker has a chain.
+    /// - `OutOfMemory`: an allocation failed.
     pub fn set_memory(&mut self, device: &Device, regions: &[Region]) -> Result<(), Status> {
         self.chain.set_memory(&device.numbers(), regions)?;
-        self.told = memory::next_telling();
+        self.regions = memory::next_regions();
         Ok(())
     }
 
-    /// Serves the next chain of a queue, if one waits: takes it, asks the file system, and gives it
-    /// back with the reply. Errors, after which this worker has no chain out: those of
-    /// `Status::stops_queue`, `OutOfMemory` (the chain waits still; the driver doesn't notify
-    /// again), `BadArgument` (numbers of the queue or the device that are none), `WrongOrder` (no
-    /// memory was told), `ChainInFlight` (as many are out by other workers as may be).
+    /// Serves the next chain of a queue, if one is available: takes it, calls the file system, and
+    /// gives it back with the reply. A chain that the worker has already comes first.
     ///
-    /// After a panic of the file system, hand the same queue again: the call is answered EIO, and
-    /// that chain is what was served. After one of the memory a chain may be lost to the guest.
+    /// After a panic of the file system, pass the same queue again: the call is answered EIO, and
+    /// that chain is given back. A panic of the memory between the stores of a push may lose the
+    /// chain for the guest.
+    ///
+    /// # Errors
+    /// The worker has no chain then.
+    /// - Those of `Status::stops_queue`: set `DEVICE_NEEDS_RESET`.
+    /// - `OutOfMemory`: an allocation failed. The chain is still available, and the driver doesn't
+    ///   notify again.
+    /// - `BadArgument`: the queue isn't set up.
+    /// - `WrongOrder`: no memory was set.
+    /// - `ChainInFlight`: other workers have as many chains of the queue as may be in flight.
+    /// - `OtherQueue`: the queue was reset while the worker had a chain of it.
     pub fn serve(
         &mut self,
         queue: &mut Queue,
@@ -143,128 +229,92 @@ impl Worker {
         file_system: &dyn FileSystem,
         memory: &dyn GuestMemory,
     ) -> Result<Option<Served>, Status> {
-        if let Some(served) = self.finish_left(queue, memory) {
-            return Ok(Some(served));
-        }
-        if !self.take(queue, memory)? {
+        if !self.has_chain() && !self.take(queue, memory)? {
             return Ok(None);
         }
-        if let Err(status) = self.exchange(device, file_system, memory) {
-            self.give_up(queue, memory);
-            return Err(status);
-        }
+        self.answer(device, file_system, memory)?;
         self.give_back(queue, memory).map(Some)
     }
 
-    /// Takes the next chain of a queue, if one waits: then `answer` it and `give_back`, in this
-    /// order. Several workers may have a chain each out of one queue, up to `Queue::max_in_flight`:
-    /// keep it behind a lock, and hold that for `take` and for `give_back`, and not for `answer`.
-    /// Chains go back in any order. Errors, after which this worker has no chain but one that it
-    /// had before: those of `serve`, and `WrongOrder` (it has one).
+    /// Takes the next chain of a queue, if one is available: then `answer` it and `give_back`, in
+    /// this order. Several workers may each have a chain of one queue, up to
+    /// `Queue::max_in_flight`. Keep the queue behind a lock, and hold that for `take` and for
+    /// `give_back`, but not for `answer`. Chains are returned in any order.
+    ///
+    /// # Errors
+    /// Those of `serve`, and `WrongOrder`: the worker has a chain already, and keeps it.
     pub fn take(&mut self, queue: &mut Queue, memory: &dyn GuestMemory) -> Result<bool, Status> {
-        match self.phase {
-            Phase::Free => {}
-            Phase::Walking => self.abandon(), // a walk at whose loads the memory panicked
-            _ => return Err(Status::WrongOrder),
+        if self.has_chain() {
+            return Err(Status::WrongOrder);
         }
         grow(&mut self.request, sys::FIRST)?;
-        self.phase = Phase::Walking;
         self.call = sys::Call::default();
         self.replied = Replied::Whole;
         self.written = 0;
-        let walked = self.walk(queue, memory);
-        self.phase = match walked {
-            Ok(true) if self.step.fault == 0 => Phase::Taken,
-            Ok(true) => Phase::Answered,
-            _ => Phase::Free,
-        };
-        if walked.is_err() {
-            let _ = self.chain.give_up(queue); // a walk ends
+        let popping = Popping(self);
+        if !popping.0.pop(queue, memory)? {
+            return Ok(false);
         }
-        walked
+        mem::forget(popping);
+        let has_fault = self.pop.fault != 0;
+        self.progress = Some(if has_fault { Progress::Answered } else { Progress::Popped });
+        Ok(true)
     }
 
-    /// Asks the file system what the chain that was taken asks for, and makes the reply. After a
-    /// panic of the file system call it again: EIO is the answer. Without a chain, or where one is
-    /// answered, it does nothing. Errors: `BadArgument` (numbers of the device that are none), and
-    /// the chain is answered EIO.
+    /// Calls the file system for the chain that was taken, and makes the reply. A chain that has
+    /// one, or gets none, stays as it is. After a panic of the file system call it again: then the
+    /// answer is EIO.
+    ///
+    /// # Errors
+    /// `WrongOrder`: the worker has no chain.
     pub fn answer(
         &mut self,
         device: &Device,
         file_system: &dyn FileSystem,
         memory: &dyn GuestMemory,
     ) -> Result<(), Status> {
-        match self.phase {
-            Phase::Taken => {}
-            _ => return self.answer_left(memory),
-        }
-        let answered = self.exchange(device, file_system, memory);
-        if answered.is_err() {
-            self.phase = Phase::Handed;
-            self.answer_left(memory)?;
+        let answered = match self.progress {
+            None => return Err(Status::WrongOrder),
+            Some(Progress::Answered) => return Ok(()),
+            Some(Progress::Asked) => self.answer_error(memory),
+            Some(Progress::Popped) => {
+                self.progress = Some(Progress::Asked);
+                // An answer that the library refuses: files may have changed, so the call isn't
+                // made again.
+                self.exchange(device, file_system, memory).or_else(|_| self.answer_error(memory))
+            }
+        };
+        match answered {
+            Ok(()) => self.progress = Some(Progress::Answered),
+            Err(_) => self.abandon(), // no library of this header refuses EIO
         }
         answered
     }
 
-    /// Answers EIO if a panic left a call without an answer.
-    fn answer_left(&mut self, memory: &dyn GuestMemory) -> Result<(), Status> {
-        match self.phase {
-            Phase::Handed => self.reply_error(memory, Errno::EIO)?,
-            Phase::Asked => self.answer_error()?,
-            _ => return Ok(()),
-        }
-        self.phase = Phase::Answered;
-        Ok(())
-    }
-
-    /// Whether this worker has a chain: it was taken, and isn't given back.
+    /// Whether this worker has a chain: it took one, and hasn't given it back.
+    #[must_use]
     pub fn has_chain(&self) -> bool {
-        self.phase != Phase::Free
+        self.progress.is_some()
     }
 
-    /// Ends what a panic left: answers EIO if a call waits.
-    fn finish_left(&mut self, queue: &mut Queue, memory: &dyn GuestMemory) -> Option<Served> {
-        let served = match self.answer_left(memory) {
-            Ok(()) if self.phase == Phase::Answered => self.give_back(queue, memory).ok(),
-            _ => None,
-        };
-        self.give_up(queue, memory);
-        served
-    }
-
-    /// Answers EIO, and DESTROY, which can't fail, that it is done.
-    fn answer_error(&mut self) -> Result<(), Status> {
+    /// Answers EIO: a call, or a request that isn't decoded. DESTROY, which can't fail, is done.
+    fn answer_error(&mut self, memory: &dyn GuestMemory) -> Result<(), Status> {
         self.replied = match self.chain.reply_error(Errno::EIO) {
             Err(Status::OtherKind) => self.chain.reply_done()?,
+            Err(Status::WrongOrder) => {
+                self.reply_error(memory, Errno::EIO)?;
+                Replied::Whole
+            }
             replied => replied?,
         };
         Ok(())
     }
 
-    /// Has no chain out: one of which nobody was told waits again, any other goes back with no
-    /// reply.
-    fn give_up(&mut self, queue: &mut Queue, memory: &dyn GuestMemory) {
-        if matches!(self.phase, Phase::Walking | Phase::Taken) && self.chain.give_up(queue).is_ok()
-        {
-            self.phase = Phase::Free;
-        }
-        if matches!(self.phase, Phase::Taken | Phase::Handed | Phase::Asked) {
-            let _ = self.chain.reply_bytes(0);
-            self.phase = Phase::Answered;
-        }
-        if self.phase != Phase::Free {
-            let _ = self.give_back(queue, memory);
-        }
-        self.abandon();
-    }
-
-    /// Lets go of a chain whose queue was begun anew (`Queue::begin`), or is gone. A queue that
-    /// goes on has it out for ever.
+    /// Forgets the worker's chain: its queue was reset ([`Queue::begin`]), or is gone. In a queue
+    /// that wasn't reset the chain stays in flight.
     pub fn abandon(&mut self) {
-        if self.phase != Phase::Free {
-            self.chain.abandon();
-        }
-        self.phase = Phase::Free;
+        self.chain.abandon();
+        self.progress = None;
     }
 
     /// From the request to the reply.
@@ -274,36 +324,26 @@ impl Worker {
         file_system: &dyn FileSystem,
         memory: &dyn GuestMemory,
     ) -> Result<(), Status> {
-        if self.phase != Phase::Taken {
-            return Ok(());
-        }
         let front = self.load_front(memory);
         if self.reply_by_bytes(front, file_system, memory)? {
-            self.phase = Phase::Answered;
             return Ok(());
         }
-        self.phase = Phase::Taken;
-        self.ask(front, device, memory)?;
-        self.phase =
-            if self.call.answer == sys::answer::NONE { Phase::Answered } else { Phase::Asked };
-        match self.answer_call(device, file_system, memory) {
-            Ok(replied) => self.replied = replied,
-            // An answer that the library doesn't take: files may have changed, so the call isn't
-            // asked again.
-            Err(_) => self.answer_error()?,
+        self.decode(front, device, memory)?;
+        if self.call.answer == sys::answer::NONE {
+            self.progress = Some(Progress::Answered); // also if the call panics
         }
-        self.phase = Phase::Answered;
+        self.replied = self.answer_call(device, file_system, memory)?;
         Ok(())
     }
 
-    /// Whether a chain is out.
-    fn walk(&mut self, queue: &mut Queue, memory: &dyn GuestMemory) -> Result<bool, Status> {
-        self.step = sys::Pop::default();
+    /// Whether a chain is in flight.
+    fn pop(&mut self, queue: &mut Queue, memory: &dyn GuestMemory) -> Result<bool, Status> {
+        self.pop = sys::Pop::default();
         let mut is_first = true;
         loop {
-            let loaded = &self.loaded[..self.step.load_len];
-            match self.chain.pop(queue, loaded, &mut self.step)? {
-                Popped::Out => return Ok(true),
+            let loaded = &self.loaded[..self.pop.load_len];
+            match self.chain.pop(queue, loaded, &mut self.pop)? {
+                Popped::InFlight => return Ok(true),
                 Popped::Idle => return Ok(false),
                 Popped::Load if is_first => self.load_index(queue, memory)?,
                 Popped::Load => self.load(memory)?,
@@ -312,24 +352,23 @@ impl Worker {
         }
     }
 
-    /// What a walk wants first: the available index. The one that was loaded last is taken again
-    /// while it tells of chains that weren't taken.
+    /// The first load of a pop: the available index. The index that was loaded last will do while
+    /// chains before it weren't taken.
     fn load_index(&mut self, queue: &mut Queue, memory: &dyn GuestMemory) -> Result<(), Status> {
         grow(&mut self.loaded, 2)?;
-        if let Some(index) = queue.seen_index(self.told) {
+        if let Some(index) = queue.seen_index(self.regions) {
             self.loaded[..2].copy_from_slice(&index.to_le_bytes());
             return Ok(());
         }
         self.load(memory)?;
-        queue.see_index(u16::from_le_bytes([self.loaded[0], self.loaded[1]]), self.told);
+        queue.see_index(u16::from_le_bytes([self.loaded[0], self.loaded[1]]), self.regions);
         Ok(())
     }
 
-    /// Loads what a walk wants. Two bytes are a ring's: index, entry or flags; or they are the part
-    /// of a table on one side of a region's end, and so at an even place too. Of a table it wants
-    /// up to 4,096 bytes at once.
+    /// A load of a pop. Two bytes are a ring's index, entry or flags. Or they are the part of a
+    /// table's entry before the end of a region, and so at an even address too.
     fn load(&mut self, memory: &dyn GuestMemory) -> Result<(), Status> {
-        let sys::Pop { load_at: at, load_len: len, .. } = self.step;
+        let sys::Pop { load_at: at, load_len: len, .. } = self.pop;
         grow(&mut self.loaded, len)?;
         match &mut self.loaded[..len] {
             bytes @ [_, _] => bytes.copy_from_slice(&memory::load_u16(memory, at).to_le_bytes()),
@@ -339,16 +378,21 @@ impl Worker {
         Ok(())
     }
 
-    /// Loads the request's first bytes, and says how many.
+    /// The length of the request's first bytes, which are loaded before it is decoded.
+    fn front_len(&self) -> usize {
+        at_most(self.pop.request_len, sys::FIRST)
+    }
+
+    /// Loads the request's first bytes, and returns their number.
     fn load_front(&mut self, memory: &dyn GuestMemory) -> usize {
-        let len = self.step.request_len.min(sys::FIRST as u64) as usize;
+        let len = self.front_len();
         load_request(&mut self.chain, memory, 0, &mut self.request[..len]);
         len
     }
 
     /// The chain by its bytes, of which the first are loaded.
     fn by_bytes<'a>(&'a mut self, front: usize, memory: &'a dyn GuestMemory) -> Exchange<'a> {
-        let sys::Pop { request_len, reply_len: room_len, .. } = self.step;
+        let sys::Pop { request_len, reply_len: room_len, .. } = self.pop;
         self.call.opcode = exchange::opcode(&self.request[..front]);
         self.call.unique = exchange::unique(&self.request[..front]);
         Exchange::new(&mut self.chain, memory, &self.request[..front], request_len, room_len)
@@ -361,7 +405,6 @@ impl Worker {
         file_system: &dyn FileSystem,
         memory: &dyn GuestMemory,
     ) -> Result<bool, Status> {
-        self.phase = Phase::Handed;
         let mut exchange = self.by_bytes(front, memory);
         let reply = file_system.reply_by_bytes(&mut exchange);
         self.written = exchange.written();
@@ -372,17 +415,17 @@ impl Worker {
         }
     }
 
-    /// Replies an error by bytes: of a request that isn't read.
+    /// Replies an error by bytes: for a request that isn't decoded.
     fn reply_error(&mut self, memory: &dyn GuestMemory, error: Errno) -> Result<(), Status> {
-        let front = self.step.request_len.min(sys::FIRST as u64) as usize;
+        let front = self.front_len();
         let len = self.by_bytes(front, memory).store_error(error);
         self.chain.reply_bytes(len)
     }
 
-    /// What the request asks, by as many of its bytes as are wanted. One that is longer than any
-    /// that a driver makes (a limit above the least allows it), or for which memory is wanting,
-    /// can't stay where it is, since it would block its queue: it is answered ENOMEM.
-    fn ask(
+    /// Decodes the request from as many of its bytes as the library needs. A request that is longer
+    /// than any driver makes (a limit above the least allows it), or whose buffer can't be
+    /// allocated, is answered ENOMEM: if it stayed available, it would block its queue.
+    fn decode(
         &mut self,
         front: usize,
         device: &Device,
@@ -391,62 +434,44 @@ impl Worker {
         let numbers = device.numbers();
         let mut have = front;
         loop {
-            let want = match self.chain.decode(&numbers, &self.request[..have], &mut self.call)? {
+            let needed = match self.chain.decode(&numbers, &self.request[..have], &mut self.call)? {
                 Decoded::Call => return Ok(()),
                 Decoded::More(needed) if needed > have => needed,
                 Decoded::More(_) => return Err(Status::ShortBuffer),
             };
-            if want > sys::REQUEST_MAX || grow(&mut self.request, want).is_err() {
+            if needed > sys::REQUEST_MAX || grow(&mut self.request, needed).is_err() {
                 return self.reply_error(memory, Errno::ENOMEM);
             }
-            load_request(&mut self.chain, memory, have as u64, &mut self.request[have..want]);
-            have = want;
+            load_request(&mut self.chain, memory, have as u64, &mut self.request[have..needed]);
+            have = needed;
         }
     }
 
-    /// Gives the chain back: stores the reply, the used element and the used index, in this order
-    /// (VIRTIO 1.2, 2.7.8), and says what came of it. Errors: `WrongOrder` (no chain is answered),
-    /// `Returning` (another chain of the queue is between its stores, by a worker whose memory
-    /// panicked; this one may be given back later); after any other this worker has no chain:
-    /// `OtherQueue` (the queue was begun anew).
+    /// Gives the chain back to the driver: stores the reply, the used element and the used index,
+    /// in this order (VIRTIO 1.2, 2.7.8), and returns how it was served.
     ///
-    /// After a panic of the memory call it again: the chain ends, and `WrongOrder` is told.
+    /// # Errors
+    /// `WrongOrder`: no chain, or one without an answer, which the worker keeps. After the others
+    /// it has no chain.
+    /// - `OtherQueue`: it isn't the chain's queue, or was reset.
+    /// - `NotMapped`: the worker got regions without the queue's rings. Reset the queue.
     pub fn give_back(
         &mut self,
         queue: &mut Queue,
         memory: &dyn GuestMemory,
     ) -> Result<Served, Status> {
-        match self.phase {
-            Phase::Answered => {}
-            Phase::Returning => {
-                self.end_return(queue);
-                return Err(Status::WrongOrder);
-            }
-            _ => return Err(Status::WrongOrder),
+        if self.progress != Some(Progress::Answered) {
+            return Err(Status::WrongOrder);
         }
-        match self.chain.push(queue, &mut self.front) {
-            Ok(stores) => {
-                self.phase = Phase::Returning;
-                let notify = self.store(queue, memory, &stores)?;
-                self.phase = Phase::Free;
-                Ok(self.served(stores.len, notify))
-            }
-            Err(Status::Pushing) => Err(Status::Pushing),
-            Err(status) => {
-                self.end_return(queue);
-                Err(status)
-            }
-        }
+        let pushing = Pushing(self, queue);
+        let stores = pushing.0.chain.push(pushing.1, &mut pushing.0.front)?;
+        let notify = pushing.0.store(pushing.1, memory, &stores)?;
+        mem::forget(pushing);
+        self.progress = None;
+        Ok(self.served(stores.len, notify))
     }
 
-    /// Ends a return whose stores weren't all made: whether the driver wants to be told isn't
-    /// known.
-    fn end_return(&mut self, queue: &mut Queue) {
-        let _ = self.chain.pushed(queue, 0);
-        self.abandon();
-    }
-
-    /// Makes the stores of a return, and says whether the driver wants to be told.
+    /// Makes the stores of a push, and returns whether the driver is to be notified.
     fn store(
         &mut self,
         queue: &mut Queue,
@@ -465,46 +490,50 @@ impl Worker {
         if memory.is_logging() {
             self.mark_written(memory, stores);
         }
-        // What the driver wants is read after it can see the index, or a notification is lost.
+        // The driver's wish is loaded after the driver can see the index, or a notification is
+        // lost.
         fence(Ordering::SeqCst);
         self.chain.pushed(queue, memory::load_u16(memory, stores.seen_at))
     }
 
-    /// Says to the driver whether its kicks are wanted (VIRTIO 1.2, 2.7.10): they are before you
-    /// sleep, and needn't be while a worker looks for chains anyway. Whether something was stored:
-    /// where they are wanted look once more then, by `take`, since a chain may have come before the
-    /// driver could know. It is no matter whether this worker has a chain. If several workers serve
-    /// the queue, it is locked from here to the end of that `take`.
+    /// Enables or disables available buffer notifications of the driver (VIRTIO 1.2, 2.7.10).
+    /// Enable them before you sleep; they may be disabled while a worker looks for chains. The
+    /// worker may have a chain. Returns whether something was stored. After enabling look once more
+    /// by `take`, since the driver may have offered a chain before it could see the store. If
+    /// several workers serve the queue, hold its lock from here to the end of that `take`.
     ///
-    /// A worker that takes a chain while another worker of the queue sleeps looks once more before
-    /// the queue is unlocked, with an event index and without one: it calls this with `wanted`, and
-    /// loads the available index again behind it. An index that was loaded before may show that a
-    /// chain is available, but never that none is. If one is, the worker wakes one that sleeps, or
-    /// takes it. The driver notifies once for several chains, and with an event index for the next
+    /// A worker that takes a chain while another worker of the queue sleeps must enable
+    /// notifications again before it releases the lock, with an event index and without one. Then
+    /// it loads the available index again; an index that was loaded before may show that a chain is
+    /// available, but never that none is. If one is, it wakes a worker that sleeps, or takes the
+    /// chain. The driver notifies once for several chains, and with an event index for the next
     /// chain alone.
     ///
-    /// Errors: `WrongOrder` (no memory was told), `BadArgument` (the queue's numbers are none),
-    /// `NotMapped` (the flags, or avail_event, aren't in the memory).
+    /// # Errors
+    /// - `WrongOrder`: no memory was set.
+    /// - `BadArgument`: the queue isn't set up.
+    /// - `NotMapped`: the flags, or `avail_event`, aren't in the worker's regions.
     pub fn set_notification(
         &mut self,
         queue: &Queue,
-        wanted: bool,
+        enabled: bool,
         memory: &dyn GuestMemory,
     ) -> Result<bool, Status> {
-        let store = self.chain.set_notification(queue, wanted)?;
+        let store = self.chain.set_notification(queue, enabled)?;
         if store.len == 0 {
             return Ok(false);
         }
         memory::store_u16(memory, store.at, store.value);
         if memory.is_logging() {
-            memory.mark(GuestRange { guest: queue.kick_address(), len: store.len.into() });
+            let len = store.len.into();
+            memory.mark(GuestRange { guest: queue.notification_address(), len });
         }
-        fence(Ordering::SeqCst); // what waits is looked for behind it
+        fence(Ordering::SeqCst); // the next load of the available index comes after the store
         Ok(true)
     }
 
-    /// Tells what was written: the room as far as the reply goes and the file system may have
-    /// written, the used element and the used index.
+    /// Reports the written bytes: the reply buffer as far as the reply goes and the file system may
+    /// have written, the used element and the used index.
     fn mark_written(&mut self, memory: &dyn GuestMemory, stores: &sys::Stores) {
         let written = u64::from(stores.len).max(self.written);
         let mut ranges = [GuestRange::default(); 16];
@@ -525,13 +554,13 @@ impl Worker {
 
     fn served(&self, reply_len: u32, notify: bool) -> Served {
         Served {
-            head: self.step.head,
-            request_len: self.step.request_len,
-            room_len: self.step.reply_len,
+            head: self.pop.head,
+            request_len: self.pop.request_len,
+            room_len: self.pop.reply_len,
             opcode: self.call.opcode,
             unique: self.call.unique,
             reply_len,
-            fault: Some(self.step.fault).filter(|&number| number != 0).map(Fault::of),
+            fault: Some(self.pop.fault).filter(|&number| number != 0).map(Fault::of),
             request_fault: Some(self.call.fault)
                 .filter(|&number| number != 0)
                 .map(RequestFault::of),
@@ -541,7 +570,7 @@ impl Worker {
     }
 }
 
-/// Has a buffer so many bytes at least.
+/// Makes a buffer `len` bytes long at least.
 fn grow(buffer: &mut Vec<u8>, len: usize) -> Result<(), Status> {
     if buffer.len() < len {
         buffer.try_reserve_exact(len - buffer.len()).map_err(|_| Status::OutOfMemory)?;

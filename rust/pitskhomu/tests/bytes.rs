@@ -113,7 +113,7 @@ fn replies_that_have_no_room() {
 #[test]
 fn a_server_that_panics_is_answered_eio() {
     let (mut guest, recorder) = (Guest::new(), Recorder::default());
-    let panics = Polls(|_| panic!("the server panics, as it was told to"), Recorder::default());
+    let panics = Polls(|_| panic!("the server panics, as the test wants it"), Recorder::default());
     guest.offer_request(&request(POLL, 5, &poll().0), 24);
     let served = catch_unwind(AssertUnwindSafe(|| {
         guest.worker.serve(&mut guest.queue, &guest.device, &panics, &guest.memory)

@@ -1,13 +1,13 @@
-//! Each call of FUSE once, by requests and replies as linux/fuse.h lays them out: what the file
-//! system is told, and what the guest reads.
+//! Each call of FUSE once, by requests and replies as linux/fuse.h lays them out: the arguments
+//! that the file system gets, and the reply.
 mod guest;
 
 use guest::recorder::{opened, Recorder};
 use guest::{args, number, Bytes, Guest, Reply};
 use pitskhomu::*;
 
-/// Asks one call, and says what the file system was told.
-fn told(opcode: u32, args: Bytes, room: u32) -> (String, Reply) {
+/// Asks one call, and returns what the file system was called with, and the reply.
+fn called(opcode: u32, args: Bytes, room: u32) -> (String, Reply) {
     let (mut guest, recorder) = (Guest::new(), Recorder::default());
     guest.init(&recorder);
     recorder.taken();
@@ -71,21 +71,21 @@ fn init_fails() {
 
 #[test]
 fn names_are_found_and_made() {
-    let (call, reply) = told(1, args().bytes(b"na\xffme\0"), 144);
+    let (call, reply) = called(1, args().bytes(b"na\xffme\0"), 144);
     assert_eq!(call, r#"lookup (Node(5), "na\xffme")"#);
     check_entry(&reply.data());
-    let (call, reply) = told(6, args().bytes(b"name\0to/there\0"), 144);
+    let (call, reply) = called(6, args().bytes(b"name\0to/there\0"), 144);
     assert_eq!(call, r#"symlink (Child { parent: Node(5), name: "name" }, "to/there", None)"#);
     check_entry(&reply.data());
-    let (call, reply) = told(8, args().d(0o20666).d(0x103).d(0o22).d(0).bytes(b"name\0"), 144);
+    let (call, reply) = called(8, args().d(0o20666).d(0x103).d(0o22).d(0).bytes(b"name\0"), 144);
     let made = "MakeNode { mode: 8630, rdev: 259, umask: 18 }";
     assert_eq!(call, format!("mknod (Child {{ parent: Node(5), name: \"name\" }}, {made}, None)"));
     check_entry(&reply.data());
-    let (call, reply) = told(9, args().d(0o755).d(0o22).bytes(b"name\0"), 144);
+    let (call, reply) = called(9, args().d(0o755).d(0o22).bytes(b"name\0"), 144);
     let made = "MakeDirectory { mode: 493, umask: 18 }";
     assert_eq!(call, format!("mkdir (Child {{ parent: Node(5), name: \"name\" }}, {made})"));
     check_entry(&reply.data());
-    let (call, reply) = told(13, args().q(9).bytes(b"name\0"), 144);
+    let (call, reply) = called(13, args().q(9).bytes(b"name\0"), 144);
     assert_eq!(call, r#"link (Node(9), Child { parent: Node(5), name: "name" })"#);
     check_entry(&reply.data());
 }
@@ -95,75 +95,75 @@ fn names_are_found_and_made() {
 fn a_group_of_the_callers_is_told() {
     let extension = args().d(16).d(32).d(1).d(4711);
     let (call, _) =
-        told(8, args().d(0o100644).d(0).d(0).d(0).bytes(b"name\0").bytes(&extension.0), 144);
+        called(8, args().d(0o100644).d(0).d(0).d(0).bytes(b"name\0").bytes(&extension.0), 144);
     assert!(call.ends_with(", Some(4711))"), "{call}");
 }
 
 #[test]
 fn names_go_and_change() {
     assert_eq!(
-        told(10, args().bytes(b"name\0"), 16).0,
+        called(10, args().bytes(b"name\0"), 16).0,
         r#"unlink Child { parent: Node(5), name: "name" }"#
     );
     assert_eq!(
-        told(11, args().bytes(b"name\0"), 16).0,
+        called(11, args().bytes(b"name\0"), 16).0,
         r#"rmdir Child { parent: Node(5), name: "name" }"#
     );
     let names = r#"Child { parent: Node(5), name: "old" }, Child { parent: Node(9), name: "new" }"#;
-    let (call, reply) = told(12, args().q(9).bytes(b"old\0new\0"), 16);
+    let (call, reply) = called(12, args().q(9).bytes(b"old\0new\0"), 16);
     assert_eq!((call, reply), (format!("rename ({names}, RenameFlags(0x0))"), Reply::Data(vec![])));
-    let (call, _) = told(45, args().q(9).d(3).d(0).bytes(b"old\0new\0"), 16);
+    let (call, _) = called(45, args().q(9).d(3).d(0).bytes(b"old\0new\0"), 16);
     assert_eq!(call, format!("rename ({names}, RenameFlags(NOREPLACE | EXCHANGE | 0x0))"));
 }
 
 #[test]
 fn files_are_opened_and_closed() {
-    let (call, reply) = told(14, args().d(0x8002).d(1), 32);
+    let (call, reply) = called(14, args().d(0x8002).d(1), 32);
     assert_eq!(call, "open (Node(5), Open { flags: 32770, kill_priv: true })");
     check_opened(&reply.data());
-    let (call, reply) = told(27, args().d(0x10000).d(0), 32);
+    let (call, reply) = called(27, args().d(0x10000).d(0), 32);
     assert_eq!(call, "opendir (Node(5), 65536)");
     check_opened(&reply.data());
-    let (call, reply) = told(35, args().d(0x42).d(0o100600).d(0o77).d(1).bytes(b"name\0"), 160);
+    let (call, reply) = called(35, args().d(0x42).d(0o100600).d(0o77).d(1).bytes(b"name\0"), 160);
     let create = "Create { flags: 66, mode: 33152, umask: 63, kill_priv: true }";
     assert_eq!(call, format!("create (Child {{ parent: Node(5), name: \"name\" }}, {create})"));
     let data = reply.data();
     check_entry(&data);
     check_opened(&data[128..]);
-    let (call, _) = told(18, args().q(3).d(2).d(3).q(77), 16);
+    let (call, _) = called(18, args().q(3).d(2).d(3).q(77), 16);
     let release =
         "Release { handle: Handle(3), flags: 2, flush: true, unlock: true, lock_owner: Some(77) }";
     assert_eq!(call, format!("release (Node(5), {release})"));
-    let (call, _) = told(18, args().q(3).d(2).d(0).q(77), 16);
+    let (call, _) = called(18, args().q(3).d(2).d(0).q(77), 16);
     let release =
         "Release { handle: Handle(3), flags: 2, flush: false, unlock: false, lock_owner: None }";
     assert_eq!(call, format!("release (Node(5), {release})"));
-    assert_eq!(told(29, args().q(3).d(2).d(0).q(0), 16).0, "releasedir (Node(5), Handle(3), 2)");
-    assert_eq!(told(25, args().q(3).d(0).d(0).q(77), 16).0, "flush (Node(5), Handle(3), 77)");
-    assert_eq!(told(20, args().q(3).d(1).d(0), 16).0, "fsync (Node(5), Handle(3), true)");
-    assert_eq!(told(30, args().q(3).d(0).d(0), 16).0, "fsyncdir (Node(5), Handle(3), false)");
+    assert_eq!(called(29, args().q(3).d(2).d(0).q(0), 16).0, "releasedir (Node(5), Handle(3), 2)");
+    assert_eq!(called(25, args().q(3).d(0).d(0).q(77), 16).0, "flush (Node(5), Handle(3), 77)");
+    assert_eq!(called(20, args().q(3).d(1).d(0), 16).0, "fsync (Node(5), Handle(3), true)");
+    assert_eq!(called(30, args().q(3).d(0).d(0), 16).0, "fsyncdir (Node(5), Handle(3), false)");
 }
 
 #[test]
 fn attributes_are_told_and_set() {
-    let (call, reply) = told(3, args().d(0).d(0).q(3), 120);
+    let (call, reply) = called(3, args().d(0).d(0).q(3), 120);
     assert_eq!(call, "getattr (Node(5), None)");
     let data = reply.data();
     assert_eq!((numbers(&data[..8], 8), numbers(&data[8..16], 4)), (vec![0x401], vec![0x402, 0]));
     check_attributes(&data[16..]);
-    assert_eq!(told(3, args().d(1).d(0).q(3), 120).0, "getattr (Node(5), Some(Handle(3)))");
+    assert_eq!(called(3, args().d(1).d(0).q(3), 120).0, "getattr (Node(5), Some(Handle(3)))");
     // FATTR_MODE, UID, GID, SIZE, ATIME, MTIME, FH, MTIME_NOW, LOCKOWNER, CTIME, KILL_SUIDGID.
     let valid = 1 | 2 | 4 | 8 | 16 | 32 | 64 | 256 | 512 | 1024 | 2048;
     let times = args().q(10).q(11).q(u64::MAX).d(20).d(21).d(22);
     let set = args().d(valid).d(0).q(3).q(99).q(77).bytes(&times.0).d(0o640).d(0).d(1).d(2).d(0);
-    let (call, _) = told(4, set, 120);
+    let (call, _) = called(4, set, 120);
     let flags = "MODE | UID | GID | SIZE | ATIME | MTIME | MTIME_NOW | CTIME | KILL_SUIDGID | 0x0";
     let (atime, ctime) = ("To(Time { seconds: 10, nanos: 20 })", "Time { seconds: -1, nanos: 22 }");
     let values =
         format!("Some(416), Some(1), Some(2), Some(99), Some({atime}), Some(Now), Some({ctime})");
     let told_flags = format!("SetAttributesValid({flags}), Some(Handle(3)), 77");
     assert_eq!(call, format!("setattr (Node(5), {told_flags}, ({values}), true)"));
-    let (call, _) = told(4, args().bytes(&[0; 88]), 120);
+    let (call, _) = called(4, args().bytes(&[0; 88]), 120);
     let values = "None, None, None, None, None, None, None";
     assert_eq!(
         call,
@@ -174,19 +174,19 @@ fn attributes_are_told_and_set() {
 #[test]
 fn data_is_read_and_written() {
     // FUSE_READ_LOCKOWNER is 2.
-    let (call, reply) = told(15, args().q(3).q(4096).d(100).d(2).q(77).d(0x8000).d(0), 116);
+    let (call, reply) = called(15, args().q(3).q(4096).d(100).d(2).q(77).d(0x8000).d(0), 116);
     let read =
         "Read { handle: Handle(3), offset: 4096, size: 100, flags: 32768, lock_owner: Some(77) }";
     assert_eq!(call, format!("read (Node(5), {read}, 100, (5, 4), 9)"));
     assert_eq!(reply, Reply::Data(b"some data".to_vec()));
     // A room for less than is asked for.
-    let (call, reply) = told(15, args().q(3).q(0).d(100).d(0).q(77).d(0).d(0), 22);
+    let (call, reply) = called(15, args().q(3).q(0).d(100).d(0).q(77).d(0).d(0), 22);
     let read = "Read { handle: Handle(3), offset: 0, size: 100, flags: 0, lock_owner: None }";
     assert_eq!(call, format!("read (Node(5), {read}, 6, (5, 1), 6)"));
     assert_eq!(reply, Reply::Data(b"some d".to_vec()));
     // FUSE_WRITE_CACHE, LOCKOWNER and KILL_SUIDGID.
     let (call, reply) =
-        told(16, args().q(3).q(4096).d(5).d(7).q(77).d(0x8001).d(0).bytes(b"hello"), 24);
+        called(16, args().q(3).q(4096).d(5).d(7).q(77).d(0x8001).d(0).bytes(b"hello"), 24);
     let flags = "flags: 32769, lock_owner: Some(77), delayed: true, kill_priv: true";
     let write = format!("Write {{ handle: Handle(3), offset: 4096, size: 5, {flags} }}");
     assert_eq!(call, format!("write (Node(5), {write}, \"hello\")"));
@@ -195,68 +195,68 @@ fn data_is_read_and_written() {
 
 #[test]
 fn values_are_told_and_set() {
-    let (call, reply) = told(5, args(), 16 + 4096);
+    let (call, reply) = called(5, args(), 16 + 4096);
     assert_eq!(
         (call.as_str(), reply),
         ("readlink (Node(5), 4096)", Reply::Data(b"where/it/leads".to_vec()))
     );
-    let (call, reply) = told(22, args().d(64).d(0).bytes(b"user.a\0"), 80);
+    let (call, reply) = called(22, args().d(64).d(0).bytes(b"user.a\0"), 80);
     assert_eq!(
         (call.as_str(), reply),
         (r#"getxattr (Node(5), "user.a", 64)"#, Reply::Data(b"value".to_vec()))
     );
-    let (call, reply) = told(22, args().d(0).d(0).bytes(b"user.a\0"), 80);
+    let (call, reply) = called(22, args().d(0).d(0).bytes(b"user.a\0"), 80);
     assert_eq!(
         (call.as_str(), numbers(&reply.data(), 4)),
         (r#"getxattr (Node(5), "user.a", 0)"#, vec![5, 0])
     );
-    let (call, reply) = told(22, args().d(4).d(0).bytes(b"user.a\0"), 80);
+    let (call, reply) = called(22, args().d(4).d(0).bytes(b"user.a\0"), 80);
     assert_eq!((call.as_str(), reply), (r#"getxattr (Node(5), "user.a", 4)"#, Reply::Error(34)));
-    let (call, reply) = told(23, args().d(64).d(0), 80);
+    let (call, reply) = called(23, args().d(64).d(0), 80);
     assert_eq!(
         (call.as_str(), reply),
         ("listxattr (Node(5), 64)", Reply::Data(b"user.a\0user.b\0".to_vec()))
     );
-    let (call, reply) = told(23, args().d(0).d(0), 80);
+    let (call, reply) = called(23, args().d(0).d(0), 80);
     assert_eq!((call.as_str(), numbers(&reply.data(), 4)), ("listxattr (Node(5), 0)", vec![14, 0]));
-    let (call, _) = told(21, args().d(3).d(2).bytes(b"user.a\0x\0y"), 16);
+    let (call, _) = called(21, args().d(3).d(2).bytes(b"user.a\0x\0y"), 16);
     assert_eq!(call, r#"setxattr (Node(5), "user.a", [120, 0, 121], 2)"#);
-    assert_eq!(told(24, args().bytes(b"user.a\0"), 16).0, r#"removexattr (Node(5), "user.a")"#);
+    assert_eq!(called(24, args().bytes(b"user.a\0"), 16).0, r#"removexattr (Node(5), "user.a")"#);
 }
 
 #[test]
 fn other_calls() {
-    let (call, reply) = told(17, args(), 96);
+    let (call, reply) = called(17, args(), 96);
     let data = reply.data();
     assert_eq!(call, "statfs Node(5)");
     assert_eq!(numbers(&data[..40], 8), [0x501, 0x502, 0x503, 0x504, 0x505]);
     assert_eq!(numbers(&data[40..56], 4), [0x506, 0x507, 0x508, 0]);
     assert_eq!(
-        told(34, args().d(5).d(0), 16).0,
+        called(34, args().d(5).d(0), 16).0,
         "access (Node(5), AccessMask(EXECUTE | READ | 0x0))"
     );
-    let (call, _) = told(43, args().q(3).q(10).q(20).d(1).d(0), 16);
+    let (call, _) = called(43, args().q(3).q(10).q(20).d(1).d(0), 16);
     assert_eq!(
         call,
         "fallocate (Node(5), Allocate { handle: Handle(3), mode: 1, offset: 10, len: 20 })"
     );
-    let (call, reply) = told(46, args().q(3).q(10).d(4).d(0), 24);
+    let (call, reply) = called(46, args().q(3).q(10).d(4).d(0), 24);
     assert_eq!(call, "lseek (Node(5), Seek { handle: Handle(3), offset: 10, whence: 4 })");
     assert_eq!(numbers(&reply.data(), 8), [0x701]);
-    let (call, reply) = told(47, args().q(3).q(10).q(6).q(4).q(20).q(0x900).q(0), 24);
+    let (call, reply) = called(47, args().q(3).q(10).q(6).q(4).q(20).q(0x900).q(0), 24);
     let from = "from: FilePlace { node: Node(5), handle: Handle(3), offset: 10 }";
     let to = "to: FilePlace { node: Node(6), handle: Handle(4), offset: 20 }";
     assert_eq!(call, format!("copy_file_range CopyFileRange {{ {from}, {to}, len: 2304 }}"));
     assert_eq!(numbers(&reply.data(), 4), [0x801, 0]);
     // No more was copied than was asked for.
-    let (_, reply) = told(47, args().q(3).q(10).q(6).q(4).q(20).q(7).q(0), 24);
+    let (_, reply) = called(47, args().q(3).q(10).q(6).q(4).q(20).q(7).q(0), 24);
     assert_eq!(numbers(&reply.data(), 4), [7, 0]);
-    assert_eq!(told(50, args().q(0), 16).0, "syncfs Node(5)");
+    assert_eq!(called(50, args().q(0), 16).0, "syncfs Node(5)");
 }
 
 #[test]
 fn nodes_are_forgotten() {
-    let (call, reply) = told(2, args().q(3), 0);
+    let (call, reply) = called(2, args().q(3), 0);
     assert_eq!((call.as_str(), reply), ("forget (Node(5), 3)", Reply::None));
     let (mut guest, recorder) = (Guest::new(), Recorder::default());
     let batch = args().d(3).d(0).q(8).q(1).q(9).q(2).q(u64::MAX).q(u64::MAX);

@@ -1,5 +1,5 @@
-//! Requests, rooms and rings by chance: whatever a guest writes, the worker doesn't panic, stays in
-//! the regions, and goes on.
+//! Requests, reply buffers and rings by chance: the worker doesn't panic, keeps to the regions, and
+//! goes on.
 mod guest;
 
 use guest::recorder::Recorder;
@@ -114,7 +114,7 @@ fn requests_and_rings_by_chance() {
                 }
                 Err(status) => {
                     assert!(status.stops_queue(), "{status:?}");
-                    guest.queue = Queue::new(layout(), guest.offered);
+                    guest.queue = Queue::new(layout(), guest.offered).unwrap();
                 }
             }
             assert_eq!(guest.queue.in_flight(), 0);

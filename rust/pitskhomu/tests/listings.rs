@@ -45,8 +45,8 @@ fn names_are_listed() {
         (Guest::new(), listing(vec![c(b".\0"), c(b"a\0"), c(b"longer name\0")]));
     let data = guest.ask(&recorder, READDIR, 5, read(4096), 16 + 4096).data();
     assert_eq!(entries(&data, 0), [found(1, "."), found(2, "a"), found(3, "longer name")]);
-    let told = "ReadDirectory { handle: Handle(3), offset: 0, size: 4096 }, 4096, false";
-    assert_eq!(recorder.taken(), [format!("readdir (Node(5), {told})")]);
+    let read = "ReadDirectory { handle: Handle(3), offset: 0, size: 4096 }, 4096, false";
+    assert_eq!(recorder.taken(), [format!("readdir (Node(5), {read})")]);
 }
 
 #[test]
@@ -143,7 +143,7 @@ fn a_listing_that_fails() {
     let fails = |fails_look_up| Fails { fails_look_up };
     // No node is held: the error is the reply.
     assert_eq!(guest.ask(&fails(false), READDIR, 5, read(4096), 16 + 4096), Reply::Error(5));
-    // The guest holds the nodes so far: it is told them, and meets the error when it goes on.
+    // The guest holds the nodes so far: it gets them, and the error when it reads on.
     let data = guest.ask(&fails(false), READDIRPLUS, 5, read(4096), 16 + 4096).data();
     assert_eq!(entries(&data, 128).len(), 2);
     let data = guest.ask(&fails(true), READDIRPLUS, 5, read(4096), 16 + 4096).data();

@@ -1,4 +1,4 @@
-//! Memory that is wanting here: a request is answered ENOMEM, or waits, and nothing is lost.
+//! Allocations that fail: a request is answered ENOMEM, or stays available, and nothing is lost.
 mod guest;
 
 use guest::recorder::Recorder;
@@ -91,7 +91,7 @@ fn a_chain_waits_for_the_first_bytes() {
 
 #[test]
 fn records_want_memory() {
-    let (device, queues) = (Device::default(), [Queue::new(layout(), 7)]);
+    let (device, queues) = (Device::default(), [Queue::new(layout(), 7).unwrap()]);
     assert_eq!(with_most(63, || device.save(&queues)), Err(Status::OutOfMemory));
     let record = with_most(64, || device.save(&queues)).unwrap();
     assert_eq!(with_most(63, || device.restore(&record).map(|_| ())), Err(Status::OutOfMemory));

@@ -30,7 +30,8 @@ fn offer(guest: &mut Guest, k: u16) {
 /// A guest whose queue lets so many chains out, and workers for them.
 fn several(max_in_flight: u16) -> (Guest, Vec<Worker>) {
     let mut guest = Guest::new();
-    guest.queue = Queue::new(layout(), guest.offered).with_max_in_flight(max_in_flight);
+    guest.queue =
+        Queue::new(layout(), guest.offered).unwrap().with_max_in_flight(max_in_flight).unwrap();
     let region = Region { guest: 0, len: LEN as u64, host: guest.memory.host };
     let worker = || {
         let mut worker = Worker::new();
@@ -98,20 +99,18 @@ fn chains_go_back_in_any_order() {
 
 #[test]
 fn no_more_are_out_than_may_be() {
-    for (max_in_flight, may) in [(0, 1), (1, 1), (3, 3)] {
-        let (mut guest, mut workers) = several(max_in_flight);
+    for may in [1, 3] {
+        let (mut guest, mut workers) = several(may);
         for k in 0..4 {
             offer(&mut guest, k);
         }
         for (k, worker) in workers.iter_mut().enumerate() {
-            let wanted = if k < may { Ok(true) } else { Err(Status::ChainInFlight) };
-            assert_eq!(take(&mut guest, worker), wanted, "{k} of {max_in_flight}");
+            let wanted = if k < usize::from(may) { Ok(true) } else { Err(Status::ChainInFlight) };
+            assert_eq!(take(&mut guest, worker), wanted, "{k} of {may}");
         }
-        assert_eq!(usize::from(guest.queue.in_flight()), may);
+        assert_eq!(guest.queue.in_flight(), may);
         assert_eq!(guest.device.save(&[guest.queue]), Err(Status::ChainInFlight));
     }
-    let (mut guest, mut workers) = several(SIZE + 1);
-    assert_eq!(take(&mut guest, &mut workers[0]), Err(Status::BadArgument));
 }
 
 #[test]
@@ -124,7 +123,7 @@ fn a_worker_has_one_chain_at_a_time() {
     assert_eq!(give_back(&mut guest, worker), Err(Status::WrongOrder));
     assert_eq!(
         worker.answer(&guest.device, &recorder, &guest.memory),
-        Ok(()),
+        Err(Status::WrongOrder),
         "there is none to answer"
     );
     assert_eq!(take(&mut guest, worker), Ok(true));
@@ -133,12 +132,13 @@ fn a_worker_has_one_chain_at_a_time() {
     worker.answer(&guest.device, &recorder, &guest.memory).unwrap();
     worker.answer(&guest.device, &recorder, &guest.memory).unwrap();
     assert_eq!(recorder.taken().len(), 1, "nothing is asked twice");
-    // A worker that serves alone meets the next chain, and then none.
+    // A worker that serves alone gets the next chain; one that has a chain finishes it.
     let next = workers[1].serve(&mut guest.queue, &guest.device, &recorder, &guest.memory).unwrap();
     assert_eq!(next.map(|served| served.head), Some(2));
     assert_eq!(take(&mut guest, &mut workers[1]), Ok(false));
-    assert_eq!(give_back(&mut guest, &mut workers[0]).map(|served| served.head), Ok(0));
-    assert_eq!(guest.queue.in_flight(), 0);
+    let finished = workers[0].serve(&mut guest.queue, &guest.device, &recorder, &guest.memory);
+    assert_eq!(finished.map(|served| served.map(|served| served.head)), Ok(Some(0)));
+    assert_eq!((guest.queue.in_flight(), recorder.taken().len()), (0, 1));
 }
 
 #[test]
@@ -149,11 +149,10 @@ fn a_queue_that_begins_anew_refuses_its_chains() {
     let first = guest.queue.next_avail();
     assert_eq!(take(&mut guest, &mut workers[0]), Ok(true));
     workers[0].answer(&guest.device, &recorder, &guest.memory).unwrap();
-    let bad = Queue::new(QueueLayout { size: 3, ..layout() }, first);
-    assert_eq!(guest.queue.begin(bad), Err(Status::BadArgument));
+    assert_eq!(guest.queue.begin(Queue::default()), Err(Status::BadArgument));
     assert_eq!(guest.queue.in_flight(), 1);
     // The same numbers, from the same position on.
-    guest.queue.begin(Queue::new(layout(), first).with_max_in_flight(2)).unwrap();
+    guest.queue.begin(Queue::new(layout(), first).unwrap().with_max_in_flight(2).unwrap()).unwrap();
     assert_eq!(
         (guest.queue.in_flight(), guest.queue.next_avail(), guest.queue.max_in_flight()),
         (0, first, 2)
@@ -172,7 +171,7 @@ struct Panics;
 
 impl FileSystem for Panics {
     fn lookup(&self, _: &Context, _: Node, _: &CStr) -> Answer<Entry> {
-        panic!("the file system panics, as it was told to")
+        panic!("the file system panics, as the test wants it")
     }
     fn getattr(
         &self,

@@ -54,8 +54,8 @@ fn errors_of_std() {
     fn fails() -> Result<(), Box<dyn Error + Send + Sync>> {
         Err(Status::ChainInFlight)?
     }
-    assert_eq!(fails().unwrap_err().to_string(), "a chain is out");
-    assert_eq!(io::Error::from(Status::ChainInFlight).to_string(), "a chain is out");
+    assert_eq!(fails().unwrap_err().to_string(), "a chain is in flight");
+    assert_eq!(io::Error::from(Status::ChainInFlight).to_string(), "a chain is in flight");
 }
 
 #[test]
@@ -70,7 +70,7 @@ fn statuses_and_faults() {
     );
     assert_eq!(
         (Fault::OverLimit.number(), Fault::OverLimit.to_string().as_str()),
-        (8, "the request or the room is over the limit")
+        (8, "the request or the reply buffer is over the limit")
     );
     assert_eq!(RequestFault::XattrSize.number(), 9);
     assert_eq!(RequestFault::Name.to_string(), "a name doesn't end with its only zero byte");
@@ -107,7 +107,7 @@ fn flags() {
 #[test]
 fn workers_are_printed() {
     let printed = format!("{:?}", Worker::new());
-    assert!(printed.starts_with("Worker { phase: Free, "), "{printed}");
+    assert!(printed.starts_with("Worker { progress: None, "), "{printed}");
 }
 
 #[test]
@@ -143,7 +143,7 @@ fn the_archive_is_of_this_header() {
 
 fn queues() -> Vec<Queue> {
     let layout = QueueLayout { size: 64, descriptors: 0x10000, available: 0x11000, used: 0x12000 };
-    (0..3).map(|k| Queue::new(QueueLayout { size: 64 >> k, ..layout }, 7 + k)).collect()
+    (0..3).map(|k| Queue::new(QueueLayout { size: 64 >> k, ..layout }, 7 + k).unwrap()).collect()
 }
 
 #[test]
@@ -179,9 +179,46 @@ fn records_that_are_refused() {
     let mut changed = record.clone();
     changed[0] ^= 1;
     assert_eq!(restored(&device, &changed), Err(Status::RecordBadMagic));
-    let other = Device::new(65536, Device::LEAST_LIMIT);
+    let other = Device::new(65536, Device::LEAST_LIMIT).unwrap();
     other.set_options(Options::MAX_PAGES);
     assert_eq!(restored(&other, &record), Err(Status::RecordMismatch));
     assert_eq!(other.options(), Options::MAX_PAGES, "it stays as it was");
-    assert_eq!(restored(&Device::new(4095, 0), &record), Err(Status::BadArgument));
+}
+
+#[test]
+fn devices_and_queues_of_bad_numbers_are_refused() {
+    let devices = [
+        (2048, Device::LEAST_LIMIT),
+        (4095, Device::LEAST_LIMIT),
+        (131_072, Device::LEAST_LIMIT),
+        (4096, Device::LEAST_LIMIT - 1),
+        (4096, Device::MOST_LIMIT + 1),
+    ];
+    for (page_size, limit) in devices {
+        let refused = Device::new(page_size, limit).err();
+        assert_eq!(refused, Some(Status::BadArgument), "{page_size} {limit}");
+    }
+    for (page_size, limit) in [(4096, Device::LEAST_LIMIT), (65536, Device::MOST_LIMIT)] {
+        let device = Device::new(page_size, limit).unwrap();
+        // The library takes these numbers too.
+        assert_eq!(Worker::new().set_memory(&device, &[]), Ok(()), "{page_size} {limit}");
+    }
+    let layout = QueueLayout { size: 64, descriptors: 0x10000, available: 0x11000, used: 0x12000 };
+    let layouts = [
+        QueueLayout { size: 0, ..layout },
+        QueueLayout { size: 3, ..layout },
+        QueueLayout { size: 32769, ..layout },
+        QueueLayout { descriptors: 8, ..layout },
+        QueueLayout { available: 1, ..layout },
+        QueueLayout { used: 2, ..layout },
+        QueueLayout { used: u64::MAX - 3, ..layout },
+        QueueLayout::default(),
+    ];
+    for layout in layouts {
+        assert_eq!(Queue::new(layout, 0).err(), Some(Status::BadArgument), "{layout:?}");
+    }
+    for (max_in_flight, is_taken) in [(0, false), (1, true), (64, true), (65, false)] {
+        let queue = Queue::new(layout, 0).unwrap().with_max_in_flight(max_in_flight);
+        assert_eq!(queue.is_ok(), is_taken, "{max_in_flight}");
+    }
 }

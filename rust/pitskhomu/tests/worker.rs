@@ -53,7 +53,7 @@ fn what_came_of_a_chain() {
     assert_eq!((served.opcode, served.unique, served.notify), (1, UNIQUE, true));
     assert_eq!((served.fault, served.request_fault, served.had_no_room), (None, None, false));
     assert_eq!(reply.data().len(), 128);
-    // VIRTQ_AVAIL_F_NO_INTERRUPT: the driver doesn't want to be told.
+    // VIRTQ_AVAIL_F_NO_INTERRUPT: the driver wants no notification.
     guest.memory.write(AVAILABLE, &[1, 0]);
     guest.offer_request(&request(1, 1, HELLO), 144);
     assert!(!guest.serve(&recorder).0.notify);
@@ -74,16 +74,14 @@ fn calls_without_memory_or_with_bad_numbers_are_refused() {
     let (mut guest, recorder) = (Guest::new(), Recorder::default());
     let fresh = Worker::default().serve(&mut guest.queue, &guest.device, &recorder, &guest.memory);
     assert_eq!(fresh, Err(Status::WrongOrder));
-    for bad in [
-        QueueLayout { size: 3, ..layout() },
-        QueueLayout { descriptors: 8, ..layout() },
-        QueueLayout { used: u64::MAX - 3, ..layout() },
-        QueueLayout::default(),
-    ] {
-        let mut queue = Queue::new(bad, 0);
-        let served = guest.worker.serve(&mut queue, &guest.device, &recorder, &guest.memory);
-        assert_eq!(served, Err(Status::BadArgument), "{bad:?}");
-    }
+    let mut queue = Queue::default();
+    let served = guest.worker.serve(&mut queue, &guest.device, &recorder, &guest.memory);
+    assert_eq!(served, Err(Status::BadArgument));
+    assert_eq!(
+        guest.worker.answer(&guest.device, &recorder, &guest.memory),
+        Err(Status::WrongOrder),
+        "there is no chain"
+    );
     let region = Region { guest: 0, len: 0x1000, host: 0 };
     let bad_regions = [
         vec![region, region],
@@ -98,9 +96,7 @@ fn calls_without_memory_or_with_bad_numbers_are_refused() {
             "{regions:?}"
         );
     }
-    let device = Device::new(4096, Device::LEAST_LIMIT - 1);
-    assert_eq!(guest.worker.set_memory(&device, &[region]), Err(Status::BadArgument));
-    // What was told before is there still.
+    // The regions stay as they were.
     assert_eq!(guest.ask(&recorder, 1, 1, args().bytes(HELLO), 144).data().len(), 128);
 }
 
@@ -113,12 +109,12 @@ fn a_bad_ring_stops_the_queue() {
     assert!(Status::HeadOutOfTable.stops_queue());
     assert_eq!(serve(&mut guest, &recorder), Err(Status::Stopped));
     assert_eq!(guest.queue.stopped(), Some(Status::HeadOutOfTable));
-    guest.queue = Queue::new(layout(), guest.offered);
+    guest.queue = Queue::new(layout(), guest.offered).unwrap();
     assert_eq!(guest.ask(&recorder, 1, 1, args().bytes(HELLO), 144).data().len(), 128);
     // More chains than the queue holds, and a ring in no region.
     guest.memory.write(AVAILABLE + 2, &guest.offered.wrapping_add(SIZE + 1).to_le_bytes());
     assert_eq!(serve(&mut guest, &recorder), Err(Status::AvailTooFar));
-    guest.queue = Queue::new(QueueLayout { available: LEN as u64, ..layout() }, 0);
+    guest.queue = Queue::new(QueueLayout { available: LEN as u64, ..layout() }, 0).unwrap();
     assert_eq!(serve(&mut guest, &recorder), Err(Status::AvailIndexUnreachable));
 }
 
@@ -196,7 +192,7 @@ fn two_bytes_of_a_request_may_be_at_an_odd_place() {
     assert_eq!(recorder.taken(), [r#"lookup (Node(1), "hello")"#]);
 }
 
-/// An indirect table, whose first descriptor stands in two regions that are at other places here:
+/// An indirect table, whose first descriptor lies in two regions that are at other places here:
 /// two bytes of it in the first.
 #[test]
 fn an_indirect_table_over_two_regions() {
@@ -307,7 +303,7 @@ struct Panics(&'static str);
 
 impl FileSystem for Panics {
     fn lookup(&self, _: &Context, _: Node, _: &CStr) -> Answer<Entry> {
-        assert_ne!(self.0, "lookup", "the file system panics, as it was told to");
+        assert_ne!(self.0, "lookup", "the file system panics, as the test wants it");
         Ok(entry())
     }
     fn getattr(
@@ -319,10 +315,10 @@ impl FileSystem for Panics {
         Err(Errno::EIO)
     }
     fn forget(&self, _: Node, _: u64) {
-        assert_ne!(self.0, "forget", "the file system panics, as it was told to");
+        assert_ne!(self.0, "forget", "the file system panics, as the test wants it");
     }
     fn destroy(&self) {
-        assert_ne!(self.0, "destroy", "the file system panics, as it was told to");
+        assert_ne!(self.0, "destroy", "the file system panics, as the test wants it");
     }
 }
 
@@ -365,9 +361,9 @@ fn a_memory_that_panics_loses_no_other_chain() {
         match loads {
             // In the walk: the chain waits still.
             0 | 1 => assert_eq!(guest.serve(&recorder).1.data().len(), 128),
-            // At the flags, when all was stored: the chain went back, and whether the driver wants
-            // to be told isn't known.
-            _ => assert_eq!(guest.queue.in_flight(), 1),
+            // At the flags, after all stores: the chain is returned, and whether the driver wants a
+            // notification isn't known.
+            _ => assert_eq!(guest.queue.in_flight(), 0),
         }
         assert!(guest.is_idle(&recorder));
         assert_eq!(recorder.taken().len(), 1);
@@ -379,7 +375,8 @@ fn a_memory_that_panics_loses_no_other_chain() {
 /// queue.
 #[test]
 fn a_request_that_is_too_long_is_refused() {
-    let (mut guest, recorder) = (Guest::over(Device::new(4096, 1 << 31)), Recorder::default());
+    let (mut guest, recorder) =
+        (Guest::over(Device::new(4096, 1 << 31).unwrap()), Recorder::default());
     let long = Device::LEAST_LIMIT + 1;
     guest.memory.write(REQUEST, &request(1, 1, HELLO));
     guest.draw(
@@ -391,7 +388,7 @@ fn a_request_that_is_too_long_is_refused() {
     let (served, reply) = guest.serve(&recorder);
     assert_eq!((served.request_len, served.opcode, reply), (u64::from(long), 1, Reply::Error(12)));
     assert!(guest.is_idle(&recorder));
-    // One that is as long as a buffer here is served: what stands behind the name is ignored.
+    // One that is as long as a buffer here is served: the bytes behind the name are ignored.
     guest.draw(
         DESCRIPTORS,
         0,

@@ -1,14 +1,17 @@
-//! What each call asks of the file system, and how its answer is told to the library.
+//! The method of the file system for each call, and the library's function for each answer.
 use super::{grow, Worker};
 use crate::chain::Replied;
-use crate::data::{store_room, ReadData, WriteData};
+use crate::data::{at_most, store_room, ReadData, WriteData};
 use crate::device::Device;
 use crate::errno::{Answer, Errno};
 use crate::file_system::FileSystem;
 use crate::flags::{AccessMask, Options, RenameFlags, SetAttributesValid};
 use crate::listing::Listing;
 use crate::memory::GuestMemory;
-use crate::requests::*;
+use crate::requests::{
+    Allocate, Child, CopyFileRange, Create, FilePlace, Forgets, Init, MakeDirectory, MakeNode,
+    Open, Read, ReadDirectory, Release, Seek, SetAttributes, Write,
+};
 use crate::status::Status;
 use crate::sys::{self, kind};
 use crate::values::{Attributes, Context, Entry, Handle, Node, Opened};
@@ -25,15 +28,20 @@ fn bytes(request: &[u8], span: sys::Span) -> Answer<&[u8]> {
     request.get(from..from + span.len as usize).ok_or(Errno::EINVAL)
 }
 
-/// The name at a place of a request, where a zero byte stands behind it.
+/// The name at a place of a request, where a zero byte follows it.
 fn name(request: &[u8], span: sys::Span) -> Answer<&CStr> {
     let with_zero = sys::Span { at: span.at, len: span.len.saturating_add(1) };
     CStr::from_bytes_with_nul(bytes(request, with_zero)?).map_err(|_| Errno::EINVAL)
 }
 
-/// The value, if it is told.
-fn told<T>(is_told: u8, value: T) -> Option<T> {
-    Some(value).filter(|_| is_told != 0)
+/// A number of a reply's 32 bits.
+fn number(count: u64) -> u32 {
+    u32::try_from(count).unwrap_or(u32::MAX)
+}
+
+/// The value, if the request has one.
+fn optional<T>(is_there: u8, value: T) -> Option<T> {
+    Some(value).filter(|_| is_there != 0)
 }
 
 impl Worker {
@@ -99,7 +107,7 @@ impl Worker {
 
     fn context(&self) -> Context {
         let sys::Call { unique, uid, gid, pid, has_group, group, .. } = self.call;
-        Context { unique, uid, gid, pid, supplementary_group: told(has_group, group) }
+        Context { unique, uid, gid, pid, supplementary_group: optional(has_group, group) }
     }
 
     fn node(&self) -> Node {
@@ -111,7 +119,7 @@ impl Worker {
     }
 
     fn lock_owner(&self) -> Option<u64> {
-        told(self.call.has_owner, self.call.owner)
+        optional(self.call.has_owner, self.call.owner)
     }
 
     /// The call's name.
@@ -230,7 +238,7 @@ impl Worker {
     fn attributes(&mut self, file_system: &dyn FileSystem) -> Result<Replied, Status> {
         let found: Answer<(Attributes, Duration)> = {
             let (context, call) = (&self.context(), &self.call);
-            let handle = told(call.has_handle, self.handle());
+            let handle = optional(call.has_handle, self.handle());
             if call.kind == kind::GETATTR {
                 file_system.getattr(context, self.node(), handle)
             } else {
@@ -273,8 +281,9 @@ impl Worker {
                 };
                 let count = file_system
                     .copy_file_range(&context, CopyFileRange { from, to, len: call.size });
-                let most = call.size.min(u64::from(u32::MAX));
-                self.reply(count, |worker, count| worker.chain.reply_write(count.min(most) as u32))
+                self.reply(count, |worker, count| {
+                    worker.chain.reply_write(number(count.min(call.size)))
+                })
             }
         }
     }
@@ -359,20 +368,20 @@ impl Worker {
         };
         let mut data = WriteData::new(&mut self.chain, memory, data_at, data_len);
         let answer = file_system.write(&context, node, write, &mut data);
-        let done = data.done().min(u64::from(u32::MAX)) as u32;
+        let done = number(data.done());
         self.reply(answer, |worker, ()| worker.chain.reply_write(done))
     }
 
-    /// Has the list's buffer as long as the reply's data may be.
+    /// Makes the list's buffer as long as the reply's data may be.
     fn list_len(&mut self) -> Answer<usize> {
-        // What has room for more is answered by no more: a link or a value has at most 64 KiB in
-        // Linux, a listing 1 MiB here.
-        let len = self.call.data_len.min(sys::REQUEST_MAX as u64) as usize;
+        // A longer reply buffer changes nothing: a link or a value has at most 64 KiB in Linux, a
+        // listing 1 MiB here.
+        let len = at_most(self.call.data_len, sys::REQUEST_MAX);
         grow(&mut self.list, len).map_err(|_| Errno::ENOMEM)?;
         Ok(len)
     }
 
-    /// READLINK, GETXATTR, LISTXATTR: the bytes, or how many there are if that alone was asked.
+    /// READLINK, GETXATTR, LISTXATTR: the bytes, or their number if the guest asked for it alone.
     fn value(
         &mut self,
         file_system: &dyn FileSystem,
@@ -382,7 +391,7 @@ impl Worker {
         let counts = self.call.answer == sys::answer::XATTR;
         self.reply(value, |worker, len| {
             if counts {
-                return worker.chain.reply_xattr(len as u32);
+                return worker.chain.reply_xattr(number(len as u64));
             }
             store_room(&mut worker.chain, memory, sys::HEADER, &worker.list[..len]);
             worker.written = worker.written.max(sys::HEADER + len as u64);
@@ -427,7 +436,12 @@ impl Worker {
         });
         self.reply(listed, |worker, ()| {
             let (replied, len) = worker.chain.reply_entries()?;
-            store_room(&mut worker.chain, memory, sys::HEADER, &worker.list[..len as usize]);
+            store_room(
+                &mut worker.chain,
+                memory,
+                sys::HEADER,
+                &worker.list[..at_most(len, worker.list.len())],
+            );
             Ok(replied)
         })
     }

@@ -1,5 +1,5 @@
-//! A guest in memory that stands still while it is served: it draws a ring, asks by FUSE, and reads
-//! what came back. Numbers are those of VIRTIO 1.2 (2.7) and linux/fuse.h.
+//! A guest in memory that doesn't run while it is served: it draws a ring, asks by FUSE, and reads
+//! the replies. Numbers are those of VIRTIO 1.2 (2.7) and linux/fuse.h.
 #![allow(dead_code)]
 pub mod recorder;
 
@@ -122,8 +122,8 @@ pub fn args() -> Bytes {
     Bytes::default()
 }
 
-/// A request: its header (struct fuse_in_header) and what stands behind it. The caller is user
-/// 1000, group 100, process 7.
+/// A request: its header (struct fuse_in_header) and its arguments. The caller is user 1000, group
+/// 100, process 7.
 pub fn request(opcode: u32, node: u64, args: &[u8]) -> Vec<u8> {
     let len = 40 + args.len() as u32;
     Bytes::default().d(len).d(opcode).q(UNIQUE).q(node).d(1000).d(100).d(7).w(0).w(0).bytes(args).0
@@ -132,8 +132,7 @@ pub fn request(opcode: u32, node: u64, args: &[u8]) -> Vec<u8> {
 /// The number of each request.
 pub const UNIQUE: u64 = 0x1122_3344_5566_7788;
 
-/// What came back: the number of the error, and what stands behind the header (struct
-/// fuse_out_header).
+/// A reply: the number of the error, or the bytes behind the header (struct fuse_out_header).
 #[derive(Debug, PartialEq, Eq)]
 pub enum Reply {
     None,
@@ -186,7 +185,7 @@ impl Guest {
             memory,
             device,
             worker,
-            queue: Queue::new(layout(), first),
+            queue: Queue::new(layout(), first).unwrap(),
             offered: first,
             next_descriptor: 0,
         }

@@ -17,7 +17,7 @@ pub struct Recorder {
     pub is_unchecked: bool,
 }
 
-/// All attributes that a reply tells, each another number.
+/// All attributes of a reply, each another number.
 pub fn attributes() -> Attributes {
     let time = |seconds, nanos| Time { seconds, nanos };
     Attributes {
@@ -60,15 +60,21 @@ impl Recorder {
         std::mem::take(&mut *self.calls.lock().unwrap())
     }
 
-    fn note<T>(&self, call: &str, told: &dyn Debug, value: T) -> Answer<T> {
-        self.calls.lock().unwrap().push(format!("{call} {told:?}"));
+    fn note<T>(&self, call: &str, arguments: &dyn Debug, value: T) -> Answer<T> {
+        self.calls.lock().unwrap().push(format!("{call} {arguments:?}"));
         self.error.map_or(Ok(value), Err)
     }
 
-    fn asked<T>(&self, context: &Context, call: &str, told: &dyn Debug, value: T) -> Answer<T> {
+    fn asked<T>(
+        &self,
+        context: &Context,
+        call: &str,
+        arguments: &dyn Debug,
+        value: T,
+    ) -> Answer<T> {
         let who = (context.uid, context.gid, context.pid, context.unique);
         assert!(self.is_unchecked || who == (1000, 100, 7, super::UNIQUE), "{who:?}");
-        self.note(call, told, value)
+        self.note(call, arguments, value)
     }
 }
 
@@ -107,10 +113,10 @@ impl FileSystem for Recorder {
         node: Node,
         set: &SetAttributes,
     ) -> Answer<(Attributes, Duration)> {
-        let told =
+        let arguments =
             (set.mode(), set.uid(), set.gid(), set.size(), set.atime(), set.mtime(), set.ctime());
-        let told = (node, set.valid, set.handle, set.lock_owner, told, set.kills_priv());
-        self.asked(context, "setattr", &told, (attributes(), Duration::new(0x401, 0x402)))
+        let arguments = (node, set.valid, set.handle, set.lock_owner, arguments, set.kills_priv());
+        self.asked(context, "setattr", &arguments, (attributes(), Duration::new(0x401, 0x402)))
     }
     fn readlink(&self, context: &Context, node: Node, target: &mut [u8]) -> Answer<usize> {
         self.asked(context, "readlink", &(node, target.len()), fill(target, b"where/it/leads"))
