@@ -1,18 +1,16 @@
 //! The guest's memory as the front-end reports it. A table never changes: another replaces it, and
-//! the old one stays mapped while a chain in flight was taken over it. The library is told each
-//! region by the guest's own addresses, so each access is looked up here and checked. (vm-memory's
-//! own look-up takes several times as long, some fifteen times a request.)
+//! the old one stays mapped while a chain in flight was taken over it. Workers know each byte by
+//! its guest address, which pitskhomu-vm-memory looks up and checks.
 use crate::marks::{Logging, Marks, MarksFrom};
 use pitskhomu::{GuestRange, GuestSlice, QueueLayout};
+use pitskhomu_vm_memory::MappedMemory;
 use std::fs::File;
 use std::io;
 use std::sync::atomic::{AtomicU64, Ordering};
 use std::sync::Arc;
 use vhost::vhost_user::message::VhostUserMemoryRegion;
-use vm_memory::bitmap::Bitmap;
 use vm_memory::{
-    Address, Bytes, GuestAddress, GuestMemory, GuestMemoryMmap, GuestMemoryRegion, GuestRegionMmap,
-    VolatileSlice,
+    Bytes, GuestAddress, GuestMemoryMmap, GuestMemoryRegion, GuestRegionMmap, VolatileSlice,
 };
 
 /// All of a region's numbers are multiples of it.
@@ -29,22 +27,11 @@ struct Place {
     len: u64,
 }
 
-/// A region as it is looked up.
-#[derive(Debug, Clone)]
-struct Stretch {
-    guest: u64,
-    len: u64,
-    /// Where it is mapped: as long as the table holds the region.
-    host: usize,
-    marks: Marks,
-}
-
 /// The guest's memory.
 #[derive(Debug, Default)]
 pub struct Table {
-    guest: GuestMemoryMmap<Marks>,
+    mapped: MappedMemory<Marks>,
     places: Vec<Place>,
-    stretches: Vec<Stretch>,
     number: u64,
     logging: Arc<Logging>,
 }
@@ -91,31 +78,23 @@ impl Table {
     /// One region more.
     pub fn with(&self, region: &VhostUserMemoryRegion, file: File) -> io::Result<Table> {
         let (mapped, place) = map(region, file, &self.logging)?;
-        let guest = self.guest.insert_region(mapped).map_err(io::Error::other)?;
+        let guest = self.mapped.memory().insert_region(mapped).map_err(io::Error::other)?;
         self.over(guest, self.places.iter().copied().chain([place]).collect())
     }
 
     /// One region less.
     pub fn without(&self, guest: u64, len: u64) -> io::Result<Table> {
-        let (memory, _) =
-            self.guest.remove_region(GuestAddress(guest), len).map_err(io::Error::other)?;
+        let removed = self.mapped.memory().remove_region(GuestAddress(guest), len);
+        let (memory, _) = removed.map_err(io::Error::other)?;
         let places = self.places.iter().copied().filter(|place| place.guest != guest).collect();
         self.over(memory, places)
     }
 
     fn over(&self, guest: GuestMemoryMmap<Marks>, places: Vec<Place>) -> io::Result<Table> {
-        if guest.num_regions() > pitskhomu::Device::MOST_REGIONS {
-            return Err(invalid("more regions of memory than the library takes"));
-        }
-        let stretch = |region: &GuestRegionMmap<Marks>| Stretch {
-            guest: region.start_addr().raw_value(),
-            len: region.len(),
-            host: region.as_ptr() as usize,
-            marks: region.bitmap().clone(),
-        };
-        let stretches = guest.iter().map(stretch).collect();
+        let mapped = MappedMemory::new(guest)
+            .map_err(|_| invalid("regions of memory that the library doesn't take"))?;
         let number = NUMBER.fetch_add(1, Ordering::Relaxed);
-        Ok(Table { guest, places, stretches, number, logging: self.logging.clone() })
+        Ok(Table { mapped, places, number, logging: self.logging.clone() })
     }
 
     /// What tells it from all others.
@@ -141,33 +120,12 @@ impl Table {
 
     /// The regions as the library takes them.
     pub fn regions(&self) -> Vec<pitskhomu::Region> {
-        let region = |guest: u64, len: u64| pitskhomu::Region { guest, len, host: guest as usize };
-        self.guest
-            .iter()
-            .map(|mapped| region(mapped.start_addr().raw_value(), mapped.len()))
-            .collect()
-    }
-
-    /// The stretch that `len` bytes from a guest address on lie in, and at which of its bytes they
-    /// begin.
-    fn find(&self, at: usize, len: usize) -> Option<(&Stretch, usize)> {
-        let offset_in = |stretch: &Stretch| {
-            (at as u64).checked_sub(stretch.guest).filter(|offset| *offset < stretch.len)
-        };
-        let (stretch, offset) =
-            self.stretches.iter().find_map(|stretch| Some((stretch, offset_in(stretch)?)))?;
-        (len as u64 <= stretch.len - offset).then_some((stretch, offset as usize))
+        self.mapped.regions()
     }
 
     /// A stretch within one region, if it is one.
     pub fn slice(&self, at: usize, len: usize) -> Option<Slice<'_>> {
-        let (stretch, offset) = self.find(at, len)?;
-        // SAFETY: these bytes are a part of a region that `self.guest` has mapped as long as it
-        // lives, and so as long as the slice.
-        Some(unsafe {
-            let at = (stretch.host as *mut u8).add(offset);
-            VolatileSlice::with_bitmap(at, len, stretch.marks.slice_at(offset), None)
-        })
+        self.mapped.slice(at, len)
     }
 
     /// Whether the parts of a queue that a return loads and stores are mapped in both tables or in
@@ -192,13 +150,9 @@ impl Table {
     }
 }
 
-/// The worker asks for bytes of the table's own regions alone, so it gets them all.
 impl pitskhomu::GuestMemory for Table {
     fn get_slice(&self, at: usize, len: usize) -> Option<GuestSlice<'_>> {
-        let (stretch, offset) = self.find(at, len)?;
-        // SAFETY: as of `slice`. Other threads access the bytes by vm-memory alone, which makes no
-        // reference to them.
-        Some(unsafe { GuestSlice::new((stretch.host as *mut u8).add(offset), len) })
+        self.mapped.get_slice(at, len)
     }
     fn is_logging(&self) -> bool {
         self.logging.is_on()

@@ -1,0 +1,214 @@
+//! [`pitskhomu::GuestMemory`] over `GuestMemoryMmap` of vm-memory.
+//!
+//! It is a package of its own, and no feature of `pitskhomu`: cargo wants even an optional
+//! dependency in its index, and `pitskhomu` builds offline.
+use pitskhomu::{Device, GuestMemory, GuestRange, GuestSlice, Region, Status};
+use std::mem::size_of;
+use vm_memory::bitmap::{Bitmap, BS};
+use vm_memory::{
+    Address, GuestMemory as _, GuestMemoryMmap, GuestMemoryRegion, GuestRegionMmap,
+    MemoryRegionAddress, VolatileSlice,
+};
+
+/// All numbers of a region are multiples of it.
+const PAGE: u64 = 4096;
+
+/// A region as it is looked up. (vm-memory's own look-up takes several times as long, some fifteen
+/// times a request.)
+#[derive(Debug)]
+struct Stretch {
+    guest: u64,
+    len: u64,
+    /// Where it is mapped, as long as the memory holds the region.
+    host: usize,
+}
+
+/// The guest's memory, mapped by vm-memory. Workers know each byte by its guest address.
+///
+/// The regions never change: make another for other regions, and keep this one while a chain that
+/// was taken from it is in flight. Written pages are marked in the bitmap `B`.
+///
+/// # Examples
+/// ```
+/// use pitskhomu::{Device, GuestMemory, Worker};
+/// use pitskhomu_vm_memory::MappedMemory;
+/// use vm_memory::{GuestAddress, GuestMemoryMmap};
+///
+/// # fn main() -> Result<(), Box<dyn std::error::Error>> {
+/// let memory = GuestMemoryMmap::<()>::from_ranges(&[(GuestAddress(0x4000), 0x2000)])?;
+/// let memory = MappedMemory::new(memory)?;
+/// assert!(memory.get_slice(0x5ffe, 2).is_some() && memory.get_slice(0x5fff, 2).is_none());
+///
+/// let (device, mut worker) = (Device::default(), Worker::new());
+/// worker.set_memory(&device, &memory.regions())?;
+/// // worker.serve(&mut queue, &device, &file_system, &memory)
+/// # Ok(())
+/// # }
+/// ```
+#[derive(Debug, Default)]
+pub struct MappedMemory<B: Bitmap + 'static = ()> {
+    memory: GuestMemoryMmap<B>,
+    stretches: Vec<Stretch>,
+}
+
+impl<B: Bitmap + 'static> MappedMemory<B> {
+    /// The guest's memory over these regions.
+    ///
+    /// # Errors
+    /// `BadArgument`: there are more than `Device::MOST_REGIONS`, one isn't of whole pages of 4096
+    /// bytes, or one ends behind the greatest address of this host.
+    pub fn new(memory: GuestMemoryMmap<B>) -> Result<MappedMemory<B>, Status> {
+        let stretch = |region: &GuestRegionMmap<B>| {
+            let (guest, len) = (region.start_addr().raw_value(), region.len());
+            let is_whole = (guest | len | region.as_ptr() as u64) % PAGE == 0 && len > 0;
+            let fits = guest.checked_add(len).is_some_and(|end| usize::try_from(end).is_ok());
+            let host = region.as_ptr() as usize;
+            (is_whole && fits).then_some(Stretch { guest, len, host }).ok_or(Status::BadArgument)
+        };
+        let stretches = memory.iter().map(stretch).collect::<Result<Vec<_>, _>>()?;
+        if stretches.len() > Device::MOST_REGIONS {
+            return Err(Status::BadArgument);
+        }
+        Ok(MappedMemory { memory, stretches })
+    }
+
+    /// vm-memory's own.
+    #[must_use]
+    pub fn memory(&self) -> &GuestMemoryMmap<B> {
+        &self.memory
+    }
+
+    /// The regions for [`Worker::set_memory`](pitskhomu::Worker::set_memory).
+    #[must_use]
+    pub fn regions(&self) -> Vec<Region> {
+        let region = |&Stretch { guest, len, .. }: &Stretch| Region {
+            guest,
+            len,
+            host: usize::try_from(guest).unwrap_or_default(), // `new` has tested it
+        };
+        self.stretches.iter().map(region).collect()
+    }
+
+    /// The region that `len` bytes from a guest address on lie in, and at which of its bytes they
+    /// begin.
+    fn find(&self, at: usize, len: usize) -> Option<(usize, usize)> {
+        let offset_in = |stretch: &Stretch| {
+            (at as u64).checked_sub(stretch.guest).filter(|offset| *offset < stretch.len)
+        };
+        let (region, (stretch, offset)) = self
+            .stretches
+            .iter()
+            .enumerate()
+            .find_map(|(k, stretch)| Some((k, (stretch, offset_in(stretch)?))))?;
+        (len as u64 <= stretch.len - offset).then_some((region, usize::try_from(offset).ok()?))
+    }
+
+    /// The bytes as vm-memory has them, if they lie in one region: it marks the pages that it
+    /// writes. For the windows of a READ or WRITE, whose `at` is a guest address.
+    #[must_use]
+    pub fn slice(&self, at: usize, len: usize) -> Option<VolatileSlice<'_, BS<'_, B>>> {
+        let (region, offset) = self.find(at, len)?;
+        self.memory.iter().nth(region)?.get_slice(MemoryRegionAddress(offset as u64), len).ok()
+    }
+}
+
+impl<B: Bitmap + 'static> GuestMemory for MappedMemory<B> {
+    fn get_slice(&self, at: usize, len: usize) -> Option<GuestSlice<'_>> {
+        let (region, offset) = self.find(at, len)?;
+        let host = self.stretches[region].host as *mut u8;
+        // SAFETY: the bytes are a part of a region that `self.memory` has mapped as long as it
+        // lives, and so as long as the slice. vm-memory makes no reference to them, and gives out
+        // none but to atomic numbers.
+        Some(unsafe { GuestSlice::new(host.add(offset), len) })
+    }
+
+    /// Whether there is a bitmap to mark.
+    fn is_logging(&self) -> bool {
+        size_of::<B>() > 0
+    }
+
+    fn mark(&self, written: GuestRange) {
+        let place = |k: usize| Some((self.memory.iter().nth(k)?, self.stretches.get(k)?));
+        let at = usize::try_from(written.guest).ok();
+        let found = at.and_then(|at| self.find(at, 0)).and_then(|(k, at)| Some((place(k)?, at)));
+        if let Some(((region, stretch), offset)) = found {
+            let len = written.len.min(stretch.len - offset as u64);
+            region.bitmap().mark_dirty(offset, usize::try_from(len).unwrap_or(usize::MAX));
+        }
+    }
+}
+
+#[cfg(test)]
+mod tests {
+    use super::*;
+    use vm_memory::bitmap::AtomicBitmap;
+    use vm_memory::{Bytes, GuestAddress};
+
+    const HIGH: u64 = 1 << 32;
+
+    /// Two regions of two pages each: at 0x4000, and at 2^32.
+    fn mapped() -> MappedMemory<AtomicBitmap> {
+        let ranges = [0x4000, HIGH].map(|at| (GuestAddress(at), 0x2000));
+        MappedMemory::new(GuestMemoryMmap::from_ranges(&ranges).unwrap()).unwrap()
+    }
+
+    #[test]
+    fn an_access_is_within_one_region() {
+        let memory = mapped();
+        let places = [
+            (0x4000, 0x2000, true),
+            (0x5fff, 1, true),
+            (HIGH + 8, 8, true),
+            (0x3fff, 1, false),
+            (0x3fff, 2, false),
+            (0x5fff, 2, false),
+            (0x6000, 1, false),
+            (HIGH + 0x1fff, usize::MAX, false),
+            (u64::MAX, 1, false),
+        ];
+        for (at, len, is_mapped) in places {
+            let at = usize::try_from(at).unwrap();
+            let slice = memory.get_slice(at, len).map(|slice| slice.len());
+            assert_eq!(slice, is_mapped.then_some(len), "{at:#x} {len}");
+            assert_eq!(memory.slice(at, len).map(|slice| slice.len()), slice, "{at:#x} {len}");
+        }
+        let region = |guest: u64| Region { guest, len: 0x2000, host: guest as usize };
+        assert_eq!(memory.regions(), [region(0x4000), region(HIGH)]);
+    }
+
+    #[test]
+    fn bytes_are_those_of_vm_memory() {
+        let memory = mapped();
+        memory.memory().write_slice(b"hello", GuestAddress(HIGH + 3)).unwrap();
+        let mut bytes = [0; 5];
+        memory.get_slice(HIGH as usize + 3, 5).unwrap().load(&mut bytes);
+        assert_eq!(&bytes, b"hello");
+        memory.get_slice(0x5ffb, 5).unwrap().store(b"world");
+        memory.memory().read_slice(&mut bytes, GuestAddress(0x5ffb)).unwrap();
+        assert_eq!(&bytes, b"world");
+    }
+
+    #[test]
+    fn written_pages_are_marked() {
+        let memory = mapped();
+        memory.mark(GuestRange { guest: HIGH + 0x1000, len: 2 });
+        memory.mark(GuestRange { guest: 0x4fff, len: u64::MAX });
+        memory.mark(GuestRange { guest: 0x8000, len: 8 }); // in no region
+        let dirty = memory
+            .memory()
+            .iter()
+            .flat_map(|region| [0, 0x1000].map(|page| region.bitmap().dirty_at(page)));
+        assert_eq!(dirty.collect::<Vec<_>>(), [true, true, false, true]);
+        assert!(memory.is_logging() && !MappedMemory::<()>::default().is_logging());
+    }
+
+    #[test]
+    fn regions_that_the_library_does_not_take_are_refused() {
+        let odd = GuestMemoryMmap::<()>::from_ranges(&[(GuestAddress(0x4000), 0x1800)]).unwrap();
+        assert_eq!(MappedMemory::new(odd).err(), Some(Status::BadArgument));
+        let ranges: Vec<_> =
+            (0..=Device::MOST_REGIONS as u64).map(|k| (GuestAddress(k << 13), 0x1000)).collect();
+        let many = GuestMemoryMmap::<()>::from_ranges(&ranges).unwrap();
+        assert_eq!(MappedMemory::new(many).err(), Some(Status::BadArgument));
+    }
+}
