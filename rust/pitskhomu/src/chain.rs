@@ -40,6 +40,8 @@ pub(crate) enum Replied {
     NoRoom,
     /// A listing that failed is answered by the entries so far.
     Entries,
+    /// The file system has no answer yet: the library wasn't called.
+    Later,
 }
 
 /// The result of an entry of a listing.

@@ -11,8 +11,16 @@ pub type Answer<T> = Result<T, Errno>;
 pub struct Errno(NonZeroU32);
 
 impl Errno {
-    /// The greatest number that a reply tells (linux/err.h, `MAX_ERRNO`).
+    /// The greatest number that a reply can have (linux/err.h, `MAX_ERRNO`).
     pub const MAX: u32 = 4095;
+
+    /// No errno, and never sent to the guest: the answer comes later. The worker keeps the chain,
+    /// and [`Worker::answer`](crate::Worker::answer) makes the same call again. A file system that
+    /// has several requests in work at a time answers it while another thread is busy with one.
+    pub const LATER: Errno = match NonZeroU32::new(Errno::MAX + 1) {
+        Some(number) => Errno(number),
+        None => panic!("not a number"),
+    };
 
     /// The errno of a number; `None` if it is 0 or above `MAX`.
     #[must_use]
@@ -28,7 +36,7 @@ impl Errno {
         u32::try_from(number).ok().and_then(Errno::new).unwrap_or(Errno::EIO)
     }
 
-    /// Its number, from 1 to 4095.
+    /// Its number, from 1 to 4095 (but of `LATER`).
     #[must_use]
     pub const fn number(self) -> u32 {
         self.0.get()
@@ -81,7 +89,7 @@ impl From<std::io::Error> for Errno {
 
 #[cfg(feature = "std")]
 impl From<Errno> for std::io::Error {
-    #[allow(clippy::cast_possible_wrap)] // at most 4095
+    #[allow(clippy::cast_possible_wrap)] // at most 4096
     fn from(errno: Errno) -> std::io::Error {
         std::io::Error::from_raw_os_error(errno.number() as i32)
     }

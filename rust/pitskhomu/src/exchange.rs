@@ -114,6 +114,7 @@ impl<'a> Exchange<'a> {
         }
         let mut header = [0; HEADER_LEN];
         header[..4].copy_from_slice(&(HEADER_LEN as u32).to_le_bytes());
+        let error = if error == Errno::LATER { Errno::EIO } else { error };
         header[4..8].copy_from_slice(&error.number().wrapping_neg().to_le_bytes());
         header[8..].copy_from_slice(&self.unique().to_le_bytes());
         self.store(0, &header) as u64

@@ -20,6 +20,12 @@ use core::time::Duration;
 /// for an answer, the worker takes the answer back: an entry by `forget`, an open file by
 /// `release`.
 ///
+/// A method that has no answer yet returns [`Errno::LATER`], and is called again with the same
+/// arguments and fresh data when [`Worker::answer`](crate::Worker::answer) is. So a file system may
+/// hand a request to another thread, and a thread may have several workers whose chains are in
+/// work: the example `later` does so. WRITE's data may have changed when the method is called
+/// again, so take it at the first call, and report it with [`WriteData::advance`] at the last.
+///
 /// # Errors
 /// Each method answers the errno with which the guest's system call is to fail.
 ///

@@ -67,7 +67,7 @@ impl<'a> Listing<'a> {
     ///
     /// # Errors
     /// Return them from `readdir`.
-    /// - Those of the look-up.
+    /// - Those of the look-up. `LATER` is for the first entry alone.
     /// - `EINVAL`: the first entry doesn't fit. No entry at all would be the directory's end.
     /// - `ENAMETOOLONG`: the name is empty or longer than 255 bytes.
     /// - `EIO`: the reply buffer is smaller than the guest asked for, or the name has a slash.
@@ -96,6 +96,16 @@ impl<'a> Listing<'a> {
                 self.ended = true;
                 Err(Errno::EIO)
             }
+        }
+    }
+
+    /// The error that `readdir` answers. It can't answer later once it has added an entry, since
+    /// the guest gets that.
+    pub(crate) fn final_error(&self, error: Errno) -> Errno {
+        if error == Errno::LATER && (self.used > 0 || self.ended) {
+            Errno::EIO
+        } else {
+            error
         }
     }
 

@@ -53,6 +53,8 @@ enum Progress {
     Popped,
     /// The file system has seen its request, and owes the answer.
     Asked,
+    /// The file system has no answer yet, and gets the same call again.
+    Later,
     /// Its reply is known, or it gets none.
     Answered,
 }
@@ -207,7 +209,8 @@ impl Worker {
     }
 
     /// Serves the next chain of a queue, if one is available: takes it, calls the file system, and
-    /// gives it back with the reply. A chain that the worker has already comes first.
+    /// gives it back with the reply. A chain that the worker has already comes first. `None` also
+    /// if the file system answers later: the worker has the chain then.
     ///
     /// After a panic of the file system, pass the same queue again: the call is answered EIO, and
     /// that chain is given back. A panic of the memory between the stores of a push may lose the
@@ -233,6 +236,9 @@ impl Worker {
             return Ok(None);
         }
         self.answer(device, file_system, memory)?;
+        if !self.is_answered() {
+            return Ok(None);
+        }
         self.give_back(queue, memory).map(Some)
     }
 
@@ -262,8 +268,9 @@ impl Worker {
     }
 
     /// Calls the file system for the chain that was taken, and makes the reply. A chain that has
-    /// one, or gets none, stays as it is. After a panic of the file system call it again: then the
-    /// answer is EIO.
+    /// one, or gets none, stays as it is. If the file system answers later ([`Errno::LATER`]), the
+    /// chain isn't answered: call this again when the answer is known. After a panic of the file
+    /// system call it again too: then the answer is EIO.
     ///
     /// # Errors
     /// `WrongOrder`: the worker has no chain.
@@ -283,8 +290,13 @@ impl Worker {
                 // made again.
                 self.exchange(device, file_system, memory).or_else(|_| self.answer_error(memory))
             }
+            Some(Progress::Later) => {
+                self.progress = Some(Progress::Asked);
+                self.call(device, file_system, memory).or_else(|_| self.answer_error(memory))
+            }
         };
         match answered {
+            Ok(()) if self.replied == Replied::Later => self.progress = Some(Progress::Later),
             Ok(()) => self.progress = Some(Progress::Answered),
             Err(_) => self.abandon(), // no library of this header refuses EIO
         }
@@ -295,6 +307,12 @@ impl Worker {
     #[must_use]
     pub fn has_chain(&self) -> bool {
         self.progress.is_some()
+    }
+
+    /// Whether `give_back` may follow: the chain is answered, or gets no reply.
+    #[must_use]
+    pub fn is_answered(&self) -> bool {
+        self.progress == Some(Progress::Answered)
     }
 
     /// Answers EIO: a call, or a request that isn't decoded. DESTROY, which can't fail, is done.
@@ -332,6 +350,17 @@ impl Worker {
         if self.call.answer == sys::answer::NONE {
             self.progress = Some(Progress::Answered); // also if the call panics
         }
+        self.call(device, file_system, memory)
+    }
+
+    /// From the call to the reply.
+    fn call(
+        &mut self,
+        device: &Device,
+        file_system: &dyn FileSystem,
+        memory: &dyn GuestMemory,
+    ) -> Result<(), Status> {
+        self.replied = Replied::Whole;
         self.replied = self.answer_call(device, file_system, memory)?;
         Ok(())
     }
@@ -460,7 +489,7 @@ impl Worker {
         queue: &mut Queue,
         memory: &dyn GuestMemory,
     ) -> Result<Served, Status> {
-        if self.progress != Some(Progress::Answered) {
+        if !self.is_answered() {
             return Err(Status::WrongOrder);
         }
         let pushing = Pushing(self, queue);

@@ -18,10 +18,6 @@ use crate::values::{Attributes, Context, Entry, Handle, Node, Opened};
 use crate::CStr;
 use core::time::Duration;
 
-/// The opcodes of locks, BMAP, IOCTL, POLL, NOTIFY_REPLY and TMPFILE (enum fuse_opcode of
-/// linux/fuse.h).
-const ENOSYS_AT_ONCE: [u32; 8] = [31, 32, 33, 37, 39, 40, 41, 51];
-
 /// The name or value at a place of a request.
 fn bytes(request: &[u8], span: sys::Span) -> Answer<&[u8]> {
     let from = span.at as usize;
@@ -53,7 +49,7 @@ impl Worker {
         memory: &dyn GuestMemory,
     ) -> Result<Replied, Status> {
         match self.call.kind {
-            kind::NONE => Ok(self.reply_at_once()),
+            kind::NONE => Ok(Replied::Whole),
             kind::FORGET | kind::BATCH_FORGET => {
                 self.forget(file_system);
                 Ok(Replied::Whole)
@@ -82,18 +78,7 @@ impl Worker {
         }
     }
 
-    /// Whether the library's own reply fits. The library replies ENOSYS to some opcodes by itself,
-    /// and doesn't report that such a reply has no room.
-    fn reply_at_once(&self) -> Replied {
-        let is_replied = self.call.fault == 0 && ENOSYS_AT_ONCE.contains(&self.call.opcode);
-        if is_replied && self.step.reply_len < sys::HEADER {
-            Replied::NoRoom
-        } else {
-            Replied::Whole
-        }
-    }
-
-    /// Answers an error, or what is made of the value.
+    /// Answers a value by the function, or an error; nothing if the answer comes later.
     fn reply<T>(
         &mut self,
         answer: Answer<T>,
@@ -101,6 +86,7 @@ impl Worker {
     ) -> Result<Replied, Status> {
         match answer {
             Ok(value) => reply(self, value),
+            Err(Errno::LATER) => Ok(Replied::Later),
             Err(error) => self.chain.reply_error(error),
         }
     }
@@ -430,9 +416,9 @@ impl Worker {
         let listed = len.and_then(|len| {
             let (chain, list) = (&mut self.chain, &mut self.list[..len]);
             let with_nodes = kind == kind::READDIRPLUS;
-            let mut listing =
-                Listing::new(chain, list, file_system, &context, node, with_nodes, size);
-            file_system.readdir(&context, node, read, &mut listing)
+            let mut listing = Listing::new(chain, list, file_system, &context, node, with_nodes);
+            let listed = file_system.readdir(&context, node, read, &mut listing);
+            listed.map_err(|error| listing.final_error(error))
         });
         self.reply(listed, |worker, ()| {
             let (replied, len) = worker.chain.reply_entries()?;
