@@ -2,11 +2,21 @@
 use core::fmt;
 use core::num::NonZeroU32;
 
-/// What a call answers: a value, or an errno.
+/// The answer of a file call: a value, or an errno.
 pub type Answer<T> = Result<T, Errno>;
 
-/// An errno of Linux (errno.h), from 1 to 4095: what a file system's call fails by, and what the
-/// guest's system call returns.
+/// An errno of Linux (errno.h), from 1 to 4095: the error of a file call, with which the guest's
+/// system call fails.
+///
+/// # Examples
+/// ```
+/// use pitskhomu::Errno;
+///
+/// assert_eq!(Errno::new(2), Some(Errno::ENOENT));
+/// assert_eq!(Errno::ENOENT.to_string(), "no such file or directory (ENOENT)");
+/// # #[cfg(feature = "std")]
+/// assert_eq!(Errno::from(std::fs::metadata("/no/such/file").unwrap_err()), Errno::ENOENT);
+/// ```
 #[derive(Clone, Copy, PartialEq, Eq, Hash, PartialOrd, Ord)]
 pub struct Errno(NonZeroU32);
 
@@ -32,11 +42,12 @@ impl Errno {
     }
 
     /// The errno of a number as a system call leaves it; EIO if there is none.
+    #[must_use]
     pub fn of_system(number: i32) -> Errno {
         u32::try_from(number).ok().and_then(Errno::new).unwrap_or(Errno::EIO)
     }
 
-    /// Its number, from 1 to 4095 (but of `LATER`).
+    /// Its number, from 1 to 4095; that of `LATER` is above.
     #[must_use]
     pub const fn number(self) -> u32 {
         self.0.get()

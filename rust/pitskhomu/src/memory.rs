@@ -43,7 +43,8 @@ pub trait GuestMemory {
     /// stretch.
     ///
     /// A worker that doesn't get bytes of its own regions loads zeros in their place, and stores
-    /// nothing: keep memory mapped while a worker has regions of it.
+    /// nothing: keep memory mapped while a worker has regions of it. A number of a ring is accessed
+    /// at once if its address is even, as it is in mapped pages.
     fn get_slice(&self, at: usize, len: usize) -> Option<GuestSlice<'_>>;
 
     /// Whether `mark` is called: while a migration's log is on.
