@@ -16,6 +16,8 @@ pub struct Listing<'a> {
     context: &'a Context,
     directory: Node,
     with_nodes: bool,
+    /// The bytes of entries that the guest asked for.
+    asked: u64,
     used: usize,
     ended: bool,
 }
@@ -32,7 +34,7 @@ impl fmt::Debug for Listing<'_> {
 }
 
 impl<'a> Listing<'a> {
-    /// `list` is as long as the entries may be.
+    /// `list` is as long as the entries may be; the guest asked for `asked` bytes.
     pub(crate) fn new(
         chain: &'a mut Chain,
         list: &'a mut [u8],
@@ -40,8 +42,10 @@ impl<'a> Listing<'a> {
         context: &'a Context,
         directory: Node,
         with_nodes: bool,
+        asked: u64,
     ) -> Listing<'a> {
-        Listing { chain, list, file_system, context, directory, with_nodes, used: 0, ended: false }
+        let (used, ended) = (0, false);
+        Listing { chain, list, file_system, context, directory, with_nodes, asked, used, ended }
     }
 
     /// How many bytes of entries may be put in yet. One takes 24 and its name, with nodes 152 and
@@ -70,7 +74,8 @@ impl<'a> Listing<'a> {
     /// - Those of the look-up. `LATER` is for the first entry alone.
     /// - `EINVAL`: the first entry doesn't fit. No entry at all would be the directory's end.
     /// - `ENAMETOOLONG`: the name is empty or longer than 255 bytes.
-    /// - `EIO`: the reply buffer is smaller than the guest asked for, or the name has a slash.
+    /// - `EIO`: the entry fits the size that the guest asked for, but not the reply buffer; or the
+    ///   name has a slash.
     pub fn add(&mut self, entry: DirectoryEntry<'_>) -> Answer<bool> {
         let name = entry.name.to_bytes();
         if name.is_empty() || name.len() > NAME_MAX {
@@ -79,7 +84,11 @@ impl<'a> Listing<'a> {
         let len = entry_len(name.len(), self.with_nodes);
         if len > self.left() {
             self.ended = true;
-            return if self.used == 0 { Err(Errno::EINVAL) } else { Ok(false) };
+            return match self.asked.saturating_sub(self.used as u64) {
+                asked if len as u64 <= asked => Err(Errno::EIO),
+                _ if self.used == 0 => Err(Errno::EINVAL),
+                _ => Ok(false),
+            };
         }
         let added =
             if self.with_nodes { self.add_with_node(&entry)? } else { self.add_plain(&entry)? };

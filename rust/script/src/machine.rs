@@ -103,8 +103,9 @@ impl Machine {
         self.queues.len()
     }
 
-    pub fn add_queue(&mut self, layout: QueueLayout) {
-        self.queues.push(Queue::new(layout, 0));
+    /// `false` for a layout that no queue has, which a line of the script doesn't make.
+    pub fn add_queue(&mut self, layout: QueueLayout) -> bool {
+        Queue::new(layout, 0).map(|queue| self.queues.push(queue)).is_ok()
     }
 
     pub fn has_queue(&self, queue: u64) -> bool {
@@ -114,7 +115,7 @@ impl Machine {
     /// Begins a queue at position 0, not stopped.
     pub fn reset(&mut self, queue: u64, layout: QueueLayout) -> Result<Result<(), Refusal>, Stuck> {
         match usize::try_from(queue).ok().and_then(|queue| self.queues.get_mut(queue)) {
-            Some(queue) => Ok(Ok(queue.begin(Queue::new(layout, 0))?)),
+            Some(queue) => Ok(Ok(queue.begin(Queue::new(layout, 0)?)?)),
             None => Ok(Err(Refusal::NoSuchQueue)),
         }
     }

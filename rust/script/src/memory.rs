@@ -1,8 +1,9 @@
 //! The guest's memory: blocks, regions over them, and marks of the pages that were written.
-use pitskhomu::{GuestMemory, Region};
-use std::cell::{Cell, RefCell};
+use pitskhomu::{GuestMemory, GuestRange, GuestSlice, Region};
+use std::cell::RefCell;
 use std::collections::{BTreeMap, BTreeSet};
 use std::ops::Range;
+use std::sync::atomic::{AtomicU8, Ordering};
 
 /// How many bytes a page has.
 const PAGE: usize = 4096;
@@ -23,7 +24,7 @@ pub enum Refusal {
 /// Bytes that a guest may see as its memory. The library knows byte k by the number `host` + k.
 struct Block {
     host: usize,
-    bytes: Vec<Cell<u8>>,
+    bytes: Vec<AtomicU8>,
     marked: RefCell<BTreeSet<usize>>,
 }
 
@@ -33,7 +34,7 @@ impl Block {
         let mut bytes = Vec::new();
         let len = usize::try_from(len).ok()?;
         bytes.try_reserve_exact(len).ok()?;
-        bytes.resize(len, Cell::new(0));
+        bytes.resize_with(len, AtomicU8::default);
         Some(Block { host, bytes, marked: RefCell::default() })
     }
 
@@ -44,13 +45,18 @@ impl Block {
 
     fn load(&self, from: usize, bytes: &mut [u8]) {
         let cells = &self.bytes[from..from + bytes.len()];
-        bytes.iter_mut().zip(cells).for_each(|(byte, cell)| *byte = cell.get());
+        bytes.iter_mut().zip(cells).for_each(|(byte, cell)| *byte = cell.load(Ordering::Relaxed));
     }
 
     fn store(&self, from: usize, bytes: &[u8]) {
         let cells = &self.bytes[from..from + bytes.len()];
-        cells.iter().zip(bytes).for_each(|(cell, &byte)| cell.set(byte));
-        if let Some(last) = bytes.len().checked_sub(1) {
+        cells.iter().zip(bytes).for_each(|(cell, &byte)| cell.store(byte, Ordering::Relaxed));
+        self.mark(from, bytes.len());
+    }
+
+    /// Marks the pages of some bytes.
+    fn mark(&self, from: usize, len: usize) {
+        if let Some(last) = len.checked_sub(1) {
             self.marked.borrow_mut().extend(from / PAGE..=(from + last) / PAGE);
         }
     }
@@ -74,7 +80,8 @@ struct Part {
 pub struct Memory {
     blocks: Vec<Block>,
     regions: BTreeMap<u64, Mapping>,
-    /// What the device stored since `begin_step`: ranges of the library's numbers, in order.
+    /// The bytes that the device reported as written since `begin_step`, as ranges of the library's
+    /// numbers: first those of the reply, in its order.
     stored: RefCell<Vec<Range<usize>>>,
 }
 
@@ -175,66 +182,60 @@ impl Memory {
         let mut moved = Memory { regions: self.regions.clone(), ..Memory::default() };
         for block in &self.blocks {
             let other = Block::new(block.host, block.bytes.len() as u64)?;
-            other.bytes.iter().zip(&block.bytes).for_each(|(to, from)| to.set(from.get()));
+            let copied = |(to, from): (&AtomicU8, &AtomicU8)| {
+                to.store(from.load(Ordering::Relaxed), Ordering::Relaxed);
+            };
+            other.bytes.iter().zip(&block.bytes).for_each(copied);
             moved.blocks.push(other);
         }
         Some(moved)
     }
 
-    /// From here on the device's stores are kept in order.
+    /// From here on the bytes that the device writes are kept.
     pub fn begin_step(&self) {
         self.stored.borrow_mut().clear();
     }
 
-    /// Whether two of the reply's parts share a byte, of which `data_len` bytes were stored first
-    /// and then `header_len`.
+    /// Whether the reply's header and its data share a byte.
     pub fn header_meets_data(&self, data_len: usize, header_len: usize) -> bool {
-        let stored = self.stored.borrow();
-        let (mut left, mut data) = (data_len + header_len, Vec::new());
-        for range in stored.iter() {
-            if left <= header_len {
-                let meets =
-                    |other: &Range<usize>| range.start < other.end && other.start < range.end;
-                if data.iter().any(meets) {
-                    return true;
-                }
-            } else {
-                data.push(range.clone());
-            }
-            left = left.saturating_sub(range.len());
-            if left == 0 {
-                break;
-            }
+        let (mut header, mut data) = (Vec::new(), Vec::new());
+        let mut done = 0;
+        for range in self.stored.borrow().iter() {
+            let before = header_len.saturating_sub(done).min(range.len());
+            header.push(range.start..range.start + before);
+            let rest = (header_len + data_len).saturating_sub(done.max(header_len));
+            let behind = (range.len() - before).min(rest);
+            data.push(range.start + before..range.start + before + behind);
+            done += range.len();
         }
-        false
+        let meets = |a: &Range<usize>, b: &Range<usize>| a.start < b.end && b.start < a.end;
+        header.iter().any(|a| data.iter().any(|b| meets(a, b)))
     }
 
     /// The block of a number of the library, and the offset there.
-    fn place(&self, at: usize) -> (&Block, usize) {
-        let block = &self.blocks[self.blocks.partition_point(|block| block.host <= at) - 1];
-        (block, at - block.host)
+    fn place(&self, at: usize) -> Option<(&Block, usize)> {
+        let number = self.blocks.partition_point(|block| block.host <= at).checked_sub(1)?;
+        let block = &self.blocks[number];
+        Some((block, at - block.host))
     }
 }
 
 impl GuestMemory for Memory {
-    fn load(&self, at: usize, bytes: &mut [u8]) {
-        let (block, offset) = self.place(at);
-        block.load(offset, bytes);
+    fn get_slice(&self, at: usize, len: usize) -> Option<GuestSlice<'_>> {
+        let (block, offset) = self.place(at)?;
+        block.bytes.get(offset..offset.checked_add(len)?).map(GuestSlice::from)
     }
 
-    fn load_u16(&self, at: usize) -> u16 {
-        let mut bytes = [0; 2];
-        self.load(at, &mut bytes);
-        u16::from_le_bytes(bytes)
+    fn is_logging(&self) -> bool {
+        true
     }
 
-    fn store(&self, at: usize, bytes: &[u8]) {
-        let (block, offset) = self.place(at);
-        block.store(offset, bytes);
-        self.stored.borrow_mut().push(at..at + bytes.len());
-    }
-
-    fn store_u16(&self, at: usize, value: u16) {
-        self.store(at, &value.to_le_bytes());
+    fn mark(&self, written: GuestRange) {
+        for part in self.parts(written.guest, written.len).unwrap_or_default() {
+            let block = &self.blocks[part.block];
+            block.mark(part.offset, part.len);
+            let at = block.host + part.offset;
+            self.stored.borrow_mut().push(at..at + part.len);
+        }
     }
 }

@@ -18,6 +18,10 @@ use crate::values::{Attributes, Context, Entry, Handle, Node, Opened};
 use crate::CStr;
 use core::time::Duration;
 
+/// The opcodes of locks, BMAP, IOCTL, POLL, NOTIFY_REPLY and TMPFILE (enum fuse_opcode of
+/// linux/fuse.h).
+const ENOSYS_AT_ONCE: [u32; 8] = [31, 32, 33, 37, 39, 40, 41, 51];
+
 /// The name or value at a place of a request.
 fn bytes(request: &[u8], span: sys::Span) -> Answer<&[u8]> {
     let from = span.at as usize;
@@ -49,7 +53,7 @@ impl Worker {
         memory: &dyn GuestMemory,
     ) -> Result<Replied, Status> {
         match self.call.kind {
-            kind::NONE => Ok(Replied::Whole),
+            kind::NONE => Ok(self.reply_at_once()),
             kind::FORGET | kind::BATCH_FORGET => {
                 self.forget(file_system);
                 Ok(Replied::Whole)
@@ -75,6 +79,17 @@ impl Worker {
                 let done = self.done(file_system);
                 self.reply(done, |worker, ()| worker.chain.reply_done())
             }
+        }
+    }
+
+    /// Whether the library's own reply fits. The library replies ENOSYS to some opcodes by itself,
+    /// and doesn't report a reply buffer that is too small for it.
+    fn reply_at_once(&self) -> Replied {
+        let is_replied = self.call.fault == 0 && ENOSYS_AT_ONCE.contains(&self.call.opcode);
+        if is_replied && self.pop.reply_len < sys::HEADER {
+            Replied::NoRoom
+        } else {
+            Replied::Whole
         }
     }
 
@@ -416,7 +431,8 @@ impl Worker {
         let listed = len.and_then(|len| {
             let (chain, list) = (&mut self.chain, &mut self.list[..len]);
             let with_nodes = kind == kind::READDIRPLUS;
-            let mut listing = Listing::new(chain, list, file_system, &context, node, with_nodes);
+            let mut listing =
+                Listing::new(chain, list, file_system, &context, node, with_nodes, size);
             let listed = file_system.readdir(&context, node, read, &mut listing);
             listed.map_err(|error| listing.final_error(error))
         });
