@@ -18,7 +18,7 @@ use crate::values::{Attributes, Context, Entry, Handle, Node, Opened};
 use crate::CStr;
 use core::time::Duration;
 
-/// The opcodes of locks, BMAP, IOCTL, POLL, NOTIFY_REPLY and TMPFILE (enum fuse_opcode of
+/// The opcodes of locks, BMAP, IOCTL, POLL, `NOTIFY_REPLY` and TMPFILE (enum `fuse_opcode` of
 /// linux/fuse.h).
 const ENOSYS_AT_ONCE: [u32; 8] = [31, 32, 33, 37, 39, 40, 41, 51];
 
